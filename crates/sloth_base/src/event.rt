@@ -1,0 +1,51 @@
+//! Arrivals, and the events that are observed in a run.
+
+use crate::numbers::Line;
+use crate::service::Service;
+
+/// An interrupt line is raised before the instruction of count `at`, 1 to 1,000,000.
+#[derive(Clone, Copy, Debug, PartialEq, Eq)]
+pub struct Arrival {
+    pub at: u32,
+    pub line: Line,
+}
+
+/// The counts of the first and the last instruction of an event.
+#[derive(Clone, Copy, Debug, PartialEq, Eq)]
+pub struct Stamp {
+    pub from: u32,
+    pub at: u32,
+}
+
+/// What is observed. A task number of 4,294,967,295 is that of no task.
+#[derive(Clone, Copy, Debug, PartialEq, Eq)]
+pub enum Event {
+    Boot,
+    Admit(u32),
+    Enter(u32),
+    Run {
+        task: u32,
+        func: u32,
+        item: u32,
+        result: u32,
+    },
+    Call {
+        task: u32,
+        service: Service,
+        status: u32,
+    },
+    Left {
+        task: u32,
+        service: Service,
+    },
+    Back(u32),
+    Idle,
+    Stray,
+}
+
+/// An event and its counts.
+#[derive(Clone, Copy, Debug, PartialEq, Eq)]
+pub struct Stamped {
+    pub stamp: Stamp,
+    pub event: Event,
+}

@@ -1,0 +1,77 @@
+//! Why a text is refused.
+
+use crate::memory::NoMemory;
+
+/// The text that is at fault: the configuration, the task code or the arrivals.
+#[derive(Clone, Copy, Debug, PartialEq, Eq)]
+pub enum Part {
+    Oil,
+    Src,
+    Arr,
+}
+
+/// The rule that is broken. The letter names the stage: O the configuration, A the task code, V the verifier, T the arrivals.
+/// N1 is a form that is not built yet.
+#[derive(Clone, Copy, Debug, PartialEq, Eq)]
+pub enum Code {
+    O1,
+    O2,
+    O3,
+    O4,
+    O5,
+    O6,
+    O7,
+    O8,
+    O9,
+    O10,
+    O11,
+    O12,
+    O13,
+    O14,
+    O15,
+    A1,
+    A2,
+    A3,
+    A4,
+    A5,
+    A6,
+    A7,
+    V1,
+    V2,
+    V3,
+    V4,
+    V5,
+    V6,
+    V7,
+    V8,
+    V9,
+    V10,
+    V11,
+    V12,
+    T1,
+    T2,
+    T3,
+    T4,
+    N1,
+}
+
+/// A refusal: the text, the line in it, counted from 1, and the rule.
+#[derive(Clone, Copy, Debug, PartialEq, Eq)]
+pub struct Refusal {
+    pub part: Part,
+    pub line: u32,
+    pub code: Code,
+}
+
+/// Why nothing was built.
+#[derive(Clone, Copy, Debug, PartialEq, Eq)]
+pub enum BuildError {
+    Refused(Refusal),
+    Memory,
+}
+
+impl From<NoMemory> for BuildError {
+    fn from(_: NoMemory) -> BuildError {
+        BuildError::Memory
+    }
+}
