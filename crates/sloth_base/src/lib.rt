@@ -3,6 +3,7 @@
 
 pub mod app;
 pub mod config;
+pub mod copy;
 pub mod event;
 pub mod image;
 pub mod list;
