@@ -1,0 +1,59 @@
+-- Names that are words, and images in the range of the image file format.
+use Rattle.std.specs.Prelude.{◌≡◌, ◌≢◌, ◌≤◌, ◌<◌, ◌+◌, ◌%◌, ◌==◌, ◌||◌, ℕ, Bool, IsTrue, List, [], ◌∷◌, length, map, All}
+use Rattle.std.specs.Char.{is_ascii_alphabetic, is_ascii_alphanumeric}
+use Rattle.std.specs.List.{AllPass, AllPairs}
+use Rattle.std.specs.List.Sorted.{IsStrictlyIncreasing}
+use Rattle.sloth_base.specs.declared.image.Image.{Image}
+use Rattle.sloth_base.specs.declared.image.Mark.{Mark}
+use Rattle.sloth_base.specs.declared.image.MarkKind.{MarkKind}
+use Rattle.sloth_base.specs.declared.image.MarkKind.TheVariants as kind
+
+-- a letter or `_`
+abbrev pub begins_word : ℕ → Bool
+begins_word byte = is_ascii_alphabetic byte || (byte == 95)
+
+-- a letter, a digit or `_`
+abbrev pub continues_word : ℕ → Bool
+continues_word byte = is_ascii_alphanumeric byte || (byte == 95)
+
+-- a letter or `_`, then letters, digits and `_`, as the names of OIL 2.5
+abbrev pub IsWord : List ℕ → Type 0
+IsWord [] = ⊥
+IsWord (first ∷ rest) = IsTrue (begins_word first) × AllPass continues_word rest
+
+-- a word of at most 64 bytes
+pub record IsName (bytes : List ℕ) : Type 0 where
+  pub word : IsWord bytes
+  pub short : length bytes ≤ 64
+
+-- names that differ from one another
+pub record AreNames (names : List (List ℕ)) : Type 0 where
+  pub each : All IsName names
+  pub distinct : AllPairs (λ one other. one ≢ other) names
+
+-- what the fields `a`, `b` and `c` of a mark may be, in an image of so many functions
+abbrev pub AreFields : ℕ → MarkKind → ℕ → ℕ → ℕ → Type 0
+AreFields functions kind.Item a b c = (a < 32) × (b < functions) × (c ≤ 4095)
+AreFields functions kind.Jump a b c = (a ≤ 11) × (b < functions) × (c ≤ 4095)
+AreFields functions kind.Opening a b c = (a ≤ 11) × (b ≡ 0) × (c ≡ 0)
+AreFields functions kind.Idle a b c = (a ≡ 0) × (b ≡ 0) × (c ≡ 0)
+AreFields functions kind.Back a b c = (a ≡ 0) × (b ≡ 0) × (c ≡ 0)
+
+-- a mark on a word of a memory of so many bytes, which begins at 0x80000000
+pub record IsMark (functions size : ℕ) (mark : Mark) : Type 0 where
+  pub aligned : mark.address % 4 ≡ 0
+  pub above : 0x8000_0000 ≤ mark.address
+  pub below : mark.address < 0x8000_0000 + size
+  pub fields : AreFields functions mark.kind mark.a mark.b mark.c
+
+-- the image is in the range of the format
+pub record InFormat (image : Image) : Type 0 where
+  pub few_tasks : length image.tasks ≤ 30
+  pub few_functions : length image.funcs ≤ 64
+  pub tasks : AreNames image.tasks
+  pub functions : AreNames image.funcs
+  pub memory_fits : length image.memory ≤ 2097152
+  pub whole_words : length image.memory % 4 ≡ 0
+  pub few_marks : length image.marks ≤ 16384
+  pub marks : All (IsMark (length image.funcs) (length image.memory)) image.marks
+  pub ascending : IsStrictlyIncreasing (map (λ mark. mark.address) image.marks)
