@@ -1,3 +1,4 @@
 pub mod Machine
 pub mod Arrivals
 pub mod ImageRange
+pub mod ConfigRange
