@@ -1,0 +1,14 @@
+//! Code that stands at one place of memory.
+
+use crate::Instr;
+use sloth_base::image::Mark;
+use sloth_base::list::List;
+
+/// A run of instructions, and the marks on them. A block has at most 256 instructions.
+#[derive(Drop)]
+pub struct Block {
+    /// The address of the first instruction.
+    pub at: u32,
+    pub code: List<Instr>,
+    pub marks: List<Mark>,
+}
