@@ -1,0 +1,22 @@
+//! The map of an image: where everything stands.
+
+use crate::extent::Extent;
+use sloth_base::list::List;
+use sloth_base::places::Places;
+
+/// The map of an image. The vector words stand at 0x80000400, and boot at 0x80000480.
+#[derive(Drop)]
+pub struct Map {
+    /// All extents, in the order in which they were placed.
+    pub extents: List<Extent>,
+    /// The addresses of items, symbols and service blocks.
+    pub places: Places,
+    /// The stack of each task, in the order of the tasks.
+    pub stacks: List<Extent>,
+    /// The service words, but for the first word of RAM, which names the running task.
+    pub words: Extent,
+    /// The address of the idle loop.
+    pub idle: u32,
+    /// For each line the address of the routine to which its vector word jumps: `idle` where the line has none.
+    pub handlers: [u32; 32],
+}
