@@ -1,5 +1,8 @@
 //! Code that stands at one place of memory.
 
+ghost use Rattle.std.specs.Prelude.{All};
+ghost use Rattle.rv32_instr.specs.Range.{InRange};
+
 use crate::Instr;
 use sloth_base::image::Mark;
 use sloth_base::list::List;
@@ -11,4 +14,13 @@ pub struct Block {
     pub at: u32,
     pub code: List<Instr>,
     pub marks: List<Mark>,
+}
+
+/// The law that instructions are in range, so that each has a word.
+pub fn in_range(code: &[Instr])
+    ensures { All InRange code.now }
+{
+    for instr in code {
+        instr.kind();
+    }
 }

@@ -2,7 +2,7 @@
 
 ghost use Rattle.std.specs.Prelude.{◌≡◌, ◌<◌, ◌^◌, Some, ◌↔◌};
 ghost use Rattle.rv32_instr.specs.Range.{InRange};
-ghost use Rattle.rv32_instr.specs.Words.{opcode, rd, funct3, rs1, rs2, funct7, high, imm_i, imm_s, imm_b, imm_u, imm_j};
+ghost use Rattle.rv32_instr.specs.Words.{opcode, rd, funct3, rs1, rs2, funct7, csr, imm_i, imm_s, imm_b, imm_u, imm_j};
 ghost use Rattle.rv32_instr.specs.Table.{Decode, IsWordOf, jump, branch, load, store, immediate, register, control, fence, system};
 ghost use Rattle.rv32_instr.specs.declared.InstrKind.{InstrKind};
 
@@ -50,7 +50,7 @@ fn funct7(word: u32) -> u32
 }
 
 fn csr(word: u32) -> u16
-    ensures { result ≡ high word }
+    ensures { result ≡ csr word }
 {
     bits(word, 20, 12) as u16
 }
