@@ -6,3 +6,4 @@ pub mod Lines
 pub mod Choose
 pub mod Take
 pub mod Arrive
+pub mod Arithmetic

@@ -1,0 +1,120 @@
+-- When arrivals are admitted: at their moment, or when the stretch that is running then ends.
+use Rattle.std.specs.Prelude.{ℕ, ◌-◌, ◌<◌, ◌≤◌, ◌≡◌, ◌⊎◌, ◌==◌, ◌&&◌, not, List, [], ◌∷◌, ◌++◌, Bool, true, false, cond, map, filter, count_by, All, AllPairs, IsTrue, is_some, Option, Some, None}
+use Rattle.sloth_base.specs.declared.event.Arrival.{Arrival}
+use Rattle.sloth_base.specs.declared.event.Event.{Event}
+use Rattle.sloth_base.specs.declared.event.Event.TheVariants as event
+use Rattle.sloth_base.specs.declared.event.Stamp.{Stamp}
+use Rattle.sloth_base.specs.declared.event.Stamped.{Stamped}
+
+-- the task that an event admits
+abbrev pub admitted_task : Event → Option ℕ
+admitted_task (event.Admit t) = Some t
+admitted_task event.Boot = None
+admitted_task (event.Enter t) = None
+admitted_task (event.Run t func item result) = None
+admitted_task (event.Call t served status) = None
+admitted_task (event.Left t served) = None
+admitted_task (event.Back t) = None
+admitted_task event.Idle = None
+admitted_task event.Stray = None
+
+abbrev pub is_task : ℕ → Option ℕ → Bool
+is_task t None = false
+is_task t (Some u) = u == t
+
+abbrev pub is_admit : Stamped → Bool
+is_admit e = is_some (admitted_task e.event)
+
+abbrev pub is_boot : Event → Bool
+is_boot event.Boot = true
+is_boot (event.Admit t) = false
+is_boot (event.Enter t) = false
+is_boot (event.Run t func item result) = false
+is_boot (event.Call t served status) = false
+is_boot (event.Left t served) = false
+is_boot (event.Back t) = false
+is_boot event.Idle = false
+is_boot event.Stray = false
+
+-- the events that are no admits
+abbrev pub others : List Stamped → List Stamped
+others events = filter (λ e. not (is_admit e)) events
+
+-- how many admits of a task, and arrivals of its line, a moment has
+abbrev pub admits_at : ℕ → ℕ → List Stamped → ℕ
+admits_at k t events = count_by (λ e. is_task t (admitted_task e.event) && (e.stamp.at == k)) events
+
+abbrev pub arrivals_at : ℕ → ℕ → List Arrival → ℕ
+arrivals_at k t arrivals = count_by (λ a. (a.line == t) && (a.at == k)) arrivals
+
+-- ---- stamps
+
+-- one instruction alone is seen in these events
+abbrev pub IsAlone : Stamped → Type 0
+IsAlone e = e.stamp.from ≡ e.stamp.at
+
+abbrev pub SpansFor : Event → Stamped → Type 0
+SpansFor event.Idle e = IsAlone e
+SpansFor (event.Run t func item result) e = IsAlone e
+SpansFor (event.Admit t) e = IsAlone e
+SpansFor event.Boot e = Unit {0}
+SpansFor (event.Enter t) e = Unit {0}
+SpansFor (event.Call t served status) e = Unit {0}
+SpansFor (event.Left t served) e = Unit {0}
+SpansFor (event.Back t) e = Unit {0}
+SpansFor event.Stray e = Unit {0}
+
+pub record IsStamped (n : ℕ) (e : Stamped) : Type 0 where
+  pub ordered : e.stamp.from ≤ e.stamp.at
+  pub spans : SpansFor e.event e
+  pub below : e.stamp.at < n
+
+-- ---- the arrivals that the end of the run leaves out
+
+-- none: each arrival of a moment below n is admitted
+abbrev pub AdmitsAll : ℕ → List Arrival → List Stamped → Type 0
+AdmitsAll n arrivals events = (k t : ℕ) → k < n → admits_at k t events ≡ arrivals_at k t arrivals
+
+-- the longest stretch that the end may cut off: boot before there is a `boot`
+abbrev pub longest : List Stamped → ℕ
+longest [] = 400
+longest (e ∷ events) = cond (is_boot e.event) 160 (longest events)
+
+-- those from moment k on, which fall into the stretch that the end cuts off
+pub record LeavesOut (n : ℕ) (arrivals : List Arrival) (events : List Stamped) (k : ℕ) : Type 0 where
+  pub admits : AdmitsAll k arrivals events
+  pub leaves : (moment t : ℕ) → k ≤ moment → admits_at moment t events ≡ 0
+  pub first : (t : ℕ) × (0 < arrivals_at k t arrivals)
+  pub inside : k < n
+  pub behind : All (λ e. e.stamp.at < k) (others events)
+  pub short : n - k < longest events
+
+-- ---- where an admit stands
+
+-- an event that is no admit and one behind it, an admit and an event behind it, and so on
+abbrev pub StandsBefore : Bool → Bool → Stamp → Stamp → Type 0
+StandsBefore false false earlier later = earlier.at < later.from
+StandsBefore true false admit later = admit.at ≤ later.at
+StandsBefore false true earlier admit = earlier.from < admit.at
+StandsBefore true true admit other = Unit {0}
+
+abbrev pub IsOrdered : Stamped → Stamped → Type 0
+IsOrdered earlier later = StandsBefore (is_admit earlier) (is_admit later) earlier.stamp later.stamp
+
+-- the first list is the second with some items left out
+abbrev pub IsSubsequence : List (ℕ × Option ℕ) → List (ℕ × Option ℕ) → Type 0
+IsSubsequence [] ys = Unit {0}
+IsSubsequence (x ∷ xs) [] = ⊥
+IsSubsequence (x ∷ xs) (y ∷ ys) = ((x ≡ y) × IsSubsequence xs ys) ⊎ IsSubsequence (x ∷ xs) ys
+
+-- admits with no other event between them keep the order of the arrivals
+abbrev pub KeepsOrder : List Arrival → List Stamped → Type 0
+KeepsOrder arrivals events =
+    (before group behind : List Stamped) → events ≡ before ++ (group ++ behind) → All (λ e. IsTrue (is_admit e)) group
+    → IsSubsequence (map (λ e. (e.stamp.at, admitted_task e.event)) group) (map (λ a. (a.at, Some a.line)) arrivals)
+
+pub record InTime (n : ℕ) (arrivals : List Arrival) (events : List Stamped) : Type 0 where
+  pub stamped : All (IsStamped n) events
+  pub placed : AllPairs IsOrdered events
+  pub in_order : KeepsOrder arrivals events
+  pub admitted : AdmitsAll n arrivals events ⊎ ((k : ℕ) × LeavesOut n arrivals events k)

@@ -1,0 +1,126 @@
+-- What the services do (OSEK OS 2.2.3, sections 13.2, 13.4 and 13.5).
+use Rattle.std.specs.Prelude.{ℕ, ◌-◌, ◌==◌, List, [], ◌∷◌, ◌++◌, true, false, cond, set, bit_and, bit_or}
+use Rattle.sloth_base.specs.declared.config.Config.{Config}
+use Rattle.sloth_base.specs.declared.app.App.{App}
+use Rattle.sloth_base.specs.declared.service.Service.{Service}
+use Rattle.sloth_base.specs.declared.service.Service.TheVariants as service
+use Rattle.osek_machine.specs.declared.state.TaskState.{TaskState}
+use Rattle.osek_machine.specs.declared.state.TaskState.TheVariants as mode
+use Rattle.osek_machine.specs.State.{Frame, Task, System, task, with_task, zero_registers, declaration, body_of, entry_frame}
+use Rattle.osek_machine.specs.Meaning.{going_on}
+
+-- the first where the task is Suspended, else the second
+abbrev pub if_suspended : {X : Type 0} → TaskState → X → X → X
+if_suspended mode.Suspended first second = first
+if_suspended mode.Ready first second = second
+if_suspended mode.Active first second = second
+if_suspended (mode.Waiting mask) first second = second
+
+abbrev pub with_state : System → ℕ → TaskState → System
+with_state s t state = with_task s t (record (task s t) { state = state })
+
+abbrev pub activated : System → ℕ → System
+activated s t = with_state s t mode.Ready
+
+-- ---- the caller
+
+-- the innermost function goes on behind its item
+abbrev pub moved : List Frame → List Frame
+moved [] = []
+moved (frame ∷ outer) = going_on frame ∷ outer
+
+-- a status in a0, x10
+abbrev pub answers : ℕ → Task → Task
+answers status t = record t { registers = set t.registers 5 status; frames = moved t.frames }
+
+-- status 0 in a0 and a value in a1, x11
+abbrev pub answers_with : ℕ → Task → Task
+answers_with value t = record t { registers = set (set t.registers 5 0) 6 value; frames = moved t.frames }
+
+abbrev pub answered : ℕ → ℕ → System → System
+answered status t s = with_task s t (answers status (task s t))
+
+abbrev pub answered_with : ℕ → ℕ → System → System
+answered_with value t s = with_task s t (answers_with value (task s t))
+
+-- the caller ends; what it leaves is clear for its next activation
+abbrev pub ended : ℕ → System → System
+ended t s = with_task s t (record (task s t) { state = mode.Suspended; registers = zero_registers; frames = []; events = 0; raised = false })
+
+-- the caller waits for one of these events, and gives its internal resource back
+abbrev pub waits : ℕ → Task → Task
+waits mask t = record t { state = mode.Waiting mask; frames = moved t.frames; raised = false }
+
+abbrev pub without_last : List ℕ → List ℕ
+without_last [] = []
+without_last (x ∷ []) = []
+without_last (x ∷ y ∷ ys) = x ∷ without_last (y ∷ ys)
+
+-- ---- events
+
+-- a task that waits for one of these set events is Ready
+abbrev pub woken : TaskState → ℕ → ℕ → System → System
+woken (mode.Waiting mask) events t s = cond (bit_and events mask == 0) s (activated s t)
+woken mode.Suspended events t s = s
+woken mode.Ready events t s = s
+woken mode.Active events t s = s
+
+abbrev pub with_events : System → ℕ → ℕ → System
+with_events s t events = with_task s t (record (task s t) { events = events })
+
+abbrev pub set_events : ℕ → ℕ → System → System
+set_events t mask s =
+    let events = bit_or (task s t).events mask in woken (task s t).state events t (with_events s t events)
+
+-- ---- outcomes
+
+-- the number of a task's state: running 0, waiting 1, ready or preempted 2, suspended 3
+abbrev pub state_number : ℕ → ℕ → TaskState → ℕ
+state_number caller t mode.Suspended = 3
+state_number caller t mode.Ready = 2
+state_number caller t mode.Active = cond (t == caller) 0 2
+state_number caller t (mode.Waiting mask) = 1
+
+-- the caller goes on with a status, or it leaves: it ended, or it waits
+pub data Outcome : Type 0 where
+  GoesOn : (status : ℕ) → System → Outcome
+  Leaves : System → Outcome
+
+-- `object` is the service's task or resource, `mask` that of its events
+abbrev pub outcome : Service → (object mask caller : ℕ) → System → Outcome
+outcome service.ActivateTask t mask caller s =
+    if_suspended (task s t).state (GoesOn 0 (activated (answered 0 caller s) t)) (GoesOn 4 (answered 4 caller s))
+outcome service.TerminateTask t mask caller s = Leaves (ended caller s)
+outcome service.ChainTask t mask caller s =
+    cond (t == caller) (Leaves (activated (ended caller s) caller))
+    (if_suspended (task s t).state (Leaves (activated (ended caller s) t)) (GoesOn 4 (answered 4 caller s)))
+outcome service.Schedule t mask caller s =
+    GoesOn 0 (with_task s caller (record (answers 0 (task s caller)) { raised = false; owed = true }))
+outcome service.GetTaskID t mask caller s = GoesOn 0 (answered_with caller caller s)
+outcome service.GetTaskState t mask caller s = GoesOn 0 (answered_with (state_number caller t (task s t).state) caller s)
+outcome service.GetResource r mask caller s =
+    GoesOn 0 (with_task s caller (record (answers 0 (task s caller)) { held = (task s caller).held ++ (r ∷ []) }))
+outcome service.ReleaseResource r mask caller s =
+    GoesOn 0 (with_task s caller (record (answers 0 (task s caller)) { held = without_last (task s caller).held }))
+outcome service.SetEvent t mask caller s =
+    if_suspended (task s t).state (GoesOn 7 (answered 7 caller s)) (GoesOn 0 (set_events t mask (answered 0 caller s)))
+outcome service.ClearEvent t mask caller s =
+    GoesOn 0 (with_task s caller (record (answers 0 (task s caller)) { events = bit_and (task s caller).events (4294967295 - mask) }))
+outcome service.GetEvent t mask caller s =
+    if_suspended (task s t).state (GoesOn 7 (answered 7 caller s)) (GoesOn 0 (answered_with (task s t).events caller s))
+outcome service.WaitEvent t mask caller s =
+    cond (bit_and (task s caller).events mask == 0)
+    (Leaves (with_task s caller (waits mask (task s caller))))
+    (GoesOn 0 (answered 0 caller s))
+
+-- ---- entries
+
+-- a task starts at the first item of its body with zero registers, or goes on behind its wait with a0 0
+abbrev pub starts : App → ℕ → List Frame → Task → Task
+starts app t [] old = record old { registers = zero_registers; frames = entry_frame app (body_of app.funcs t) ∷ [] }
+starts app t (frame ∷ outer) old = record old { registers = set old.registers 5 0 }
+
+-- a task that runs, with its internal resource where its scheduling is NON
+abbrev pub entered : Config → App → ℕ → System → System
+entered config app t s =
+    with_task s t (record (starts app t (task s t).frames (task s t)) { state = mode.Active; raised = (declaration config t).non })

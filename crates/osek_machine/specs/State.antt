@@ -1,0 +1,83 @@
+-- The state of the abstract machine: tasks, their registers, frames, events and resources, and the data.
+use Rattle.std.specs.Prelude.{ℕ, suc, ◌==◌, List, [], ◌∷◌, Bool, false, cond, Option, Some, None, get_or, set, map, replicate}
+use Rattle.sloth_base.specs.declared.config.Config.{Config}
+use Rattle.sloth_base.specs.declared.config.TaskDecl.{TaskDecl}
+use Rattle.sloth_base.specs.declared.app.App.{App}
+use Rattle.sloth_base.specs.declared.app.Func.{Func}
+use Rattle.osek_machine.specs.declared.state.TaskState.{TaskState}
+use Rattle.osek_machine.specs.declared.state.TaskState.TheVariants as mode
+
+-- a function that was entered: its number, the number of its next item, and the words of its frame
+pub record Frame : Type 0 where
+  pub func : ℕ
+  pub item : ℕ
+  pub words : List ℕ
+
+pub record Task : Type 0 where
+  pub state : TaskState
+  -- the 25 words x5 to x29
+  pub registers : List ℕ
+  -- the innermost first; with none the next entry starts the task anew
+  pub frames : List Frame
+  -- the mask of the events that are set
+  pub events : ℕ
+  -- the resources that it holds, in the order taken
+  pub held : List ℕ
+  -- it has its internal resource, so it runs at the highest task priority
+  pub raised : Bool
+  -- its Schedule has not come back yet
+  pub owed : Bool
+
+pub record System : Type 0 where
+  -- by task number
+  pub tasks : List Task
+  -- by symbol number: the bytes of the data
+  pub symbols : List (List ℕ)
+  pub booted : Bool
+  -- the tasks that admitted arrivals made Ready since the last event of another kind
+  pub fresh : List ℕ
+
+abbrev pub zero_registers : List ℕ
+zero_registers = replicate 25 0
+
+abbrev pub sleeping : Task
+sleeping = record { state = mode.Suspended; registers = zero_registers; frames = []; events = 0; held = []; raised = false; owed = false }
+
+-- a task by its number
+abbrev pub task : System → ℕ → Task
+task s t = get_or s.tasks t sleeping
+
+abbrev pub with_task : System → ℕ → Task → System
+with_task s t new = record s { tasks = set s.tasks t new }
+
+-- ---- what is declared
+
+abbrev pub undeclared : TaskDecl
+undeclared = record { name = []; priority = 0; extended = false; non = false; autostart = false; resources = []; events = 0 }
+
+-- a task's declaration
+abbrev pub declaration : Config → ℕ → TaskDecl
+declaration config t = get_or config.tasks t undeclared
+
+abbrev pub missing : Func
+missing = record { name = []; line = 0; task = None; frame_words = 0; items = []; labels = [] }
+
+abbrev pub function : App → ℕ → Func
+function app f = get_or app.funcs f missing
+
+abbrev pub is_body_of : ℕ → Option ℕ → Bool
+is_body_of t None = false
+is_body_of t (Some u) = u == t
+
+-- the number of a task's body
+abbrev pub body_of : List Func → ℕ → ℕ
+body_of [] t = 0
+body_of (f ∷ rest) t = cond (is_body_of t f.task) 0 (suc (body_of rest t))
+
+-- a function as it is entered
+abbrev pub entry_frame : App → ℕ → Frame
+entry_frame app f = record { func = f; item = 0; words = replicate (function app f).frame_words 0 }
+
+-- before the system has started
+abbrev pub opening : Config → App → System
+opening config app = record { tasks = map (λ _. sleeping) config.tasks; symbols = map (λ s. s.bytes) app.symbols; booted = false; fresh = [] }

@@ -1,0 +1,77 @@
+-- One event of the abstract machine.
+use Rattle.std.specs.Prelude.{ℕ, ◌<◌, ◌≡◌, List, [], ◌∷◌, true, false, cond, length, Some, get_or}
+use Rattle.sloth_base.specs.declared.config.Config.{Config}
+use Rattle.sloth_base.specs.declared.config.TaskDecl.{TaskDecl}
+use Rattle.sloth_base.specs.declared.app.App.{App}
+use Rattle.sloth_base.specs.declared.app.Call.{Call}
+use Rattle.sloth_base.specs.declared.app.Op.{Op}
+use Rattle.sloth_base.specs.declared.app.Op.TheVariants as op
+use Rattle.sloth_base.specs.declared.event.Event.{Event}
+use Rattle.sloth_base.specs.declared.event.Event.TheVariants as event
+use Rattle.sloth_base.specs.declared.service.Service.{Service}
+use Rattle.osek_machine.specs.declared.state.TaskState.TheVariants as mode
+use Rattle.osek_machine.specs.State.{Frame, Task, System, task, with_task, declaration, function}
+use Rattle.osek_machine.specs.Priority.{IsTop, IsDue}
+use Rattle.osek_machine.specs.Meaning.{Meant, meaning}
+use Rattle.osek_machine.specs.Services.{if_suspended, activated, Outcome, GoesOn, Leaves, outcome, entered}
+
+-- every event but an admit empties `fresh`
+abbrev pub settled : System → System
+settled s = record s { fresh = [] }
+
+abbrev pub autostarted : List TaskDecl → List Task → List Task
+autostarted [] tasks = tasks
+autostarted (d ∷ declarations) [] = []
+autostarted (d ∷ declarations) (t ∷ tasks) = cond d.autostart (record t { state = mode.Ready }) t ∷ autostarted declarations tasks
+
+-- an activation from outside
+abbrev pub admitted : ℕ → System → System
+admitted t s = if_suspended (task s t).state (record (activated s t) { fresh = t ∷ s.fresh }) s
+
+-- a task runs and owes no `back`; its next operation is this one
+pub record IsAt (app : App) (s : System) (t : ℕ) (operation : Op) : Type 0 where
+  pub active : (task s t).state ≡ mode.Active
+  pub free : (task s t).owed ≡ false
+  pub frame : Frame
+  pub outer : List Frame
+  pub frames : (task s t).frames ≡ frame ∷ outer
+  pub inside : frame.item < length (function app frame.func).items
+  pub next : (get_or (function app frame.func).items frame.item (record { line = 0; op = op.Return })).op ≡ operation
+
+-- the running task executes an item that is no service
+pub record Executes (config : Config) (app : App) (t func item result : ℕ) (s next : System) : Type 0 where
+  pub top : IsTop config s [] t
+  pub operation : Op
+  pub at : IsAt app s t operation
+  pub in_function : at.frame.func ≡ func
+  pub at_item : at.frame.item ≡ item
+  pub meant : Meant
+  pub means : meaning app operation (task s t).registers at.frame at.outer s.symbols ≡ Some meant
+  pub shows : meant.result ≡ result
+  pub is : next ≡ settled (record (with_task s t (record (task s t) { registers = meant.registers; frames = meant.frames })) { symbols = meant.symbols })
+
+-- the running task calls a service, with this outcome; arrivals admitted since the last event did not preempt it yet
+pub record Serves (config : Config) (app : App) (t : ℕ) (served : Service) (s : System) (answer : Outcome) : Type 0 where
+  pub top : IsTop config s s.fresh t
+  pub call : Call
+  pub at : IsAt app s t (op.Serve call)
+  pub same : call.service ≡ served
+  pub is : outcome served call.object call.mask t s ≡ answer
+
+-- the next state after an event
+abbrev pub OsekStep : Config → App → Event → System → System → Type 0
+OsekStep config app event.Boot s next =
+    (s.booted ≡ false) × (next ≡ settled (record s { tasks = autostarted config.tasks s.tasks; booted = true }))
+OsekStep config app (event.Admit t) s next = (s.booted ≡ true) × (t < length config.tasks) × (next ≡ admitted t s)
+OsekStep config app (event.Enter t) s next =
+    (s.booted ≡ true) × IsTop config s [] t × ((task s t).state ≡ mode.Ready) × (next ≡ settled (entered config app t s))
+OsekStep config app (event.Run t func item result) s next = (s.booted ≡ true) × Executes config app t func item result s next
+OsekStep config app (event.Call t served status) s next =
+    (s.booted ≡ true) × ((after : System) × Serves config app t served s (GoesOn status after) × (next ≡ settled after))
+OsekStep config app (event.Left t served) s next =
+    (s.booted ≡ true) × ((after : System) × Serves config app t served s (Leaves after) × (next ≡ settled after))
+OsekStep config app (event.Back t) s next =
+    (s.booted ≡ true) × IsTop config s [] t × ((task s t).state ≡ mode.Active) × ((task s t).owed ≡ true)
+    × (next ≡ settled (with_task s t (record (task s t) { owed = false; raised = (declaration config t).non })))
+OsekStep config app event.Idle s next = (s.booted ≡ true) × ((t : ℕ) → t < length config.tasks → ¬ (IsDue s t)) × (next ≡ settled s)
+OsekStep config app event.Stray s next = ⊥

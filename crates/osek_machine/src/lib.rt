@@ -1,0 +1,5 @@
+//! The abstract scheduler: the task model, the services, events, resources and the priority ceiling protocol of
+//! OSEK OS 2.2.3, with no levels, interrupt lines, contexts or addresses.
+#![tactic(auto)]
+
+pub mod state;
