@@ -1,0 +1,103 @@
+//! Levels: the numbers by which the interrupt controller does the work of the scheduler.
+#![tactic(auto)]
+
+ghost use Rattle.std.specs.Prelude.{◌≡◌, ◌<◌, ◌≤◌, ℕ, if◌then◌else◌, max, length, Contains, slice_index, slice_index_or};
+ghost use Rattle.sloth_base.specs.declared.config.TaskDecl.{TaskDecl};
+ghost use Rattle.sloth_base.specs.ConfigRange.{InRange};
+ghost use Rattle.prio_levels.specs.Levels.{rank, lists, ceiling, AreRanks, AreCeilings, AreLevels};
+
+use sloth_base::config::{Config, TaskDecl};
+use sloth_base::places::Levels;
+
+/// How many of the tasks have at most this priority.
+fn rank_of(tasks: &[TaskDecl], priority: u32) -> usize
+    ensures rank { result ≡ rank tasks.now priority }
+    ensures few { result ≤ length tasks.now }
+{
+    tasks
+        .iter()
+        .filter(|task| task.priority <= priority)
+        .count()
+}
+
+/// The levels of the tasks in the order of their numbers, then zeros.
+fn ranks(tasks: &[TaskDecl]) -> [u8; 30]
+    requires { length tasks.now ≤ 30 }
+    ensures { AreRanks tasks.now result }
+{
+    let mut levels = [0; 30];
+    for (number, task) in tasks.iter().enumerate() {
+        levels[number] = rank_of(tasks, task.priority) as u8;
+    }
+    levels
+}
+
+fn lists_resource(task: &TaskDecl, resource: u32) -> bool
+    ensures { result ≡ lists resource task.now }
+{
+    task.resources
+        .items()
+        .iter()
+        .any(|listed| listed.0 == resource)
+}
+
+/// The greater of two levels, where the second counts.
+fn raised(greatest: u8, counts: bool, level: u8) -> u8
+    ensures { result ≡ (if counts then max greatest level else greatest) }
+{
+    if counts && greatest < level {
+        level
+    } else {
+        greatest
+    }
+}
+
+/// The greatest level of the tasks that list the resource, 0 where none does.
+fn ceiling_of(tasks: &[TaskDecl], resource: u32) -> u8
+    requires { length tasks.now ≤ 30 }
+    ensures { result ≡ ceiling tasks.now resource }
+{
+    let mut greatest = 0;
+    for task in tasks {
+        let level = rank_of(tasks, task.priority) as u8;
+        greatest = raised(greatest, lists_resource(task, resource), level);
+    }
+    greatest
+}
+
+/// The ceilings of the resources 0 to 31, and that of RES_SCHEDULER.
+fn ceilings(tasks: &[TaskDecl]) -> [u8; 33]
+    requires { length tasks.now ≤ 30 }
+    ensures { AreCeilings tasks.now result }
+{
+    let mut ceilings = [0; 33];
+    for resource in 0..32 {
+        ceilings[resource as usize] = ceiling_of(tasks, resource);
+    }
+    ceilings[32] = tasks.len() as u8;
+    ceilings
+}
+
+/// The level of a task is its rank by priority, from 1. The ceiling of a resource is the level of the highest task that lists it,
+/// 0 where none does (OSEK OS 2.2.3, section 8.5). The ceiling of RES_SCHEDULER, entry 32, is the highest task's level.
+pub fn assign(config: &Config) -> Levels
+    requires { InRange config.now }
+    ensures levels { AreLevels config.now result }
+    // A greater priority is a greater level.
+    ensures ordered { (s t : ℕ) (d : TaskDecl) → s < length config.now.tasks → t < length config.now.tasks
+        → (slice_index_or config.now.tasks s d).priority < (slice_index_or config.now.tasks t d).priority
+        → slice_index result.task s < slice_index result.task t }
+    // Levels go from 1 to `top`.
+    ensures within { (t : ℕ) → t < length config.now.tasks
+        → (0 < slice_index result.task t) × (slice_index result.task t ≤ result.top) }
+    // A ceiling is no less than the level of a task that lists the resource.
+    ensures covers { (t r : ℕ) (d : TaskDecl) → t < length config.now.tasks → Contains (slice_index_or config.now.tasks t d).resources r
+        → slice_index result.task t ≤ slice_index result.ceiling r }
+{
+    let tasks = config.tasks.items();
+    Levels {
+        task: ranks(tasks),
+        ceiling: ceilings(tasks),
+        top: tasks.len() as u8,
+    }
+}
