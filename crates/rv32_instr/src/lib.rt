@@ -8,13 +8,17 @@ use std::marker::Model;
 
 pub mod block;
 pub mod decoding;
+pub mod effect;
 pub mod encoding;
 pub mod fields;
 pub mod opcodes;
+pub mod stop;
 
 pub use block::Block;
 pub use decoding::decode;
+pub use effect::{Change, Effect};
 pub use encoding::encode;
+pub use stop::{Bad, Stop};
 
 /// One instruction: its mnemonic and its fields. `specs/Range.antt` has the ranges of the fields.
 #[derive(Clone, Copy, PartialEq, Eq, Debug)]

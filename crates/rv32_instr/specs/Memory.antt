@@ -1,0 +1,81 @@
+-- What loads and stores see: 2 MiB of RAM from 0x80000000 on, and the controller's 96 bytes from 0x10000000 on.
+use Rattle.std.specs.Prelude.{ℕ, ◌+◌, ◌-◌, ◌%◌, List, Bool, Option, Some, None, if◌then◌else◌, ◌==◌, ◌&&◌, ◌||◌, nat_le, nat_lt, slice_index}
+use Rattle.sloth_base.specs.declared.app.Width.{Width}
+use Rattle.sloth_base.specs.declared.app.Width.TheVariants as width
+use Rattle.sloth_base.specs.Machine.{Core}
+use Rattle.sloth_base.specs.Lines.{Lines, lines_of, controller_byte, with_controller_byte}
+use Rattle.rv32_instr.specs.declared.stop.Bad.{Bad}
+use Rattle.rv32_instr.specs.declared.stop.Bad.TheVariants as bad
+use Rattle.rv32_instr.specs.Fields.{signed, complement}
+use Rattle.rv32_instr.specs.Ram.{half_at, word_at, with_byte, with_half, with_word}
+
+pub record Memory : Type 0 where
+  pub ram : List ℕ
+  pub lines : Lines
+  -- whether the controller is there
+  pub controller : Bool
+
+abbrev pub memory_of : Core → Memory
+memory_of core = record { ram = core.ram; lines = lines_of core; controller = core.controller }
+
+abbrev pub with_memory : Core → Memory → Core
+with_memory core memory = record core {
+  ram = memory.ram;
+  pending = memory.lines.pending;
+  enabled = memory.lines.enabled;
+  levels = memory.lines.levels;
+  controller = memory.controller;
+}
+
+-- the bytes of an access
+abbrev pub size_of : Width → ℕ
+size_of width.Byte = 1
+size_of width.Half = 2
+size_of width.Word = 4
+size_of width.ByteU = 1
+size_of width.HalfU = 2
+
+-- so many bytes from an address on are in RAM
+abbrev pub in_ram : ℕ → ℕ → Bool
+in_ram address size = nat_le 0x8000_0000 address && nat_le (address + size) 0x8020_0000
+
+abbrev pub in_controller : ℕ → Bool
+in_controller address = nat_le 0x1000_0000 address && nat_lt address 0x1000_0060
+
+-- why an access is refused; the controller has byte accesses alone
+unfoldable pub refusal : Memory → ℕ → Width → Option Bad
+refusal memory address width =
+    if address % size_of width == 0 then
+    (if in_ram address (size_of width) || (memory.controller && (in_controller address && (size_of width == 1)))
+    then None
+    else Some bad.Access)
+    else Some bad.Misaligned
+
+-- what a load gives, which Byte and Half extend by the sign
+abbrev pub loaded_byte : Memory → ℕ → ℕ
+loaded_byte memory address =
+    if in_ram address 1 then slice_index memory.ram (address - 0x8000_0000)
+    else controller_byte memory.lines (address - 0x1000_0000)
+
+unfoldable pub loaded : Memory → ℕ → Width → ℕ
+loaded memory address width.Byte = complement (signed 8 (loaded_byte memory address))
+loaded memory address width.Half = complement (signed 16 (half_at memory.ram (address - 0x8000_0000)))
+loaded memory address width.Word = word_at memory.ram (address - 0x8000_0000)
+loaded memory address width.ByteU = loaded_byte memory address
+loaded memory address width.HalfU = half_at memory.ram (address - 0x8000_0000)
+
+-- the memory after a store of the value's low bytes
+abbrev pub stored_byte : Memory → ℕ → ℕ → Memory
+stored_byte memory address value =
+    if in_ram address 1 then record memory { ram = with_byte memory.ram (address - 0x8000_0000) value }
+    else record memory { lines = with_controller_byte memory.lines (address - 0x1000_0000) (value % 256) }
+
+unfoldable pub stored : Memory → ℕ → Width → ℕ → Memory
+stored memory address width.Byte value = stored_byte memory address value
+stored memory address width.Half value =
+    record memory { ram = with_half memory.ram (address - 0x8000_0000) value }
+stored memory address width.Word value =
+    record memory { ram = with_word memory.ram (address - 0x8000_0000) value }
+stored memory address width.ByteU value = stored_byte memory address value
+stored memory address width.HalfU value =
+    record memory { ram = with_half memory.ram (address - 0x8000_0000) value }
