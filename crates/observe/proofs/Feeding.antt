@@ -1,0 +1,39 @@
+-- The relation of an observer, its steps and its events goes on.
+use Rattle.std.proofs.Common.{◌≡◌, ◌↔◌, ◌+◌, suc, arith, List, [], ◌∷◌, ◌++◌, Option, Some, None, IsNone, IfNone, length, refl, sym, ◌∙◌, ap, append-nil, length-append}
+use Rattle.sloth_base.specs.declared.event.Arrival.{Arrival}
+use Rattle.sloth_base.specs.declared.event.Stamped.{Stamped}
+use Rattle.sloth_base.specs.declared.step.Step.{Step}
+use Rattle.observe.specs.Pieces.{cut_off}
+use Rattle.observe.specs.Observe.{View, observe}
+use Rattle.observe.specs.Progress.{Progress, left_over, advanced, one_or_none, FedProgress, from}
+use Rattle.observe.proofs.Cutting.{cut_off-append}
+use Rattle.observe.proofs.Growing.{observe-more}
+use Rattle.observe.proofs.Turning.{Ready, Turned, turned}
+
+pub fed-keeps : (view : View) (arrivals : List Arrival) (p : Progress) (step : Step) (run : List Step) (events : List Stamped)
+    → FedProgress view arrivals p run events → left_over view p ≡ [] → step.count ≡ p.expected → FedProgress view arrivals (advanced view p step) (run ++ step ∷ []) events
+fed-keeps view arrivals p step run events f drained e =
+    let r : Ready arrivals p step = record { ordered = f.ordered; lines = f.lines; coming = rw e f.coming; count = e } in
+    let t : Turned view arrivals (advanced view p step) (cut_off [] run) step = turned view arrivals p step p.first (cut_off [] run) r refl f.stretch in
+    record {
+      ordered = f.ordered;
+      lines = f.lines;
+      told =
+          let all : events ≡ observe view arrivals run = sym (append-nil events) ∙ ap (λ more. events ++ more) (sym drained) ∙ f.told in
+          rw all (sym (observe-more view arrivals run step (left_over view (advanced view p step)) t.brings));
+      expected = t.expected ∙ ap (λ n. n + 1) (e ∙ f.expected) ∙ sym (length-append run (step ∷ []));
+      coming = t.coming ∙ ap (λ n. from n arrivals) (sym t.expected);
+      stretch = rw (cut_off-append [] run (step ∷ [])) t.stretch;
+    }
+
+-- what was handed out is all exactly where nothing is left
+pub told-exact : (next : Option Stamped) (events before after whole : List Stamped) → events ++ before ≡ whole → before ≡ one_or_none next ++ after → IfNone next (after ≡ [])
+    → IsNone next ↔ (events ≡ whole)
+told-exact None events before after whole told pops none = (λ is. sym (append-nil events) ∙ ap (λ more. events ++ more) (sym (pops ∙ none)) ∙ told, λ same. refl)
+told-exact (Some event) events before after whole told pops none = (
+  λ is. absurd cc,
+  λ same. (let long : length (events ++ before) ≡ length events = ap length (told ∙ sym same) in
+      let more : length before ≡ suc (length after) = ap length pops in
+      let both : length (events ++ before) ≡ length events + length before = length-append events before in
+      absurd (omega arith)),
+)

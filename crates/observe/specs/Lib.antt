@@ -1,0 +1,4 @@
+pub mod Pieces
+pub mod Observe
+pub mod Touched
+pub mod Progress

@@ -1,0 +1,155 @@
+-- The events of a run.
+use Rattle.std.specs.Prelude.{ℕ, ◌+◌, ◌-◌, ◌==◌, nat_lt, nat_le, Bool, false, not, ◌&&◌, if◌then◌else◌, List, [], ◌∷◌, ◌++◌, map, filter, length, Option, Some, None, slice_index, slice_get, find}
+use Rattle.std.specs.List.{flat_map, list_any}
+use Rattle.std.specs.List.Sorted.{IsStrictlyIncreasing}
+use Rattle.sloth_base.specs.declared.service.Service.{Service}
+use Rattle.sloth_base.specs.declared.service.Service.TheVariants as service
+use Rattle.sloth_base.specs.declared.image.Image.{Image}
+use Rattle.sloth_base.specs.declared.image.Mark.{Mark}
+use Rattle.sloth_base.specs.declared.image.MarkKind.{MarkKind}
+use Rattle.sloth_base.specs.declared.image.MarkKind.TheVariants as kind
+use Rattle.sloth_base.specs.declared.event.Arrival.{Arrival}
+use Rattle.sloth_base.specs.declared.event.Event.{Event}
+use Rattle.sloth_base.specs.declared.event.Event.TheVariants as event
+use Rattle.sloth_base.specs.declared.event.Stamped.{Stamped}
+use Rattle.sloth_base.specs.declared.step.Step.{Step}
+use Rattle.sloth_base.specs.Arrivals.{moments}
+use Rattle.observe.specs.Pieces.{Piece, Outside, Stretch, pieces, cut_off}
+
+-- what a run is observed by: the marks of the image, and its number of tasks
+pub record View : Type 0 where
+  pub marks : List Mark
+  pub tasks : ℕ
+
+abbrev pub view_from : List Mark → ℕ → View
+view_from marks tasks = record { marks = marks; tasks = tasks }
+
+abbrev pub view_of_image : Image → View
+view_of_image image = view_from image.marks (length image.tasks)
+
+-- ---- tasks, services and marks
+
+-- the addresses of the marks rise
+abbrev pub AreAscending : List Mark → Type 0
+AreAscending marks = IsStrictlyIncreasing (map (λ mark. mark.address) marks)
+
+-- the number of no task
+abbrev pub NO_TASK : ℕ
+NO_TASK = 4294967295
+
+-- The task of the word at 0x80000000: that word is 0 where no task runs, and a task's number plus 1 where it does.
+abbrev pub task_of : ℕ → ℕ → ℕ
+task_of tasks cur = if nat_lt 0 cur && nat_le cur tasks then cur - 1 else NO_TASK
+
+-- a task's line has the task's number
+abbrev pub task_of_line : ℕ → ℕ → ℕ
+task_of_line tasks line = if nat_lt line tasks then line else NO_TASK
+
+-- the services in the order of their codes
+abbrev pub services : List Service
+services = service.ActivateTask ∷ service.TerminateTask ∷ service.ChainTask ∷ service.Schedule ∷ service.GetTaskID ∷ service.GetTaskState ∷ service.GetResource ∷ service.ReleaseResource ∷ service.SetEvent ∷ service.ClearEvent ∷ service.GetEvent ∷ service.WaitEvent ∷ []
+
+-- the mark on the instruction at this address
+abbrev pub mark_at : View → ℕ → Option Mark
+mark_at view address = find (λ mark. mark.address == address) view.marks
+
+-- ---- the event of a piece
+
+abbrev pub stamp : ℕ → ℕ → Event → Stamped
+stamp from at what = record { stamp = record { from = from; at = at }; event = what }
+
+-- Of a stretch that begins at the opening mark of a service: the service returns where the running task is as
+-- before, with its status in a0. No service has a code above 11, and no image in range such a mark.
+abbrev pub service_event : Option Service → View → Step → Step → Event
+service_event (Some called) view first last =
+    if first.cur_before == last.cur_after
+    then event.Call (task_of view.tasks first.cur_before) called (slice_index last.regs 10)
+    else event.Left (task_of view.tasks first.cur_before) called
+service_event None view first last = event.Stray
+
+abbrev pub marked_event : MarkKind → View → Mark → Step → Step → Event
+marked_event kind.Opening view mark first last = service_event (slice_get services mark.a) view first last
+marked_event kind.Back view mark first last = event.Back (task_of view.tasks first.cur_before)
+marked_event kind.Item view mark first last = event.Stray
+marked_event kind.Jump view mark first last = event.Stray
+marked_event kind.Idle view mark first last = event.Stray
+
+-- of a stretch that no line began
+abbrev pub unentered_event : Option Mark → View → Step → Step → Event
+unentered_event (Some mark) view first last = marked_event mark.kind view mark first last
+unentered_event None view first last = event.Stray
+
+-- of a stretch after that of count 0
+abbrev pub later_event : Option ℕ → View → Step → Step → Event
+later_event (Some line) view first last = event.Enter (task_of_line view.tasks line)
+later_event None view first last = unentered_event (mark_at view first.pc) view first last
+
+-- of a stretch with this first and this last step
+abbrev pub stretch_event : View → Step → Step → Event
+stretch_event view first last = if first.count == 0 then event.Boot else later_event first.entered view first last
+
+-- an instruction at an item mark runs the item, and the mark names the register of its result
+abbrev pub events_of_kind : MarkKind → View → Mark → Step → List Event
+events_of_kind kind.Item view mark step = event.Run (task_of view.tasks step.cur_before) mark.b mark.c (slice_index step.regs mark.a) ∷ []
+events_of_kind kind.Idle view mark step = event.Idle ∷ []
+events_of_kind kind.Jump view mark step = []
+events_of_kind kind.Opening view mark step = []
+events_of_kind kind.Back view mark step = []
+
+-- of a step outside the stretches
+abbrev pub outside_events : Option Mark → View → Step → List Event
+outside_events (Some mark) view step = events_of_kind mark.kind view mark step
+outside_events None view step = []
+
+-- ---- the admits
+
+abbrev pub admit : View → Arrival → Stamped
+admit view arrival = stamp arrival.at arrival.at (event.Admit (task_of_line view.tasks arrival.line))
+
+abbrev pub is_line : Option ℕ → ℕ → Bool
+is_line (Some touched) line = touched == line
+is_line None line = false
+
+-- the step, at that moment or later, loads the pending byte of the line or stores zero to it
+abbrev pub touches : ℕ → ℕ → Step → Bool
+touches at line step = nat_le at step.count && is_line step.touched line
+
+-- the arrival comes before a step of these that touches its line
+abbrev pub is_early : List Step → Arrival → Bool
+is_early steps arrival = list_any (touches arrival.at arrival.line) steps
+
+-- the first moment of a stretch that finds MIE 0
+abbrev pub masked_from : Step → ℕ
+masked_from first = if first.enabled_before then first.count + 1 else first.count
+
+abbrev pub last_of : Step → List Step → Step
+last_of step [] = step
+last_of step (next ∷ more) = last_of next more
+
+-- an arrival that the first moment of a stretch finds with MIE 1
+abbrev pub found_admits : View → List Arrival → List Step → List Stamped
+found_admits view arrivals [] = []
+found_admits view arrivals (first ∷ more) = map (admit view) (moments first.count (masked_from first) arrivals)
+
+-- The event of a stretch, with the arrivals inside it: the early ones before it and the late ones behind it.
+abbrev pub placed : View → List Step → List Arrival → Step → Step → List Stamped
+placed view steps inside first last =
+    map (admit view) (filter (is_early steps) inside)
+    ++ (stamp first.count last.count (stretch_event view first last)
+    ∷ map (admit view) (filter (λ arrival. not (is_early steps arrival)) inside))
+
+abbrev pub stretch_events : View → List Arrival → List Step → List Stamped
+stretch_events view arrivals [] = []
+stretch_events view arrivals (first ∷ more) =
+    placed view (first ∷ more) (moments (masked_from first) ((last_of first more).count + 1) arrivals) first (last_of first more)
+
+abbrev pub piece_events : View → List Arrival → Piece → List Stamped
+piece_events view arrivals (Outside step) =
+    map (admit view) (moments step.count (step.count + 1) arrivals)
+    ++ map (stamp step.count step.count) (outside_events (mark_at view step.pc) view step)
+piece_events view arrivals (Stretch steps) = found_admits view arrivals steps ++ stretch_events view arrivals steps
+
+-- The events of a run. A stretch that the end of the run cuts off shows no event, and none of the arrivals inside it.
+unfoldable pub observe : View → List Arrival → List Step → List Stamped
+observe view arrivals steps =
+    flat_map (piece_events view arrivals) (pieces [] steps) ++ found_admits view arrivals (cut_off [] steps)

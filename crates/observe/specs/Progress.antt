@@ -1,0 +1,154 @@
+-- An observer that is fed one step at a time.
+use Rattle.std.specs.Prelude.{ℕ, ◌≡◌, ◌+◌, ◌-◌, ◌≤◌, nat_le, not, if◌then◌else◌, List, [], ◌∷◌, ◌++◌, map, filter, take_while, length, take, drop, replicate, Option, Some, None}
+use Rattle.sloth_base.specs.declared.event.Arrival.{Arrival}
+use Rattle.sloth_base.specs.declared.event.Stamped.{Stamped}
+use Rattle.sloth_base.specs.declared.step.Step.{Step}
+use Rattle.sloth_base.specs.Arrivals.{NeverFalls}
+use Rattle.observe.specs.declared.observer.Observer.{Observer}
+use Rattle.observe.specs.Pieces.{begins, cut_off}
+use Rattle.observe.specs.Observe.{View, view_from, mark_at, outside_events, stretch_event, stamp, admit, masked_from, observe}
+use Rattle.observe.specs.Touched.{was_touched, noted, AreLines, Tells}
+
+-- an observer without its references, its view and its list of arrivals
+pub record Progress : Type 0 where
+  -- the count that it expects next
+  pub expected : ℕ
+  -- the arrivals of that moment and of later ones
+  pub coming : List Arrival
+  -- the first step of the open stretch
+  pub first : Option Step
+  -- the arrivals from the first masked moment of that stretch on
+  pub inside : List Arrival
+  -- for each line the count after the last step of that stretch that touched it, or 0
+  pub touched : List ℕ
+  -- what is to be handed out: the admits of found arrivals, of early ones, the event, the admits of late ones
+  pub found : List Arrival
+  pub before : List Arrival
+  pub event : Option Stamped
+  pub after : List Arrival
+
+abbrev pub progress_of : Observer → Progress
+progress_of o = record { expected = o.expected; coming = o.coming.now; first = o.first; inside = o.inside.now; touched = o.touched; found = o.found.now; before = o.before.now; event = o.event; after = o.after.now }
+
+-- ---- what other crates name of an observer
+
+abbrev pub view_of : Observer → View
+view_of o = view_from o.view.marks.now o.view.tasks
+
+abbrev pub arrivals_of : Observer → List Arrival
+arrivals_of o = o.arrivals.now
+
+-- the count that it expects next
+abbrev pub expected_of : Observer → ℕ
+expected_of o = o.expected
+
+-- ---- what is still to be handed out
+
+abbrev pub one_or_none : Option Stamped → List Stamped
+one_or_none None = []
+one_or_none (Some what) = what ∷ []
+
+abbrev pub left_over : View → Progress → List Stamped
+left_over view p =
+    map (admit view) p.found
+    ++ (map (admit view) (filter (was_touched p.touched) p.before)
+    ++ (one_or_none p.event
+    ++ map (admit view) (filter (λ arrival. not (was_touched p.touched arrival)) p.after)))
+
+-- the finished events that the observer has not handed out
+abbrev pub remaining : Observer → List Stamped
+remaining o = left_over (view_of o) (progress_of o)
+
+-- ---- one step more
+
+-- the arrivals of this moment or earlier, and those of later moments
+abbrev pub here : ℕ → List Arrival → List Arrival
+here count coming = take_while (λ arrival. nat_le arrival.at count) coming
+
+abbrev pub behind : ℕ → List Arrival → List Arrival
+behind count coming = drop (length (here count coming)) coming
+
+-- of the arrivals from the start of a stretch on those inside it, where these are coming behind it
+abbrev pub within : List Arrival → List Arrival → List Arrival
+within inside coming = take (length inside - length coming) inside
+
+abbrev pub ended : View → Progress → Step → Step → Progress
+ended view p first last = record p {
+  first = None;
+  before = within p.inside p.coming;
+  event = Some (stamp first.count last.count (stretch_event view first last));
+  after = within p.inside p.coming;
+}
+
+-- the step's line is noted
+abbrev pub noting : Progress → Step → Progress
+noting p step = record p { touched = noted step.touched step.count p.touched }
+
+-- the stretch of the first step goes on with this one
+abbrev pub joined : View → Progress → Step → Step → Progress
+joined view p first step =
+    if step.enabled_after then ended view (noting p step) first step else record (noting p step) { first = Some first }
+
+-- the step is counted, and its arrivals have passed
+abbrev pub passed : Progress → Step → Progress
+passed p step = record p { expected = p.expected + 1; coming = behind step.count p.coming; found = []; before = []; event = None; after = [] }
+
+abbrev pub begun : Progress → Step → Progress
+begun p step = record (passed p step) {
+  touched = replicate 32 0;
+  inside = if step.enabled_before then behind step.count p.coming else p.coming;
+  found = if step.enabled_before then here step.count p.coming else [];
+}
+
+-- the only element
+abbrev pub only : List Stamped → Option Stamped
+only [] = None
+only (what ∷ more) = Some what
+
+abbrev pub stood_outside : View → Progress → Step → Progress
+stood_outside view p step = record (passed p step) {
+  found = here step.count p.coming;
+  event = only (map (stamp step.count step.count) (outside_events (mark_at view step.pc) view step));
+}
+
+abbrev pub advanced_from : Option Step → View → Progress → Step → Progress
+advanced_from None view p step = if begins step then joined view (begun p step) step step else stood_outside view p step
+advanced_from (Some first) view p step = joined view (passed p step) first step
+
+abbrev pub advanced : View → Progress → Step → Progress
+advanced view p step = advanced_from p.first view p step
+
+-- all but what is to be handed out
+abbrev pub settled : Progress → Progress
+settled p = record p { found = []; before = []; event = None; after = [] }
+
+-- ---- what holds of an observer
+
+-- the arrivals of this moment and of later ones
+abbrev pub from : ℕ → List Arrival → List Arrival
+from moment arrivals = filter (λ arrival. nat_le moment arrival.at) arrivals
+
+pub record IsStretch (arrivals : List Arrival) (p : Progress) (first : Step) (steps : List Step) : Type 0 where
+  pub inside : p.inside ≡ from (masked_from first) arrivals
+  pub begun : masked_from first ≤ p.expected
+  pub tells : Tells p.touched p.expected steps
+
+-- the open stretch is that of these steps
+abbrev pub IsOpen : List Arrival → Progress → Option Step → List Step → Type 0
+IsOpen arrivals p None [] = Unit {0}
+IsOpen arrivals p None (step ∷ steps) = ⊥
+IsOpen arrivals p (Some first) [] = ⊥
+IsOpen arrivals p (Some first) (step ∷ steps) = (first ≡ step) × IsStretch arrivals p first (step ∷ steps)
+
+pub record FedProgress (view : View) (arrivals : List Arrival) (p : Progress) (steps : List Step) (events : List Stamped) : Type 0 where
+  pub ordered : NeverFalls 0 arrivals
+  pub lines : AreLines arrivals
+  pub told : events ++ left_over view p ≡ observe view arrivals steps
+  pub expected : p.expected ≡ length steps
+  pub coming : p.coming ≡ from p.expected arrivals
+  pub stretch : IsOpen arrivals p p.first (cut_off [] steps)
+
+-- The observer was fed these steps and has handed out these events: they are the front of the run's events, of
+-- which the rest remains; it expects the next count; and its open stretch is that of the steps.
+abbrev pub Fed : Observer → List Step → List Stamped → Type 0
+Fed o steps events = FedProgress (view_of o) (arrivals_of o) (progress_of o) steps events

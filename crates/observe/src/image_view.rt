@@ -1,0 +1,157 @@
+//! What a run is observed by, and the event of a part of a run.
+ghost use Rattle.observe.specs.Observe.{AreAscending};
+
+use sloth_base::event::{Event, Stamp, Stamped};
+use sloth_base::image::{Mark, MarkKind};
+use sloth_base::numbers::Line;
+use sloth_base::service::Service;
+use sloth_base::step::Step;
+
+// In the order of their codes.
+const SERVICES: [Service; 12] = [
+    Service::ActivateTask,
+    Service::TerminateTask,
+    Service::ChainTask,
+    Service::Schedule,
+    Service::GetTaskID,
+    Service::GetTaskState,
+    Service::GetResource,
+    Service::ReleaseResource,
+    Service::SetEvent,
+    Service::ClearEvent,
+    Service::GetEvent,
+    Service::WaitEvent,
+];
+
+/// The marks of an image and its number of tasks.
+#[derive(Drop)]
+pub struct ImageView<'a> {
+    pub marks: &'a [Mark],
+    pub tasks: usize,
+    ghost ascending: { AreAscending marks.now },
+}
+
+impl ImageView<'_> {
+    ghost use Rattle.std.specs.Prelude.{◌≡◌, ◌==◌, map, find, slice_get, slice_index};
+    ghost use Rattle.observe.specs.Observe.{view_from, task_of, task_of_line, services, mark_at, service_event, marked_event, unentered_event, stretch_event, outside_events, stamp};
+    ghost use Rattle.observe.specs.Progress.{only};
+
+    // The mark on the instruction at this address.
+    fn mark(&self, address: u32) -> Option<Mark>
+        ensures { result ≡ find (λ mark. mark.address == address) self.now.marks.now }
+    {
+        match self
+            .marks
+            .binary_search_by_key(&address, |mark| mark.address)
+        {
+            Ok(place) => Some(self.marks[place]),
+            Err(_) => None,
+        }
+    }
+
+    // The task of the word at 0x80000000.
+    fn task(&self, cur: u32) -> u32
+        ensures { result ≡ task_of self.now.tasks cur }
+    {
+        if 0 < cur && cur as usize <= self.tasks {
+            cur - 1
+        } else {
+            u32::MAX
+        }
+    }
+
+    /// The task of a line, or 4,294,967,295.
+    pub fn task_of_line(&self, line: Line) -> u32
+        ensures { result ≡ task_of_line self.now.tasks line }
+    {
+        if usize::from(line.0) < self.tasks {
+            u32::from(line.0)
+        } else {
+            u32::MAX
+        }
+    }
+
+    /// The event of a step outside the stretches.
+    pub fn outside_event(&self, step: &Step) -> Option<Stamped>
+        ensures { result ≡ only (map (stamp step.now.count step.now.count) (outside_events (mark_at (view_from self.now.marks.now self.now.tasks) step.now.pc) (view_from self.now.marks.now self.now.tasks) step.now)) }
+    {
+        let mark = self.mark(step.pc)?;
+        let event = match mark.kind {
+            MarkKind::Item => Event::Run {
+                task: self.task(step.cur_before),
+                func: u32::from(mark.b),
+                item: mark.c,
+                result: register(&step.regs, mark.a),
+            },
+            MarkKind::Idle => Event::Idle,
+            _ => return None,
+        };
+        let stamp = Stamp {
+            from: step.count,
+            at: step.count,
+        };
+        Some(Stamped { stamp, event })
+    }
+
+    // The event of a stretch that begins at an opening mark.
+    fn service_event(&self, code: u8, first: &Step, last: &Step) -> Event
+        ensures { result ≡ service_event (slice_get services code) (view_from self.now.marks.now self.now.tasks) first.now last.now }
+    {
+        let Some(service) = service_of_code(code) else {
+            return Event::Stray;
+        };
+        let task = self.task(first.cur_before);
+        if first.cur_before == last.cur_after {
+            Event::Call {
+                task,
+                service,
+                status: register(&last.regs, 10),
+            }
+        } else {
+            Event::Left { task, service }
+        }
+    }
+
+    // The event of a stretch that no line began.
+    fn unentered_event(&self, first: &Step, last: &Step) -> Event
+        ensures { result ≡ unentered_event (mark_at (view_from self.now.marks.now self.now.tasks) first.now.pc) (view_from self.now.marks.now self.now.tasks) first.now last.now }
+    {
+        let Some(mark) = self.mark(first.pc) else {
+            return Event::Stray;
+        };
+        match mark.kind {
+            MarkKind::Opening => self.service_event(mark.a, first, last),
+            MarkKind::Back => Event::Back(self.task(first.cur_before)),
+            _ => Event::Stray,
+        }
+    }
+
+    /// The event of a stretch with this first and this last step.
+    pub fn stretch_event(&self, first: &Step, last: &Step) -> Event
+        ensures { result ≡ stretch_event (view_from self.now.marks.now self.now.tasks) first.now last.now }
+    {
+        if first.count == 0 {
+            return Event::Boot;
+        }
+        match first.entered {
+            Some(line) => Event::Enter(self.task_of_line(line)),
+            None => self.unentered_event(first, last),
+        }
+    }
+}
+
+ghost use Rattle.std.specs.Prelude.{◌≡◌, slice_get, slice_index};
+ghost use Rattle.observe.specs.Observe.{services};
+
+// The service of a code.
+fn service_of_code(code: u8) -> Option<Service>
+    ensures { result ≡ slice_get services code }
+{
+    SERVICES.get(usize::from(code)).copied()
+}
+
+fn register(regs: &[u32; 32], number: u8) -> u32
+    ensures { result ≡ slice_index regs.now number }
+{
+    regs.get(usize::from(number)).copied().unwrap_or(0)
+}

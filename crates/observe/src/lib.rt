@@ -1,0 +1,7 @@
+//! What is observed of a run: the events of its steps.
+#![tactic(auto)]
+
+pub mod image_view;
+pub mod laws;
+pub mod observer;
+mod touched;
