@@ -1,0 +1,4 @@
+pub mod Lengths
+pub mod Fronts
+pub mod Cuts
+pub mod Values

@@ -1,0 +1,50 @@
+-- The bytes of OIL text by their classes.
+use Rattle.std.specs.Prelude.{ℕ, ◌+◌, ◌-◌, ◌*◌, Bool, if◌then◌else◌, ◌||◌, ◌&&◌, ◌==◌, not, nat_le, List, [], ◌∷◌}
+use Rattle.std.specs.List.{list_any}
+use Rattle.std.specs.Char.{is_ascii_digit, is_ascii_alphabetic, is_ascii_hexdigit, is_ascii_alphanumeric}
+use Rattle.oil_lex.specs.declared.bytes.Class.{Class}
+use Rattle.oil_lex.specs.declared.bytes.Class.TheVariants as class
+
+-- the signs but `/`, which may begin a comment: { } = ; : , . [ ] ( ) < > + - *
+abbrev pub is_plain_sign : ℕ → Bool
+is_plain_sign b = list_any (λ s. b == s) (123 ∷ 125 ∷ 61 ∷ 59 ∷ 58 ∷ 44 ∷ 46 ∷ 91 ∷ 93 ∷ 40 ∷ 41 ∷ 60 ∷ 62 ∷ 43 ∷ 45 ∷ 42 ∷ [])
+
+-- space, tab, CR and LF
+abbrev pub is_blank : ℕ → Bool
+is_blank b = (b == 32) || (b == 9) || (b == 13) || (b == 10)
+
+unfoldable pub class_of : ℕ → Class
+class_of b =
+    if is_blank b then class.Blank
+    else (if is_ascii_alphabetic b || (b == 95) then class.Letter
+    else (if is_ascii_digit b then class.Digit
+    else (if b == 34 then class.Quote
+    else (if b == 47 then class.Slash
+    else (if is_plain_sign b then class.Sign
+    else class.Other)))))
+
+-- letters, digits and _
+unfoldable pub is_word_byte : ℕ → Bool
+is_word_byte b = is_ascii_alphanumeric b || (b == 95)
+
+unfoldable pub is_digit : ℕ → Bool
+is_digit b = is_ascii_digit b
+
+unfoldable pub is_hex_digit : ℕ → Bool
+is_hex_digit b = is_ascii_hexdigit b
+
+-- what may stand between quotes: all but the quote and LF
+unfoldable pub is_quoted : ℕ → Bool
+is_quoted b = not (b == 34) && not (b == 10)
+
+unfoldable pub is_not_lf : ℕ → Bool
+is_not_lf b = not (b == 10)
+
+-- the value of a digit, decimal or hexadecimal of either case
+unfoldable pub digit_value : ℕ → ℕ
+digit_value b = if nat_le 97 b then b - 87 else (if nat_le 65 b then b - 55 else b - 48)
+
+-- the value of digits behind those of value v
+abbrev pub value_from : ℕ → ℕ → List ℕ → ℕ
+value_from base v [] = v
+value_from base v (d ∷ ds) = value_from base (base * v + digit_value d) ds

@@ -1,0 +1,83 @@
+-- What the pieces of a text mean: its tokens and its faults.
+use Rattle.std.specs.Prelude.{◌≡◌, ℕ, ◌+◌, ◌==◌, List, [], ◌∷◌, ◌++◌, min, count_by, drop, ◌⊎◌}
+use Rattle.sloth_base.specs.declared.refusal.Part.TheVariants.{Oil}
+use Rattle.sloth_base.specs.declared.refusal.Code.TheVariants as code
+use Rattle.sloth_base.specs.declared.refusal.Refusal.{Refusal}
+use Rattle.sloth_base.specs.declared.refusal.BuildError.{BuildError}
+use Rattle.sloth_base.specs.declared.refusal.BuildError.TheVariants.{Refused, Memory}
+use Rattle.oil_lex.specs.declared.kinds.TokenKind.{TokenKind}
+use Rattle.oil_lex.specs.declared.kinds.TokenKind.TheVariants as token
+use Rattle.oil_lex.specs.declared.kinds.Token.{Token}
+use Rattle.oil_lex.specs.declared.pieces.Meaning.{Meaning}
+use Rattle.oil_lex.specs.declared.pieces.Meaning.TheVariants.{Nothing, IsToken, IsFault}
+use Rattle.oil_lex.specs.declared.pieces.PieceKind.{PieceKind}
+use Rattle.oil_lex.specs.declared.pieces.PieceKind.TheVariants as kind
+use Rattle.oil_lex.specs.Bytes.{value_from}
+use Rattle.oil_lex.specs.Pieces.{Piece, Cut}
+
+-- how many lines end in these bytes
+abbrev pub line_ends : List ℕ → ℕ
+line_ends bs = count_by (λ b. b == 10) bs
+
+-- A token: what it is, its line, and its bytes without where they lie in memory.
+pub record Lexeme : Type 0 where
+  pub kind : TokenKind
+  pub line : ℕ
+  pub bytes : List ℕ
+
+abbrev pub lexeme : Token → Lexeme
+lexeme t = record { kind = t.kind; line = t.line; bytes = t.span.now }
+
+-- the lesser of a value and 4,294,967,296
+abbrev pub capped : ℕ → ℕ
+capped v = min v 4294967296
+
+-- what a piece means: a token, a fault, or neither
+abbrev pub meaning : PieceKind → List ℕ → Meaning
+meaning kind.Word bs = IsToken token.Word
+meaning kind.Decimal bs = IsToken (token.Number (capped (value_from 10 0 bs)))
+meaning kind.Hexadecimal bs = IsToken (token.Number (capped (value_from 16 0 (drop 2 bs))))
+meaning kind.Text bs = IsToken token.Text
+meaning kind.Sign bs = IsToken token.Sign
+meaning kind.Stray bs = IsFault code.O1
+meaning kind.UnclosedComment bs = IsFault code.O2
+meaning kind.UnclosedText bs = IsFault code.O3
+meaning _ bs = Nothing
+
+-- the token that a piece on line n is, if it is one
+abbrev pub lexemes_by : Meaning → ℕ → List ℕ → List Lexeme
+lexemes_by (IsToken k) n bs = record { kind = k; line = n; bytes = bs } ∷ []
+lexemes_by _ n bs = []
+
+-- r is the fault that a piece on line n is
+abbrev pub FaultBy : Meaning → ℕ → Refusal → Type 0
+FaultBy (IsFault c) n r = r ≡ record { part = Oil; line = n; code = c }
+FaultBy _ n r = ⊥
+
+-- the tokens of pieces that begin on line n
+abbrev pub tokens_of : ℕ → List Piece → List Lexeme
+tokens_of n [] = []
+tokens_of n (p ∷ ps) = lexemes_by (meaning p.kind p.bytes) n p.bytes ++ tokens_of (n + line_ends p.bytes) ps
+
+-- r is the fault of one of these pieces
+abbrev pub FaultOf : ℕ → List Piece → Refusal → Type 0
+FaultOf n [] r = ⊥
+FaultOf n (p ∷ ps) r = FaultBy (meaning p.kind p.bytes) n r ⊎ FaultOf (n + line_ends p.bytes) ps r
+
+-- these are the tokens of the text
+abbrev pub AreTokens : List ℕ → List Lexeme → Type 0
+AreTokens t ts = (ps : List Piece) × Cut t ps × (ts ≡ tokens_of 1 ps)
+
+-- a fault of the text
+abbrev pub TextFault : List ℕ → Refusal → Type 0
+TextFault t r = (ps : List Piece) × Cut t ps × FaultOf 1 ps r
+
+-- the piece is no fault
+abbrev pub IsNoFault : Meaning → Type 0
+IsNoFault (IsFault c) = ⊥
+IsNoFault _ = Unit {0}
+
+-- the error is want of memory, or the fault of a piece on line n.
+abbrev pub RefusedBy : Meaning → ℕ → BuildError → Type 0
+RefusedBy m n Memory = Unit {0}
+RefusedBy m n (Refused r) = FaultBy m n r
