@@ -5,3 +5,5 @@ pub mod Services
 pub mod Steps
 pub mod Runs
 pub mod InTime
+pub mod Next
+pub mod Laws

@@ -2,4 +2,5 @@
 //! OSEK OS 2.2.3, with no levels, interrupt lines, contexts or addresses.
 #![tactic(auto)]
 
+pub mod laws;
 pub mod state;

@@ -1,0 +1,12 @@
+-- Laws of the abstract machine.
+use Rattle.std.specs.Prelude.{◌≡◌, ◌↔◌, Some}
+use Rattle.sloth_base.specs.declared.config.Config.{Config}
+use Rattle.sloth_base.specs.declared.app.App.{App}
+use Rattle.sloth_base.specs.declared.event.Event.{Event}
+use Rattle.osek_machine.specs.State.{System}
+use Rattle.osek_machine.specs.Steps.{OsekStep}
+use Rattle.osek_machine.specs.Next.{next_state}
+
+abbrev pub StepIsComputed : Type 0
+StepIsComputed = (config : Config) (app : App) (event : Event) (s next : System)
+    → (next_state config app event s ≡ Some next) ↔ OsekStep config app event s next

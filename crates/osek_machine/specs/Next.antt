@@ -1,0 +1,130 @@
+-- The next state, computed: what a checker of event lists does.
+use Rattle.std.specs.Prelude.{ℕ, zero, suc, ◌==◌, List, [], ◌∷◌, Bool, true, false, not, ◌&&◌, ◌||◌, leb, ltb, length, Option, Some, None, get_or}
+use Rattle.sloth_base.specs.declared.config.Config.{Config}
+use Rattle.sloth_base.specs.declared.app.App.{App}
+use Rattle.sloth_base.specs.declared.app.Op.{Op}
+use Rattle.sloth_base.specs.declared.app.Op.TheVariants as op
+use Rattle.sloth_base.specs.declared.event.Event.{Event}
+use Rattle.sloth_base.specs.declared.event.Event.TheVariants as event
+use Rattle.sloth_base.specs.declared.service.Service.{Service}
+use Rattle.sloth_base.specs.declared.service.Service.TheVariants as service
+use Rattle.osek_machine.specs.declared.state.TaskState.{TaskState}
+use Rattle.osek_machine.specs.declared.state.TaskState.TheVariants as mode
+use Rattle.osek_machine.specs.State.{Frame, Task, System, task, with_task, declaration, function}
+use Rattle.osek_machine.specs.Priority.{rank, is_in, is_active}
+use Rattle.osek_machine.specs.Meaning.{Meant, meaning, on_some}
+use Rattle.osek_machine.specs.Services.{Outcome, GoesOn, Leaves, outcome, entered}
+use Rattle.osek_machine.specs.Steps.{settled, autostarted, admitted}
+
+abbrev pub is_ready : TaskState → Bool
+is_ready mode.Suspended = false
+is_ready mode.Ready = true
+is_ready mode.Active = false
+is_ready (mode.Waiting mask) = false
+
+abbrev pub is_due : System → ℕ → Bool
+is_due s t = is_ready (task s t).state || is_active (task s t).state
+
+-- a test that holds of each number below n
+abbrev pub all_below : ℕ → (ℕ → Bool) → Bool
+all_below zero test = true
+all_below (suc n) test = test n && all_below n test
+
+abbrev pub yields_to : Config → System → List ℕ → ℕ → ℕ → Bool
+yields_to config s others t u = not (is_due s u) || (is_in u others || leb (rank config s u) (rank config s t))
+
+abbrev pub is_top : Config → System → List ℕ → ℕ → Bool
+is_top config s others t =
+    ltb t (length config.tasks) && (is_due s t && (not (is_in t others) && all_below (length config.tasks) (yields_to config s others t)))
+
+abbrev pub if_true : {A : Type 0} → Bool → Option A → Option A
+if_true true a = a
+if_true false a = None
+
+-- the next operation of a task with these frames
+abbrev pub operation_of : App → List Frame → Option Op
+operation_of app [] = None
+operation_of app (frame ∷ outer) =
+    if_true (ltb frame.item (length (function app frame.func).items))
+    (Some (get_or (function app frame.func).items frame.item (record { line = 0; op = op.Return })).op)
+
+-- the same of a task that runs and owes no `back`
+abbrev pub operation_at : App → Task → Option Op
+operation_at app t = if_true (is_active t.state && not t.owed) (operation_of app t.frames)
+
+abbrev pub meaning_of : App → Op → Task → List Frame → System → Option Meant
+meaning_of app operation t [] s = None
+meaning_of app operation t (frame ∷ outer) s = meaning app operation t.registers frame outer s.symbols
+
+abbrev pub is_position : ℕ → ℕ → List Frame → Bool
+is_position func item [] = false
+is_position func item (frame ∷ outer) = (frame.func == func) && (frame.item == item)
+
+abbrev pub code : Service → ℕ
+code service.ActivateTask = 0
+code service.TerminateTask = 1
+code service.ChainTask = 2
+code service.Schedule = 3
+code service.GetTaskID = 4
+code service.GetTaskState = 5
+code service.GetResource = 6
+code service.ReleaseResource = 7
+code service.SetEvent = 8
+code service.ClearEvent = 9
+code service.GetEvent = 10
+code service.WaitEvent = 11
+
+-- the outcome of the service that an operation is, where it is this one
+abbrev pub served : Service → ℕ → System → Op → Option Outcome
+served s caller before (op.Serve call) = if_true (code call.service == code s) (Some (outcome s call.object call.mask caller before))
+served s caller before (op.Alu k a b c) = None
+served s caller before (op.AluImm k a b c) = None
+served s caller before (op.Lui a b) = None
+served s caller before (op.Li a b) = None
+served s caller before (op.FrameLoad a b) = None
+served s caller before (op.FrameStore a b) = None
+served s caller before (op.Load w a b c) = None
+served s caller before (op.Store w a b c) = None
+served s caller before (op.LoadAt w a b c d) = None
+served s caller before (op.StoreAt w a b c d) = None
+served s caller before (op.Branch k a b c) = None
+served s caller before (op.Jump a) = None
+served s caller before (op.Invoke a) = None
+served s caller before op.Return = None
+
+abbrev pub going_on_with : ℕ → Outcome → Option System
+going_on_with status (GoesOn given after) = if_true (given == status) (Some (settled after))
+going_on_with status (Leaves after) = None
+
+abbrev pub leaving : Outcome → Option System
+leaving (GoesOn given after) = None
+leaving (Leaves after) = Some (settled after)
+
+abbrev pub executed : ℕ → ℕ → System → Meant → Option System
+executed t result s meant = if_true (meant.result == result)
+    (Some (settled (record (with_task s t (record (task s t) { registers = meant.registers; frames = meant.frames })) { symbols = meant.symbols })))
+
+abbrev pub answer_to : Config → App → ℕ → Service → System → Option Outcome
+answer_to config app t s before =
+    if_true (before.booted && is_top config before before.fresh t) (on_some (operation_at app (task before t)) (served s t before))
+
+abbrev pub next_state : Config → App → Event → System → Option System
+next_state config app event.Boot s = if_true (not s.booted) (Some (settled (record s { tasks = autostarted config.tasks s.tasks; booted = true })))
+next_state config app (event.Admit t) s = if_true (s.booted && ltb t (length config.tasks)) (Some (admitted t s))
+next_state config app (event.Enter t) s =
+    if_true (s.booted && (is_top config s [] t && is_ready (task s t).state)) (Some (settled (entered config app t s)))
+next_state config app (event.Run t func item result) s =
+    if_true (s.booted && (is_top config s [] t && is_position func item (task s t).frames))
+    (on_some (operation_at app (task s t)) (λ operation. on_some (meaning_of app operation (task s t) (task s t).frames s) (executed t result s)))
+next_state config app (event.Call t s status) before = on_some (answer_to config app t s before) (going_on_with status)
+next_state config app (event.Left t s) before = on_some (answer_to config app t s before) leaving
+next_state config app (event.Back t) s =
+    if_true (s.booted && (is_top config s [] t && (is_active (task s t).state && (task s t).owed)))
+    (Some (settled (with_task s t (record (task s t) { owed = false; raised = (declaration config t).non }))))
+next_state config app event.Idle s = if_true (s.booted && all_below (length config.tasks) (λ t. not (is_due s t))) (Some (settled s))
+next_state config app event.Stray s = None
+
+-- the state after events without their counts, where each has a next state
+abbrev pub state_after : Config → App → List Event → System → Option System
+state_after config app [] s = Some s
+state_after config app (e ∷ events) s = on_some (next_state config app e s) (state_after config app events)
