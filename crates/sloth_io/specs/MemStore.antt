@@ -1,0 +1,93 @@
+-- A store in memory.
+use Rattle.std.specs.Prelude.{◌≡◌, ◌+◌, ◌==◌, ◌&&◌, ℕ, zero, suc, min, not, List, [], ◌∷◌, length, map, Option, Some, None, Bool, true, false, if◌then◌else◌, nat_le, nat_lt}
+use Rattle.std.specs.List.{list_any}
+use Rattle.std.specs.Option.{option_map}
+use Rattle.std.specs.Str.{bytes_eq}
+use Rattle.sloth_io.specs.Store.{Files}
+use Rattle.sloth_io.specs.declared.store.StoreFault.{StoreFault}
+use Rattle.sloth_io.specs.declared.store.StoreFault.TheVariants.{Failed, TooLong}
+use Rattle.sloth_io.specs.declared.mem_store.MemStore.{MemStore}
+use Rattle.sloth_io.specs.declared.mem_store.MemFile.{MemFile}
+use Rattle.sloth_io.specs.declared.mem_store.Slot.{Slot}
+
+-- the file that is kept in a slot
+abbrev pub file_of : Slot → MemFile
+file_of slot = record { name = slot.name; bytes = slot.buffer.bytes.items; space = slot.buffer.space }
+
+-- the files of a store
+abbrev pub files_of : MemStore → List MemFile
+files_of store = map file_of store.slots.items
+
+-- the first file of a name
+abbrev pub file_named : List ℕ → List MemFile → Option MemFile
+file_named name [] = None
+file_named name (file ∷ rest) = if bytes_eq file.name name then Some file else file_named name rest
+
+-- what it holds
+abbrev pub bytes_named : List ℕ → List MemFile → Option (List ℕ)
+bytes_named name files = option_map (λ file. file.bytes) (file_named name files)
+
+-- the files, with these bytes in the first one of a name
+abbrev pub written : List ℕ → List ℕ → List MemFile → List MemFile
+written name bytes [] = []
+written name bytes (file ∷ rest) =
+    if bytes_eq file.name name then record file { bytes = bytes } ∷ rest else file ∷ written name bytes rest
+
+-- there is a file of the name, with space for so many bytes
+abbrev pub fits_file : Option MemFile → ℕ → Bool
+fits_file None size = false
+fits_file (Some file) size = nat_le size file.space
+
+abbrev pub has_space : List ℕ → ℕ → List MemFile → Bool
+has_space name size files = fits_file (file_named name files) size
+
+-- the number of the next call, counted from 1 over reads and writes
+abbrev pub next_call : MemStore → ℕ
+next_call store = min (store.calls + 1) 4294967295
+
+-- that call is to fail
+abbrev pub fails_next : MemStore → Bool
+fails_next store = list_any (λ call. call == next_call store) store.fails.items
+
+-- why the next read is refused, but for want of memory
+abbrev pub length_fault : Option (List ℕ) → ℕ → Option StoreFault
+length_fault None limit = Some Failed
+length_fault (Some bytes) limit = if nat_lt limit (length bytes) then Some TooLong else None
+
+abbrev pub read_fault : MemStore → List ℕ → ℕ → Option StoreFault
+read_fault store name limit =
+    if fails_next store then Some Failed else length_fault (bytes_named name (files_of store)) limit
+
+-- the next write is done
+abbrev pub writes_next : MemStore → List ℕ → ℕ → Bool
+writes_next store name size = not (fails_next store) && has_space name size (files_of store)
+
+-- what the store shows
+abbrev pub shown : MemStore → Files
+shown store = record {
+  tells = true;
+  holds = λ name. bytes_named name (files_of store);
+  failed_reads = store.failed_reads;
+  overlong_reads = store.overlong_reads;
+  failed_writes = store.failed_writes;
+}
+
+-- a store of these files with these failing calls, which was not yet called
+pub record IsFresh (files : List MemFile) (fails : List ℕ) (store : MemStore) : Type 0 where
+  pub files_told : files_of store ≡ files
+  pub failing_calls : store.fails.items ≡ fails
+  pub calls : store.calls ≡ 0
+  pub failed_reads : store.failed_reads ≡ 0
+  pub overlong_reads : store.overlong_reads ≡ 0
+  pub failed_writes : store.failed_writes ≡ 0
+
+-- one call was counted
+pub record IsCalled (old new : MemStore) : Type 0 where
+  pub failing_calls : new.fails.items ≡ old.fails.items
+  pub calls : new.calls ≡ next_call old
+
+-- the first file of a name stands at this place
+abbrev pub IsPlace : List ℕ → List MemFile → ℕ → Type 0
+IsPlace name [] place = ⊥
+IsPlace name (file ∷ rest) zero = bytes_eq file.name name ≡ true
+IsPlace name (file ∷ rest) (suc place) = (bytes_eq file.name name ≡ false) × IsPlace name rest place

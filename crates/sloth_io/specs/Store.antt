@@ -1,0 +1,49 @@
+-- What a store shows, and what its calls do.
+use Rattle.std.specs.Prelude.{◌≡◌, ◌≢◌, ◌≤◌, ◌<◌, ◌⊎◌, ℕ, List, ◌++◌, length, Option, Some, None, Bool, IsTrue}
+use Rattle.sloth_io.specs.Counts.{Rose}
+
+-- what each named file holds, where the store tells that, and three counts
+pub record Files : Type 0 where
+  pub tells : Bool
+  pub holds : List ℕ → Option (List ℕ)
+  pub failed_reads : ℕ
+  pub overlong_reads : ℕ
+  pub failed_writes : ℕ
+
+-- a read changes no file, and not the count of failed writes
+pub record KeepsFiles (old new : Files) : Type 0 where
+  pub tells : new.tells ≡ old.tells
+  pub holds : (name : List ℕ) → new.holds name ≡ old.holds name
+  pub failed_reads : old.failed_reads ≤ new.failed_reads
+  pub overlong_reads : old.overlong_reads ≤ new.overlong_reads
+  pub failed_writes : new.failed_writes ≡ old.failed_writes
+
+-- a write changes none of the counts of reads
+pub record KeepsReads (old new : Files) : Type 0 where
+  pub tells : new.tells ≡ old.tells
+  pub failed_reads : new.failed_reads ≡ old.failed_reads
+  pub overlong_reads : new.overlong_reads ≡ old.overlong_reads
+  pub failed_writes : old.failed_writes ≤ new.failed_writes
+
+-- the file's bytes, which are at most `limit`, stand behind the old ones
+abbrev pub Appends : Files → List ℕ → ℕ → List ℕ → List ℕ → Type 0
+Appends files name limit old new =
+    (bytes : List ℕ) × (new ≡ old ++ bytes) × (length bytes ≤ limit) × (IsTrue files.tells → files.holds name ≡ Some bytes)
+
+-- a read failed, or the store tells that there is no such file
+abbrev pub IsMissing : Files → Files → List ℕ → Type 0
+IsMissing old new name = Rose old.failed_reads new.failed_reads ⊎ (IsTrue old.tells × (old.holds name ≡ None))
+
+-- an overlong read is counted; where the store tells its files, this one is there and longer than `limit`
+abbrev pub IsTooLong : Files → Files → List ℕ → ℕ → Type 0
+IsTooLong old new name limit =
+    Rose old.overlong_reads new.overlong_reads
+    × (IsTrue old.tells → (bytes : List ℕ) × (old.holds name ≡ Some bytes) × (limit < length bytes))
+
+-- the file holds these bytes
+abbrev pub Holds : Files → List ℕ → List ℕ → Type 0
+Holds files name bytes = IsTrue files.tells → files.holds name ≡ Some bytes
+
+-- each file of another name holds what it held
+abbrev pub KeepsOthers : Files → Files → List ℕ → Type 0
+KeepsOthers old new name = (other : List ℕ) → other ≢ name → new.holds other ≡ old.holds other

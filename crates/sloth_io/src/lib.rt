@@ -1,0 +1,10 @@
+//! The outside: traits for files and for what is printed, in memory and at the system.
+#![tactic(auto)]
+
+mod buffer;
+pub mod file_store;
+pub mod mem_sink;
+pub mod mem_store;
+pub mod out_sink;
+pub mod sink;
+pub mod store;

@@ -1,0 +1,85 @@
+//! A sink in memory.
+ghost use Rattle.std.specs.Prelude.{◌≡◌, ◌≤◌, IfOk, OnErr, OnOk, Some, is_ok, if◌then◌else◌};
+ghost use Rattle.sloth_io.specs.Counts.{Rose};
+ghost use Rattle.sloth_io.specs.MemSink.{IsCalled, IsFresh, limit_of, taken_by, taken_next, takes_next};
+ghost use Rattle.sloth_io.specs.Sink.{gains, GainsPart};
+
+use crate::buffer::Buffer;
+use crate::sink::{Sink, SinkFault};
+use sloth_base::memory::NoMemory;
+use std::alloc::Global;
+
+/// A buffer whose space is reserved as it is made, and the calls that are to fail: each by its number, counted from 1,
+/// with the bytes that it takes before it fails. It tells the bytes taken.
+#[derive(Drop)]
+pub struct MemSink {
+    buffer: Buffer,
+    fails: Vec<(u32, u32)>,
+    calls: u32,
+    faults: u64,
+}
+
+// How many bytes the call of this number takes before it fails.
+fn limit_at(fails: &[(u32, u32)], call: u32) -> Option<u32>
+    ensures { result ≡ limit_of call fails.now }
+{
+    for (number, limit) in fails {
+        if *number == call {
+            return Some(*limit);
+        }
+    }
+    None
+}
+
+impl MemSink {
+    /// An empty sink with space for so many bytes.
+    pub fn new(alloc: Global, space: u32, fails: &[(u32, u32)]) -> Result<MemSink, NoMemory>
+        ensures { IfOk result (IsFresh space fails.now) }
+    {
+        let buffer = Buffer::new(alloc, space)?;
+        let fails = Vec::from_slice(alloc, fails)?;
+        Ok(MemSink {
+            buffer,
+            fails,
+            calls: 0,
+            faults: 0,
+        })
+    }
+
+    /// The bytes taken.
+    pub fn taken(&self) -> &[u8]
+        ensures { result.now ≡ taken_by self.now }
+    {
+        self.buffer.bytes()
+    }
+}
+
+impl Sink for MemSink {
+    ghost taken = { λ sink. Some (taken_by sink) };
+
+    ghost faults = { λ sink. sink.faults };
+
+    fn put(&mut self, piece: &[u8]) -> Result<(), SinkFault>
+        ensures ok { OnOk result (Some (taken_by self.new) ≡ gains (Some (taken_by self.old)) piece.now) }
+        ensures err { OnErr result (GainsPart (Some (taken_by self.old)) (Some (taken_by self.new)) piece.now) }
+        ensures failed { OnErr result (Rose self.old.faults self.new.faults) }
+        ensures never_falls { self.old.faults ≤ self.new.faults }
+
+        // It fails exactly at the calls that are to fail, and where there is no space for the piece.
+        ensures done { is_ok result ≡ takes_next self.old piece.now }
+        ensures taken { taken_by self.new ≡ taken_next self.old piece.now }
+        ensures called { IsCalled self.old self.new }
+    {
+        self.calls = self.calls.saturating_add(1);
+        let limit = limit_at(self.fails.as_slice(), self.calls);
+        let part = match limit {
+            Some(limit) => &piece[..piece.len().min(limit as usize)],
+            None => piece,
+        };
+        if self.buffer.append(part) && limit.is_none() {
+            return Ok(());
+        }
+        self.faults = self.faults.saturating_add(1);
+        Err(SinkFault::Failed)
+    }
+}

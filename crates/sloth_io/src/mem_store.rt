@@ -1,0 +1,189 @@
+//! A store in memory.
+ghost use Rattle.std.specs.Prelude.{◌≡◌, ◌≢◌, ◌≤◌, ◌<◌, List, Option, None, Some, OnErr, OnOk, length, map, IfOk, IfSome, IfNone, IsOkUnless, MatchOption, All, is_ok, if◌then◌else◌};
+ghost use Rattle.std.specs.List.{AllPairs};
+ghost use Rattle.sloth_io.specs.Counts.{Rose};
+ghost use Rattle.sloth_io.specs.MemStore.{IsFresh, next_call, bytes_named, fails_next, file_named, file_of, files_of, has_space, IsCalled, IsPlace, read_fault, shown, writes_next, written};
+ghost use Rattle.sloth_io.specs.Store.{Appends, IsMissing, IsTooLong, Holds, KeepsOthers, KeepsFiles, KeepsReads};
+
+use crate::buffer::Buffer;
+use crate::store::{Store, StoreFault};
+use sloth_base::list::List;
+use sloth_base::memory::NoMemory;
+use sloth_base::name::Name;
+use std::alloc::Global;
+
+/// A file that a store is made with: its name, its bytes, and the greatest number of bytes that it may hold.
+#[derive(Drop)]
+pub struct MemFile {
+    pub name: Name,
+    pub bytes: List<u8>,
+    pub space: u32,
+}
+
+// A file, with its space reserved.
+#[derive(Drop)]
+struct Slot {
+    name: Name,
+    buffer: Buffer,
+}
+
+/// Files in memory, and the numbers of the calls that are to fail, counted from 1 over reads and writes.
+/// It tells what its files hold.
+#[derive(Drop)]
+pub struct MemStore {
+    slots: Vec<Slot>,
+    fails: Vec<u32>,
+    calls: u32,
+    failed_reads: u64,
+    overlong_reads: u64,
+    failed_writes: u64,
+}
+
+impl Slot {
+    // A slot that holds this file.
+    fn new(alloc: Global, file: &MemFile) -> Result<Slot, NoMemory>
+        requires { length file.now.bytes ≤ file.now.space }
+        ensures { IfOk result (λ slot. file_of slot ≡ file.now) }
+    {
+        let name = Name::new(alloc, file.name.bytes())?;
+        let mut buffer = Buffer::new(alloc, file.space)?;
+        let whole = buffer.append(file.bytes.items());
+        prove!(whole);
+        Ok(Slot { name, buffer })
+    }
+}
+
+impl MemStore {
+    /// A store of these files.
+    pub fn new(alloc: Global, files: &[MemFile], fails: &[u32]) -> Result<MemStore, NoMemory>
+        requires distinct { AllPairs (λ one other. one.name ≢ other.name) files.now }
+        requires within { All (λ file. length file.bytes ≤ file.space) files.now }
+        ensures { IfOk result (IsFresh files.now fails.now) }
+    {
+        let mut slots = Vec::new(alloc);
+        for file in files {
+            let slot = Slot::new(alloc, file)?;
+            slots.push(slot).map_err(|_| NoMemory)?;
+        }
+        let fails = Vec::from_slice(alloc, fails)?;
+        Ok(MemStore {
+            slots,
+            fails,
+            calls: 0,
+            failed_reads: 0,
+            overlong_reads: 0,
+            failed_writes: 0,
+        })
+    }
+
+    /// The bytes of the file of this name, if there is one.
+    pub fn file(&self, name: &str) -> Option<&[u8]>
+        ensures found { IfSome result (λ bytes. bytes_named name.now (files_of self.now) ≡ Some bytes.now) }
+        ensures none { IfNone result (bytes_named name.now (files_of self.now) ≡ None) }
+    {
+        bytes_of(self.slots.as_slice(), name.as_bytes())
+    }
+
+    // Counts a call, and says whether it is to fail.
+    fn call(&mut self) -> bool
+        ensures fails { result ≡ fails_next self.old }
+        ensures rest { self.new ≡ record self.old { calls = next_call self.old } }
+    {
+        self.calls = self.calls.saturating_add(1);
+        self.fails.contains(&self.calls)
+    }
+}
+
+// The bytes of the file of a name.
+fn bytes_of<'a>(slots: &'a [Slot], name: &[u8]) -> Option<&'a [u8]>
+    ensures found { IfSome result (λ bytes. bytes_named name.now (map file_of slots.now) ≡ Some bytes.now) }
+    ensures none { IfNone result (bytes_named name.now (map file_of slots.now) ≡ None) }
+{
+    for slot in slots {
+        if slot.name.bytes() == name {
+            return Some(slot.buffer.bytes());
+        }
+    }
+    None
+}
+
+// The place of the file of a name.
+fn place_of(slots: &[Slot], name: &[u8]) -> Option<usize>
+    ensures found { IfSome result (IsPlace name.now (map file_of slots.now)) }
+    ensures within { IfSome result (λ place. place < length slots.now) }
+    ensures none { IfNone result (file_named name.now (map file_of slots.now) ≡ None) }
+{
+    for (place, slot) in slots.iter().enumerate() {
+        if slot.name.bytes() == name {
+            return Some(place);
+        }
+    }
+    None
+}
+
+// Makes the file of a name hold these bytes, where there is space for them.
+fn replace(slots: &mut Vec<Slot>, name: &[u8], bytes: &[u8]) -> bool
+    ensures done { result ≡ has_space name.now (length bytes.now) (map file_of slots.old.items) }
+    ensures files { map file_of slots.new.items ≡
+        (if result then written name.now bytes.now (map file_of slots.old.items) else map file_of slots.old.items) }
+{
+    let Some(place) = place_of(slots.as_slice(), name) else {
+        return false;
+    };
+    slots[place].buffer.replace(bytes)
+}
+
+impl Store for MemStore {
+    ghost seen = { λ store. shown store };
+
+    fn read(&mut self, name: &str, limit: usize, into: &mut Vec<u8>) -> Result<(), StoreFault>
+        ensures ok { OnOk result (Appends (shown self.old) name.now limit into.old.items into.new.items) }
+        ensures err { OnErr result (into.new.items ≡ into.old.items) }
+        ensures failed { result ≡ Err StoreFault.Failed → IsMissing (shown self.old) (shown self.new) name.now }
+        ensures too_long { result ≡ Err StoreFault.TooLong →
+            IsTooLong (shown self.old) (shown self.new) name.now limit }
+        ensures keeps { KeepsFiles (shown self.old) (shown self.new) }
+
+        // It refuses exactly the calls that are to fail, files that are not there and files that are too long.
+        ensures refused { MatchOption (read_fault self.old name.now limit)
+            (IsOkUnless result StoreFault.Memory) (λ fault. result ≡ Err fault) }
+        ensures called { IsCalled self.old self.new }
+        ensures files { files_of self.new ≡ files_of self.old }
+    {
+        if self.call() {
+            self.failed_reads = self.failed_reads.saturating_add(1);
+            return Err(StoreFault::Failed);
+        }
+        let Some(bytes) = self.file(name) else {
+            return Err(StoreFault::Failed);
+        };
+        if bytes.len() > limit {
+            self.overlong_reads = self.overlong_reads.saturating_add(1);
+            return Err(StoreFault::TooLong);
+        }
+        if into.extend_from_slice(bytes).is_err() {
+            return Err(StoreFault::Memory);
+        }
+        Ok(())
+    }
+
+    fn write(&mut self, name: &str, bytes: &[u8]) -> Result<(), StoreFault>
+        ensures ok { OnOk result (Holds (shown self.new) name.now bytes.now) }
+        ensures failed { OnErr result (Rose self.old.failed_writes self.new.failed_writes) }
+        ensures only_failed { OnErr result (result ≡ Err StoreFault.Failed) }
+        ensures others { KeepsOthers (shown self.old) (shown self.new) name.now }
+        ensures keeps { KeepsReads (shown self.old) (shown self.new) }
+
+        // It fails exactly at the calls that are to fail, and where there is no file with space for the bytes.
+        ensures done { is_ok result ≡ writes_next self.old name.now (length bytes.now) }
+        ensures called { IsCalled self.old self.new }
+        ensures files { files_of self.new ≡
+            (if is_ok result then written name.now bytes.now (files_of self.old) else files_of self.old) }
+    {
+        if !self.call() && replace(&mut self.slots, name.as_bytes(), bytes) {
+            return Ok(());
+        }
+        self.failed_writes = self.failed_writes.saturating_add(1);
+        Err(StoreFault::Failed)
+    }
+}

@@ -1,0 +1,39 @@
+//! Named files.
+ghost use Rattle.std.specs.Prelude.{◌≡◌, OnErr, OnOk};
+ghost use Rattle.sloth_io.specs.Counts.{Rose};
+ghost use Rattle.sloth_io.specs.Store.{Files, Appends, IsMissing, IsTooLong, Holds, KeepsOthers, KeepsFiles, KeepsReads};
+
+use thiserror::Error;
+
+/// Why a store refused a call.
+#[derive(Clone, Copy, Debug, PartialEq, Eq, Error)]
+pub enum StoreFault {
+    #[error("the file could not be read or written")]
+    Failed,
+    #[error("the file is too long")]
+    TooLong,
+    #[error("no memory")]
+    Memory,
+}
+
+/// Named files. A store may tell what they hold, and counts its failed reads, overlong reads and failed writes.
+pub trait Store {
+    /// What the files hold, where the store tells that, and its counts.
+    ghost seen: { Self → Files };
+
+    /// Appends the bytes of a file of at most `limit` bytes. Want of memory may come at any call.
+    fn read(&mut self, name: &str, limit: usize, into: &mut Vec<u8>) -> Result<(), StoreFault>
+        ensures ok { OnOk result (Appends (seen self.old) name.now limit into.old.items into.new.items) }
+        ensures err { OnErr result (into.new.items ≡ into.old.items) }
+        ensures failed { result ≡ Err StoreFault.Failed → IsMissing (seen self.old) (seen self.new) name.now }
+        ensures too_long { result ≡ Err StoreFault.TooLong → IsTooLong (seen self.old) (seen self.new) name.now limit }
+        ensures keeps { KeepsFiles (seen self.old) (seen self.new) };
+
+    /// Makes a file hold exactly these bytes. After a failure that file may hold anything.
+    fn write(&mut self, name: &str, bytes: &[u8]) -> Result<(), StoreFault>
+        ensures ok { OnOk result (Holds (seen self.new) name.now bytes.now) }
+        ensures failed { OnErr result (Rose (seen self.old).failed_writes (seen self.new).failed_writes) }
+        ensures only_failed { OnErr result (result ≡ Err StoreFault.Failed) }
+        ensures others { KeepsOthers (seen self.old) (seen self.new) name.now }
+        ensures keeps { KeepsReads (seen self.old) (seen self.new) };
+}
