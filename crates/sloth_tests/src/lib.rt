@@ -1,5 +1,6 @@
-//! Tests of the crates' public calls, with values from outside.
+//! Tests of the crates' public calls, with values from outside. A file for each crate: `CRATE_tests`, since a module
+//! may not have the name of a crate that is used.
 #![tactic(auto)]
 
 #[cfg(test)]
-mod rv32_instr;
+mod rv32_instr_tests;
