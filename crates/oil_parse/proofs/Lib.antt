@@ -1,0 +1,7 @@
+pub mod Steps
+pub mod Sound
+pub mod Complete
+pub mod Finish
+pub mod Faults
+pub mod Loop
+pub mod Texts

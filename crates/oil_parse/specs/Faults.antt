@@ -1,0 +1,59 @@
+-- What is wrong with tokens that are no file.
+use Rattle.std.specs.Prelude.{◌≡◌, ℕ, ◌<◌, List, [], ◌∷◌, ◌++◌, ◌⊎◌}
+use Rattle.sloth_base.specs.declared.refusal.Part.TheVariants.{Oil}
+use Rattle.sloth_base.specs.declared.refusal.Code.TheVariants as code
+use Rattle.sloth_base.specs.declared.refusal.Refusal.{Refusal}
+use Rattle.oil_lex.specs.Tokens.{Lexeme}
+use Rattle.oil_parse.specs.declared.machine.Key.TheVariants.{Cpu}
+use Rattle.oil_parse.specs.declared.machine.Shape.{Shape}
+use Rattle.oil_parse.specs.declared.machine.Shape.TheVariants.{Word, Number}
+use Rattle.oil_parse.specs.declared.tree.OilTree.{OilTree}
+use Rattle.oil_parse.specs.Shapes.{shape}
+use Rattle.oil_parse.specs.Grammar.{IsSection, IsHead, IsFile}
+
+-- Some file begins so.
+abbrev pub Viable : List Lexeme → Type 0
+Viable ts = (more : List Lexeme) × (tree : OilTree) × IsFile (ts ++ more) tree
+
+-- The tokens go on behind the word CPU, so they have left the section IMPLEMENTATION.
+abbrev pub InCpu : List Lexeme → Type 0
+InCpu ts = (hs xs front : List Lexeme) × (c : Lexeme) × (ts ≡ hs ++ (xs ++ c ∷ front)) × IsHead hs × IsSection xs × (shape c ≡ Word Cpu)
+
+abbrev pub is_too_big : Shape → Type 0
+is_too_big (Number n) = 4294967295 < n
+is_too_big _ = ⊥
+
+-- the line of the last token, or n
+abbrev pub last_line : ℕ → List Lexeme → ℕ
+last_line n [] = n
+last_line n (t ∷ ts) = last_line t.line ts
+
+-- A number above the greatest, where the grammar allows a number, outside a section IMPLEMENTATION.
+pub record NumberFault (ts : List Lexeme) (r : Refusal) : Type 0 where
+  pub before : List Lexeme
+  pub at : Lexeme
+  pub behind : List Lexeme
+  pub place : ts ≡ before ++ at ∷ behind
+  pub inside : InCpu before
+  pub allowed : Viable (before ++ at ∷ [])
+  pub too_big : is_too_big (shape at)
+  pub is : r ≡ record { part = Oil; line = at.line; code = code.O4 }
+
+-- The first token that the grammar does not allow there.
+pub record TokenFault (ts : List Lexeme) (r : Refusal) : Type 0 where
+  pub before : List Lexeme
+  pub at : Lexeme
+  pub behind : List Lexeme
+  pub place : ts ≡ before ++ at ∷ behind
+  pub allowed : Viable before
+  pub refused : Viable (before ++ at ∷ []) → ⊥
+  pub is : r ≡ record { part = Oil; line = at.line; code = code.O5 }
+
+-- The tokens end before the grammar does.
+pub record EndFault (ts : List Lexeme) (r : Refusal) : Type 0 where
+  pub allowed : Viable ts
+  pub unfinished : (tree : OilTree) → IsFile ts tree → ⊥
+  pub is : r ≡ record { part = Oil; line = last_line 1 ts; code = code.O6 }
+
+abbrev pub GrammarFault : List Lexeme → Refusal → Type 0
+GrammarFault ts r = NumberFault ts r ⊎ (TokenFault ts r ⊎ EndFault ts r)

@@ -1,0 +1,6 @@
+pub mod Shapes
+pub mod Grammar
+pub mod Faults
+pub mod Text
+pub mod Machine
+pub mod Parser

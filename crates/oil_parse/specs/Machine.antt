@@ -1,0 +1,161 @@
+-- The parser's states: what may come next.
+use Rattle.std.specs.Prelude.{◌≡◌, ℕ, ◌+◌, Bool, false, if◌then◌else◌, nat_lt, ◌<◌, List, [], ◌∷◌, ◌++◌, ◌⊎◌, suc, zero, Option, Some, None}
+use Rattle.sloth_base.specs.declared.refusal.Part.TheVariants.{Oil}
+use Rattle.sloth_base.specs.declared.refusal.Code.TheVariants as code
+use Rattle.sloth_base.specs.declared.refusal.Refusal.{Refusal}
+use Rattle.sloth_refusal.specs.Search.{lesser}
+use Rattle.oil_lex.specs.declared.kinds.TokenKind.{TokenKind}
+use Rattle.oil_lex.specs.declared.kinds.TokenKind.TheVariants as token
+use Rattle.oil_lex.specs.Tokens.{Lexeme}
+use Rattle.oil_parse.specs.declared.machine.Key.TheVariants.{Version, Implementation, Cpu}
+use Rattle.oil_parse.specs.declared.machine.Shape.{Shape}
+use Rattle.oil_parse.specs.declared.machine.Shape.TheVariants.{Word, Number, Text, Open, Close, Equals, Semicolon, Colon, Other}
+use Rattle.oil_parse.specs.declared.machine.Construct.{Construct}
+use Rattle.oil_parse.specs.declared.machine.Construct.TheVariants.{Head, Section, Object, Attr, File}
+use Rattle.oil_parse.specs.declared.machine.Expect.{Expect}
+use Rattle.oil_parse.specs.declared.machine.Expect.TheVariants.{Start, VersionIs, VersionText, Ending, Describing, Closing, Body, SectionName, SectionOpen, Inside, CpuWord, CpuName, CpuOpen, Objects, ObjectName, ObjectTail, Attrs, AttrIs, AttrValue, AttrTail, Done}
+use Rattle.oil_parse.specs.declared.tree.OilAttr.{OilAttr}
+use Rattle.oil_parse.specs.Shapes.{shape}
+use Rattle.oil_parse.specs.declared.tree.OilObject.{OilObject}
+use Rattle.oil_parse.specs.Grammar.{value_by}
+
+-- what comes behind the `;` of a part
+abbrev pub behind : Construct → Expect
+behind Head = Body
+behind Section = CpuWord
+behind Object = Objects
+behind (Attr d) = Attrs d
+behind File = Done
+
+-- the part that a `}` of attributes closes
+abbrev pub closed : ℕ → Construct
+closed zero = Object
+closed (suc d) = Attr d
+
+abbrev pub left : ℕ → Expect
+left zero = Ending Section
+left (suc n) = Inside n
+
+unfoldable pub next : Expect → Shape → Option Expect
+next Start (Word Version) = Some VersionIs
+next VersionIs Equals = Some VersionText
+next VersionText Text = Some (Ending Head)
+next (Ending p) Colon = Some (Describing p)
+next (Ending p) Semicolon = Some (behind p)
+next (Describing p) Text = Some (Closing p)
+next (Closing p) Semicolon = Some (behind p)
+next Body (Word Implementation) = Some SectionName
+next Body (Word Cpu) = Some CpuName
+next SectionName (Word k) = Some SectionOpen
+next SectionOpen Open = Some (Inside 0)
+next (Inside n) Open = Some (Inside (suc n))
+next (Inside n) Close = Some (left n)
+next (Inside n) (Word k) = Some (Inside n)
+next (Inside n) (Number v) = Some (Inside n)
+next (Inside n) Text = Some (Inside n)
+next (Inside n) Equals = Some (Inside n)
+next (Inside n) Semicolon = Some (Inside n)
+next (Inside n) Colon = Some (Inside n)
+next (Inside n) Other = Some (Inside n)
+next CpuWord (Word Cpu) = Some CpuName
+next CpuName (Word k) = Some CpuOpen
+next CpuOpen Open = Some Objects
+next Objects (Word k) = Some ObjectName
+next Objects Close = Some (Ending File)
+next ObjectName (Word k) = Some ObjectTail
+next ObjectTail Open = Some (Attrs 0)
+next ObjectTail Colon = Some (Describing Object)
+next ObjectTail Semicolon = Some Objects
+next (Attrs d) (Word k) = Some (AttrIs d)
+next (Attrs d) Close = Some (Ending (closed d))
+next (AttrIs d) Equals = Some (AttrValue d)
+next (AttrValue d) (Word k) = Some (AttrTail d)
+next (AttrValue d) (Number v) = Some (AttrTail d)
+next (AttrValue d) Text = Some (AttrTail d)
+next (AttrTail d) Open = if nat_lt d 8 then Some (Attrs (suc d)) else None
+next (AttrTail d) Colon = Some (Describing (Attr d))
+next (AttrTail d) Semicolon = Some (Attrs d)
+next _ _ = None
+
+-- what is to come behind these tokens
+abbrev pub step : Option Expect → List Lexeme → Option Expect
+step o [] = o
+step None (t ∷ ts) = None
+step (Some e) (t ∷ ts) = step (next e (shape t)) ts
+
+-- Fewer braces are open than a number of 64 bits counts.
+abbrev pub Shallow : Expect → Type 0
+Shallow (Inside n) = n + 1 < 18446744073709551616
+Shallow _ = Unit {0}
+
+-- What has been read so far: the objects, and the parts of the next.
+pub record Built : Type 0 where
+  pub cpu_line : ℕ
+  pub objects : List OilObject
+  pub kind : List ℕ
+  pub name : List ℕ
+  pub line : ℕ
+  pub attrs : List OilAttr
+  pub attr_name : List ℕ
+  pub attr_line : ℕ
+
+-- the object is whole
+abbrev pub pushed : Built → Built
+pushed b = record b { objects = b.objects ++ record { kind = b.kind; name = b.name; line = b.line; attrs = b.attrs } ∷ []; attrs = [] }
+
+abbrev pub ended : Construct → Built → Built
+ended Object b = pushed b
+ended _ b = b
+
+-- what a token adds where it may stand
+unfoldable pub taken : Expect → Shape → Lexeme → Built → Built
+taken Body x t b = record b { cpu_line = t.line }
+taken CpuWord x t b = record b { cpu_line = t.line }
+taken Objects (Word k) t b = record b { kind = t.bytes; line = t.line; attrs = [] }
+taken ObjectName x t b = record b { name = t.bytes }
+taken ObjectTail Semicolon t b = pushed b
+taken (Ending p) Semicolon t b = ended p b
+taken (Closing p) x t b = ended p b
+taken (Attrs d) (Word k) t b = record b { attr_name = t.bytes; attr_line = t.line }
+taken (AttrValue d) x t b = record b { attrs = b.attrs ++ record { name = b.attr_name; value = value_by t.kind t.bytes; line = b.attr_line; depth = d } ∷ [] }
+taken _ _ t b = b
+
+abbrev pub build : Option Expect → Built → List Lexeme → Built
+build o b [] = b
+build None b (t ∷ ts) = b
+build (Some e) b (t ∷ ts) = build (next e (shape t)) (taken e (shape t) t b) ts
+
+abbrev pub fresh : Built
+fresh = record { cpu_line = 0; objects = []; kind = []; name = []; line = 0; attrs = []; attr_name = []; attr_line = 0 }
+
+-- a value above the greatest number
+abbrev pub too_big : Expect → Shape → Bool
+too_big (AttrValue d) (Number v) = nat_lt 4294967295 v
+too_big _ _ = false
+
+abbrev pub TooBig : Expect → Shape → Lexeme → Refusal → Type 0
+TooBig (AttrValue d) (Number v) t r = (4294967295 < v) × (r ≡ record { part = Oil; line = t.line; code = code.O4 })
+TooBig _ _ t r = ⊥
+
+-- A fault of tokens that begin in a state, behind a token on line n.
+abbrev pub MachineFault : Expect → ℕ → List Lexeme → Refusal → Type 0
+MachineFault e n [] r = (e ≡ Done → ⊥) × (r ≡ record { part = Oil; line = n; code = code.O6 })
+MachineFault e n (t ∷ ts) r = elim (next e (shape t)) [
+  | None ↦ r ≡ record { part = Oil; line = t.line; code = code.O5 }
+  | Some e' ↦ TooBig e (shape t) t r ⊎ MachineFault e' t.line ts r
+]
+
+-- the least fault with that of a token
+abbrev pub least_after : Option Refusal → Expect → Shape → ℕ → Option Refusal
+least_after o e x n = if too_big e x then Some (lesser o (record { part = Oil; line = n; code = code.O4 })) else o
+
+abbrev pub ValueFits : TokenKind → Type 0
+ValueFits (token.Number v) = v < 4294967296
+ValueFits _ = Unit {0}
+
+abbrev pub TakesFit : Expect → TokenKind → Type 0
+TakesFit (AttrValue d) k = ValueFits k
+TakesFit _ k = Unit {0}
+
+abbrev pub with_attr : Built → ℕ → TokenKind → List ℕ → Built
+with_attr b d k bs = record b { attrs = b.attrs ++ record { name = b.attr_name; value = value_by k bs; line = b.attr_line; depth = d } ∷ [] }

@@ -1,0 +1,49 @@
+-- The parser as it goes over the tokens.
+use Rattle.std.specs.Prelude.{◌≡◌, ℕ, ◌≤◌, List, Some, None}
+use Rattle.sloth_base.specs.declared.refusal.Part.TheVariants.{Oil}
+use Rattle.sloth_base.specs.declared.refusal.Code.TheVariants as code
+use Rattle.sloth_base.specs.declared.refusal.BuildError.{BuildError}
+use Rattle.sloth_base.specs.declared.refusal.BuildError.TheVariants.{Refused, Memory}
+use Rattle.sloth_refusal.specs.Search.{lesser, Kept}
+use Rattle.oil_lex.specs.Tokens.{Lexeme}
+use Rattle.oil_parse.specs.declared.machine.Expect.{Expect}
+use Rattle.oil_parse.specs.declared.machine.Expect.TheVariants.{Start, Inside}
+use Rattle.oil_parse.specs.declared.draft.Draft.{Draft}
+use Rattle.oil_parse.specs.declared.parser.Parser.{Parser}
+use Rattle.oil_parse.specs.Shapes.{shape}
+use Rattle.oil_parse.specs.Machine.{next, step, build, taken, Built, fresh, MachineFault, least_after}
+
+-- the draft without where it lies in memory
+abbrev pub draft : Draft → Built
+draft d = record {
+  cpu_line = d.cpu_line;
+  objects = d.objects.items;
+  kind = d.kind.now;
+  name = d.name.now;
+  line = d.line;
+  attrs = d.attrs.items;
+  attr_name = d.attr_name.now;
+  attr_line = d.attr_line;
+}
+
+-- The parser read a token.
+pub record Moved (p q : Parser) (t : Lexeme) : Type 0 where
+  pub goes : next p.expect (shape t) ≡ Some q.expect
+  pub last : q.last ≡ t.line
+  pub least : q.least ≡ least_after p.least p.expect (shape t) t.line
+  pub built : q.least ≡ None → draft q.draft ≡ taken p.expect (shape t) t (draft p.draft)
+
+-- The parser refuses a token, or memory is short.
+abbrev pub Stopped : Parser → Lexeme → BuildError → Type 0
+Stopped p t Memory = Unit {0}
+Stopped p t (Refused r) = (next p.expect (shape t) ≡ None) × (r ≡ lesser p.least (record { part = Oil; line = t.line; code = code.O5 }))
+
+abbrev pub Within : Expect → ℕ → Type 0
+Within (Inside n) i = n ≤ i
+Within _ i = Unit {0}
+
+-- Of all these tokens the parser has the rest to read.
+pub record Reads (all : List Lexeme) (p : Parser) (rest : List Lexeme) : Type 0 where
+  pub kept : Kept (MachineFault Start 1 all) (MachineFault p.expect p.last rest) p.least
+  pub steps : step (Some p.expect) rest ≡ step (Some Start) all
+  pub builds : p.least ≡ None → build (Some p.expect) (draft p.draft) rest ≡ build (Some Start) fresh all
