@@ -1,0 +1,4 @@
+//! The image file: a memory image, its marks and its names as bytes.
+#![tactic(auto)]
+
+pub mod write;
