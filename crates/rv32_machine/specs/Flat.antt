@@ -1,0 +1,8 @@
+-- The memory of a bus without a controller.
+use Rattle.std.specs.Prelude.{false}
+use Rattle.irq_ctrl.specs.Fresh.{fresh_lines}
+use Rattle.rv32_instr.specs.Memory.{Memory}
+use Rattle.rv32_machine.specs.declared.flat.FlatBus.{FlatBus}
+
+abbrev pub flat_memory : FlatBus → Memory
+flat_memory bus = record { ram = bus.ram; lines = fresh_lines; controller = false }

@@ -1,0 +1,4 @@
+pub mod Start
+pub mod Choice
+pub mod Place
+pub mod Flat

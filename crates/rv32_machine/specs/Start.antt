@@ -1,0 +1,41 @@
+-- The machine as it starts: the image's bytes and then zeros in RAM, and zero in all else.
+use Rattle.std.specs.Prelude.{ℕ, ◌-◌, List, ◌++◌, length, replicate, false, true}
+use Rattle.sloth_base.specs.declared.image.Image.{Image}
+use Rattle.sloth_base.specs.Machine.{State}
+use Rattle.irq_ctrl.specs.Fresh.{fresh_lines}
+use Rattle.rv32_instr.specs.Memory.{Memory}
+
+-- 2,097,152 bytes that begin with these
+unfoldable pub ram_of : List ℕ → List ℕ
+ram_of bytes = bytes ++ replicate (2097152 - length bytes) 0
+
+-- what a bus without a controller starts with
+abbrev pub flat_start : Image → Memory
+flat_start image = record { ram = ram_of image.memory; lines = fresh_lines; controller = false }
+
+-- what a bus with a controller starts with
+abbrev pub sloth_start : Image → Memory
+sloth_start image = record { ram = ram_of image.memory; lines = fresh_lines; controller = true }
+
+-- the hart over a memory
+abbrev pub start_over : Memory → State
+start_over memory = record {
+  pc = 0x8000_0480;
+  core = record {
+    registers = replicate 32 0;
+    mie = false;
+    mpie = false;
+    mscratch = 0;
+    mepc = 0;
+    ilevel = 0;
+    plevel = 0;
+    ram = memory.ram;
+    pending = memory.lines.pending;
+    enabled = memory.lines.enabled;
+    levels = memory.lines.levels;
+    controller = memory.controller;
+  };
+}
+
+abbrev pub start : Image → State
+start image = start_over (sloth_start image)

@@ -1,0 +1,66 @@
+//! A bus of RAM alone.
+ghost use Rattle.std.specs.Prelude.{◌≡◌, IfOk};
+ghost use Rattle.sloth_base.specs.ImageRange.{InFormat};
+ghost use Rattle.rv32_machine.specs.Start.{flat_start};
+
+use crate::bus::Bus;
+use crate::place::{Place, extended, locate};
+use crate::ram::Ram;
+use rv32_instr::Bad;
+use sloth_base::app::Width;
+use sloth_base::image::Image;
+use sloth_base::memory::NoMemory;
+use sloth_base::numbers::Line;
+use std::alloc::Global;
+
+/// RAM without a controller.
+#[derive(Drop)]
+pub struct FlatBus {
+    ram: Ram,
+}
+
+impl FlatBus {
+    ghost use Rattle.rv32_machine.specs.Flat.{flat_memory};
+
+    /// RAM that begins with the image's memory; the rest is zero.
+    pub fn new(alloc: Global, image: &Image) -> Result<FlatBus, NoMemory>
+        requires { InFormat image.now }
+        ensures { IfOk result (λ bus. flat_memory bus ≡ flat_start image.now) }
+    {
+        let ram = Ram::new(alloc, image.memory.items())?;
+        Ok(FlatBus { ram })
+    }
+}
+
+impl Bus for FlatBus {
+    ghost use Rattle.rv32_machine.specs.Flat.{flat_memory};
+
+    ghost memory = { flat_memory };
+
+    #[tactic(auto, using(crate::proofs::Places::refusal_bare, crate::proofs::Places::loaded_ram))]
+    fn load(&mut self, address: u32, width: Width) -> Result<u32, Bad> {
+        match locate(address, width, false) {
+            Ok(Place::Ram(offset)) => Ok(extended(width, self.ram.load(offset, width))),
+            Ok(Place::Controller(_)) => unreachable!(),
+            Err(bad) => Err(bad),
+        }
+    }
+
+    #[tactic(auto, using(crate::proofs::Places::refusal_bare, crate::proofs::Places::stored_ram))]
+    fn store(&mut self, address: u32, width: Width, value: u32) -> Result<(), Bad> {
+        match locate(address, width, false) {
+            Ok(Place::Ram(offset)) => self.ram.store(offset, width, value),
+            Ok(Place::Controller(_)) => unreachable!(),
+            Err(bad) => return Err(bad),
+        }
+        Ok(())
+    }
+
+    fn choose(&self, _level: u8) -> Option<Line> {
+        None
+    }
+
+    fn take(&mut self, _line: Line) {
+        unreachable!()
+    }
+}

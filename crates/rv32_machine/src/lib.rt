@@ -1,0 +1,14 @@
+//! The machine: an RV32I hart over a bus, with or without an interrupt controller.
+#![tactic(auto)]
+
+pub mod bus;
+pub mod flat;
+mod place;
+mod ram;
+pub mod sloth;
+
+pub use bus::Bus;
+pub use flat::FlatBus;
+pub use rv32_instr::{Bad, Stop};
+pub use sloth::SlothBus;
+pub use sloth_base::step::Step;
