@@ -1,4 +1,4 @@
--- The numbers that an instruction's word has room for.
+-- The numbers that an instruction's word has room for: those of the formats of the RISC-V unprivileged manual, chapter RV32I.
 use Rattle.std.specs.Prelude.{ℕ, ◌<◌, ◌≡◌, ◌-◌, ◌/◌, ◌%◌, ◌^◌, ℤ, pos, neg_ℤ, ◌≤ℤ◌, ◌<ℤ◌, unsigned_abs}
 use Rattle.rv32_instr.specs.declared.InstrKind.{InstrKind}
 use Rattle.rv32_instr.specs.declared.InstrKind.TheVariants.{Lui, Auipc, Jal, Jalr, Beq, Bne, Blt, Bge, Bltu, Bgeu, Lb, Lh, Lw, Lbu, Lhu, Sb, Sh, Sw, Addi, Slti, Sltiu, Xori, Ori, Andi, Slli, Srli, Srai, Add, Sub, Sll, Slt, Sltu, Xor, Srl, Sra, Or, And, Fence, Csrrw, Csrrs, Csrrc, Csrrwi, Csrrsi, Csrrci, Ecall, Ebreak, Mret}
@@ -11,6 +11,7 @@ Signed n z = (neg_ℤ (pos (2 ^ (n - 1))) ≤ℤ z) × (z <ℤ pos (2 ^ (n - 1))
 abbrev pub Even : ℕ → ℤ → Type 0
 Even n z = Signed n z × (unsigned_abs z % 2 ≡ 0)
 
+-- the fields of an instruction are numbers that its word has room for; `bits` of a fence are a word without funct3 and opcode
 abbrev pub InRange : InstrKind → Type 0
 InRange (Lui rd imm) = (rd < 32) × (imm < 2 ^ 20)
 InRange (Auipc rd imm) = (rd < 32) × (imm < 2 ^ 20)
