@@ -3,4 +3,8 @@
 #![tactic(auto)]
 
 #[cfg(test)]
+mod oil_lex_tests;
+#[cfg(test)]
+mod oil_parse_tests;
+#[cfg(test)]
 mod rv32_instr_tests;
