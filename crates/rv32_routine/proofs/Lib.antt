@@ -1,0 +1,11 @@
+pub mod Arrivals
+pub mod Words
+pub mod Masked
+pub mod Machine
+pub mod Perform
+pub mod Sound
+pub mod Whole
+pub mod Spread
+pub mod Pieces
+pub mod OneMore
+pub mod Parts

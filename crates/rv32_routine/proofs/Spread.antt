@@ -1,0 +1,25 @@
+-- Registers written out as a list of 32, so that reads and writes of them compute.
+use Rattle.std.proofs.Common.{◌≡◌, ℕ, zero, suc, ◌+◌, List, [], ◌∷◌, length, get_or, drop, sym, ap, ◌∙◌, arith}
+use Rattle.std.proofs.lemmas.List.{drop_more, drop_all}
+use Rattle.sloth_base.specs.Machine.{Core}
+
+-- the elements from k on, n of them
+abbrev pub spread_from : ℕ → ℕ → List ℕ → List ℕ
+spread_from zero k xs = []
+spread_from (suc n) k xs = get_or xs k 0 ∷ spread_from n (suc k) xs
+
+spread_list : (n k : ℕ) (xs : List ℕ) → k + n ≡ length xs → drop k xs ≡ spread_from n k xs
+spread_list zero k xs h = drop_all k xs (omega arith)
+spread_list (suc n) k xs h =
+    let e : k + 1 ≡ suc k = omega arith in
+    drop_more xs k 0 (omega arith) ∙ ap (λ j. get_or xs k 0 ∷ drop j xs) e ∙ ap (λ l. get_or xs k 0 ∷ l) (spread_list n (suc k) xs (omega arith))
+
+-- a state with its registers written out, x0 being zero
+abbrev pub spread : Core → Core
+spread c = record c { registers = 0 ∷ spread_from 31 1 c.registers }
+
+pub spread_is : (c : Core) → length c.registers ≡ 32 → get_or c.registers 0 0 ≡ 0 → spread c ≡ c
+spread_is c n z =
+    let e = spread_list 32 0 c.registers (omega arith) in
+    let f : c.registers ≡ get_or c.registers 0 0 ∷ spread_from 31 1 c.registers = e in
+    ap (λ r. record c { registers = r }) (ap (λ x. x ∷ spread_from 31 1 c.registers) (sym z) ∙ sym f)

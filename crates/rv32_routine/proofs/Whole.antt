@@ -1,0 +1,84 @@
+-- Whole routines: handlers, which are entered masked, and services, whose first instruction masks.
+use Rattle.std.proofs.Common.{◌≡◌, ℕ, suc, ◌+◌, ◌*◌, ◌%◌, ◌≤◌, List, [], ◌∷◌, length, refl, sym, ap, ◌∙◌, subst, arith}
+use Rattle.std.specs.Prelude.{All, Bool, true, false, bit_and}
+use Rattle.sloth_base.specs.Machine.{Core, State}
+use Rattle.sloth_base.specs.Arrive.{state_arrive}
+use Rattle.rv32_instr.specs.declared.InstrKind.{InstrKind}
+use Rattle.rv32_instr.specs.declared.InstrKind.TheVariants.{Csrrci}
+use Rattle.rv32_instr.specs.Range.{InRange}
+use Rattle.rv32_instr.specs.Table.{Decode}
+use Rattle.rv32_instr.proofs.Table.{decode_encode}
+use Rattle.rv32_instr.specs.Execute.{Going, step, perform, mstatus_of, with_csr, goes_on}
+use Rattle.rv32_routine.specs.Trace.{Trace, touched_lines, early, late}
+use Rattle.rv32_routine.specs.Masked.{OnGoing, Masked, WithArrivals, FromOpening}
+use Rattle.rv32_routine.specs.Place.{at, InPlace, AreWritten}
+use Rattle.rv32_routine.specs.Owes.{Owes}
+use Rattle.rv32_routine.proofs.Arrivals.{taken_early, left_late, taken, left}
+use Rattle.rv32_routine.proofs.Masked.{masked_map}
+use Rattle.rv32_routine.proofs.Machine.{step_at, next_at}
+use Rattle.rv32_routine.proofs.Sound.{Ended, Inside, run}
+
+-- what holds with arrivals that are placed as the trace says
+with_arrivals : (E : List ℕ → State → State → Type 0) (start : State) (t : Trace) (x : State) → Ended E start [] t x → WithArrivals E start t x
+with_arrivals E start t x h =
+    let last = h.0 in
+    let e : state_arrive (taken t []) start ≡ state_arrive (early t) start = ap (λ p. record start { core = record start.core { pending = p } }) (taken_early t start.core.pending) in
+    let f : state_arrive (left t []) last ≡ state_arrive (late t) last = ap (λ p. record last { core = record last.core { pending = p } }) (left_late t last.core.pending) in
+    (last, subst (λ s. E (touched_lines t) s last) e h.1, h.2 ∙ f)
+
+-- what holds of the state as a routine is entered
+pub record IsEntered (o : ℕ) (code : List InstrKind) (c : Core) : Type 0 where
+  pub masked : c.mie ≡ false
+  pub there : c.controller ≡ true
+  pub lines : length c.pending ≡ 32
+  pub aligned : o % 4 ≡ 0
+  pub fits : o + 4 * length code ≤ 0x20_0000
+  pub placed : InPlace c.ram o code
+
+pub handles : (o n : ℕ) (code : List InstrKind) (c : Core) (E : List ℕ → State → State → Type 0) (start : State) → IsEntered o code c → length code ≤ n → Owes o (o + 4 * length code) o code 0 E start c → Masked n (at o c) (WithArrivals E start)
+handles o n code c E start e le h =
+    let al = e.aligned in
+    masked_map n (at o c) _ _ (with_arrivals E start)
+    (run o (o + 4 * length code) c.ram e.fits code 0 n o o c [] E start le (omega arith) al (omega arith) (omega arith) e.placed
+    (record { masked = e.masked; there = e.there; lines = e.lines; same = record { by = λ i a b. refl } }) h)
+
+mask_bits : (mie mpie : Bool) (c : Core) → with_csr c 0x300 (bit_and (mstatus_of (record c { mie = mie; mpie = mpie })) 4294967287) ≡ record c { mie = false; mpie = mpie }
+mask_bits true true c = refl
+mask_bits true false c = refl
+mask_bits false true c = refl
+mask_bits false false c = refl
+
+-- `csrrci x0, mstatus, 8` makes MIE 0 and changes nothing else
+pub masks : (o : ℕ) (c : Core) (code : List InstrKind) → o + 4 ≤ 0x20_0000 → InPlace c.ram o (Csrrci 0 8 0x300 ∷ code) → step (at o c) ≡ Going (at (o + 4) (record c { mie = false }))
+unfolding perform
+masks o c code h p = step_at o c (Csrrci 0 8 0x300) (p.0, h) ∙ ap (goes_on (0x8000_0000 + o)) (mask_bits c.mie c.mpie c) ∙ next_at o (record c { mie = false }) h
+
+pub record IsOpened (o : ℕ) (code : List InstrKind) (c : Core) : Type 0 where
+  pub there : c.controller ≡ true
+  pub lines : length c.pending ≡ 32
+  pub aligned : o % 4 ≡ 0
+  pub fits : o + 4 + 4 * length code ≤ 0x20_0000
+  pub placed : InPlace c.ram o (Csrrci 0 8 0x300 ∷ code)
+
+-- the state behind the masking instruction
+abbrev pub masked : Core → Core
+masked c = record c { mie = false }
+
+pub serves : (o n : ℕ) (code : List InstrKind) (c : Core) (E : List ℕ → State → State → Type 0) → IsOpened o code c → length code ≤ n → Owes o (o + 4 + 4 * length code) (o + 4) code 0 E (at o c) (masked c) → FromOpening n (at o c) E
+serves o n code c E e le h =
+    let al = e.aligned in
+    let fits = e.fits in
+    let c0 = masked c in
+    let inside : Inside o (o + 4 + 4 * length code) c.ram fits c0 = record { masked = refl; there = e.there; lines = e.lines; same = record { by = λ i a b. refl } } in
+    subst (λ x. OnGoing x (λ first. (first.core.mie ≡ false) × Masked n first (WithArrivals E (at o c)))) (sym (masks o c code (omega arith) e.placed)) (
+      refl,
+      masked_map n (at (o + 4) c0) _ _ (with_arrivals E (at o c))
+          (run o (o + 4 + 4 * length code) c.ram fits code 0 n (o + 4) (o + 4) c0 [] E (at o c) le (omega arith) (omega arith) (omega arith) (omega arith) e.placed.1 inside h),
+    )
+
+-- ---- code that is written as words
+
+pub in_place : (ram : List ℕ) (o : ℕ) (code : List InstrKind) → All InRange code → AreWritten ram o code → InPlace ram o code
+in_place ram o [] h w = tt
+in_place ram o (kind ∷ code) h w =
+    (ap Decode w.0 ∙ decode_encode kind (h 0 kind (omega arith)), in_place ram (o + 4) code (λ k d below. h (suc k) d (omega arith)) w.1)

@@ -1,0 +1,7 @@
+pub mod Trace
+pub mod Masked
+pub mod Place
+pub mod Owes
+pub mod Pieces
+pub mod Constant
+pub mod Emit

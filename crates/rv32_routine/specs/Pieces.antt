@@ -1,0 +1,40 @@
+-- Runs of instructions over registers one after the other, and what they leave.
+use Rattle.std.specs.Prelude.{ℕ, zero, suc, ◌+◌, ◌*◌, pos, List, [], ◌∷◌, slice_index, slice_set}
+use Rattle.rv32_instr.specs.declared.InstrKind.{InstrKind}
+use Rattle.rv32_instr.specs.declared.InstrKind.TheVariants.{Sw, Lw, Addi}
+use Rattle.rv32_instr.specs.Ram.{word_at}
+
+-- stores `count` registers from x_first on, register i at 4 i bytes behind the address in a register
+abbrev pub saves : ℕ → ℕ → ℕ → List InstrKind
+saves zero first base = []
+saves (suc count) first base = Sw base first (pos (4 * first)) ∷ saves count (suc first) base
+
+-- loads them from there
+abbrev pub restores : ℕ → ℕ → ℕ → List InstrKind
+restores zero first base = []
+restores (suc count) first base = Lw first base (pos (4 * first)) ∷ restores count (suc first) base
+
+-- sets them to zero
+abbrev pub clears : ℕ → ℕ → List InstrKind
+clears zero first = []
+clears (suc count) first = Addi first 0 (pos 0) ∷ clears count (suc first)
+
+-- stores zero to `count` words, from the one of this number behind the address in a register on
+abbrev pub clears_words : ℕ → ℕ → ℕ → List InstrKind
+clears_words zero number base = []
+clears_words (suc count) number base = Sw base 0 (pos (4 * number)) ∷ clears_words count (suc number) base
+
+-- the values of `count` registers from x_first on
+abbrev pub registers_from : ℕ → ℕ → List ℕ → List ℕ
+registers_from zero first registers = []
+registers_from (suc count) first registers = slice_index registers first ∷ registers_from count (suc first) registers
+
+-- the registers with these loaded, from the context at an offset in RAM
+abbrev pub restored : ℕ → ℕ → List ℕ → ℕ → List ℕ → List ℕ
+restored zero first ram place registers = registers
+restored (suc count) first ram place registers =
+    restored count (suc first) ram place (slice_set registers first (word_at ram (place + 4 * first)))
+
+abbrev pub cleared : ℕ → ℕ → List ℕ → List ℕ
+cleared zero first registers = registers
+cleared (suc count) first registers = cleared count (suc first) (slice_set registers first 0)

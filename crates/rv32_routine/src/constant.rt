@@ -1,0 +1,24 @@
+//! The two parts of a 32-bit constant: `lui` loads the one, and `addi` adds the other.
+ghost use Rattle.std.specs.Prelude.{◌≡◌, ◌<◌, ◌^◌};
+ghost use Rattle.rv32_instr.specs.Range.{Signed};
+ghost use Rattle.rv32_routine.specs.Constant.{hi, lo};
+
+use rv32_instr::fields::{bits, signed};
+
+/// Bits 31 to 12 of a constant, rounded so that `lo` is all that is left.
+#[tactic(auto, unfolding(crate::specs::Constant::hi))]
+pub fn hi(value: u32) -> u32
+    ensures is { result ≡ hi value }
+    ensures fits { result < 2 ^ 20 }
+{
+    ((value as u64 + 0x800) / 0x1000 % 0x10_0000) as u32
+}
+
+/// What is left of a constant behind `hi`.
+#[tactic(auto, unfolding(crate::specs::Constant::lo))]
+pub fn lo(value: u32) -> i32
+    ensures is { result ≡ lo value }
+    ensures fits { Signed 12 result }
+{
+    signed(bits(value, 0, 12), 12)
+}

@@ -1,0 +1,110 @@
+//! Instructions, added to the code of a block.
+ghost use Rattle.std.specs.Prelude.{◌≡◌, ◌≤◌, ◌<◌, ◌+◌, ◌-◌, ◌*◌, ◌++◌, ◌∷◌, [], OnOk, pos};
+ghost use Rattle.rv32_instr.specs.Range.{InRange, Signed};
+ghost use Rattle.rv32_routine.specs.Emit.{AreInRange};
+ghost use Rattle.rv32_routine.specs.Pieces.{saves, restores, clears, clears_words};
+
+use rv32_instr::{Instr, InstrKind};
+use sloth_base::numbers::Reg;
+use std::alloc::AllocError;
+
+/// The bytes of so many words.
+fn offset_of(words: u32) -> i32
+    requires { words < 500 }
+    ensures is { result ≡ pos (4 * words) }
+    ensures fits { Signed 12 result }
+{
+    4 * words as i32
+}
+
+/// Adds one instruction.
+fn put(code: &mut Vec<Instr>, kind: InstrKind) -> Result<(), AllocError>
+    requires { InRange kind }
+    ensures { OnOk result (code.new.items ≡ code.old.items ++ kind ∷ []) }
+{
+    code.push(Instr::of(kind))?;
+    Ok(())
+}
+
+/// Adds these instructions.
+pub fn emit(code: &mut Vec<Instr>, kinds: &[InstrKind]) -> Result<(), AllocError>
+    requires { AreInRange kinds.now }
+    ensures { OnOk result (code.new.items ≡ code.old.items ++ kinds.now) }
+{
+    for kind in kinds {
+        put(code, *kind)?;
+    }
+    Ok(())
+}
+
+/// Stores the registers from `first` on, below `end`, each at four times its number behind the address in `base`.
+pub fn save(code: &mut Vec<Instr>, first: u8, end: u8, base: Reg) -> Result<(), AllocError>
+    requires { (first ≤ end) × (end ≤ 32) × (base < 32) }
+    ensures { OnOk result (code.new.items ≡ code.old.items ++ saves (end - first) first base) }
+{
+    for number in first..end {
+        put(
+            code,
+            InstrKind::Sw {
+                rs1: base,
+                rs2: Reg(number),
+                imm: offset_of(number as u32),
+            },
+        )?;
+    }
+    Ok(())
+}
+
+/// Loads them from there.
+pub fn restore(code: &mut Vec<Instr>, first: u8, end: u8, base: Reg) -> Result<(), AllocError>
+    requires { (first ≤ end) × (end ≤ 32) × (base < 32) }
+    ensures { OnOk result (code.new.items ≡ code.old.items ++ restores (end - first) first base) }
+{
+    for number in first..end {
+        put(
+            code,
+            InstrKind::Lw {
+                rd: Reg(number),
+                rs1: base,
+                imm: offset_of(number as u32),
+            },
+        )?;
+    }
+    Ok(())
+}
+
+/// Sets them to zero.
+pub fn clear(code: &mut Vec<Instr>, first: u8, end: u8) -> Result<(), AllocError>
+    requires { (first ≤ end) × (end ≤ 32) }
+    ensures { OnOk result (code.new.items ≡ code.old.items ++ clears (end - first) first) }
+{
+    for number in first..end {
+        put(
+            code,
+            InstrKind::Addi {
+                rd: Reg(number),
+                rs1: Reg(0),
+                imm: 0,
+            },
+        )?;
+    }
+    Ok(())
+}
+
+/// Stores zero to `count` words from the address in `base` on.
+pub fn clear_words(code: &mut Vec<Instr>, count: u32, base: Reg) -> Result<(), AllocError>
+    requires { (count ≤ 500) × (base < 32) }
+    ensures { OnOk result (code.new.items ≡ code.old.items ++ clears_words count 0 base) }
+{
+    for number in 0..count {
+        put(
+            code,
+            InstrKind::Sw {
+                rs1: base,
+                rs2: Reg(0),
+                imm: offset_of(number),
+            },
+        )?;
+    }
+    Ok(())
+}
