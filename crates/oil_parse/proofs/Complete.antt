@@ -15,7 +15,8 @@ use Rattle.oil_parse.specs.Shapes.{shape, IsWord}
 use Rattle.oil_parse.specs.declared.tree.OilObject.{OilObject}
 use Rattle.oil_parse.specs.declared.tree.OilTree.{OilTree}
 use Rattle.oil_parse.specs.Grammar.{IsValue, IsEnd, bare, described, IsAttrs, no_attr, attr, block, attr_of, IsObject, plain_object, block_object, IsObjects, no_object, object, IsBalanced, no_token, token_in, braces, IsSection, no_section, section, IsHead, head, IsFile, file}
-use Rattle.oil_parse.specs.Machine.{fresh, next, step, behind, Built, build, taken, pushed, ended}
+use Rattle.oil_parse.specs.Machine.{fresh, next, behind, Built, taken, pushed, ended}
+use Rattle.oil_parse.proofs.Steps.{step, build}
 use Rattle.oil_parse.proofs.Steps.{step_append}
 
 build_append : (o : Option Expect) (b : Built) (ts us : List Lexeme) → build o b (ts ++ us) ≡ build (step o ts) (build o b ts) us

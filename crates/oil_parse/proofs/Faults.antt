@@ -15,7 +15,8 @@ use Rattle.oil_parse.specs.Shapes.{shape}
 use Rattle.oil_parse.specs.declared.tree.OilTree.{OilTree}
 use Rattle.oil_parse.specs.Grammar.{IsSection, IsHead, IsFile, file}
 use Rattle.oil_parse.specs.Faults.{Viable, InCpu, is_too_big, last_line, EndFault, GrammarFault}
-use Rattle.oil_parse.specs.Machine.{next, step, closed, fresh, TooBig, MachineFault}
+use Rattle.oil_parse.specs.Machine.{next, closed, fresh}
+use Rattle.oil_parse.proofs.Steps.{step, TooBig, MachineFault}
 use Rattle.oil_parse.proofs.Steps.{none_done, step_append, step_none}
 use Rattle.oil_parse.proofs.Sound.{file_read}
 use Rattle.oil_parse.proofs.Complete.{Takes, cpu_takes, file_takes}

@@ -7,7 +7,8 @@ use Rattle.oil_parse.specs.declared.machine.Construct.TheVariants.{Head, Section
 use Rattle.oil_parse.specs.declared.machine.Expect.{Expect}
 use Rattle.oil_parse.specs.declared.machine.Expect.TheVariants.{Start, VersionIs, VersionText, Ending, Describing, Closing, Body, SectionName, SectionOpen, Inside, CpuWord, CpuName, CpuOpen, Objects, ObjectName, ObjectTail, Attrs, AttrIs, AttrValue, AttrTail, Done}
 use Rattle.oil_parse.specs.Shapes.{shape_by, sign_of, key_of, version_word, cpu_word}
-use Rattle.oil_parse.specs.Machine.{next, step, behind}
+use Rattle.oil_parse.specs.Machine.{next, behind}
+use Rattle.oil_parse.proofs.Steps.{step}
 
 abbrev sign : ℕ → Lexeme
 sign b = record { kind = token.Sign; line = 1; bytes = b ∷ [] }

@@ -28,11 +28,23 @@ use Rattle.oil_parse.specs.Shapes.{shape_by}
 use Rattle.oil_parse.specs.declared.tree.OilTree.{OilTree}
 use Rattle.oil_parse.specs.Grammar.{IsFile}
 use Rattle.oil_parse.specs.Faults.{GrammarFault}
-use Rattle.oil_parse.specs.Machine.{next, step, build, taken, Built, fresh, TooBig, too_big, MachineFault, TakesFit, left, behind}
-use Rattle.oil_parse.specs.Parser.{draft, Moved, Stopped, Reads, Within}
+use Rattle.oil_parse.specs.Machine.{next, taken, Built, fresh, too_big, TakesFit, left, behind}
+use Rattle.oil_parse.proofs.Steps.{step, build, TooBig, MachineFault}
+use Rattle.oil_parse.specs.Parser.{draft, Moved, Stopped}
 use Rattle.oil_parse.proofs.Sound.{file_read}
 use Rattle.oil_parse.proofs.Complete.{file_takes}
 use Rattle.oil_parse.proofs.Faults.{FaultBy, same_faults}
+
+-- no more braces are open than tokens were read
+abbrev pub Within : Expect → ℕ → Type 0
+Within (Inside n) i = n ≤ i
+Within _ i = Unit {0}
+
+-- Of all these tokens the parser has the rest to read.
+pub record Reads (all : List Lexeme) (p : Parser) (rest : List Lexeme) : Type 0 where
+  pub kept : Kept (MachineFault Start 1 all) (MachineFault p.expect p.last rest) p.least
+  pub steps : step (Some p.expect) rest ≡ step (Some Start) all
+  pub builds : p.least ≡ None → build (Some p.expect) (draft p.draft) rest ≡ build (Some Start) fresh all
 
 pub fits : (e : Expect) (k : TokenKind) (bs : List ℕ) → too_big e (shape_by k bs) ≡ false → TakesFit e k
 unfolding shape_by

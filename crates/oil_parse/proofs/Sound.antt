@@ -15,7 +15,8 @@ use Rattle.oil_parse.specs.Shapes.{shape, IsWord}
 use Rattle.oil_parse.specs.declared.tree.OilObject.{OilObject}
 use Rattle.oil_parse.specs.declared.tree.OilTree.{OilTree}
 use Rattle.oil_parse.specs.Grammar.{IsValue, IsEnd, bare, described, IsAttrs, no_attr, attr, block, attr_of, IsObject, plain_object, block_object, IsObjects, no_object, object, IsBalanced, no_token, token_in, braces, IsSection, no_section, section, head, IsFile, file}
-use Rattle.oil_parse.specs.Machine.{next, step, behind, closed, left}
+use Rattle.oil_parse.specs.Machine.{next, behind, closed, left}
+use Rattle.oil_parse.proofs.Steps.{step}
 use Rattle.oil_parse.proofs.Steps.{none_done}
 
 abbrev Accepts : Expect → List Lexeme → Type 0

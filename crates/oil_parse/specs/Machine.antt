@@ -1,5 +1,6 @@
--- The parser's states: what may come next.
-use Rattle.std.specs.Prelude.{◌≡◌, ℕ, ◌+◌, Bool, false, if◌then◌else◌, nat_lt, ◌<◌, List, [], ◌∷◌, ◌++◌, ◌⊎◌, suc, zero, Option, Some, None}
+-- What the parser does with a token: what may come next, and what is added to the tree. The grammar's definitions stand in Grammar and
+-- Faults; that the parser meets them is proved.
+use Rattle.std.specs.Prelude.{ℕ, ◌+◌, Bool, false, if◌then◌else◌, nat_lt, ◌<◌, List, [], ◌∷◌, ◌++◌, suc, zero, Option, Some, None}
 use Rattle.sloth_base.specs.declared.refusal.Part.TheVariants.{Oil}
 use Rattle.sloth_base.specs.declared.refusal.Code.TheVariants as code
 use Rattle.sloth_base.specs.declared.refusal.Refusal.{Refusal}
@@ -15,11 +16,10 @@ use Rattle.oil_parse.specs.declared.machine.Construct.TheVariants.{Head, Section
 use Rattle.oil_parse.specs.declared.machine.Expect.{Expect}
 use Rattle.oil_parse.specs.declared.machine.Expect.TheVariants.{Start, VersionIs, VersionText, Ending, Describing, Closing, Body, SectionName, SectionOpen, Inside, CpuWord, CpuName, CpuOpen, Objects, ObjectName, ObjectTail, Attrs, AttrIs, AttrValue, AttrTail, Done}
 use Rattle.oil_parse.specs.declared.tree.OilAttr.{OilAttr}
-use Rattle.oil_parse.specs.Shapes.{shape}
 use Rattle.oil_parse.specs.declared.tree.OilObject.{OilObject}
 use Rattle.oil_parse.specs.Grammar.{value_by}
 
--- what comes behind the `;` of a part
+-- what comes behind the `;` that ends a construct
 abbrev pub behind : Construct → Expect
 behind Head = Body
 behind Section = CpuWord
@@ -27,15 +27,17 @@ behind Object = Objects
 behind (Attr d) = Attrs d
 behind File = Done
 
--- the part that a `}` of attributes closes
+-- the construct that a `}` of attributes closes
 abbrev pub closed : ℕ → Construct
 closed zero = Object
 closed (suc d) = Attr d
 
+-- what comes behind a `}` in a section IMPLEMENTATION
 abbrev pub left : ℕ → Expect
 left zero = Ending Section
 left (suc n) = Inside n
 
+-- what comes behind a token of this shape, if it may stand here
 unfoldable pub next : Expect → Shape → Option Expect
 next Start (Word Version) = Some VersionIs
 next VersionIs Equals = Some VersionText
@@ -77,12 +79,6 @@ next (AttrTail d) Colon = Some (Describing (Attr d))
 next (AttrTail d) Semicolon = Some (Attrs d)
 next _ _ = None
 
--- what is to come behind these tokens
-abbrev pub step : Option Expect → List Lexeme → Option Expect
-step o [] = o
-step None (t ∷ ts) = None
-step (Some e) (t ∷ ts) = step (next e (shape t)) ts
-
 -- Fewer braces are open than a number of 64 bits counts.
 abbrev pub Shallow : Expect → Type 0
 Shallow (Inside n) = n + 1 < 18446744073709551616
@@ -103,6 +99,7 @@ pub record Built : Type 0 where
 abbrev pub pushed : Built → Built
 pushed b = record b { objects = b.objects ++ record { kind = b.kind; name = b.name; line = b.line; attrs = b.attrs } ∷ []; attrs = [] }
 
+-- a construct is whole
 abbrev pub ended : Construct → Built → Built
 ended Object b = pushed b
 ended _ b = b
@@ -120,11 +117,7 @@ taken (Attrs d) (Word k) t b = record b { attr_name = t.bytes; attr_line = t.lin
 taken (AttrValue d) x t b = record b { attrs = b.attrs ++ record { name = b.attr_name; value = value_by t.kind t.bytes; line = b.attr_line; depth = d } ∷ [] }
 taken _ _ t b = b
 
-abbrev pub build : Option Expect → Built → List Lexeme → Built
-build o b [] = b
-build None b (t ∷ ts) = b
-build (Some e) b (t ∷ ts) = build (next e (shape t)) (taken e (shape t) t b) ts
-
+-- nothing has been read
 abbrev pub fresh : Built
 fresh = record { cpu_line = 0; objects = []; kind = []; name = []; line = 0; attrs = []; attr_name = []; attr_line = 0 }
 
@@ -133,29 +126,20 @@ abbrev pub too_big : Expect → Shape → Bool
 too_big (AttrValue d) (Number v) = nat_lt 4294967295 v
 too_big _ _ = false
 
-abbrev pub TooBig : Expect → Shape → Lexeme → Refusal → Type 0
-TooBig (AttrValue d) (Number v) t r = (4294967295 < v) × (r ≡ record { part = Oil; line = t.line; code = code.O4 })
-TooBig _ _ t r = ⊥
-
--- A fault of tokens that begin in a state, behind a token on line n.
-abbrev pub MachineFault : Expect → ℕ → List Lexeme → Refusal → Type 0
-MachineFault e n [] r = (e ≡ Done → ⊥) × (r ≡ record { part = Oil; line = n; code = code.O6 })
-MachineFault e n (t ∷ ts) r = elim (next e (shape t)) [
-  | None ↦ r ≡ record { part = Oil; line = t.line; code = code.O5 }
-  | Some e' ↦ TooBig e (shape t) t r ⊎ MachineFault e' t.line ts r
-]
-
 -- the least fault with that of a token
 abbrev pub least_after : Option Refusal → Expect → Shape → ℕ → Option Refusal
 least_after o e x n = if too_big e x then Some (lesser o (record { part = Oil; line = n; code = code.O4 })) else o
 
+-- a number is at most 4,294,967,295
 abbrev pub ValueFits : TokenKind → Type 0
 ValueFits (token.Number v) = v < 4294967296
 ValueFits _ = Unit {0}
 
+-- what a token adds fits
 abbrev pub TakesFit : Expect → TokenKind → Type 0
 TakesFit (AttrValue d) k = ValueFits k
 TakesFit _ k = Unit {0}
 
+-- an attribute more
 abbrev pub with_attr : Built → ℕ → TokenKind → List ℕ → Built
 with_attr b d k bs = record b { attrs = b.attrs ++ record { name = b.attr_name; value = value_by k bs; line = b.attr_line; depth = d } ∷ [] }

@@ -1,17 +1,15 @@
 -- The parser as it goes over the tokens.
-use Rattle.std.specs.Prelude.{◌≡◌, ℕ, ◌≤◌, List, Some, None}
+use Rattle.std.specs.Prelude.{◌≡◌, Some, None}
 use Rattle.sloth_base.specs.declared.refusal.Part.TheVariants.{Oil}
 use Rattle.sloth_base.specs.declared.refusal.Code.TheVariants as code
 use Rattle.sloth_base.specs.declared.refusal.BuildError.{BuildError}
 use Rattle.sloth_base.specs.declared.refusal.BuildError.TheVariants.{Refused, Memory}
-use Rattle.sloth_refusal.specs.Search.{lesser, Kept}
+use Rattle.sloth_refusal.specs.Search.{lesser}
 use Rattle.oil_lex.specs.Tokens.{Lexeme}
-use Rattle.oil_parse.specs.declared.machine.Expect.{Expect}
-use Rattle.oil_parse.specs.declared.machine.Expect.TheVariants.{Start, Inside}
 use Rattle.oil_parse.specs.declared.draft.Draft.{Draft}
 use Rattle.oil_parse.specs.declared.parser.Parser.{Parser}
 use Rattle.oil_parse.specs.Shapes.{shape}
-use Rattle.oil_parse.specs.Machine.{next, step, build, taken, Built, fresh, MachineFault, least_after}
+use Rattle.oil_parse.specs.Machine.{next, taken, Built, least_after}
 
 -- the draft without where it lies in memory
 abbrev pub draft : Draft → Built
@@ -37,13 +35,3 @@ pub record Moved (p q : Parser) (t : Lexeme) : Type 0 where
 abbrev pub Stopped : Parser → Lexeme → BuildError → Type 0
 Stopped p t Memory = Unit {0}
 Stopped p t (Refused r) = (next p.expect (shape t) ≡ None) × (r ≡ lesser p.least (record { part = Oil; line = t.line; code = code.O5 }))
-
-abbrev pub Within : Expect → ℕ → Type 0
-Within (Inside n) i = n ≤ i
-Within _ i = Unit {0}
-
--- Of all these tokens the parser has the rest to read.
-pub record Reads (all : List Lexeme) (p : Parser) (rest : List Lexeme) : Type 0 where
-  pub kept : Kept (MachineFault Start 1 all) (MachineFault p.expect p.last rest) p.least
-  pub steps : step (Some p.expect) rest ≡ step (Some Start) all
-  pub builds : p.least ≡ None → build (Some p.expect) (draft p.draft) rest ≡ build (Some Start) fresh all

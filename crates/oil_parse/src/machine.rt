@@ -40,8 +40,8 @@ pub enum Construct {
     File,
 }
 
-/// What may come next. Inside a section IMPLEMENTATION this is the number of open braces but the first, and where attributes
-/// are, the number of attribute blocks.
+/// What may come next. Inside a section IMPLEMENTATION it has the number of open braces but the first, and among attributes the
+/// number of attribute blocks that they lie in.
 #[derive(Clone, Copy)]
 pub enum Expect {
     Start,
@@ -67,6 +67,7 @@ pub enum Expect {
     Done,
 }
 
+/// Which of the grammar's words this is.
 #[tactic(auto, unfolding(crate::specs::Shapes::key_of))]
 fn key_of(word: &[u8]) -> Key
     ensures { result ≡ key_of word.now }
@@ -82,6 +83,7 @@ fn key_of(word: &[u8]) -> Key
     }
 }
 
+/// Which of the grammar's signs this is.
 #[tactic(auto, unfolding(crate::specs::Shapes::sign_of))]
 fn sign_of(sign: &[u8]) -> Shape
     ensures { result ≡ sign_of sign.now }
