@@ -1,0 +1,49 @@
+-- Texts of lists of events.
+use Rattle.std.specs.Prelude.{ℕ, ◌&&◌, List, [], ◌∷◌, ◌++◌, Bool, true, false, if◌then◌else◌}
+use Rattle.std.specs.List.{flat_map}
+use Rattle.sloth_base.specs.declared.event.Event.{Event}
+use Rattle.sloth_base.specs.declared.event.Event.TheVariants as event
+use Rattle.sloth_base.specs.declared.event.Stamped.{Stamped}
+use Rattle.sloth_base.specs.declared.image.Image.{Image}
+use Rattle.trace_text.specs.Lines.{line_of}
+use Rattle.trace_text.specs.declared.print.Form.{Form}
+use Rattle.trace_text.specs.declared.print.Form.TheVariants as form
+
+abbrev pub is_idle : Event → Bool
+is_idle event.Idle = true
+is_idle _ = false
+
+-- the events without each idle that directly follows an idle; whether the one before the first is an idle is given
+abbrev pub merged : Bool → List Stamped → List Stamped
+merged after_idle [] = []
+merged after_idle (e ∷ rest) =
+    if after_idle && is_idle e.event then merged true rest else e ∷ merged (is_idle e.event) rest
+
+-- the last event is an idle, or of no events the one before them
+abbrev pub ends_idle : Bool → List Stamped → Bool
+ends_idle after_idle [] = after_idle
+ends_idle after_idle (e ∷ rest) = ends_idle (is_idle e.event) rest
+
+-- the lines of events, each with its LF
+abbrev pub lines_of : Image → Form → List Stamped → List ℕ
+lines_of image form events = flat_map (λ e. line_of image form e ++ 10 ∷ []) events
+
+-- those that are printed: in the bare form no idle directly follows an idle
+abbrev pub printed : Form → Bool → List Stamped → List Stamped
+printed form.Counted after_idle events = events
+printed form.Bare after_idle events = merged after_idle events
+
+-- the text of events that follow others, of which the last was an idle or not
+abbrev pub text_after : Image → Form → Bool → List Stamped → List ℕ
+text_after image form after_idle events = lines_of image form (printed form after_idle events)
+
+-- the text of a run's events in a form
+abbrev pub text_in : Image → Form → List Stamped → List ℕ
+text_in image form events = text_after image form false events
+
+-- the counted text, and the bare one
+abbrev pub text_of : Image → List Stamped → List ℕ
+text_of image events = text_in image form.Counted events
+
+abbrev pub order_text : Image → List Stamped → List ℕ
+order_text image events = text_in image form.Bare events
