@@ -3,8 +3,16 @@
 #![tactic(auto)]
 
 #[cfg(test)]
+mod image_file_tests;
+#[cfg(test)]
+mod images;
+#[cfg(test)]
 mod oil_lex_tests;
 #[cfg(test)]
 mod oil_parse_tests;
 #[cfg(test)]
 mod rv32_instr_tests;
+#[cfg(test)]
+mod sloth_io_tests;
+#[cfg(test)]
+mod trace_text_tests;
