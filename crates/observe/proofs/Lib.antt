@@ -5,4 +5,7 @@ pub mod Growing
 pub mod Turning
 pub mod Feeding
 pub mod Rule
+pub mod Masking
 mod Places
+mod Rows
+pub mod Ranges

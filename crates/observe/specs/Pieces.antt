@@ -1,5 +1,5 @@
 -- A run cut into stretches of masked code and the single steps outside them.
-use Rattle.std.specs.Prelude.{ℕ, ◌≡◌, ◌==◌, Bool, true, false, not, ◌&&◌, ◌||◌, if◌then◌else◌, List, [], ◌∷◌, ◌++◌, is_some}
+use Rattle.std.specs.Prelude.{ℕ, ◌≡◌, ◌==◌, Bool, true, false, not, ◌&&◌, ◌||◌, if◌then◌else◌, List, [], ◌∷◌, ◌++◌, Option, None, is_some}
 use Rattle.std.specs.List.{flat_map}
 use Rattle.sloth_base.specs.declared.step.Step.{Step}
 
@@ -63,9 +63,9 @@ abbrev pub IsPiece : Piece → Type 0
 IsPiece (Outside step) = begins step ≡ false
 IsPiece (Stretch steps) = IsWhole steps
 
-abbrev pub ArePieces : List Piece → Type 0
-ArePieces [] = Unit {0}
-ArePieces (piece ∷ more) = IsPiece piece × ArePieces more
+abbrev pub EachPiece : (Piece → Type 0) → List Piece → Type 0
+EachPiece P [] = Unit {0}
+EachPiece P (piece ∷ more) = P piece × EachPiece P more
 
 -- a stretch that is still open, or none
 abbrev pub IsOpenPart : List Step → Type 0
@@ -75,5 +75,30 @@ IsOpenPart (step ∷ steps) = (begins step ≡ true) × AllMasked (step ∷ step
 -- joined with the open part behind them, the pieces are the run
 pub record IsCut (steps : List Step) (parts : List Piece) (rest : List Step) : Type 0 where
   pub joined : flat_map steps_of parts ++ rest ≡ steps
-  pub each : ArePieces parts
+  pub each : EachPiece IsPiece parts
   pub left : IsOpenPart rest
+
+-- ---- where a run finds MIE 1
+
+-- each step finds MIE as the step before it left it
+abbrev pub GoesOn : Bool → List Step → Type 0
+GoesOn enabled [] = Unit {0}
+GoesOn enabled (step ∷ steps) = (step.enabled_before ≡ enabled) × GoesOn step.enabled_after steps
+
+abbrev pub StartsAtZero : List Step → Type 0
+StartsAtZero [] = Unit {0}
+StartsAtZero (step ∷ steps) = step.count ≡ 0
+
+abbrev pub AllFindMasked : List Step → Type 0
+AllFindMasked [] = Unit {0}
+AllFindMasked (step ∷ steps) = (step.enabled_before ≡ false) × AllFindMasked steps
+
+-- all steps behind the first find MIE 0
+abbrev pub RestFindsMasked : List Step → Type 0
+RestFindsMasked [] = Unit {0}
+RestFindsMasked (first ∷ more) = AllFindMasked more
+
+-- outside the stretches no line is taken, and MIE is 1 before and after the instruction
+abbrev pub FindsEnabled : Piece → Type 0
+FindsEnabled (Outside step) = (step.entered ≡ None) × (step.enabled_before ≡ true) × (step.enabled_after ≡ true)
+FindsEnabled (Stretch steps) = RestFindsMasked steps
