@@ -1,7 +1,7 @@
-use Rattle.std.proofs.Common.{◌≡◌, ℕ, Bool, true, false, cond, List, [], ◌∷◌, ◌++◌, refl, sym, ◌∙◌, ap, append_assoc, arith}
+use Rattle.std.proofs.Common.{◌≡◌, true, false, List, [], ◌∷◌, ◌++◌, refl, ap}
 use Rattle.std.specs.Bool.{if◌then◌else◌}
 use Rattle.sloth_base.specs.declared.step.Step.{Step}
-use Rattle.observe.specs.Pieces.{Piece, Outside, Stretch, pieces, cut_off, is_outside}
+use Rattle.observe.specs.Pieces.{Outside, Stretch, pieces, cut_off, is_outside}
 
 -- the pieces of two runs, one after the other
 pub pieces-append : (opened run later : List Step) → pieces opened (run ++ later) ≡ pieces opened run ++ pieces (cut_off opened run) later

@@ -1,12 +1,12 @@
 -- The events of a run with one step more, and of a longer run.
-use Rattle.std.proofs.Common.{◌≡◌, Bool, true, false, cond, List, [], ◌∷◌, ◌++◌, refl, sym, ◌∙◌, ap, append_assoc, append-nil}
+use Rattle.std.proofs.Common.{◌≡◌, Bool, true, false, List, [], ◌∷◌, ◌++◌, refl, sym, ◌∙◌, ap, append_assoc, append-nil}
 use Rattle.std.specs.Bool.{if◌then◌else◌}
 use Rattle.std.specs.List.{flat_map}
 use Rattle.std.proofs.lemmas.Grind.{flat_map-append}
 use Rattle.sloth_base.specs.declared.event.Arrival.{Arrival}
 use Rattle.sloth_base.specs.declared.event.Stamped.{Stamped}
 use Rattle.sloth_base.specs.declared.step.Step.{Step}
-use Rattle.observe.specs.Pieces.{Piece, Outside, Stretch, pieces, cut_off}
+use Rattle.observe.specs.Pieces.{Piece, Stretch, pieces, cut_off}
 use Rattle.observe.specs.Observe.{View, observe, piece_events, found_admits, stretch_events}
 use Rattle.observe.proofs.Cutting.{pieces-append, cut_off-append}
 

@@ -1,9 +1,9 @@
 -- Where a run finds MIE 1.
-use Rattle.std.proofs.Common.{◌≡◌, ◌⊎◌, ℕ, Bool, true, false, List, [], ◌∷◌, ◌++◌, Option, Some, None, refl, sym, ◌∙◌, inl, inr, eqb}
+use Rattle.std.proofs.Common.{◌≡◌, ◌⊎◌, ℕ, Bool, true, false, List, [], ◌∷◌, ◌++◌, Option, Some, None, refl, ◌∙◌, inl, inr, eqb}
 use Rattle.std.specs.Bool.{if◌then◌else◌}
-use Rattle.std.specs.Prelude.{not, ◌||◌, ◌&&◌, ◌==◌, is_some}
+use Rattle.std.specs.Prelude.{not, ◌||◌, ◌&&◌, is_some}
 use Rattle.sloth_base.specs.declared.step.Step.{Step}
-use Rattle.observe.specs.Pieces.{Piece, Outside, Stretch, pieces, cut_off, is_outside, begins, EachPiece, GoesOn, StartsAtZero, AllFindMasked, RestFindsMasked, FindsEnabled}
+use Rattle.observe.specs.Pieces.{Piece, Outside, Stretch, pieces, cut_off, is_outside, EachPiece, GoesOn, StartsAtZero, AllFindMasked, RestFindsMasked, FindsEnabled}
 
 -- before a run goes on: outside the stretches MIE is 1, but before the step of count 0; inside one it is 0
 abbrev pub Finds : List Step → Bool → List Step → Type 0
@@ -49,8 +49,8 @@ enabled-step : (b d : Bool) (opened run : List Step) (enabled : Bool) (step : St
     → (step.enabled_after ≡ true → Enabled (pieces [] run) (cut_off [] run))
     → (Finds (opened ++ step ∷ []) step.enabled_after run → Enabled (pieces (opened ++ step ∷ []) run) (cut_off (opened ++ step ∷ []) run))
     → Enabled
-        (if b then Outside step ∷ pieces [] run else if d then Stretch (opened ++ step ∷ []) ∷ pieces [] run else pieces (opened ++ step ∷ []) run)
-        (if b then cut_off [] run else if d then cut_off [] run else cut_off (opened ++ step ∷ []) run)
+    (if b then Outside step ∷ pieces [] run else if d then Stretch (opened ++ step ∷ []) ∷ pieces [] run else pieces (opened ++ step ∷ []) run)
+    (if b then cut_off [] run else if d then cut_off [] run else cut_off (opened ++ step ∷ []) run)
 enabled-step true d opened run enabled step out a f e none more =
     let o = outside-is opened run enabled step out f e in
     let n = none o.1.2 in

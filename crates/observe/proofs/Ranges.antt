@@ -1,5 +1,5 @@
 -- Arrivals in range meet the conditions of an observer.
-use Rattle.std.proofs.Common.{◌≤◌, ◌<◌, ℕ, List, [], ◌∷◌, arith}
+use Rattle.std.proofs.Common.{◌≤◌, ℕ, List, [], ◌∷◌, arith}
 use Rattle.sloth_base.specs.declared.event.Arrival.{Arrival}
 use Rattle.sloth_base.specs.Arrivals.{NeverFalls, AreArrivals}
 use Rattle.observe.specs.Touched.{AreLines}

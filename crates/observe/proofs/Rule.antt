@@ -1,9 +1,9 @@
-use Rattle.std.proofs.Common.{◌≡◌, Bool, true, false, cond, List, [], ◌∷◌, ◌++◌, refl, sym, ◌∙◌, ap, append_assoc, append-nil}
+use Rattle.std.proofs.Common.{◌≡◌, Bool, true, false, List, [], ◌∷◌, ◌++◌, refl, sym, ◌∙◌, ap, append_assoc, append-nil}
 use Rattle.std.specs.Bool.{if◌then◌else◌}
 use Rattle.std.specs.Prelude.{not}
 use Rattle.std.specs.List.{flat_map}
 use Rattle.sloth_base.specs.declared.step.Step.{Step}
-use Rattle.observe.specs.Pieces.{Piece, Outside, Stretch, pieces, cut_off, is_outside, begins, steps_of, AllMasked, Begins, IsWhole, IsPiece, EachPiece, IsOpenPart, IsCut}
+use Rattle.observe.specs.Pieces.{Piece, Outside, Stretch, pieces, cut_off, is_outside, begins, steps_of, AllMasked, Begins, IsPiece, EachPiece, IsOpenPart, IsCut}
 
 masked-push : (steps : List Step) (step : Step) → AllMasked steps → step.enabled_after ≡ false → AllMasked (steps ++ step ∷ [])
 masked-push [] step h e = (e, tt)

@@ -1,17 +1,16 @@
 -- What an observer is after one step more.
-use Rattle.std.proofs.Common.{◌≡◌, ◌≤◌, ◌<◌, ◌+◌, ℕ, Bool, true, false, cond, List, [], ◌∷◌, ◌++◌, Option, Some, None, map, filter, refl, sym, ap, arith, append_assoc, append-nil, subst}
+use Rattle.std.proofs.Common.{◌≡◌, ◌≤◌, ◌<◌, ◌+◌, ℕ, Bool, true, false, List, [], ◌∷◌, ◌++◌, Option, Some, None, map, filter, refl, sym, ap, arith, append_assoc, append-nil, subst}
 use Rattle.std.specs.Prelude.{not, replicate}
 use Rattle.std.specs.Bool.{if◌then◌else◌}
 use Rattle.std.specs.List.{flat_map}
 use Rattle.std.proofs.lemmas.List.Elements.{All-filter}
 use Rattle.sloth_base.specs.declared.event.Arrival.{Arrival}
-use Rattle.sloth_base.specs.declared.event.Stamped.{Stamped}
 use Rattle.sloth_base.specs.declared.image.Mark.{Mark}
 use Rattle.sloth_base.specs.declared.image.MarkKind.{MarkKind}
 use Rattle.sloth_base.specs.declared.image.MarkKind.TheVariants as kind
 use Rattle.sloth_base.specs.declared.step.Step.{Step}
 use Rattle.sloth_base.specs.Arrivals.{NeverFalls, moments}
-use Rattle.observe.specs.Pieces.{Piece, Outside, Stretch, begins}
+use Rattle.observe.specs.Pieces.{Outside, Stretch, begins}
 use Rattle.observe.specs.Observe.{View, piece_events, found_admits, placed, masked_from, admit, last_of, outside_events, events_of_kind, mark_at, stamp, stretch_event}
 use Rattle.observe.specs.Touched.{was_touched, noted, AreLines, Tells}
 use Rattle.observe.specs.Progress.{Progress, left_over, advanced_from, passed, begun, joined, ended, noting, stood_outside, only, here, behind, within, one_or_none, IsOpen, IsStretch, from}

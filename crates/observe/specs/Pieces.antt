@@ -1,5 +1,5 @@
 -- A run cut into stretches of masked code and the single steps outside them.
-use Rattle.std.specs.Prelude.{ℕ, ◌≡◌, ◌==◌, Bool, true, false, not, ◌&&◌, ◌||◌, if◌then◌else◌, List, [], ◌∷◌, ◌++◌, Option, None, is_some}
+use Rattle.std.specs.Prelude.{◌≡◌, ◌==◌, Bool, true, false, not, ◌&&◌, ◌||◌, if◌then◌else◌, List, [], ◌∷◌, ◌++◌, None, is_some}
 use Rattle.std.specs.List.{flat_map}
 use Rattle.sloth_base.specs.declared.step.Step.{Step}
 

@@ -6,7 +6,7 @@ use Rattle.sloth_base.specs.declared.step.Step.{Step}
 use Rattle.sloth_base.specs.Arrivals.{NeverFalls}
 use Rattle.observe.specs.declared.observer.Observer.{Observer}
 use Rattle.observe.specs.Pieces.{begins, cut_off}
-use Rattle.observe.specs.Observe.{View, view_from, mark_at, outside_events, stretch_event, stamp, admit, masked_from, observe}
+use Rattle.observe.specs.Observe.{View, mark_at, outside_events, stretch_event, stamp, admit, masked_from, observe}
 use Rattle.observe.specs.Touched.{was_touched, noted, AreLines, Tells}
 
 -- an observer without its references, its view and its list of arrivals
@@ -33,7 +33,7 @@ progress_of o = record { expected = o.expected; coming = o.coming.now; first = o
 -- ---- what other crates name of an observer
 
 abbrev pub view_of : Observer → View
-view_of o = view_from o.view.marks.now o.view.tasks
+view_of o = o.view
 
 abbrev pub arrivals_of : Observer → List Arrival
 arrivals_of o = o.arrivals.now

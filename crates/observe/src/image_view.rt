@@ -1,11 +1,11 @@
 //! What a run is observed by, and the event of a part of a run.
-ghost use Rattle.observe.specs.Observe.{AreAscending};
 
 use sloth_base::event::{Event, Stamp, Stamped};
 use sloth_base::image::{Mark, MarkKind};
 use sloth_base::numbers::Line;
 use sloth_base::service::Service;
 use sloth_base::step::Step;
+use std::marker::Model;
 
 // In the order of their codes.
 const SERVICES: [Service; 12] = [
@@ -28,17 +28,26 @@ const SERVICES: [Service; 12] = [
 pub struct ImageView<'a> {
     pub marks: &'a [Mark],
     pub tasks: usize,
-    ghost ascending: { AreAscending marks.now },
+}
+
+impl<'a> Model for ImageView<'a> {
+    ghost use Rattle.observe.specs.Observe.{View, view_from, AreAscending};
+
+    ghost Value = { View };
+
+    ghost view = { λ image. view_from image.marks.now image.tasks };
+
+    ghost invariant = { λ image. AreAscending image.marks.now };
 }
 
 impl ImageView<'_> {
-    ghost use Rattle.std.specs.Prelude.{◌≡◌, ◌==◌, map, find, slice_get, slice_index};
-    ghost use Rattle.observe.specs.Observe.{view_from, task_of, task_of_line, services, mark_at, service_event, marked_event, unentered_event, stretch_event, outside_events, stamp};
+    ghost use Rattle.std.specs.Prelude.{◌≡◌, map, slice_get, slice_index};
+    ghost use Rattle.observe.specs.Observe.{task_of, task_of_line, services, mark_at, service_event, marked_event, unentered_event, stretch_event, outside_events, stamp};
     ghost use Rattle.observe.specs.Progress.{only};
 
     // The mark on the instruction at this address.
     fn mark(&self, address: u32) -> Option<Mark>
-        ensures { result ≡ find (λ mark. mark.address == address) self.now.marks.now }
+        ensures { result ≡ mark_at self.now address }
     {
         match self
             .marks
@@ -73,7 +82,7 @@ impl ImageView<'_> {
 
     /// The event of a step outside the stretches.
     pub fn outside_event(&self, step: &Step) -> Option<Stamped>
-        ensures { result ≡ only (map (stamp step.now.count step.now.count) (outside_events (mark_at (view_from self.now.marks.now self.now.tasks) step.now.pc) (view_from self.now.marks.now self.now.tasks) step.now)) }
+        ensures { result ≡ only (map (stamp step.now.count step.now.count) (outside_events (mark_at self.now step.now.pc) self.now step.now)) }
     {
         let mark = self.mark(step.pc)?;
         let event = match mark.kind {
@@ -95,7 +104,7 @@ impl ImageView<'_> {
 
     // The event of a stretch that begins at an opening mark.
     fn service_event(&self, code: u8, first: &Step, last: &Step) -> Event
-        ensures { result ≡ service_event (slice_get services code) (view_from self.now.marks.now self.now.tasks) first.now last.now }
+        ensures { result ≡ service_event (slice_get services code) self.now first.now last.now }
     {
         let Some(service) = service_of_code(code) else {
             return Event::Stray;
@@ -114,7 +123,7 @@ impl ImageView<'_> {
 
     // The event of a stretch that no line began.
     fn unentered_event(&self, first: &Step, last: &Step) -> Event
-        ensures { result ≡ unentered_event (mark_at (view_from self.now.marks.now self.now.tasks) first.now.pc) (view_from self.now.marks.now self.now.tasks) first.now last.now }
+        ensures { result ≡ unentered_event (mark_at self.now first.now.pc) self.now first.now last.now }
     {
         let Some(mark) = self.mark(first.pc) else {
             return Event::Stray;
@@ -128,7 +137,7 @@ impl ImageView<'_> {
 
     /// The event of a stretch with this first and this last step.
     pub fn stretch_event(&self, first: &Step, last: &Step) -> Event
-        ensures { result ≡ stretch_event (view_from self.now.marks.now self.now.tasks) first.now last.now }
+        ensures { result ≡ stretch_event self.now first.now last.now }
     {
         if first.count == 0 {
             return Event::Boot;

@@ -13,5 +13,4 @@ pub fn is_cut_by_the_rule()
 pub fn stretches_are_masked()
     ensures pieces { (steps : List Step) (enabled : Bool) → StartsAtZero steps → GoesOn enabled steps → EachPiece FindsEnabled (pieces [] steps) }
     ensures left { (steps : List Step) (enabled : Bool) → StartsAtZero steps → GoesOn enabled steps → RestFindsMasked (cut_off [] steps) }
-{
-}
+{}

@@ -1,7 +1,7 @@
 //! An observer that is fed one step at a time.
 ghost use Rattle.std.specs.Prelude.{◌≡◌, ◌<◌, ◌≤◌, ◌+◌, ◌++◌, ◌∷◌, [], List, length, take_while, nat_le, IfSome, IfNone, OnSome, IsOk, IfOk, IsNone, ◌↔◌};
 ghost use Rattle.observe.specs.Pieces.{begins};
-ghost use Rattle.observe.specs.Observe.{admit, observe, view_of_image, view_from, AreAscending};
+ghost use Rattle.observe.specs.Observe.{admit, observe, view_of_image, AreAscending};
 
 use crate::image_view::ImageView;
 use crate::touched::{skip_early, skip_late};
@@ -239,7 +239,7 @@ fn begins(step: &Step) -> bool
 }
 
 fn admit(view: &ImageView, arrival: &Arrival) -> Stamped
-    ensures { result ≡ admit (view_from view.now.marks.now view.now.tasks) arrival.now }
+    ensures { result ≡ admit view.now arrival.now }
 {
     Stamped {
         stamp: Stamp {
