@@ -7,6 +7,8 @@ mod image_file_tests;
 #[cfg(test)]
 mod images;
 #[cfg(test)]
+mod observe_tests;
+#[cfg(test)]
 mod oil_lex_tests;
 #[cfg(test)]
 mod oil_parse_tests;
