@@ -1,1 +1,4 @@
 pub mod Places
+pub mod Fetching
+pub mod Taking
+pub mod Stepping

@@ -5,6 +5,7 @@ ghost use Rattle.sloth_base.specs.Choose.{IsChosen};
 ghost use Rattle.sloth_base.specs.Take.{without_pending};
 ghost use Rattle.rv32_instr.specs.Memory.{Memory, refusal, loaded, stored};
 ghost use Rattle.rv32_machine.specs.Choice.{choice};
+ghost use Rattle.sloth_base.specs.declared.app.Width.TheVariants as kind;
 
 use rv32_instr::Bad;
 use sloth_base::app::Width;
@@ -18,6 +19,7 @@ pub trait Bus {
     fn load(&mut self, address: u32, width: Width) -> Result<u32, Bad>
         ensures ok { IfOk result (λ value. (refusal (memory self.old) address width ≡ None) × (value ≡ loaded (memory self.old) address width)) }
         ensures err { IfErr result (λ reason. refusal (memory self.old) address width ≡ Some reason) }
+        ensures byte { IfOk result (λ value. width ≡ kind.ByteU → value < 256) }
         ensures same { memory self.new ≡ memory self.old };
 
     /// Writes the low bytes of a value. A pending or enable byte keeps 1 for a value that isn't zero.

@@ -2,13 +2,17 @@
 #![tactic(auto)]
 
 pub mod bus;
+mod effect;
 pub mod flat;
+mod machine;
 mod place;
 mod ram;
 pub mod sloth;
+mod step;
 
 pub use bus::Bus;
 pub use flat::FlatBus;
+pub use machine::Machine;
 pub use rv32_instr::{Bad, Stop};
 pub use sloth::SlothBus;
 pub use sloth_base::step::Step;

@@ -1,0 +1,47 @@
+-- The parts of a step, joined.
+use Rattle.std.proofs.Common.{◌≡◌, ℕ, ap, sym, ◌∙◌, Option}
+use Rattle.sloth_base.specs.Machine.{State}
+use Rattle.sloth_base.specs.Take.{entered, line_to_take}
+use Rattle.rv32_instr.specs.declared.stop.Stop.{Stop}
+use Rattle.rv32_instr.specs.Ram.{word_at}
+use Rattle.rv32_instr.specs.Execute.{Going, Stopped, step, touched}
+use Rattle.rv32_machine.specs.Advance.{Goes, Halts, seen, outcome, advance}
+
+pub advanced
+    : (count : ℕ) (old start ent done after : State) (line touch : Option ℕ) (before_word after_word : ℕ)
+    → start ≡ old → ent ≡ entered start → line ≡ line_to_take start → before_word ≡ word_at old.core.ram 0
+    → step ent ≡ Going done → touch ≡ touched ent → after ≡ done → after_word ≡ word_at done.core.ram 0
+    → advance count old
+    ≡ Goes
+    (record {
+      count = count;
+      pc = ent.pc;
+      entered = line;
+      enabled_before = old.core.mie;
+      enabled_after = after.core.mie;
+      cur_before = before_word;
+      cur_after = after_word;
+      touched = touch;
+      regs = after.core.registers;
+    })
+    after
+unfolding advance
+advanced count old start ent done after line touch before_word after_word s e l b g t a w =
+    let ent-is : ent ≡ entered old = e ∙ ap entered s in
+    let line-is : line ≡ line_to_take old = l ∙ ap line_to_take s in
+    let going : step (entered old) ≡ Going after = ap step (sym ent-is) ∙ g ∙ ap Going (sym a) in
+    let touch-is : touch ≡ touched (entered old) = t ∙ ap touched ent-is in
+    let word-is : after_word ≡ word_at after.core.ram 0 = w ∙ ap (λ x. word_at x.core.ram 0) (sym a) in
+    ap (outcome count old) going
+    ∙ ap (λ p. Goes (record (seen count old after) { pc = p }) after) (ap (λ x. x.pc) (sym ent-is))
+    ∙ ap (λ o. Goes (record (seen count old after) { pc = ent.pc; entered = o }) after) (sym line-is)
+    ∙ ap (λ v. Goes (record (seen count old after) { pc = ent.pc; entered = line; cur_before = v }) after) (sym b)
+    ∙ ap (λ v. Goes (record (seen count old after) { pc = ent.pc; entered = line; cur_before = before_word; cur_after = v }) after) (sym word-is)
+    ∙ ap (λ o. Goes (record (seen count old after) { pc = ent.pc; entered = line; cur_before = before_word; cur_after = after_word; touched = o }) after) (sym touch-is)
+
+pub halted
+    : (count : ℕ) (old start ent : State) (stop : Stop) → start ≡ old → ent ≡ entered start → step ent ≡ Stopped stop
+    → advance count old ≡ Halts stop
+unfolding advance
+halted count old start ent stop s e h =
+    ap (outcome count old) (ap step (ap entered (sym s) ∙ sym e) ∙ h)

@@ -1,0 +1,77 @@
+-- A line is taken, and given back where the step stops.
+use Rattle.std.proofs.Common.{◌≡◌, ℕ, ◌+◌, ◌-◌, ◌<◌, List, [], ◌∷◌, refl, ap, sym, subst, ◌∙◌, arith, true, Option, Some, None, zero, suc, slice_index, slice_set}
+use Rattle.sloth_base.specs.declared.app.Width.TheVariants as width
+use Rattle.std.proofs.lemmas.Bool.Decides.{nat_tests}
+use Rattle.sloth_base.specs.Lines.{controller_byte, with_controller_byte}
+use Rattle.std.specs.Option.{ForSome}
+use Rattle.sloth_base.specs.Machine.{State}
+use Rattle.sloth_base.specs.Take.{enter, entered, line_to_take}
+use Rattle.rv32_machine.specs.declared.machine.Hart.{Hart}
+use Rattle.rv32_machine.specs.State.{state_of, pending_again}
+use Rattle.rv32_instr.specs.Ram.{word_at}
+use Rattle.rv32_instr.specs.Memory.{Memory, memory_of, refusal, loaded, stored}
+
+-- a byte that is set and put back
+pub put_back : (bytes : List ℕ) (place : ℕ) → slice_index bytes place ≡ 1 → slice_set (slice_set bytes place 0) place 1 ≡ bytes
+put_back [] place h = refl
+put_back (byte ∷ bytes) zero h = ap (λ b. b ∷ bytes) (sym h)
+put_back (byte ∷ bytes) (suc place) h = ap (λ bs. byte ∷ bs) (put_back bytes place h)
+
+-- the level byte of a line
+pub level_loads
+    : (memory : Memory) (line n : ℕ) → n ≡ line → line < 32 → memory.controller ≡ true
+    → refusal memory (0x1000_0040 + n) width.ByteU ≡ None
+unfolding refusal
+level_loads memory line n e h t = grind (arith, nat_tests)
+
+pub level_loaded
+    : (memory : Memory) (line n : ℕ) → n ≡ line → line < 32
+    → loaded memory (0x1000_0040 + n) width.ByteU ≡ slice_index memory.lines.levels line
+unfolding loaded controller_byte
+level_loaded memory line n e h =
+    let f : 0x1000_0040 + n - 0x1000_0000 - 64 ≡ line = omega arith in
+    grind (arith, nat_tests)
+
+-- the pending byte of a line, set
+pub pending_stores
+    : (memory : Memory) (line n : ℕ) → n ≡ line → line < 32 → memory.controller ≡ true
+    → refusal memory (0x1000_0000 + n) width.Byte ≡ None
+unfolding refusal
+pending_stores memory line n e h t = grind (arith, nat_tests)
+
+pub pending_stored
+    : (memory : Memory) (line n : ℕ) → n ≡ line → line < 32
+    → stored memory (0x1000_0000 + n) width.Byte 1 ≡ pending_again (Some line) memory
+unfolding stored with_controller_byte
+pending_stored memory line n e h =
+    let f : 0x1000_0000 + n - 0x1000_0000 ≡ line = omega arith in
+    grind (arith, nat_tests)
+
+-- what an entry took is given back
+give_back
+    : (hart : Hart) (memory : Memory) (line : Option ℕ) → ForSome line (λ l. slice_index memory.lines.pending l ≡ 1)
+    → pending_again line (memory_of (enter line (state_of hart memory)).core) ≡ memory
+give_back hart memory None h = refl
+give_back hart memory (Some line) h =
+    ap (λ b. record memory { lines = record memory.lines { pending = b } })
+    (put_back memory.lines.pending line (h line refl))
+
+pub restored
+    : (before hart : Hart) (old new : Memory) (line : Option ℕ) (start ent : State)
+    → start ≡ state_of before old → line ≡ line_to_take start → ent ≡ entered start → state_of hart new ≡ ent
+    → ForSome line (λ l. slice_index start.core.pending l ≡ 1)
+    → state_of before (pending_again line new) ≡ state_of before old
+restored before hart old new line start ent s l e h p =
+    let f : state_of hart new ≡ enter line (state_of before old) = h ∙ e ∙ ap (λ o. enter o start) (sym l) ∙ ap (enter line) s in
+    let m : new ≡ memory_of (enter line (state_of before old)).core = ap (λ x. memory_of x.core) f in
+    ap (λ x. state_of before (pending_again line x)) m
+    ∙ ap (state_of before) (give_back before old line (subst (λ x. ForSome line (λ l. slice_index x.core.pending l ≡ 1)) s p))
+
+-- the word at 0x80000000 may always be loaded
+pub cur_loads : (memory : Memory) → refusal memory 0x8000_0000 width.Word ≡ None
+unfolding refusal
+cur_loads memory = refl
+
+pub cur_loaded : (memory : Memory) → loaded memory 0x8000_0000 width.Word ≡ word_at memory.ram 0
+unfolding loaded
+cur_loaded memory = refl

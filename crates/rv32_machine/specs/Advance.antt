@@ -1,0 +1,34 @@
+-- One step of the machine: at most one line is taken, then one instruction is executed. A stop changes nothing.
+use Rattle.std.specs.Prelude.{ℕ}
+use Rattle.sloth_base.specs.declared.step.Step.{Step}
+use Rattle.sloth_base.specs.Machine.{State}
+use Rattle.sloth_base.specs.Take.{line_to_take, entered}
+use Rattle.rv32_instr.specs.declared.stop.Stop.{Stop}
+use Rattle.rv32_instr.specs.Ram.{word_at}
+use Rattle.rv32_instr.specs.Execute.{Next, Going, Stopped, step, touched}
+
+pub data Outcome : Type 0 where
+  Goes : Step → State → Outcome
+  Halts : Stop → Outcome
+
+-- what is seen of the step of a count that leads from a state to another; the word at 0x80000000 tells the running task
+abbrev pub seen : ℕ → State → State → Step
+seen count before after = record {
+  count = count;
+  pc = (entered before).pc;
+  entered = line_to_take before;
+  enabled_before = before.core.mie;
+  enabled_after = after.core.mie;
+  cur_before = word_at before.core.ram 0;
+  cur_after = word_at after.core.ram 0;
+  touched = touched (entered before);
+  regs = after.core.registers;
+}
+
+abbrev pub outcome : ℕ → State → Next → Outcome
+outcome count before (Going after) = Goes (seen count before after) after
+outcome count before (Stopped stop) = Halts stop
+
+-- the step of a count
+unfoldable pub advance : ℕ → State → Outcome
+advance count state = outcome count state (step (entered state))

@@ -1,0 +1,239 @@
+//! What each instruction does.
+ghost use Rattle.std.specs.Prelude.{◌≡◌, ◌<◌, ◌-◌, ◌%◌, slice_index, if◌then◌else◌, ◌==◌};
+ghost use Rattle.rv32_instr.specs.Range.{InRange, Signed};
+ghost use Rattle.rv32_instr.specs.Effect.{effect, plus};
+ghost use Rattle.rv32_instr.specs.declared.effect.Effect.TheVariants as asks;
+ghost use Rattle.rv32_instr.specs.declared.effect.Change.TheVariants as change;
+ghost use Rattle.rv32_machine.specs.Fits.{Fits};
+
+use rv32_instr::{Change, Effect, InstrKind};
+use sloth_base::app::Width;
+use sloth_base::numbers::Reg;
+
+/// What the instruction at `pc` does, with the registers `x`.
+pub fn effect(kind: InstrKind, pc: u32, x: &[u32; 32]) -> Effect
+    requires { InRange kind }
+    ensures is { result ≡ effect kind pc x.now }
+    ensures fits { Fits result }
+{
+    match kind {
+        InstrKind::Lui { rd, imm } => Effect::Write {
+            rd,
+            value: imm << 12,
+        },
+        InstrKind::Auipc { rd, imm } => Effect::Write {
+            rd,
+            value: pc.wrapping_add(imm << 12),
+        },
+        InstrKind::Jal { rd, imm } => Effect::Jump {
+            rd,
+            target: plus(pc, imm),
+        },
+        InstrKind::Jalr { rd, rs1, imm } => Effect::Jump {
+            rd,
+            target: even(plus(at(x, rs1), imm)),
+        },
+        InstrKind::Beq { rs1, rs2, imm } => branch(at(x, rs1) == at(x, rs2), pc, imm),
+        InstrKind::Bne { rs1, rs2, imm } => branch(at(x, rs1) != at(x, rs2), pc, imm),
+        InstrKind::Blt { rs1, rs2, imm } => branch(
+            at(x, rs1).cast_signed() < at(x, rs2).cast_signed(),
+            pc,
+            imm,
+        ),
+        InstrKind::Bge { rs1, rs2, imm } => branch(
+            at(x, rs1).cast_signed() >= at(x, rs2).cast_signed(),
+            pc,
+            imm,
+        ),
+        InstrKind::Bltu { rs1, rs2, imm } => branch(at(x, rs1) < at(x, rs2), pc, imm),
+        InstrKind::Bgeu { rs1, rs2, imm } => branch(at(x, rs1) >= at(x, rs2), pc, imm),
+        InstrKind::Lb { rd, rs1, imm } => load(Width::Byte, rd, at(x, rs1), imm),
+        InstrKind::Lh { rd, rs1, imm } => load(Width::Half, rd, at(x, rs1), imm),
+        InstrKind::Lw { rd, rs1, imm } => load(Width::Word, rd, at(x, rs1), imm),
+        InstrKind::Lbu { rd, rs1, imm } => load(Width::ByteU, rd, at(x, rs1), imm),
+        InstrKind::Lhu { rd, rs1, imm } => load(Width::HalfU, rd, at(x, rs1), imm),
+        InstrKind::Sb { rs1, rs2, imm } => store(Width::Byte, at(x, rs1), imm, at(x, rs2)),
+        InstrKind::Sh { rs1, rs2, imm } => store(Width::Half, at(x, rs1), imm, at(x, rs2)),
+        InstrKind::Sw { rs1, rs2, imm } => store(Width::Word, at(x, rs1), imm, at(x, rs2)),
+        InstrKind::Addi { rd, rs1, imm } => Effect::Write {
+            rd,
+            value: plus(at(x, rs1), imm),
+        },
+        InstrKind::Slti { rd, rs1, imm } => Effect::Write {
+            rd,
+            value: (at(x, rs1).cast_signed() < imm) as u32,
+        },
+        InstrKind::Sltiu { rd, rs1, imm } => Effect::Write {
+            rd,
+            value: (at(x, rs1) < imm.cast_unsigned()) as u32,
+        },
+        InstrKind::Xori { rd, rs1, imm } => Effect::Write {
+            rd,
+            value: at(x, rs1) ^ imm.cast_unsigned(),
+        },
+        InstrKind::Ori { rd, rs1, imm } => Effect::Write {
+            rd,
+            value: at(x, rs1) | imm.cast_unsigned(),
+        },
+        InstrKind::Andi { rd, rs1, imm } => Effect::Write {
+            rd,
+            value: at(x, rs1) & imm.cast_unsigned(),
+        },
+        InstrKind::Slli { rd, rs1, amount } => Effect::Write {
+            rd,
+            value: at(x, rs1) << amount,
+        },
+        InstrKind::Srli { rd, rs1, amount } => Effect::Write {
+            rd,
+            value: at(x, rs1) >> amount,
+        },
+        InstrKind::Srai { rd, rs1, amount } => Effect::Write {
+            rd,
+            value: (at(x, rs1).cast_signed() >> amount).cast_unsigned(),
+        },
+        InstrKind::Add { rd, rs1, rs2 } => Effect::Write {
+            rd,
+            value: at(x, rs1).wrapping_add(at(x, rs2)),
+        },
+        InstrKind::Sub { rd, rs1, rs2 } => Effect::Write {
+            rd,
+            value: at(x, rs1).wrapping_sub(at(x, rs2)),
+        },
+        InstrKind::Sll { rd, rs1, rs2 } => Effect::Write {
+            rd,
+            value: at(x, rs1) << (at(x, rs2) % 32),
+        },
+        InstrKind::Slt { rd, rs1, rs2 } => Effect::Write {
+            rd,
+            value: (at(x, rs1).cast_signed() < at(x, rs2).cast_signed()) as u32,
+        },
+        InstrKind::Sltu { rd, rs1, rs2 } => Effect::Write {
+            rd,
+            value: (at(x, rs1) < at(x, rs2)) as u32,
+        },
+        InstrKind::Xor { rd, rs1, rs2 } => Effect::Write {
+            rd,
+            value: at(x, rs1) ^ at(x, rs2),
+        },
+        InstrKind::Srl { rd, rs1, rs2 } => Effect::Write {
+            rd,
+            value: at(x, rs1) >> (at(x, rs2) % 32),
+        },
+        InstrKind::Sra { rd, rs1, rs2 } => Effect::Write {
+            rd,
+            value: (at(x, rs1).cast_signed() >> (at(x, rs2) % 32)).cast_unsigned(),
+        },
+        InstrKind::Or { rd, rs1, rs2 } => Effect::Write {
+            rd,
+            value: at(x, rs1) | at(x, rs2),
+        },
+        InstrKind::And { rd, rs1, rs2 } => Effect::Write {
+            rd,
+            value: at(x, rs1) & at(x, rs2),
+        },
+        InstrKind::Fence { .. } => Effect::Nothing,
+        InstrKind::Csrrw { rd, rs1, csr } => Effect::Csr {
+            rd,
+            csr,
+            change: Change::Replace(at(x, rs1)),
+        },
+        InstrKind::Csrrs { rd, rs1, csr } => Effect::Csr {
+            rd,
+            csr,
+            change: set(rs1.0, at(x, rs1)),
+        },
+        InstrKind::Csrrc { rd, rs1, csr } => Effect::Csr {
+            rd,
+            csr,
+            change: clear(rs1.0, at(x, rs1)),
+        },
+        InstrKind::Csrrwi { rd, number, csr } => Effect::Csr {
+            rd,
+            csr,
+            change: Change::Replace(u32::from(number)),
+        },
+        InstrKind::Csrrsi { rd, number, csr } => Effect::Csr {
+            rd,
+            csr,
+            change: set(number, u32::from(number)),
+        },
+        InstrKind::Csrrci { rd, number, csr } => Effect::Csr {
+            rd,
+            csr,
+            change: clear(number, u32::from(number)),
+        },
+        InstrKind::Ecall | InstrKind::Ebreak => Effect::Environment,
+        InstrKind::Mret => Effect::Return,
+    }
+}
+
+fn at(x: &[u32; 32], number: Reg) -> u32
+    requires { number < 32 }
+    ensures { result ≡ slice_index x.now number }
+{
+    x[usize::from(number.0)]
+}
+
+/// A sum with a signed number.
+fn plus(value: u32, imm: i32) -> u32
+    ensures { result ≡ plus value imm }
+{
+    value.wrapping_add(imm.cast_unsigned())
+}
+
+fn even(address: u32) -> u32
+    ensures { result ≡ address - address % 2 }
+{
+    address - address % 2
+}
+
+fn branch(taken: bool, pc: u32, imm: i32) -> Effect
+    ensures { result ≡ asks.Branch taken (plus pc imm) }
+{
+    Effect::Branch {
+        taken,
+        target: plus(pc, imm),
+    }
+}
+
+fn load(width: Width, rd: Reg, base: u32, imm: i32) -> Effect
+    ensures { result ≡ asks.Load width rd (plus base imm) }
+{
+    Effect::Load {
+        width,
+        rd,
+        address: plus(base, imm),
+    }
+}
+
+fn store(width: Width, base: u32, imm: i32, value: u32) -> Effect
+    ensures { result ≡ asks.Store width (plus base imm) value }
+{
+    Effect::Store {
+        width,
+        address: plus(base, imm),
+        value,
+    }
+}
+
+/// Sets bits, unless the instruction's field is zero.
+fn set(field: u8, bits: u32) -> Change
+    ensures { result ≡ (if field == 0 then change.Keep else change.Set bits) }
+{
+    if field == 0 {
+        Change::Keep
+    } else {
+        Change::Set(bits)
+    }
+}
+
+/// Clears bits, unless the instruction's field is zero.
+fn clear(field: u8, bits: u32) -> Change
+    ensures { result ≡ (if field == 0 then change.Keep else change.Clear bits) }
+{
+    if field == 0 {
+        Change::Keep
+    } else {
+        Change::Clear(bits)
+    }
+}

@@ -1,0 +1,242 @@
+//! One step of the machine.
+ghost use Rattle.std.specs.Prelude.{◌≡◌, ◌<◌, ◌+◌, ◌%◌, OnOk, OnErr, IfOk, IfErr, true, false, slice_index};
+ghost use Rattle.std.specs.Option.{ForSome};
+ghost use Rattle.sloth_base.specs.Take.{take, entered, line_to_take};
+ghost use Rattle.rv32_instr.specs.Memory.{in_ram};
+ghost use Rattle.rv32_instr.specs.Ram.{word_at};
+ghost use Rattle.rv32_instr.specs.Execute.{Going, Stopped, step, touched, touched_by, word_of, pending_line};
+ghost use Rattle.rv32_instr.specs.declared.stop.Stop.TheVariants as stop;
+ghost use Rattle.rv32_machine.specs.Advance.{advance, Goes, Halts};
+
+use crate::bus::Bus;
+use crate::effect::effect;
+use crate::machine::{Hart, Machine};
+use rv32_instr::{Effect, Stop, decode};
+use sloth_base::app::Width;
+use sloth_base::numbers::Line;
+use sloth_base::step::Step;
+
+/// The word that tells which task runs.
+const CUR: u32 = 0x8000_0000;
+
+/// The first pending byte, and the first level byte, of the controller.
+const PENDING: u32 = 0x1000_0000;
+
+const LEVELS: u32 = 0x1000_0040;
+
+/// The first interrupt vector; each has four bytes.
+const VECTORS: u32 = 0x8000_0400;
+
+/// The line whose pending byte an effect loads, or sets to zero by a store.
+#[tactic(auto, using(std::proofs::lemmas::Bool::Decides::nat_tests), unfolding(rv32_instr::specs::Execute::touched_by))]
+fn touched(effect: &Effect) -> Option<Line>
+    ensures is { result ≡ touched_by effect.now }
+    ensures in_range { ForSome result (λ line. line < 32) }
+{
+    match effect {
+        Effect::Load { address, .. } => pending_line(*address),
+        Effect::Store { address, value, .. } => {
+            if *value % 256 == 0 {
+                pending_line(*address)
+            } else {
+                None
+            }
+        }
+        Effect::Nothing
+        | Effect::Write { .. }
+        | Effect::Branch { .. }
+        | Effect::Jump { .. }
+        | Effect::Csr { .. }
+        | Effect::Environment
+        | Effect::Return => None,
+    }
+}
+
+/// The line that an address is the pending byte of.
+#[tactic(auto, using(std::proofs::lemmas::Bool::Decides::nat_tests))]
+fn pending_line(address: u32) -> Option<Line>
+    ensures is { result ≡ pending_line address }
+    ensures in_range { ForSome result (λ line. line < 32) }
+{
+    if PENDING <= address && address < PENDING + 32 {
+        Some(Line((address - PENDING) as u8))
+    } else {
+        None
+    }
+}
+
+impl<B: Bus> Machine<B> {
+    ghost use Rattle.rv32_machine.specs.State.{state, state_of, pending_again};
+
+    /// One step: at most one line is taken, then one instruction is executed. A stop changes nothing.
+    pub fn step(&mut self) -> Result<Step, Stop>
+        requires { self.old.count < 1000000 }
+        ensures ok { IfOk result (λ shown. advance self.old.count (state B.memory self.old) ≡ Goes shown (state B.memory self.new)) }
+        ensures err { IfErr result (λ stop. advance self.old.count (state B.memory self.old) ≡ Halts stop) }
+        ensures same { OnErr result (state B.memory self.new ≡ state B.memory self.old) }
+        ensures count { OnOk result (self.new.count ≡ self.old.count + 1) }
+        ensures stays { OnErr result (self.new.count ≡ self.old.count) }
+        ensures shown { IfOk result (λ shown. shown.count ≡ self.old.count) }
+        ensures entered { IfOk result (λ shown. ForSome shown.entered (λ line. line < 32)) }
+        ensures touched { IfOk result (λ shown. ForSome shown.touched (λ line. line < 32)) }
+    {
+        let count = self.count;
+        let before = self.hart;
+        let cur_before = self.cur();
+        let entered = self.enter();
+        let pc = self.hart.pc;
+        match self.execute() {
+            Ok(touched) => {
+                self.count += 1;
+                let cur_after = self.cur();
+                Ok(Step {
+                    count,
+                    pc,
+                    entered,
+                    enabled_before: before.mie,
+                    enabled_after: self.hart.mie,
+                    cur_before,
+                    cur_after,
+                    touched,
+                    regs: self.hart.registers,
+                })
+            }
+            Err(stop) => {
+                self.restore(before, entered);
+                Err(stop)
+            }
+        }
+    }
+
+    /// The word at 0x80000000.
+    fn cur(&mut self) -> u32
+        ensures is { result ≡ word_at (state B.memory self.old).core.ram 0 }
+        ensures state { state B.memory self.new ≡ state B.memory self.old }
+        ensures hart { self.new.hart ≡ self.old.hart }
+        ensures count { self.new.count ≡ self.old.count }
+    {
+        match self.bus.load(CUR, Width::Word) {
+            Ok(word) => word,
+            Err(_) => unreachable!(),
+        }
+    }
+
+    /// The line that is taken before the next instruction.
+    #[tactic(auto, unfolding(sloth_base::specs::Choose::choose))]
+    fn line_to_take(&self) -> Option<Line>
+        ensures is { result ≡ line_to_take (state B.memory self.now) }
+        ensures there { ForSome result (λ line. (line < 32) × ((state B.memory self.now).core.controller ≡ true)) }
+        ensures pending { ForSome result (λ line. slice_index (state B.memory self.now).core.pending line ≡ 1) }
+    {
+        if self.hart.mie {
+            self.bus.choose(self.hart.ilevel)
+        } else {
+            None
+        }
+    }
+
+    /// Takes the line that is to be taken, if there is one, and tells it.
+    fn enter(&mut self) -> Option<Line>
+        ensures is { result ≡ line_to_take (state B.memory self.old) }
+        ensures state { state B.memory self.new ≡ entered (state B.memory self.old) }
+        ensures there { ForSome result (λ line. (line < 32) × ((state B.memory self.old).core.controller ≡ true)) }
+        ensures pending { ForSome result (λ line. slice_index (state B.memory self.old).core.pending line ≡ 1) }
+        ensures count { self.new.count ≡ self.old.count }
+    {
+        match self.line_to_take() {
+            Some(line) => {
+                self.take(line);
+                Some(line)
+            }
+            None => None,
+        }
+    }
+
+    /// Takes a line: its vector comes next.
+    fn take(&mut self, line: Line)
+        requires in_range { line < 32 }
+        requires there { (state B.memory self.old).core.controller ≡ true }
+        ensures state { state B.memory self.new ≡ take line (state B.memory self.old) }
+        ensures count { self.new.count ≡ self.old.count }
+    {
+        let level = self.level_of(line);
+        self.bus.take(line);
+        self.hart.mepc = self.hart.pc;
+        self.hart.plevel = self.hart.ilevel;
+        self.hart.ilevel = level;
+        self.hart.mpie = self.hart.mie;
+        self.hart.mie = false;
+        self.hart.pc = VECTORS + 4 * u32::from(line.0);
+    }
+
+    fn level_of(&mut self, line: Line) -> u8
+        requires in_range { line < 32 }
+        requires there { (state B.memory self.old).core.controller ≡ true }
+        ensures is { result ≡ slice_index (state B.memory self.old).core.levels line }
+        ensures state { state B.memory self.new ≡ state B.memory self.old }
+        ensures hart { self.new.hart ≡ self.old.hart }
+        ensures count { self.new.count ≡ self.old.count }
+    {
+        match self.bus.load(LEVELS + u32::from(line.0), Width::ByteU) {
+            Ok(level) => level as u8,
+            Err(_) => unreachable!(),
+        }
+    }
+
+    /// Undoes the entry of a line, if there was one.
+    fn restore(&mut self, before: Hart, line: Option<Line>)
+        requires aligned { before.pc % 4 ≡ 0 }
+        requires returns_aligned { before.mepc % 4 ≡ 0 }
+        requires there { ForSome line (λ l. (l < 32) × ((state B.memory self.old).core.controller ≡ true)) }
+        ensures state { state B.memory self.new ≡ state_of before (pending_again line (B.memory self.old.bus)) }
+        ensures count { self.new.count ≡ self.old.count }
+    {
+        self.hart = before;
+        if let Some(line) = line {
+            match self.bus.store(PENDING + u32::from(line.0), Width::Byte, 1) {
+                Ok(()) => {}
+                Err(_) => unreachable!(),
+            }
+        }
+    }
+
+    /// Fetches, decodes and executes an instruction, and tells the line that it touched.
+    fn execute(&mut self) -> Result<Option<Line>, Stop>
+        ensures ok { IfOk result (λ line. step (state B.memory self.old) ≡ Going (state B.memory self.new)) }
+        ensures touched { IfOk result (λ line. line ≡ touched (state B.memory self.old)) }
+        ensures err { IfErr result (λ stop. step (state B.memory self.old) ≡ Stopped stop) }
+        ensures same { OnErr result (state B.memory self.new ≡ state B.memory self.old) }
+        ensures count { self.new.count ≡ self.old.count }
+        ensures in_range { IfOk result (λ line. ForSome line (λ l. l < 32)) }
+    {
+        let word = match self.fetch() {
+            Ok(word) => word,
+            Err(stop) => return Err(stop),
+        };
+        let instr = match decode(word) {
+            Some(instr) => instr,
+            None => return Err(Stop::Illegal(word)),
+        };
+        let effect = effect(instr.kind(), self.hart.pc, &self.hart.registers);
+        let line = touched(&effect);
+        match self.perform(effect, word) {
+            Ok(()) => Ok(line),
+            Err(stop) => Err(stop),
+        }
+    }
+
+    /// The word that pc points to.
+    fn fetch(&mut self) -> Result<u32, Stop>
+        ensures ok { IfOk result (λ word. (in_ram (state B.memory self.old).pc 4 ≡ true) × (word ≡ word_of (state B.memory self.old))) }
+        ensures err { IfErr result (λ reason. (in_ram (state B.memory self.old).pc 4 ≡ false) × (reason ≡ stop.Fetch (state B.memory self.old).pc)) }
+        ensures state { state B.memory self.new ≡ state B.memory self.old }
+        ensures hart { self.new.hart ≡ self.old.hart }
+        ensures count { self.new.count ≡ self.old.count }
+    {
+        let pc = self.hart.pc;
+        match self.bus.load(pc, Width::Word) {
+            Ok(word) => Ok(word),
+            Err(_) => Err(Stop::Fetch(pc)),
+        }
+    }
+}
