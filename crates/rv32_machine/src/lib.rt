@@ -1,6 +1,7 @@
 //! The machine: an RV32I hart over a bus, with or without an interrupt controller.
 #![tactic(auto)]
 
+mod arriving;
 pub mod bus;
 mod effect;
 pub mod flat;

@@ -108,6 +108,16 @@ impl<B: Bus> Machine<B> {
         }
     }
 
+    /// The address of the next instruction: a line's vector, where one is to be taken before it.
+    pub fn next_pc(&self) -> u32
+        ensures { result ≡ (entered (state B.memory self.now)).pc }
+    {
+        match self.line_to_take() {
+            Some(line) => VECTORS + 4 * u32::from(line.0),
+            None => self.hart.pc,
+        }
+    }
+
     /// The word at 0x80000000.
     fn cur(&mut self) -> u32
         ensures is { result ≡ word_at (state B.memory self.old).core.ram 0 }
