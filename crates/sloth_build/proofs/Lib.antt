@@ -1,0 +1,6 @@
+mod Numerals
+mod Registers
+mod Cutting
+mod Guessing
+mod Formats
+mod Readings

@@ -1,0 +1,3 @@
+pub mod RegisterNames
+pub mod Form
+pub mod Kernel

@@ -1,0 +1,15 @@
+//! Builds an image from a configuration and task code.
+#![tactic(auto)]
+
+pub mod assembler;
+pub mod building;
+pub mod cut;
+pub mod image;
+pub mod kernel;
+pub mod list;
+pub mod number;
+pub mod oil;
+pub mod register;
+pub mod source;
+
+pub use building::{Built, build};
