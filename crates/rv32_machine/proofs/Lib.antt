@@ -2,3 +2,5 @@ pub mod Places
 pub mod Fetching
 pub mod Taking
 pub mod Stepping
+pub mod Runs
+pub mod Coherence

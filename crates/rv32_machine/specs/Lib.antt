@@ -5,3 +5,5 @@ pub mod Flat
 pub mod Fits
 pub mod State
 pub mod Advance
+pub mod Run
+pub mod Coherent
