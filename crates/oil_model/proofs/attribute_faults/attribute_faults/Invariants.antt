@@ -1,0 +1,10 @@
+use Rattle.std.proofs.Common.{◌≡◌, take}
+use Rattle.sloth_refusal.proofs.Kept.{Loop}
+use Rattle.oil_model.specs.AttributeFaults.{AttributeFault, inner_place}
+use Rattle.oil_model.proofs.attribute_faults.attribute_faults.Given as goal
+
+abbrev pub invariant-loop-number : goal.invariant-loop-number
+invariant-loop-number l = record {
+  finds : Loop (AttributeFault l.objects l.scheduler l.place) l.attrs l.number l.least;
+  opens : l.inner ≡ inner_place l.place (take l.number l.attrs);
+}

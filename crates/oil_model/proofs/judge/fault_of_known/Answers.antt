@@ -1,0 +1,12 @@
+use Rattle.std.proofs.Common.{◌≡◌, ◌∙◌, ap, sym, not, true}
+use Rattle.sloth_refusal.proofs.Kept.{finds_if}
+use Rattle.oil_model.specs.Table.{place_of, is_nowhere}
+use Rattle.oil_model.specs.ObjectFaults.{is_known}
+use Rattle.oil_model.specs.ModelFaults.{InnerFault}
+use Rattle.oil_model.proofs.judge.fault_of_known.Goals as goal
+
+pub returns-else-is_nowhere : goal.returns-else-is_nowhere
+returns-else-is_nowhere c =
+    let o = c.args.object.now in
+    let known : is_known o ≡ true = ap not (sym (c.is_nowhere.ensures ∙ ap is_nowhere (c.place_of.ensures ∙ ap place_of c.bytes.ensures)) ∙ c.if-is_nowhere.false) in
+    finds_if (InnerFault c.args.objects.now c.args.scheduler c.args.events.now c.args.front.now o) (is_known o) c.inner_fault.result (λ t. c.inner_fault.ensures) (λ f. cc)

@@ -1,0 +1,16 @@
+use Rattle.std.proofs.Common.{◌≡◌, ◌∙◌, sym, subst, true, List}
+use Rattle.std.specs.Prelude.{codes}
+use Rattle.sloth_refusal.specs.Search.{Finds, Somewhere}
+use Rattle.sloth_refusal.proofs.Kept.{finds_if}
+use Rattle.oil_parse.specs.declared.tree.OilAttr.{OilAttr}
+use Rattle.oil_model.specs.Objects.{is_of_kind}
+use Rattle.oil_model.specs.TaskFaults.{TaskFault}
+use Rattle.oil_model.proofs.judge.faults_of_task.Goals as goal
+
+pub returns-then-is_of_kind : goal.returns-then-is_of_kind
+returns-then-is_of_kind c =
+    let o = c.args.object.now in
+    let P = TaskFault c.args.events.now c.args.front.now in
+    finds_if (Somewhere P o.attrs) (is_of_kind (codes "TASK") o) c.task_faults.result
+    (λ t. subst (λ (x : List OilAttr). Finds (Somewhere P x) c.task_faults.result) c.items.ensures c.task_faults.ensures)
+    (λ f. let t : is_of_kind (codes "TASK") o ≡ true = sym c.is_of_kind.ensures ∙ c.if-is_of_kind.true in cc)

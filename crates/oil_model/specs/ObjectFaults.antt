@@ -1,0 +1,52 @@
+-- The faults of an object as a whole. All stand on the line of its kind.
+use Rattle.std.specs.Prelude.{ℕ, Bool, ◌⊎◌, not, ◌||◌, ◌&&◌, ◌==◌, nat_lt, List, length, count_by, codes}
+use Rattle.std.specs.List.{list_any}
+use Rattle.std.specs.Str.{bytes_eq}
+use Rattle.sloth_base.specs.declared.refusal.Code.TheVariants.{O7, O9, O11, O12, O14}
+use Rattle.sloth_base.specs.declared.refusal.Refusal.{Refusal}
+use Rattle.oil_parse.specs.declared.tree.OilObject.{OilObject}
+use Rattle.oil_model.specs.Cases.{Case}
+use Rattle.oil_model.specs.Table.{is_nowhere, place_of}
+use Rattle.oil_model.specs.Objects.{is_of_kind, is_used, declares}
+
+abbrev pub is_known : OilObject → Bool
+is_known object = not (is_nowhere (place_of object.kind))
+
+-- of the kind and the name of an earlier object, or a second OS object
+abbrev pub doubles : OilObject → OilObject → Bool
+doubles object earlier = bytes_eq earlier.kind object.kind && (bytes_eq earlier.name object.name || bytes_eq object.kind (codes "OS"))
+
+abbrev pub is_doubled : Bool → List OilObject → OilObject → Bool
+is_doubled scheduler front object = list_any (doubles object) front || (scheduler && declares (codes "RESOURCE") (codes "RES_SCHEDULER") object)
+
+-- a task without a required attribute
+abbrev pub lacks_attribute : OilObject → Bool
+lacks_attribute object =
+    is_of_kind (codes "TASK") object && not (is_used object.attrs (codes "PRIORITY") && (is_used object.attrs (codes "SCHEDULE")
+    && (is_used object.attrs (codes "ACTIVATION") && is_used object.attrs (codes "AUTOSTART"))))
+
+-- an application mode of another name
+abbrev pub is_strange_mode : OilObject → Bool
+is_strange_mode object = is_of_kind (codes "APPMODE") object && not (bytes_eq object.name (codes "OSDEFAULTAPPMODE"))
+
+-- the object of this kind that comes behind so many
+abbrev pub comes_behind : List ℕ → ℕ → List OilObject → OilObject → Bool
+comes_behind kind limit front object = is_of_kind kind object && (count_by (is_of_kind kind) front == limit)
+
+-- the 31st task, the 33rd resource or event, or a name of more than 64 bytes
+abbrev pub is_above : List OilObject → OilObject → Bool
+is_above front object =
+    comes_behind (codes "TASK") 30 front object || (comes_behind (codes "RESOURCE") 32 front object
+    || (comes_behind (codes "EVENT") 32 front object || nat_lt 64 (length object.name)))
+
+-- O7: an object of no kind. It is judged no further.
+abbrev pub KindFault : OilObject → Refusal → Type 0
+KindFault object r = Case (is_nowhere (place_of object.kind)) object.line O7 r
+
+-- O9, O11, O12 and O14 of an object of a kind, with those before it
+abbrev pub KnownFault : Bool → List OilObject → OilObject → Refusal → Type 0
+KnownFault scheduler front object r =
+    Case (is_doubled scheduler front object) object.line O9 r
+    ⊎ (Case (lacks_attribute object) object.line O11 r
+    ⊎ (Case (is_strange_mode object) object.line O12 r
+    ⊎ Case (is_above front object) object.line O14 r))

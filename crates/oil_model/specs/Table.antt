@@ -1,0 +1,108 @@
+-- The attribute table: which attributes may stand where, and which values they take (OIL 2.5, section 3).
+use Rattle.std.specs.Prelude.{ℕ, Bool, true, false, if◌then◌else◌, ◌||◌, ◌&&◌, ◌==◌, nat_le, List, codes, Option, Some, None}
+use Rattle.std.specs.Str.{bytes_eq}
+use Rattle.oil_parse.specs.declared.tree.OilValue.{OilValue}
+use Rattle.oil_parse.specs.declared.tree.OilValue.TheVariants.{Word, Number, Text}
+use Rattle.oil_parse.specs.declared.tree.OilAttr.{OilAttr}
+use Rattle.oil_model.specs.declared.table.Place.{Place}
+use Rattle.oil_model.specs.declared.table.Place.TheVariants as place
+use Rattle.oil_model.specs.declared.table.Attribute.{Attribute}
+use Rattle.oil_model.specs.declared.table.Attribute.TheVariants as attribute
+
+-- the place that an object of this kind is; nowhere, where there is no such kind
+abbrev pub place_of : List ℕ → Place
+place_of kind =
+    if bytes_eq kind (codes "OS") then place.Os
+    else if bytes_eq kind (codes "APPMODE") then place.AppMode
+    else if bytes_eq kind (codes "TASK") then place.Task
+    else if bytes_eq kind (codes "RESOURCE") then place.Resource
+    else if bytes_eq kind (codes "EVENT") then place.Event
+    else place.Nowhere
+
+abbrev pub is_hook : List ℕ → Bool
+is_hook name =
+    bytes_eq name (codes "STARTUPHOOK") || (bytes_eq name (codes "ERRORHOOK") || (bytes_eq name (codes "SHUTDOWNHOOK")
+    || (bytes_eq name (codes "PRETASKHOOK") || bytes_eq name (codes "POSTTASKHOOK"))))
+
+abbrev pub is_flag : List ℕ → Bool
+is_flag name = bytes_eq name (codes "USEGETSERVICEID") || (bytes_eq name (codes "USEPARAMETERACCESS") || bytes_eq name (codes "USERESSCHEDULER"))
+
+abbrev pub os_attribute : List ℕ → Option Attribute
+os_attribute name =
+    if bytes_eq name (codes "STATUS") then Some attribute.Status
+    else if is_hook name then Some attribute.Hook
+    else if is_flag name then Some attribute.Flag
+    else None
+
+abbrev pub task_attribute : List ℕ → Option Attribute
+task_attribute name =
+    if bytes_eq name (codes "PRIORITY") then Some attribute.Priority
+    else if bytes_eq name (codes "SCHEDULE") then Some attribute.Schedule
+    else if bytes_eq name (codes "ACTIVATION") then Some attribute.Activation
+    else if bytes_eq name (codes "AUTOSTART") then Some attribute.Autostart
+    else if bytes_eq name (codes "RESOURCE") then Some attribute.Resource
+    else if bytes_eq name (codes "EVENT") then Some attribute.Event
+    else None
+
+abbrev pub only : List ℕ → List ℕ → Attribute → Option Attribute
+only name word row = if bytes_eq name word then Some row else None
+
+-- the row for an attribute of this name at this place, if there is one
+abbrev pub attribute_of : Place → List ℕ → Option Attribute
+attribute_of place.Os name = os_attribute name
+attribute_of place.AppMode name = only name (codes "VALUE") attribute.Value
+attribute_of place.Task name = task_attribute name
+attribute_of place.Activation name = only name (codes "APPMODE") attribute.Mode
+attribute_of place.Resource name = only name (codes "RESOURCEPROPERTY") attribute.Property
+attribute_of place.Event name = only name (codes "MASK") attribute.Mask
+attribute_of place.Nowhere name = None
+
+-- it may be used once
+abbrev pub is_single : Attribute → Bool
+is_single attribute.Mode = false
+is_single attribute.Resource = false
+is_single attribute.Event = false
+is_single _ = true
+
+abbrev pub allows_word : Attribute → List ℕ → Bool
+allows_word attribute.Status word = bytes_eq word (codes "STANDARD") || bytes_eq word (codes "EXTENDED")
+allows_word attribute.Hook word = bytes_eq word (codes "FALSE")
+allows_word attribute.Flag word = bytes_eq word (codes "TRUE") || bytes_eq word (codes "FALSE")
+allows_word attribute.Value word = bytes_eq word (codes "AUTO")
+allows_word attribute.Schedule word = bytes_eq word (codes "NON") || bytes_eq word (codes "FULL")
+allows_word attribute.Autostart word = bytes_eq word (codes "TRUE") || bytes_eq word (codes "FALSE")
+allows_word attribute.Mode word = true
+allows_word attribute.Resource word = true
+allows_word attribute.Event word = true
+allows_word attribute.Property word = bytes_eq word (codes "STANDARD")
+allows_word attribute.Mask word = bytes_eq word (codes "AUTO")
+allows_word _ word = false
+
+abbrev pub allows_number : Attribute → ℕ → Bool
+allows_number attribute.Value number = true
+allows_number attribute.Priority number = nat_le number 65535
+allows_number attribute.Activation number = number == 1
+allows_number attribute.Mask number = nat_le 1 number
+allows_number _ number = false
+
+-- The table lists the value. A reference is any word.
+abbrev pub allows : Attribute → OilValue → Bool
+allows row (Word word) = allows_word row word
+allows row (Number number) = allows_number row number
+allows row (Text bytes) = false
+
+abbrev pub is_word : OilValue → List ℕ → Bool
+is_word (Word given) word = bytes_eq given word
+is_word _ word = false
+
+abbrev pub activation_place : OilAttr → Place
+activation_place attr = if bytes_eq attr.name (codes "AUTOSTART") && is_word attr.value (codes "TRUE") then place.Activation else place.Nowhere
+
+-- the place that the block of an attribute is
+abbrev pub block_place : Place → OilAttr → Place
+block_place place.Task attr = activation_place attr
+block_place _ attr = place.Nowhere
+
+abbrev pub is_nowhere : Place → Bool
+is_nowhere place.Nowhere = true
+is_nowhere _ = false

@@ -1,0 +1,13 @@
+//! The meaning of an OIL tree (OIL 2.5): its configuration, or the least of its faults.
+#![tactic(auto)]
+
+mod attribute_faults;
+mod events;
+mod judge;
+mod memory;
+mod object_faults;
+mod objects;
+mod table;
+mod task_faults;
+
+pub use judge::least_fault;
