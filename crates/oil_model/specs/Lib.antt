@@ -6,3 +6,4 @@ pub mod ObjectFaults
 pub mod AttributeFaults
 pub mod TaskFaults
 pub mod ModelFaults
+pub mod Configs

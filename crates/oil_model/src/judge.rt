@@ -1,5 +1,5 @@
 //! The least fault of a tree.
-ghost use Rattle.std.specs.Prelude.{◌≡◌, IfOk, codes, true};
+ghost use Rattle.std.specs.Prelude.{◌≡◌, codes, true};
 ghost use Rattle.std.specs.List.{list_any};
 ghost use Rattle.sloth_refusal.specs.Search.{Finds, Somewhere};
 ghost use Rattle.oil_model.specs.Objects.{has_scheduler, is_of_kind};
@@ -8,17 +8,15 @@ ghost use Rattle.oil_model.specs.ObjectFaults.{is_known};
 ghost use Rattle.oil_model.specs.ModelFaults.{TaskFaults, InnerFault, ObjectFault, lacks_os, ModelFault};
 
 use crate::attribute_faults::attribute_faults;
-use crate::events::{events_of, events_without_bit};
+use crate::events::events_without_bit;
 use crate::object_faults::{kind_fault, known_fault};
-use crate::objects::{has_scheduler, is_of_kind};
+use crate::objects::is_of_kind;
 use crate::table::{is_nowhere, place_of};
 use crate::task_faults::task_faults;
 use oil_parse::tree::{OilObject, OilTree};
 use sloth_base::config::EventDecl;
-use sloth_base::memory::NoMemory;
 use sloth_base::refusal::{Code, Part, Refusal};
 use sloth_refusal::{merge, when};
-use std::alloc::Global;
 
 fn faults_of_task(events: &[EventDecl], front: &[OilObject], object: &OilObject) -> Option<Refusal>
     ensures { Finds (TaskFaults events.now front.now object.now) result }
@@ -82,7 +80,7 @@ fn has_os(objects: &[OilObject]) -> bool
 }
 
 /// The least fault of a tree with these events.
-fn judge(tree: &OilTree, scheduler: bool, events: &[EventDecl]) -> Option<Refusal>
+pub fn judge(tree: &OilTree, scheduler: bool, events: &[EventDecl]) -> Option<Refusal>
     requires scheduler { scheduler ≡ has_scheduler tree.now.objects }
     requires events { events.now ≡ events_of tree.now.objects }
     ensures { Finds (ModelFault tree.now) result }
@@ -91,13 +89,4 @@ fn judge(tree: &OilTree, scheduler: bool, events: &[EventDecl]) -> Option<Refusa
     let of_objects = object_faults(objects, scheduler, events);
     let without_os = when(!has_os(objects), Part::Oil, tree.cpu_line, Code::O11);
     merge(of_objects, merge(events_without_bit(objects), without_os))
-}
-
-/// The least fault of a tree, or none.
-pub fn least_fault(alloc: Global, tree: &OilTree) -> Result<Option<Refusal>, NoMemory>
-    ensures { IfOk result (Finds (ModelFault tree.now)) }
-{
-    let objects = tree.objects.items();
-    let events = events_of(alloc, objects)?;
-    Ok(judge(tree, has_scheduler(objects), events.as_slice()))
 }

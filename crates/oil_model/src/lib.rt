@@ -2,12 +2,14 @@
 #![tactic(auto)]
 
 mod attribute_faults;
+mod config;
 mod events;
 mod judge;
 mod memory;
 mod object_faults;
 mod objects;
+mod resolving;
 mod table;
 mod task_faults;
 
-pub use judge::least_fault;
+pub use resolving::resolve;

@@ -1,0 +1,114 @@
+-- What holds of each object of a tree without a fault.
+use Rattle.std.proofs.Common.{◌≡◌, ◌∙◌, ◌⊎◌, inl, inr, ⊎_elim, ℕ, ◌<◌, ◌≤◌, ◌+◌, Bool, true, false, List, [], ◌∷◌, ◌++◌, length, take, get_or, suc, zero, refl, ap, sym, subst, append_assoc, append-nil, add-one, arith}
+use Rattle.std.specs.Prelude.{◌&&◌, ◌==◌, ◌||◌, not, codes, count_by, map, filter}
+use Rattle.std.proofs.lemmas.List.Sums.{count_by_more_yes, count_by_more_no, length-filter}
+use Rattle.std.proofs.lemmas.List.{length-map}
+use Rattle.std.proofs.lemmas.Bool.{eqb-false, cases_lt}
+use Rattle.std.proofs.Math.Seq.{take-length}
+use Rattle.sloth_base.specs.declared.refusal.Code.{Code}
+use Rattle.sloth_base.specs.declared.refusal.Code.TheVariants.{O7, O14}
+use Rattle.sloth_base.specs.declared.refusal.Refusal.{Refusal}
+use Rattle.sloth_refusal.specs.Order.{NoFault}
+use Rattle.sloth_refusal.specs.Search.{SomeFrom, Somewhere}
+use Rattle.oil_parse.specs.declared.tree.OilObject.{OilObject}
+use Rattle.oil_parse.specs.declared.tree.OilTree.{OilTree}
+use Rattle.oil_model.specs.Cases.{at, Case}
+use Rattle.oil_model.specs.Table.{place_of, is_nowhere}
+use Rattle.oil_model.specs.Objects.{is_of_kind, has_scheduler}
+use Rattle.oil_model.specs.Events.{events_of}
+use Rattle.oil_model.specs.ObjectFaults.{is_known, is_above, comes_behind}
+use Rattle.oil_model.specs.Configs.{resource_names}
+use Rattle.oil_model.specs.ModelFaults.{InnerFault, ObjectFault, ModelFault}
+
+pub nowhere_from : {X : Type 0} (P : List X → X → Refusal → Type 0) (xs front : List X) → NoFault (SomeFrom P front xs) → (i : ℕ) (d : X) → i < length xs
+    → NoFault (P (front ++ take i xs) (get_or xs i d))
+nowhere_from P [] front n i d h = absurd (omega arith)
+nowhere_from P (x ∷ xs) front n zero d h = λ r p. n r (inl (subst (λ ys. P ys x r) (append-nil front) p))
+nowhere_from P (x ∷ xs) front n (suc i) d h = λ r p.
+    nowhere_from P xs (front ++ x ∷ []) (λ s q. n s (inr q)) i d (omega arith) r (subst (λ ys. P ys (get_or xs i d) r) (sym (append_assoc front (x ∷ []) (take i xs))) p)
+
+-- A rule that finds a fault nowhere finds none at an element.
+pub nowhere : {X : Type 0} (P : List X → X → Refusal → Type 0) (xs : List X) → NoFault (Somewhere P xs) → (i : ℕ) (d : X) → i < length xs → NoFault (P (take i xs) (get_or xs i d))
+nowhere P xs n i d h = nowhere_from P xs [] n i d h
+
+-- the test of a case that is no fault
+pub case_false : (b : Bool) (line : ℕ) (code : Code) → NoFault (Case b line code) → b ≡ false
+case_false true line code n = absurd (n (at line code) (refl, refl))
+case_false false line code n = refl
+
+lt_of_ne : (a b m : ℕ) → a ≤ b → (a ≡ b → ⊥) → m ≡ a + 1 → m ≤ b
+lt_of_ne a b m h ne e = ⊎_elim (λ l. omega (arith, l, e)) (λ l. absurd (ne (omega (arith, h, l)))) (cases_lt a b)
+
+pub or_left : (a b : Bool) → (a || b) ≡ false → a ≡ false
+or_left true b e = cc
+or_left false b e = refl
+
+pub or_right : (a b : Bool) → (a || b) ≡ false → b ≡ false
+or_right true b e = cc
+or_right false b e = e
+
+module _ {X : Type 0} (p : X → Bool) (limit : ℕ) (xs : List X) (never : (i : ℕ) (d : X) → i < length xs → (p (get_or xs i d) && (count_by p (take i xs) == limit)) ≡ false) where
+  few_before : (i : ℕ) (d : X) → i ≤ length xs → count_by p (take i xs) ≤ limit
+  few_before zero d h = omega arith
+  few_before (suc i) d h = rw add-one at (by (p (get_or xs i d)) refl (few_before i d (omega arith)))
+    where
+      within : i < length xs
+      within = omega arith
+
+      by : (b : Bool) → p (get_or xs i d) ≡ b → count_by p (take i xs) ≤ limit → count_by p (take (i + 1) xs) ≤ limit
+      by false e ih = let m = count_by_more_no p xs i d within e in omega (arith, m, ih)
+      by true e ih =
+          let m = count_by_more_yes p xs i d within e in
+          let n : (count_by p (take i xs) == limit) ≡ false = ap (λ b. b && (count_by p (take i xs) == limit)) (sym e) ∙ never i d within in
+          let ne = eqb-false (count_by p (take i xs)) limit n in
+          lt_of_ne (count_by p (take i xs)) limit (count_by p (take (i + 1) xs)) ih ne m
+
+-- At most so many elements pass, where none passes behind so many others that do.
+pub count_by-limited : {X : Type 0} (p : X → Bool) (limit : ℕ) (xs : List X)
+    → ((i : ℕ) (d : X) → i < length xs → (p (get_or xs i d) && (count_by p (take i xs) == limit)) ≡ false) → count_by p xs ≤ limit
+count_by-limited p limit [] never = omega arith
+count_by-limited p limit (x ∷ xs) never = subst (λ ys. count_by p ys ≤ limit) (take-length (x ∷ xs)) (few_before p limit (x ∷ xs) never (length (x ∷ xs)) x (omega arith))
+
+module _ (tree : OilTree) (none : NoFault (ModelFault tree)) where
+  abbrev pub KnownHere : ℕ → OilObject → Refusal → Type 0
+  KnownHere i d = InnerFault tree.objects (has_scheduler tree.objects) (events_of tree.objects) (take i tree.objects) (get_or tree.objects i d)
+
+  object_at : (i : ℕ) (d : OilObject) → i < length tree.objects
+      → NoFault (ObjectFault tree.objects (has_scheduler tree.objects) (events_of tree.objects) (take i tree.objects) (get_or tree.objects i d))
+  object_at i d h =
+      nowhere (ObjectFault tree.objects (has_scheduler tree.objects) (events_of tree.objects)) tree.objects (λ r f. none r (inl f)) i d h
+
+  pub known : (i : ℕ) (d : OilObject) → i < length tree.objects → is_known (get_or tree.objects i d) ≡ true
+  known i d h =
+      let o = get_or tree.objects i d in
+      let f : is_nowhere (place_of o.kind) ≡ false = case_false (is_nowhere (place_of o.kind)) o.line O7 (λ r x. object_at i d h r (inl x)) in
+      ap not f
+
+  pub inner_at : (i : ℕ) (d : OilObject) → i < length tree.objects → NoFault (KnownHere i d)
+  inner_at i d h = λ r x. object_at i d h r (inr (known i d h, x))
+
+  pub not_above : (i : ℕ) (d : OilObject) → i < length tree.objects → is_above (take i tree.objects) (get_or tree.objects i d) ≡ false
+  not_above i d h =
+      let o = get_or tree.objects i d in
+      case_false (is_above (take i tree.objects) o) o.line O14 (λ r x. inner_at i d h r (inl (inr (inr (inr x)))))
+
+  pub few_tasks : count_by (is_of_kind (codes "TASK")) tree.objects ≤ 30
+  few_tasks = count_by-limited (is_of_kind (codes "TASK")) 30 tree.objects (λ i d h. or_left (comes_behind (codes "TASK") 30 (take i tree.objects) (get_or tree.objects i d)) _ (not_above i d h))
+
+  pub few_resources : count_by (is_of_kind (codes "RESOURCE")) tree.objects ≤ 32
+  few_resources = count_by-limited (is_of_kind (codes "RESOURCE")) 32 tree.objects
+      (λ i d h. or_left (comes_behind (codes "RESOURCE") 32 (take i tree.objects) (get_or tree.objects i d)) _
+      (or_right (comes_behind (codes "TASK") 30 (take i tree.objects) (get_or tree.objects i d)) _ (not_above i d h)))
+
+  pub few_events : count_by (is_of_kind (codes "EVENT")) tree.objects ≤ 32
+  few_events = count_by-limited (is_of_kind (codes "EVENT")) 32 tree.objects
+      (λ i d h. or_left (comes_behind (codes "EVENT") 32 (take i tree.objects) (get_or tree.objects i d)) _
+      (or_right (comes_behind (codes "RESOURCE") 32 (take i tree.objects) (get_or tree.objects i d)) _
+      (or_right (comes_behind (codes "TASK") 30 (take i tree.objects) (get_or tree.objects i d)) _ (not_above i d h))))
+
+  pub few_names : length (resource_names tree.objects) ≤ 32
+  few_names =
+      let m = length-map (filter (is_of_kind (codes "RESOURCE")) tree.objects) (λ (o : OilObject). o.name) in
+      let f = length-filter (is_of_kind (codes "RESOURCE")) tree.objects in
+      let n = few_resources in
+      omega (arith, m, f, n)

@@ -1,0 +1,165 @@
+//! The configuration of a tree that has no fault.
+ghost use Rattle.std.specs.Prelude.{◌≡◌, ◌≤◌, ◌==◌, IfOk, OnOk, position, bytes_eq, length};
+ghost use Rattle.std.specs.List.{list_any};
+ghost use Rattle.oil_model.specs.Configs.{resource_names, resource_number, listed_resource, with_number, with_resource, resources_of, mask_of_value, listed_mask, event_mask, task_of, tasks_of};
+
+use crate::events::mask_named;
+use crate::memory::push;
+use crate::objects::{first_is, first_number, is_of_kind, is_use, is_used};
+use crate::table::same;
+use oil_parse::tree::{OilAttr, OilObject, OilValue};
+use sloth_base::config::{EventDecl, TaskDecl};
+use sloth_base::list::List;
+use sloth_base::memory::NoMemory;
+use sloth_base::name::Name;
+use sloth_base::numbers::ResId;
+use std::alloc::Global;
+
+/// The names of the resources, in the order of their numbers.
+pub fn resource_names(alloc: Global, objects: &[OilObject]) -> Result<Vec<Name>, NoMemory>
+    ensures { IfOk result (λ names. names.items ≡ resource_names objects.now) }
+{
+    let mut names = Vec::new(alloc);
+    for object in objects {
+        if !is_of_kind(object, b"RESOURCE") {
+            continue;
+        }
+        push(&mut names, Name::new(alloc, object.name.bytes())?)?;
+    }
+    Ok(names)
+}
+
+fn place_of_name(names: &[Name], word: &[u8]) -> Option<usize>
+    ensures { result ≡ position (bytes_eq word.now) names.now }
+{
+    names.iter().position(|name| same(word, name.bytes()))
+}
+
+fn resource_named(names: &[Name], word: &[u8]) -> Option<u32>
+    requires { length names.now ≤ 32 }
+    ensures { result ≡ position (bytes_eq word.now) names.now }
+{
+    match place_of_name(names, word) {
+        Some(number) => Some(number as u32),
+        None => None,
+    }
+}
+
+fn resource_number(names: &[Name], value: &OilValue) -> Option<u32>
+    requires { length names.now ≤ 32 }
+    ensures { result ≡ resource_number names.now value.now }
+{
+    match value {
+        OilValue::Word(word) => resource_named(names, word.bytes()),
+        _ => None,
+    }
+}
+
+fn listed_resource(names: &[Name], attr: &OilAttr) -> Option<u32>
+    requires { length names.now ≤ 32 }
+    ensures { result ≡ listed_resource names.now attr.now }
+{
+    if is_use(attr, b"RESOURCE") {
+        resource_number(names, &attr.value)
+    } else {
+        None
+    }
+}
+
+fn is_listed(listed: &Vec<ResId>, number: u32) -> bool
+    ensures { result ≡ list_any (λ earlier. earlier == number) listed.now.items }
+{
+    listed.iter().any(|earlier| earlier.0 == number)
+}
+
+/// One more resource, if it isn't listed yet.
+fn push_once(listed: &mut Vec<ResId>, number: u32) -> Result<(), NoMemory>
+    ensures { OnOk result (listed.new.items ≡ with_number listed.old.items number) }
+{
+    if is_listed(listed, number) {
+        return Ok(());
+    }
+    push(listed, ResId(number))
+}
+
+fn add_resource(listed: &mut Vec<ResId>, number: Option<u32>) -> Result<(), NoMemory>
+    ensures { OnOk result (listed.new.items ≡ with_resource listed.old.items number) }
+{
+    match number {
+        Some(number) => push_once(listed, number),
+        None => Ok(()),
+    }
+}
+
+/// The resources that a task lists, each once.
+fn resources_of(alloc: Global, names: &[Name], attrs: &[OilAttr]) -> Result<Vec<ResId>, NoMemory>
+    requires { length names.now ≤ 32 }
+    ensures { IfOk result (λ listed. listed.items ≡ resources_of names.now attrs.now) }
+{
+    let mut listed = Vec::new(alloc);
+    for attr in attrs {
+        add_resource(&mut listed, listed_resource(names, attr))?;
+    }
+    Ok(listed)
+}
+
+fn mask_of_value(events: &[EventDecl], value: &OilValue) -> u32
+    ensures { result ≡ mask_of_value events.now value.now }
+{
+    match value {
+        OilValue::Word(word) => mask_named(events, word.bytes()),
+        _ => 0,
+    }
+}
+
+fn listed_mask(events: &[EventDecl], attr: &OilAttr) -> u32
+    ensures { result ≡ listed_mask events.now attr.now }
+{
+    if is_use(attr, b"EVENT") {
+        mask_of_value(events, &attr.value)
+    } else {
+        0
+    }
+}
+
+/// The union of the masks of the events that a task lists.
+fn event_mask(events: &[EventDecl], attrs: &[OilAttr]) -> u32
+    ensures { result ≡ event_mask events.now attrs.now }
+{
+    let mut mask = 0;
+    for attr in attrs {
+        mask |= listed_mask(events, attr);
+    }
+    mask
+}
+
+fn task_of(alloc: Global, names: &[Name], events: &[EventDecl], object: &OilObject) -> Result<TaskDecl, NoMemory>
+    requires { length names.now ≤ 32 }
+    ensures { IfOk result (λ task. task ≡ task_of names.now events.now object.now) }
+{
+    let attrs = object.attrs.items();
+    Ok(TaskDecl {
+        name: Name::new(alloc, object.name.bytes())?,
+        priority: first_number(attrs, b"PRIORITY").unwrap_or(0),
+        extended: is_used(attrs, b"EVENT"),
+        non: first_is(attrs, b"SCHEDULE", b"NON"),
+        autostart: first_is(attrs, b"AUTOSTART", b"TRUE"),
+        resources: List::from_vec(resources_of(alloc, names, attrs)?),
+        events: event_mask(events, attrs),
+    })
+}
+
+/// The tasks, in the order of their numbers.
+pub fn tasks_of(alloc: Global, names: &[Name], events: &[EventDecl], objects: &[OilObject]) -> Result<Vec<TaskDecl>, NoMemory>
+    requires { length names.now ≤ 32 }
+    ensures { IfOk result (λ tasks. tasks.items ≡ tasks_of names.now events.now objects.now) }
+{
+    let mut tasks = Vec::new(alloc);
+    for object in objects {
+        if !is_of_kind(object, b"TASK") {
+            continue;
+        }
+        push(&mut tasks, task_of(alloc, names, events, object)?)?;
+    }
+    Ok(tasks)
+}
