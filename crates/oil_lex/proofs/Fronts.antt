@@ -13,16 +13,16 @@ use Rattle.oil_lex.specs.declared.bytes.Class.TheVariants as class
 use Rattle.oil_lex.specs.declared.pieces.PieceKind.{PieceKind}
 use Rattle.oil_lex.specs.declared.pieces.PieceKind.TheVariants as kind
 use Rattle.oil_lex.specs.Bytes.{class_of, is_word_byte, is_digit, is_hex_digit, is_quoted, is_not_lf, is_blank, is_plain_sign}
-use Rattle.oil_lex.specs.Pieces.{IsPiece, is_one_blank, is_line_comment, is_block_comment, is_word, is_decimal, is_hexadecimal, is_text, is_sign, is_slash, is_stray, is_unclosed_comment, is_unclosed_text_lf, is_unclosed_text_end, begins_hex, AllPass, Stops, NeverCloses, BeginsWith}
+use Rattle.oil_lex.specs.Pieces.{IsPiece, is_one_blank, is_line_comment, is_block_comment, is_word, is_decimal, is_hexadecimal, is_text, is_sign, is_slash, is_stray, is_unclosed_comment, is_unclosed_text_lf, is_unclosed_text_end, begins_hex, EachPasses, Stops, NeverCloses, BeginsWith}
 use Rattle.oil_lex.specs.Front.{front_piece, piece_by, number_piece, slash_piece, text_piece, comment_piece, comment_length}
 use Rattle.oil_lex.proofs.Lengths.{run_ends, run_front, never_closes, closes_behind, open_all, comment_length_le, open_front, both, no_byte, neither, either}
 
 -- a test that chose what it could not have chosen was false
-skip : (t : Bool) (x y z : Class) → (x ≡ z → ⊥) → cond t x y ≡ z → y ≡ z
+pub skip : (t : Bool) (x y z : Class) → (x ≡ z → ⊥) → cond t x y ≡ z → y ≡ z
 skip true x y z n e = absurd (n e)
 skip false x y z n e = e
 
-took : (t : Bool) (x y z : Class) → (y ≡ z → ⊥) → cond t x y ≡ z → t ≡ true
+pub took : (t : Bool) (x y z : Class) → (y ≡ z → ⊥) → cond t x y ≡ z → t ≡ true
 took true x y z n e = refl
 took false x y z n e = absurd (n e)
 
@@ -62,12 +62,12 @@ comment_open w n =
     rw (le-ltb _ _ l) (pair kind.UnclosedComment _ _ (omega (arith, o)))
 
 -- behind a quote, with the quoted bytes w
-text_is : (w r : List ℕ) → AllPass is_quoted w → Stops is_quoted r
+text_is : (w r : List ℕ) → EachPasses is_quoted w → Stops is_quoted r
     → text_piece (w ++ r) ≡ cond (get_or (w ++ r) (length w) 0 == 34) (kind.Text, length w + 2) (kind.UnclosedText, length w + 1)
 unfolding text_piece
 text_is w r a s = rw (run_ends is_quoted w r a s) refl
 
-text_ends : (w : List ℕ) → AllPass is_quoted w → text_piece (w ++ []) ≡ (kind.UnclosedText, length w + 1)
+text_ends : (w : List ℕ) → EachPasses is_quoted w → text_piece (w ++ []) ≡ (kind.UnclosedText, length w + 1)
 text_ends w a = rw (text_is w [] a tt, append-nil w, get_or_past w (length w) 0 (omega arith)) refl
 
 -- Each piece is the front of the text that begins with it.
@@ -92,7 +92,7 @@ stands k p r n e h i =
     rw (e, take-append_seam p r, drop-append_seam p r) (i, omega arith, omega (arith, length-append p r))
 
 run_stands : (p : ℕ → Bool) (s : List ℕ) (P : List ℕ → ℕ → Type 0)
-    → ((w r : List ℕ) → AllPass p w → Stops p r → P (w ++ r) (length w)) → P s (prefix_len p s)
+    → ((w r : List ℕ) → EachPasses p w → Stops p r → P (w ++ r) (length w)) → P s (prefix_len p s)
 run_stands p s P f =
     let r = run_front p s in
     subst (λ (x : List ℕ). P x (prefix_len p s)) (take-append-drop (prefix_len p s) s)
@@ -129,7 +129,7 @@ quote_or_lf : (b : ℕ) → is_quoted b ≡ false → (b ≡ 34) ⊎ (b ≡ 10)
 unfolding is_quoted
 quote_or_lf b h = ⊎_elim (λ e. inl (eqb-true b 34 e)) (λ e. inr (eqb-true b 10 e)) (either (b == 34) (b == 10) h)
 
-quoted_stands : (w r : List ℕ) → AllPass is_quoted w → Stops is_quoted r
+quoted_stands : (w r : List ℕ) → EachPasses is_quoted w → Stops is_quoted r
     → BeginsWith (34 ∷ (w ++ r)) (cond (get_or (w ++ r) (length w) 0 == 34) (kind.Text, length w + 2) (kind.UnclosedText, length w + 1))
 quoted_stands w [] a s =
     rw (append-nil, get_or_past w (length w) 0 (omega arith))

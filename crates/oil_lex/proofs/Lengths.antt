@@ -6,7 +6,7 @@ use Rattle.std.proofs.Math.ListN.{drop_of_length-le}
 use Rattle.std.proofs.lemmas.List.{take_all}
 use Rattle.std.specs.List.{prefix_len}
 use Rattle.std.specs.Prelude.{◌==◌}
-use Rattle.oil_lex.specs.Pieces.{closes, AllPass, Stops, NeverCloses}
+use Rattle.oil_lex.specs.Pieces.{closes, EachPasses, Stops, NeverCloses}
 use Rattle.oil_lex.specs.Front.{comment_length}
 
 pub both : (a b : Bool) → (a && b) ≡ true → (a ≡ true) × (b ≡ true)
@@ -39,16 +39,16 @@ pub whole : (xs : List ℕ) (i : ℕ) → take (length xs - i) (drop i xs) ≡ d
 whole xs i = take_all (length xs - i) (drop i xs) (omega (arith, length-drop i xs))
 
 -- a run of w ends where the rest stops it
-pub run_ends : (p : ℕ → Bool) (w r : List ℕ) → AllPass p w → Stops p r → prefix_len p (w ++ r) ≡ length w
+pub run_ends : (p : ℕ → Bool) (w r : List ℕ) → EachPasses p w → Stops p r → prefix_len p (w ++ r) ≡ length w
 run_ends p [] [] a s = refl
 run_ends p [] (b ∷ r) a s = rw s refl
 run_ends p (b ∷ w) r a s = rw (a.0) (let ih = run_ends p w r a.1 s in omega (arith, ih))
 
-pub run_front : (p : ℕ → Bool) (s : List ℕ) → AllPass p (take (prefix_len p s) s) × Stops p (drop (prefix_len p s) s)
+pub run_front : (p : ℕ → Bool) (s : List ℕ) → EachPasses p (take (prefix_len p s) s) × Stops p (drop (prefix_len p s) s)
 run_front p [] = (tt, tt)
 run_front p (b ∷ s) =
     let ih = run_front p s in
-    let P : Bool → Type 0 = λ v. p b ≡ v → AllPass p (take (cond v (1 + prefix_len p s) 0) (b ∷ s)) × Stops p (drop (cond v (1 + prefix_len p s) 0) (b ∷ s)) in
+    let P : Bool → Type 0 = λ v. p b ≡ v → EachPasses p (take (cond v (1 + prefix_len p s) 0) (b ∷ s)) × Stops p (drop (cond v (1 + prefix_len p s) 0) (b ∷ s)) in
     let e : 1 + prefix_len p s ≡ suc (prefix_len p s) = omega arith in
     elim (p b) as P [
       | true ↦ λ h. rw e ((h, ih.0), ih.1)

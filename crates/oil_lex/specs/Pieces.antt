@@ -6,9 +6,9 @@ use Rattle.oil_lex.specs.declared.pieces.PieceKind.TheVariants as kind
 use Rattle.oil_lex.specs.Bytes.{class_of, is_word_byte, is_digit, is_hex_digit, is_quoted, is_not_lf}
 
 -- each byte passes the test
-abbrev pub AllPass : (ℕ → Bool) → List ℕ → Type 0
-AllPass p [] = Unit {0}
-AllPass p (b ∷ bs) = (p b ≡ true) × AllPass p bs
+abbrev pub EachPasses : (ℕ → Bool) → List ℕ → Type 0
+EachPasses p [] = Unit {0}
+EachPasses p (b ∷ bs) = (p b ≡ true) × EachPasses p bs
 
 -- The first byte, if there is one, does not pass. So a run before it can't be longer.
 abbrev pub Stops : (ℕ → Bool) → List ℕ → Type 0
@@ -35,14 +35,14 @@ begins_comment t = (slice_index t 0 == 47) || (slice_index t 0 == 42)
 -- These bytes, with the rest of the text behind them, are a piece of this kind.
 pub data IsPiece : PieceKind → List ℕ → List ℕ → Type 0 where
   is_one_blank : {b : ℕ} {rest : List ℕ} → class_of b ≡ class.Blank → IsPiece kind.Blank (b ∷ []) rest
-  is_line_comment : {w rest : List ℕ} → AllPass is_not_lf w → Stops is_not_lf rest → IsPiece kind.LineComment (47 ∷ 47 ∷ w) rest
+  is_line_comment : {w rest : List ℕ} → EachPasses is_not_lf w → Stops is_not_lf rest → IsPiece kind.LineComment (47 ∷ 47 ∷ w) rest
   is_block_comment : (w : List ℕ) {rest : List ℕ} → NeverCloses (w ++ 42 ∷ []) → IsPiece kind.BlockComment (47 ∷ 42 ∷ (w ++ 42 ∷ 47 ∷ [])) rest
-  is_word : {b : ℕ} {w rest : List ℕ} → class_of b ≡ class.Letter → AllPass is_word_byte w → Stops is_word_byte rest → IsPiece kind.Word (b ∷ w) rest
-  is_decimal : {b : ℕ} {w rest : List ℕ} → class_of b ≡ class.Digit → AllPass is_digit w → Stops is_digit rest
+  is_word : {b : ℕ} {w rest : List ℕ} → class_of b ≡ class.Letter → EachPasses is_word_byte w → Stops is_word_byte rest → IsPiece kind.Word (b ∷ w) rest
+  is_decimal : {b : ℕ} {w rest : List ℕ} → class_of b ≡ class.Digit → EachPasses is_digit w → Stops is_digit rest
       → begins_hex (b ∷ (w ++ rest)) ≡ false → IsPiece kind.Decimal (b ∷ w) rest
-  is_hexadecimal : {x h : ℕ} {w rest : List ℕ} → ((x == 120) || (x == 88)) ≡ true → is_hex_digit h ≡ true → AllPass is_hex_digit w → Stops is_hex_digit rest
+  is_hexadecimal : {x h : ℕ} {w rest : List ℕ} → ((x == 120) || (x == 88)) ≡ true → is_hex_digit h ≡ true → EachPasses is_hex_digit w → Stops is_hex_digit rest
       → IsPiece kind.Hexadecimal (48 ∷ x ∷ h ∷ w) rest
-  is_text : (w : List ℕ) {rest : List ℕ} → AllPass is_quoted w → IsPiece kind.Text (34 ∷ (w ++ 34 ∷ [])) rest
+  is_text : (w : List ℕ) {rest : List ℕ} → EachPasses is_quoted w → IsPiece kind.Text (34 ∷ (w ++ 34 ∷ [])) rest
   is_sign : {b : ℕ} {rest : List ℕ} → class_of b ≡ class.Sign → IsPiece kind.Sign (b ∷ []) rest
   is_slash : {rest : List ℕ} → begins_comment rest ≡ false → IsPiece kind.Sign (47 ∷ []) rest
   -- a byte that begins none of these
@@ -50,8 +50,8 @@ pub data IsPiece : PieceKind → List ℕ → List ℕ → Type 0 where
   -- a comment that the text does not close
   is_unclosed_comment : {w : List ℕ} → NeverCloses w → IsPiece kind.UnclosedComment (47 ∷ 42 ∷ w) []
   -- a string whose line ends before it is closed
-  is_unclosed_text_lf : {w rest : List ℕ} → AllPass is_quoted w → IsPiece kind.UnclosedText (34 ∷ w) (10 ∷ rest)
-  is_unclosed_text_end : {w : List ℕ} → AllPass is_quoted w → IsPiece kind.UnclosedText (34 ∷ w) []
+  is_unclosed_text_lf : {w rest : List ℕ} → EachPasses is_quoted w → IsPiece kind.UnclosedText (34 ∷ w) (10 ∷ rest)
+  is_unclosed_text_end : {w : List ℕ} → EachPasses is_quoted w → IsPiece kind.UnclosedText (34 ∷ w) []
 
 pub record Piece : Type 0 where
   pub kind : PieceKind

@@ -11,7 +11,7 @@ use Rattle.oil_parse.specs.declared.machine.Construct.{Construct}
 use Rattle.oil_parse.specs.declared.machine.Construct.TheVariants.{Head, Section, Object, Attr, File}
 use Rattle.oil_parse.specs.declared.machine.Expect.{Expect}
 use Rattle.oil_parse.specs.declared.machine.Expect.TheVariants.{Start, VersionIs, VersionText, Ending, Describing, Closing, Body, SectionName, SectionOpen, Inside, CpuWord, CpuName, CpuOpen, Objects, ObjectName, ObjectTail, Attrs, AttrIs, AttrValue, AttrTail, Done}
-use Rattle.oil_parse.specs.Shapes.{shape, IsWord}
+use Rattle.oil_parse.specs.Shapes.{shape, IsWordToken}
 use Rattle.oil_parse.specs.declared.tree.OilObject.{OilObject}
 use Rattle.oil_parse.specs.declared.tree.OilTree.{OilTree}
 use Rattle.oil_parse.specs.Grammar.{IsValue, IsEnd, bare, described, IsAttrs, no_attr, attr, block, attr_of, IsObject, plain_object, block_object, IsObjects, no_object, object, IsBalanced, no_token, token_in, braces, IsSection, no_section, section, IsHead, head, IsFile, file}
@@ -71,7 +71,7 @@ abbrev valued : ℕ → Built → Lexeme → Lexeme → Built
 valued d b n v = record (named b n) { attrs = b.attrs ++ attr_of d n v ∷ [] }
 
 -- a name, `=` and a value
-value_takes : {n e v : Lexeme} (d : ℕ) (b : Built) → IsWord n → shape e ≡ Equals → IsValue v → Takes (Attrs d) b (n ∷ e ∷ v ∷ []) (AttrTail d) (valued d b n v)
+value_takes : {n e v : Lexeme} (d : ℕ) (b : Built) → IsWordToken n → shape e ≡ Equals → IsValue v → Takes (Attrs d) b (n ∷ e ∷ v ∷ []) (AttrTail d) (valued d b n v)
 unfolding next taken
 value_takes d b w q (inl i) = takes_by (AttrIs d) w.1 refl (takes_by (AttrValue d) q refl (takes_by (AttrTail d) i.1 refl none_takes))
 value_takes d b w q (inr (inl i)) = takes_by (AttrIs d) w.1 refl (takes_by (AttrValue d) q refl (takes_by (AttrTail d) i.1 refl none_takes))

@@ -5,3 +5,4 @@ pub mod Finish
 pub mod Faults
 pub mod Loop
 pub mod Texts
+pub mod Words

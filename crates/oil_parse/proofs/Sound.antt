@@ -11,7 +11,7 @@ use Rattle.oil_parse.specs.declared.machine.Construct.{Construct}
 use Rattle.oil_parse.specs.declared.machine.Construct.TheVariants.{Head, Section, Object, Attr, File}
 use Rattle.oil_parse.specs.declared.machine.Expect.{Expect}
 use Rattle.oil_parse.specs.declared.machine.Expect.TheVariants.{Start, VersionIs, VersionText, Ending, Describing, Closing, Body, SectionName, SectionOpen, Inside, CpuWord, CpuName, CpuOpen, Objects, ObjectName, ObjectTail, Attrs, AttrIs, AttrValue, AttrTail, Done}
-use Rattle.oil_parse.specs.Shapes.{shape, IsWord}
+use Rattle.oil_parse.specs.Shapes.{shape, IsWordToken}
 use Rattle.oil_parse.specs.declared.tree.OilObject.{OilObject}
 use Rattle.oil_parse.specs.declared.tree.OilTree.{OilTree}
 use Rattle.oil_parse.specs.Grammar.{IsValue, IsEnd, bare, described, IsAttrs, no_attr, attr, block, attr_of, IsObject, plain_object, block_object, IsObjects, no_object, object, IsBalanced, no_token, token_in, braces, IsSection, no_section, section, head, IsFile, file}
@@ -75,7 +75,7 @@ value_by d t ts _ e h = absurd (none_done ts h)
 abbrev Attributes : ℕ → Type 0
 Attributes n = (d : ℕ) (us : List Lexeme) → length us ≤ n → Accepts (Attrs d) us → AttrsRead d us
 
-module _ (m : ℕ) (ih : Attributes m) (d : ℕ) (n e v : Lexeme) (w : IsWord n) (q : shape e ≡ Equals) (i : IsValue v) where
+module _ (m : ℕ) (ih : Attributes m) (d : ℕ) (n e v : Lexeme) (w : IsWordToken n) (q : shape e ≡ Equals) (i : IsValue v) where
   plain_attr : (ts : List Lexeme) → length ts ≤ m → EndRead (Attr d) ts → AttrsRead d (n ∷ e ∷ v ∷ ts)
   plain_attr ts l r =
       let le = ap length r.2 in
@@ -121,7 +121,7 @@ module _ (m : ℕ) (ih : Attributes m) (d : ℕ) (n e v : Lexeme) (w : IsWord n)
   tail_by o ts Semicolon s l h = plain_attr (o ∷ ts) l (ending_by (Attr d) o ts Semicolon s h)
   tail_by o ts _ s l h = absurd (none_done ts h)
 
-name_by : (m : ℕ) (ih : Attributes m) (d : ℕ) (n : Lexeme) (ts : List Lexeme) → IsWord n → length ts ≤ m → Accepts (AttrIs d) ts → AttrsRead d (n ∷ ts)
+name_by : (m : ℕ) (ih : Attributes m) (d : ℕ) (n : Lexeme) (ts : List Lexeme) → IsWordToken n → length ts ≤ m → Accepts (AttrIs d) ts → AttrsRead d (n ∷ ts)
 name_by m ih d n [] w l h = cc
 name_by m ih d n (e ∷ []) w l h = let r = is_by d e [] (shape e) refl h in let f = r.1 in cc
 name_by m ih d n (e ∷ v ∷ []) w l h =
@@ -148,7 +148,7 @@ ObjectsRead ts = (us : List Lexeme) × (z : Lexeme) × (rest : List Lexeme) × (
 abbrev AllObjects : ℕ → Type 0
 AllObjects n = (us : List Lexeme) → length us ≤ n → Accepts Objects us → ObjectsRead us
 
-object_name_by : (t : Lexeme) (ts : List Lexeme) (x : Shape) → shape t ≡ x → step (next ObjectName x) ts ≡ Some Done → IsWord t × Accepts ObjectTail ts
+object_name_by : (t : Lexeme) (ts : List Lexeme) (x : Shape) → shape t ≡ x → step (next ObjectName x) ts ≡ Some Done → IsWordToken t × Accepts ObjectTail ts
 unfolding next
 object_name_by t ts (Word k) e h = ((k, e), h)
 object_name_by t ts _ e h = absurd (none_done ts h)
@@ -158,7 +158,7 @@ one_object us rest o m ih l i h =
     let a = ih rest l h in
     (us ++ a.0, a.1, a.2, o ∷ a.3, ap (λ x. us ++ x) a.4 ∙ sym (append_assoc us a.0 (a.1 ∷ a.2)), object us a.0 i a.5, a.6, a.7)
 
-module _ (m : ℕ) (ih : AllObjects m) (k n : Lexeme) (v : IsWord k) (w : IsWord n) where
+module _ (m : ℕ) (ih : AllObjects m) (k n : Lexeme) (v : IsWordToken k) (w : IsWordToken n) where
   plain_read : (ts : List Lexeme) → length ts ≤ m → EndRead Object ts → ObjectsRead (k ∷ n ∷ ts)
   plain_read ts l r =
       let le = ap length r.2 in
@@ -183,7 +183,7 @@ module _ (m : ℕ) (ih : AllObjects m) (k n : Lexeme) (v : IsWord k) (w : IsWord
   object_tail_by o ts Semicolon s l h = plain_read (o ∷ ts) l (ending_by Object o ts Semicolon s h)
   object_tail_by o ts _ s l h = absurd (none_done ts h)
 
-kind_by : (m : ℕ) (ih : AllObjects m) (k : Lexeme) (ts : List Lexeme) → IsWord k → length ts ≤ m → Accepts ObjectName ts → ObjectsRead (k ∷ ts)
+kind_by : (m : ℕ) (ih : AllObjects m) (k : Lexeme) (ts : List Lexeme) → IsWordToken k → length ts ≤ m → Accepts ObjectName ts → ObjectsRead (k ∷ ts)
 kind_by m ih k [] v l h = cc
 kind_by m ih k (n ∷ []) v l h = let r = object_name_by n [] (shape n) refl h in let f = r.1 in cc
 kind_by m ih k (n ∷ o ∷ ts) v l h =
@@ -240,7 +240,7 @@ done_read : (ts : List Lexeme) → Accepts Done ts → ts ≡ []
 done_read [] h = refl
 done_read (t ∷ ts) h = absurd (done_by t ts (shape t) h)
 
-word_by : (t : Lexeme) (ts : List Lexeme) (x : Shape) → shape t ≡ x → step (next CpuName x) ts ≡ Some Done → IsWord t × Accepts CpuOpen ts
+word_by : (t : Lexeme) (ts : List Lexeme) (x : Shape) → shape t ≡ x → step (next CpuName x) ts ≡ Some Done → IsWordToken t × Accepts CpuOpen ts
 unfolding next
 word_by t ts (Word k) e h = ((k, e), h)
 word_by t ts _ e h = absurd (none_done ts h)
@@ -253,7 +253,7 @@ open_by t ts _ e h = absurd (none_done ts h)
 -- a file from its word CPU on
 abbrev CpuRead : List Lexeme → Type 0
 CpuRead ts = (c : Lexeme) × (n : Lexeme) × (o : Lexeme) × (z : Lexeme) × (us : List Lexeme) × (f : List Lexeme) × (os : List OilObject) × (ts ≡ c ∷ n ∷ o ∷ (us ++ z ∷ f))
-    × (shape c ≡ Word Cpu) × IsWord n × (shape o ≡ Open) × IsObjects us os × (shape z ≡ Close) × IsEnd f
+    × (shape c ≡ Word Cpu) × IsWordToken n × (shape o ≡ Open) × IsObjects us os × (shape z ≡ Close) × IsEnd f
 
 cpu_read : (c : Lexeme) (ts : List Lexeme) → shape c ≡ Word Cpu → Accepts CpuName ts → CpuRead (c ∷ ts)
 cpu_read c [] s h = cc
@@ -279,7 +279,7 @@ cpu_word_read (t ∷ ts) h = cpu_word_by t ts (shape t) refl h
 abbrev BodyRead : List Lexeme → Type 0
 BodyRead ts = (xs : List Lexeme) × (rest : List Lexeme) × (ts ≡ xs ++ rest) × IsSection xs × CpuRead rest
 
-section_name_by : (t : Lexeme) (ts : List Lexeme) (x : Shape) → shape t ≡ x → step (next SectionName x) ts ≡ Some Done → IsWord t × Accepts SectionOpen ts
+section_name_by : (t : Lexeme) (ts : List Lexeme) (x : Shape) → shape t ≡ x → step (next SectionName x) ts ≡ Some Done → IsWordToken t × Accepts SectionOpen ts
 unfolding next
 section_name_by t ts (Word k) e h = ((k, e), h)
 section_name_by t ts _ e h = absurd (none_done ts h)

@@ -10,11 +10,11 @@ use Rattle.oil_parse.specs.declared.tree.OilValue.TheVariants as value
 use Rattle.oil_parse.specs.declared.tree.OilAttr.{OilAttr}
 use Rattle.oil_parse.specs.declared.tree.OilObject.{OilObject}
 use Rattle.oil_parse.specs.declared.tree.OilTree.{OilTree}
-use Rattle.oil_parse.specs.Shapes.{shape, IsWord}
+use Rattle.oil_parse.specs.Shapes.{shape, IsWordToken}
 
 -- a word, a number or a string
 abbrev pub IsValue : Lexeme → Type 0
-IsValue t = IsWord t ⊎ (((n : ℕ) × (shape t ≡ Number n)) ⊎ (shape t ≡ Text))
+IsValue t = IsWordToken t ⊎ (((n : ℕ) × (shape t ≡ Number n)) ⊎ (shape t ≡ Text))
 
 abbrev pub value_by : TokenKind → List ℕ → OilValue
 value_by token.Word bs = value.Word bs
@@ -34,16 +34,16 @@ pub data IsEnd : List Lexeme → Type 0 where
 -- attributes that lie in d attribute blocks, and those in their blocks
 pub data IsAttrs : ℕ → List Lexeme → List OilAttr → Type 0 where
   no_attr : {d : ℕ} → IsAttrs d [] []
-  attr : {d : ℕ} {n e v : Lexeme} (f ts : List Lexeme) {al : List OilAttr} → IsWord n → shape e ≡ Equals → IsValue v → IsEnd f → IsAttrs d ts al
+  attr : {d : ℕ} {n e v : Lexeme} (f ts : List Lexeme) {al : List OilAttr} → IsWordToken n → shape e ≡ Equals → IsValue v → IsEnd f → IsAttrs d ts al
       → IsAttrs d (n ∷ e ∷ v ∷ (f ++ ts)) (attr_of d n v ∷ al)
-  block : {d : ℕ} {n e v o : Lexeme} (c : Lexeme) (us f ts : List Lexeme) (bl al : List OilAttr) → d < 8 → IsWord n → shape e ≡ Equals → IsValue v
+  block : {d : ℕ} {n e v o : Lexeme} (c : Lexeme) (us f ts : List Lexeme) (bl al : List OilAttr) → d < 8 → IsWordToken n → shape e ≡ Equals → IsValue v
       → shape o ≡ Open → IsAttrs (suc d) us bl → shape c ≡ Close → IsEnd f → IsAttrs d ts al
       → IsAttrs d (n ∷ e ∷ v ∷ o ∷ (us ++ c ∷ (f ++ ts))) (attr_of d n v ∷ (bl ++ al))
 
 pub data IsObject : List Lexeme → OilObject → Type 0 where
-  plain_object : {k n : Lexeme} {f : List Lexeme} → IsWord k → IsWord n → IsEnd f
+  plain_object : {k n : Lexeme} {f : List Lexeme} → IsWordToken k → IsWordToken n → IsEnd f
       → IsObject (k ∷ n ∷ f) (record { kind = k.bytes; name = n.bytes; line = k.line; attrs = [] })
-  block_object : {k n o : Lexeme} (c : Lexeme) (us f : List Lexeme) {al : List OilAttr} → IsWord k → IsWord n → shape o ≡ Open → IsAttrs 0 us al → shape c ≡ Close → IsEnd f
+  block_object : {k n o : Lexeme} (c : Lexeme) (us f : List Lexeme) {al : List OilAttr} → IsWordToken k → IsWordToken n → shape o ≡ Open → IsAttrs 0 us al → shape c ≡ Close → IsEnd f
       → IsObject (k ∷ n ∷ o ∷ (us ++ c ∷ f)) (record { kind = k.bytes; name = n.bytes; line = k.line; attrs = al })
 
 pub data IsObjects : List Lexeme → List OilObject → Type 0 where
@@ -59,13 +59,13 @@ pub data IsBalanced : List Lexeme → Type 0 where
 -- an optional section IMPLEMENTATION
 pub data IsSection : List Lexeme → Type 0 where
   no_section : IsSection []
-  section : {i n o : Lexeme} (c : Lexeme) (us f : List Lexeme) → shape i ≡ Word Implementation → IsWord n → shape o ≡ Open → IsBalanced us → shape c ≡ Close → IsEnd f
+  section : {i n o : Lexeme} (c : Lexeme) (us f : List Lexeme) → shape i ≡ Word Implementation → IsWordToken n → shape o ≡ Open → IsBalanced us → shape c ≡ Close → IsEnd f
       → IsSection (i ∷ n ∷ o ∷ (us ++ c ∷ f))
 
 pub data IsHead : List Lexeme → Type 0 where
   head : {v e x : Lexeme} {f : List Lexeme} → shape v ≡ Word Version → shape e ≡ Equals → shape x ≡ Text → IsEnd f → IsHead (v ∷ e ∷ x ∷ f)
 
 pub data IsFile : List Lexeme → OilTree → Type 0 where
-  file : (c n o z : Lexeme) (hs xs us f : List Lexeme) {os : List OilObject} → IsHead hs → IsSection xs → shape c ≡ Word Cpu → IsWord n → shape o ≡ Open
+  file : (c n o z : Lexeme) (hs xs us f : List Lexeme) {os : List OilObject} → IsHead hs → IsSection xs → shape c ≡ Word Cpu → IsWordToken n → shape o ≡ Open
       → IsObjects us os → shape z ≡ Close → IsEnd f
       → IsFile (hs ++ (xs ++ (c ∷ n ∷ o ∷ (us ++ z ∷ f)))) (record { cpu_line = c.line; objects = os })

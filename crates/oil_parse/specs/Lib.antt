@@ -2,5 +2,6 @@ pub mod Shapes
 pub mod Grammar
 pub mod Faults
 pub mod Text
+pub mod Words
 pub mod Machine
 pub mod Parser

@@ -40,5 +40,5 @@ shape_by token.Sign bs = sign_of bs
 abbrev pub shape : Lexeme → Shape
 shape t = shape_by t.kind t.bytes
 
-abbrev pub IsWord : Lexeme → Type 0
-IsWord t = (k : Key) × (shape t ≡ Word k)
+abbrev pub IsWordToken : Lexeme → Type 0
+IsWordToken t = (k : Key) × (shape t ≡ Word k)

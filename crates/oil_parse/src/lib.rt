@@ -6,4 +6,4 @@ mod machine;
 mod parser;
 pub mod tree;
 
-pub use parser::{one_tree, parse};
+pub use parser::{one_tree, parse, words_of_tree};

@@ -1,6 +1,6 @@
 //! Reads tokens into a tree.
 
-ghost use Rattle.std.specs.Prelude.{List, ℕ, ◌≡◌, ◌↔◌, map, IfOk, IfErr, OnOk};
+ghost use Rattle.std.specs.Prelude.{List, ℕ, ◌≡◌, ◌↔◌, All, map, IfOk, IfErr, OnOk};
 ghost use Rattle.sloth_refusal.specs.Order.{ErrorIs, NoFault};
 ghost use Rattle.oil_lex.specs.Tokens.{lexeme, Lexeme, AreTokens, TextFault};
 ghost use Rattle.sloth_base.specs.declared.refusal.Refusal.{Refusal};
@@ -8,6 +8,7 @@ ghost use Rattle.oil_parse.specs.declared.tree.OilTree.{OilTree};
 ghost use Rattle.oil_parse.specs.Grammar.{IsFile};
 ghost use Rattle.oil_parse.specs.Faults.{GrammarFault};
 ghost use Rattle.oil_parse.specs.Text.{HasTree, BreaksGrammar};
+ghost use Rattle.oil_parse.specs.Words.{IsObjectOfWords};
 ghost use Rattle.oil_parse.specs.Machine.{too_big, Shallow};
 ghost use Rattle.oil_parse.specs.Parser.{Moved, Stopped};
 
@@ -112,4 +113,9 @@ pub fn one_tree()
     ensures text { (text : List ℕ) (tree other : OilTree) → HasTree text tree → HasTree text other → tree ≡ other }
     ensures faults { (text : List ℕ) (tokens : List Lexeme) → AreTokens text tokens → NoFault (TextFault text) → (refusal : Refusal) → BreaksGrammar text refusal ↔ GrammarFault tokens refusal }
     ensures one { (text : List ℕ) (tree : OilTree) (refusal : Refusal) → HasTree text tree → BreaksGrammar text refusal → ⊥ }
+{}
+
+/// The kinds, names and words of a text's tree are words.
+pub fn words_of_tree()
+    ensures { (text : List ℕ) (tree : OilTree) → HasTree text tree → All IsObjectOfWords tree.objects }
 {}
