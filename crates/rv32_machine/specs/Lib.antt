@@ -7,3 +7,4 @@ pub mod State
 pub mod Advance
 pub mod Run
 pub mod Coherent
+pub mod Lends

@@ -15,6 +15,6 @@ impl Machine<SlothBus> {
         ensures state { state (λ bus. bus) self.new ≡ state_arrive (line ∷ []) (state (λ bus. bus) self.old) }
         ensures count { self.new.count ≡ self.old.count }
     {
-        self.bus.arrive(line);
+        self.bus_mut().arrive(line);
     }
 }

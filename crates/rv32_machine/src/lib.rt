@@ -5,6 +5,7 @@ mod arriving;
 pub mod bus;
 mod effect;
 pub mod flat;
+pub mod laws;
 mod machine;
 mod place;
 mod ram;

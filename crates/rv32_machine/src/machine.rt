@@ -45,6 +45,8 @@ pub struct Machine<B> {
 }
 
 impl<B: Bus> Machine<B> {
+    ghost use Rattle.std.specs.Borrow.{sem};
+    ghost use Rattle.rv32_machine.specs.Lends.{LendsBus};
     ghost use Rattle.rv32_machine.specs.State.{state};
     ghost use Rattle.rv32_machine.specs.Start.{start_over};
 
@@ -67,6 +69,14 @@ impl<B: Bus> Machine<B> {
             count: 0,
             bus,
         }
+    }
+
+    /// The bus.
+    pub fn bus_mut(&mut self) -> &mut B
+        ensures* writes_back { sem 𝓛 (LendsBus B.row self.entry result) }
+        ensures value { result.now ≡ self.old.bus }
+    {
+        &mut self.bus
     }
 
     /// Gives a register a value; x0 stays zero.
