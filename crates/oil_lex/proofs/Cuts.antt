@@ -215,3 +215,26 @@ refused t rest n ts k on s m span es em (Refused r) f =
 pub ended : (t rest : List ℕ) (n : ℕ) (ts : List Lexeme) → GoesOn t rest n ts → true ≡ (length rest == 0) → AreTokens t ts × NoFault (TextFault t)
 ended t [] n ts on e = ends t n ts on
 ended t (b ∷ rest) n ts on e = absurd (let z = eqb-true (length (b ∷ rest)) 0 (sym e) in omega (arith, z))
+
+-- Pieces have a fault, or none.
+pieces_judged : (ps : List Piece) (n : ℕ) → ((r : Refusal) × FaultOf n ps r) ⊎ NoFault (FaultOf n ps)
+pieces_judged [] n = inr (λ r f. f)
+pieces_judged (p ∷ ps) n = by_meaning (meaning p.kind p.bytes) (pieces_judged ps (n + line_ends p.bytes))
+  where
+    by_meaning : (m : Meaning) → ((r : Refusal) × FaultOf (n + line_ends p.bytes) ps r) ⊎ NoFault (FaultOf (n + line_ends p.bytes) ps)
+        → ((r : Refusal) × (FaultBy m n r ⊎ FaultOf (n + line_ends p.bytes) ps r)) ⊎ NoFault (λ r. FaultBy m n r ⊎ FaultOf (n + line_ends p.bytes) ps r)
+    by_meaning (IsFault c) rest = inl (record { part = Oil; line = n; code = c }, inl refl)
+    by_meaning m (inl f) = inl (f.0, inr f.1)
+    by_meaning Nothing (inr none) = inr (λ r f. ⊎_elim (λ x. x) (none r) f)
+    by_meaning (IsToken k) (inr none) = inr (λ r f. ⊎_elim (λ x. x) (none r) f)
+
+-- A text has a fault, or none.
+pub text_judged : (t : List ℕ) → ((r : Refusal) × TextFault t r) ⊎ NoFault (TextFault t)
+text_judged t =
+    let c = cut_of t in
+    ⊎_elim (λ f. inl (f.0, (c.0, c.1, f.1)))
+    (λ none. inr (λ r f. none r (subst (λ (ps : List Piece). FaultOf 1 ps r) (cut_one f.0 c.0 t f.1 c.1) f.2)))
+    (pieces_judged c.0 1)
+
+pub tokens_some : (t : List ℕ) → (ts : List Lexeme) × AreTokens t ts
+tokens_some t = let c = cut_of t in (tokens_of 1 c.0, (c.0, c.1, refl))

@@ -6,3 +6,4 @@ pub mod Faults
 pub mod Loop
 pub mod Texts
 pub mod Words
+pub mod Judged

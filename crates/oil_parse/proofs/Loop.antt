@@ -61,12 +61,12 @@ goes_faults e e' n m t rest q l r = (
 )
 
 -- the test and the fault of a number
-big_is : (e : Expect) (x : Shape) (t : Lexeme) (r : Refusal) → too_big e x ≡ true → TooBig e x t r ↔ (r ≡ record { part = Oil; line = t.line; code = code.O4 })
+pub big_is : (e : Expect) (x : Shape) (t : Lexeme) (r : Refusal) → too_big e x ≡ true → TooBig e x t r ↔ (r ≡ record { part = Oil; line = t.line; code = code.O4 })
 big_is (AttrValue d) (Number v) t r h = (λ f. f.1, λ f. (ltb-true 4294967295 v h, f))
 big_is (AttrValue d) Text t r h = cc
 big_is _ _ t r h = cc
 
-small_is : (e : Expect) (x : Shape) (t : Lexeme) (r : Refusal) → too_big e x ≡ false → TooBig e x t r → ⊥
+pub small_is : (e : Expect) (x : Shape) (t : Lexeme) (r : Refusal) → too_big e x ≡ false → TooBig e x t r → ⊥
 small_is (AttrValue d) (Number v) t r h f = let l = ltb-false 4294967295 v h in let g = f.0 in omega (arith, l, g)
 small_is _ _ t r h f = f
 

@@ -1,6 +1,6 @@
 //! Reads tokens into a tree.
 
-ghost use Rattle.std.specs.Prelude.{List, ℕ, ◌≡◌, ◌↔◌, All, map, IfOk, IfErr, OnOk};
+ghost use Rattle.std.specs.Prelude.{List, ℕ, ◌≡◌, ◌↔◌, ◌⊎◌, All, map, IfOk, IfErr, OnOk};
 ghost use Rattle.sloth_refusal.specs.Order.{ErrorIs, NoFault};
 ghost use Rattle.oil_lex.specs.Tokens.{lexeme, Lexeme, AreTokens, TextFault};
 ghost use Rattle.sloth_base.specs.declared.refusal.Refusal.{Refusal};
@@ -106,12 +106,13 @@ pub fn parse(alloc: Global, tokens: &[Token]) -> Result<OilTree, BuildError>
     }
 }
 
-/// Tokens have one tree, and so has a text. The faults of a text's grammar are those of its tokens, and a text that has one has no
-/// tree.
+/// Tokens have at most one tree, and so has a text. The faults of a text's grammar are those of its tokens. Each text has a fault of
+/// its own, breaks the grammar, or has a tree, and never both of the last two.
 pub fn one_tree()
     ensures file { (tokens : List Lexeme) (tree other : OilTree) → IsFile tokens tree → IsFile tokens other → tree ≡ other }
     ensures text { (text : List ℕ) (tree other : OilTree) → HasTree text tree → HasTree text other → tree ≡ other }
     ensures faults { (text : List ℕ) (tokens : List Lexeme) → AreTokens text tokens → NoFault (TextFault text) → (refusal : Refusal) → BreaksGrammar text refusal ↔ GrammarFault tokens refusal }
+    ensures each { (text : List ℕ) → ((refusal : Refusal) × TextFault text refusal) ⊎ (((refusal : Refusal) × BreaksGrammar text refusal) ⊎ ((tree : OilTree) × HasTree text tree)) }
     ensures one { (text : List ℕ) (tree : OilTree) (refusal : Refusal) → HasTree text tree → BreaksGrammar text refusal → ⊥ }
 {}
 

@@ -1,4 +1,5 @@
 use Rattle.oil_parse.proofs.Complete.{file_one}
+use Rattle.oil_parse.proofs.Judged.{judged}
 use Rattle.oil_parse.proofs.Texts as texts
 use Rattle.oil_parse.proofs.parser.one_tree.Goals as goal
 
@@ -13,3 +14,6 @@ returns-clause-faults c = texts.grammar_of
 
 pub returns-clause-one : goal.returns-clause-one
 returns-clause-one c = texts.not_both
+
+pub returns-clause-each : goal.returns-clause-each
+returns-clause-each c = judged
