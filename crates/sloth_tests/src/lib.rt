@@ -17,4 +17,6 @@ mod rv32_instr_tests;
 #[cfg(test)]
 mod sloth_io_tests;
 #[cfg(test)]
+mod sloth_refusal_tests;
+#[cfg(test)]
 mod trace_text_tests;
