@@ -6,6 +6,7 @@ pub mod Perform
 pub mod Sound
 pub mod Whole
 pub mod Spread
-pub mod Pieces
+pub mod Runs
 pub mod OneMore
 pub mod Parts
+pub mod Leave

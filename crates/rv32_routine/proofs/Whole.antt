@@ -1,21 +1,22 @@
 -- Whole routines: handlers, which are entered masked, and services, whose first instruction masks.
-use Rattle.std.proofs.Common.{◌≡◌, ℕ, suc, ◌+◌, ◌*◌, ◌%◌, ◌≤◌, List, [], ◌∷◌, length, refl, sym, ap, ◌∙◌, subst, arith}
-use Rattle.std.specs.Prelude.{All, Bool, true, false, bit_and}
+use Rattle.std.proofs.Common.{◌≡◌, ℕ, suc, ◌+◌, ◌*◌, ◌%◌, ◌≤◌, List, [], ◌∷◌, length, refl, sym, ap, ◌∙◌, subst, arith, None}
+use Rattle.std.specs.Prelude.{ℤ, All, Bool, true, false, bit_and}
 use Rattle.sloth_base.specs.Machine.{Core, State}
-use Rattle.sloth_base.specs.Arrive.{state_arrive}
+use Rattle.sloth_base.specs.Arrive.{core_arrive, state_arrive}
 use Rattle.rv32_instr.specs.declared.InstrKind.{InstrKind}
-use Rattle.rv32_instr.specs.declared.InstrKind.TheVariants.{Csrrci}
+use Rattle.rv32_instr.specs.declared.InstrKind.TheVariants.{Csrrci, Jal}
 use Rattle.rv32_instr.specs.Range.{InRange}
 use Rattle.rv32_instr.specs.Table.{Decode}
 use Rattle.rv32_instr.proofs.Table.{decode_encode}
-use Rattle.rv32_instr.specs.Execute.{Going, step, perform, mstatus_of, with_csr, goes_on}
+use Rattle.rv32_instr.specs.Effect.{plus}
+use Rattle.rv32_instr.specs.Execute.{Going, step, touched, touched_by, jumps, perform, mstatus_of, with_csr, goes_on}
 use Rattle.rv32_routine.specs.Trace.{Trace, touched_lines, early, late}
 use Rattle.rv32_routine.specs.Masked.{OnGoing, Masked, WithArrivals, FromOpening}
 use Rattle.rv32_routine.specs.Place.{at, InPlace, AreWritten}
 use Rattle.rv32_routine.specs.Owes.{Owes}
 use Rattle.rv32_routine.proofs.Arrivals.{taken_early, left_late, taken, left}
-use Rattle.rv32_routine.proofs.Masked.{masked_map}
-use Rattle.rv32_routine.proofs.Machine.{step_at, next_at}
+use Rattle.rv32_routine.proofs.Masked.{masked_map, masked_step}
+use Rattle.rv32_routine.proofs.Machine.{step_at, touched_at, next_at, jump_at}
 use Rattle.rv32_routine.proofs.Sound.{Ended, Inside, run}
 
 -- what holds with arrivals that are placed as the trace says
@@ -82,3 +83,18 @@ pub in_place : (ram : List ℕ) (o : ℕ) (code : List InstrKind) → All InRang
 in_place ram o [] h w = tt
 in_place ram o (kind ∷ code) h w =
     (ap Decode w.0 ∙ decode_encode kind (h 0 kind (omega arith)), in_place ram (o + 4) code (λ k d below. h (suc k) d (omega arith)) w.1)
+
+-- a handler behind the jump of a vector word
+pub jumps_in : (v o n : ℕ) (imm : ℤ) (code : List InstrKind) (c : Core) (E : List ℕ → State → State → Type 0) (start : State) → v + 4 ≤ 0x20_0000 → InPlace c.ram v (Jal 0 imm ∷ []) → plus (0x8000_0000 + v) imm ≡ 0x8000_0000 + o → IsEntered o code c → length code ≤ n → Owes o (o + 4 * length code) o code 0 E start c → Masked (suc n) (at v c) (WithArrivals E start)
+unfolding perform touched_by
+jumps_in v o n imm code c E start fit p there e le h =
+    let al = e.aligned in
+    masked_step n (at v c) (WithArrivals E start) e.masked (λ a.
+    let d = core_arrive a c in
+    let s : step (at v d) ≡ Going (at o d) = step_at v d (Jal 0 imm) (p.0, fit) ∙ ap (λ x. jumps x d) there ∙ jump_at o d al in
+    let t : touched (at v d) ≡ None = touched_at v d (Jal 0 imm) p.0 in
+    subst (λ x. OnGoing x (λ next. Masked n next (λ trace end. WithArrivals E start ((a, touched (at v d)) ∷ trace) end))) (sym s)
+    (subst (λ k. Masked n (at o d) (λ trace end. WithArrivals E start ((a, k) ∷ trace) end)) (sym t)
+    (masked_map n (at o d) _ _ (λ trace end x. with_arrivals E start ((a, None) ∷ trace) end x)
+    (run o (o + 4 * length code) c.ram e.fits code 0 n o o c a E start le (omega arith) al (omega arith) (omega arith) e.placed
+    (record { masked = e.masked; there = e.there; lines = e.lines; same = record { by = λ i a b. refl } }) h))))

@@ -5,3 +5,4 @@ pub mod Owes
 pub mod Pieces
 pub mod Constant
 pub mod Emit
+pub mod Kernel

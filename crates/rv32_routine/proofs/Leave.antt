@@ -1,0 +1,103 @@
+-- Going back to what runs below.
+use Rattle.std.proofs.Common.{◌≡◌, ℕ, zero, suc, ◌+◌, ◌-◌, ◌*◌, ◌%◌, ◌≤◌, List, [], ◌∷◌, length, refl, ◌∙◌, arith, inl, inr}
+use Rattle.std.specs.Prelude.{false}
+use Rattle.sloth_base.specs.Machine.{Core, State}
+use Rattle.rv32_instr.specs.declared.InstrKind.TheVariants.{Mret}
+use Rattle.rv32_instr.specs.Ram.{word_at, with_word}
+use Rattle.rv32_routine.specs.Owes.{Owes}
+use Rattle.rv32_routine.specs.Kernel.{IsBelow, leave, HasLeft}
+use Rattle.rv32_routine.proofs.Words.{word_at-other}
+use Rattle.rv32_routine.proofs.Runs.{restores_owes, length-restored, restored_other, restored_at}
+
+-- an offset so many instructions on
+abbrev pub behind : ℕ → ℕ → ℕ
+behind zero o = o
+behind (suc n) o = behind n (o + 4)
+
+module _ (from to : ℕ) (E : List ℕ → State → State → Type 0) (start : State) (place : ℕ) (c : Core) (x1 x2 x3 : ℕ) (tail : List ℕ) (long : length tail ≡ 27) (masked : c.mie ≡ false) (b : IsBelow place c) (code_behind : 1024 ≤ from) where
+  pub leave_owes : (o : ℕ) → ((end : State) → HasLeft place c end → E [] start end) → Owes from to o leave 0 E start (record c { registers = 0 ∷ x1 ∷ x2 ∷ x3 ∷ 0x8000_0000 ∷ tail })
+  leave_owes o go =
+      let al = b.aligned in
+      let fits = b.inside in
+      let past = b.behind in
+      let v0 = word_at c.ram place in
+      let v4 = word_at c.ram (place + 4) in
+      let v8 = word_at c.ram (place + 8) in
+      let v12 = word_at c.ram (place + 12) in
+      let ram1 = with_word c.ram 0 v8 in
+      let ram2 = with_word ram1 628 v12 in
+      let regs = 0 ∷ (0x8000_0000 + place) ∷ (0x8000_0000 + (place + 128)) ∷ v12 ∷ 0x8000_0000 ∷ tail in
+      let d = record c { registers = regs; mepc = v0 - v0 % 4; plevel = v4 % 256; ram = ram2 } in
+      let same : (k : ℕ) → word_at ram2 (place + k) ≡ word_at c.ram (place + k) = λ k. word_at-other ram1 628 v12 (place + k) (inr (omega arith)) ∙ word_at-other c.ram 0 v8 (place + k) (inr (omega arith)) in
+      let returns = b.returns in
+      let level = b.level in
+      let lengths = length-restored 27 5 ram2 place regs in (
+        628,
+        record { is = refl; aligned = refl; inside = omega arith },
+        0x8000_0000 + place,
+        b.is,
+        (
+          place,
+          record { is = omega arith; aligned = al; inside = omega arith },
+          v0,
+          refl,
+          (
+            c.mepc,
+            refl,
+            masked,
+            (
+              place + 4,
+              record { is = omega arith; aligned = omega arith; inside = omega arith },
+              v4,
+              refl,
+              (
+                c.plevel,
+                refl,
+                masked,
+                (
+                  place + 8,
+                  record { is = omega arith; aligned = omega arith; inside = omega arith },
+                  v8,
+                  refl,
+                  (
+                    0,
+                    record { is = refl; aligned = refl; inside = omega arith },
+                    inl (omega arith),
+                    (
+                      place + 12,
+                      record { is = omega arith; aligned = omega arith; inside = omega arith },
+                      v12,
+                      word_at-other c.ram 0 v8 (place + 12) (inr (omega arith)),
+                      (
+                        628,
+                        record { is = refl; aligned = refl; inside = omega arith },
+                        inl (omega arith),
+                        (
+                          0x8000_0000 + (place + 128),
+                          omega arith,
+                          restores_owes from to E start (Mret ∷ []) place al 27 5 1 (behind 10 o) (behind 10 o + 108) d refl (omega arith) refl (omega arith) (go _ (record {
+                            pc = omega arith;
+                            level = omega arith;
+                            ram = refl;
+                            x2 = restored_other 27 5 ram2 place regs 2 (inl (omega arith));
+                            loaded = λ i low high. restored_at 27 5 ram2 place regs i low high (omega arith) ∙ same (4 * i);
+                            zero = restored_other 27 5 ram2 place regs 0 (inl (omega arith));
+                            registers = omega arith;
+                            opened = refl;
+                            previous = refl;
+                            pending = refl;
+                            enabled = refl;
+                            levels = refl;
+                            scratch = refl;
+                            controller = refl;
+                          })),
+                        ),
+                      ),
+                    ),
+                  ),
+                ),
+              ),
+            ),
+          ),
+        ),
+      )

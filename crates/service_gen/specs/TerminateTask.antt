@@ -1,0 +1,43 @@
+-- TerminateTask (OSEK OS 2.2.3, section 13.2.3.2).
+use Rattle.std.specs.Prelude.{ℕ, ◌+◌, ◌*◌, ◌≡◌, ◌<◌, ◌≤◌, true, List, [], ◌∷◌, length, slice_index, slice_set}
+use Rattle.sloth_base.specs.Machine.{Core, State}
+use Rattle.sloth_region.specs.Layout.{cur, active, events, below_word, context_bytes}
+use Rattle.rv32_instr.specs.declared.InstrKind.{InstrKind}
+use Rattle.rv32_instr.specs.declared.InstrKind.TheVariants.{Csrrci}
+use Rattle.rv32_instr.specs.Ram.{word_at, with_word}
+use Rattle.rv32_routine.specs.Masked.{FromOpening}
+use Rattle.rv32_routine.specs.Place.{at}
+use Rattle.rv32_routine.specs.Kernel.{CanRun, IsBelow}
+
+-- the code stands at an offset, this task runs, and the context of what runs below it stands at `place`
+pub record MayTerminate (offset task place : ℕ) (code : List InstrKind) (core : Core) : Type 0 where
+  pub can_run : CanRun offset code core
+  pub previous : core.mpie ≡ true
+  pub runs : word_at core.ram cur ≡ task + 1
+  pub is_task : task < 30
+  pub below : IsBelow place core
+
+-- The task has ended: it is neither pending nor Active and has no events, and what runs below goes on as its context says.
+pub record Terminated (task place : ℕ) (touched : List ℕ) (start end : State) : Type 0 where
+  pub touches : touched ≡ task ∷ []
+  pub pending : end.core.pending ≡ slice_set start.core.pending task 0
+  pub ram :
+      end.core.ram
+      ≡ with_word (with_word (with_word (with_word start.core.ram (active task) 0) (events task) 0) cur (word_at start.core.ram (place + 8))) below_word (word_at start.core.ram (place + 12))
+  pub pc : end.pc ≡ word_at start.core.ram place
+  pub running : end.core.ilevel ≡ word_at start.core.ram (place + 4)
+  pub x2 : slice_index end.core.registers 2 ≡ 0x8000_0000 + (place + context_bytes)
+  pub loaded : (i : ℕ) → 5 ≤ i → i < 32 → slice_index end.core.registers i ≡ word_at start.core.ram (place + 4 * i)
+  pub zero : slice_index end.core.registers 0 ≡ 0
+  pub registers : length end.core.registers ≡ 32
+  pub opened : end.core.mie ≡ true
+  pub previous : end.core.mpie ≡ true
+  pub enabled : end.core.enabled ≡ start.core.enabled
+  pub levels : end.core.levels ≡ start.core.levels
+  pub scratch : end.core.mscratch ≡ start.core.mscratch
+  pub controller : end.core.controller ≡ start.core.controller
+
+-- Code of TerminateTask: its first instruction masks, and at most 49 more lead to the end of the task, whatever lines arrive.
+pub record Terminates (code : List InstrKind) : Type 0 where
+  pub masks : (rest : List InstrKind) × (code ≡ Csrrci 0 8 0x300 ∷ rest)
+  pub runs : (offset task place : ℕ) (core : Core) → MayTerminate offset task place code core → FromOpening 49 (at offset core) (Terminated task place)

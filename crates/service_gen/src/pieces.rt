@@ -1,0 +1,85 @@
+//! Pieces of code that several services have.
+ghost use Rattle.std.specs.Prelude.{◌≡◌, ◌++◌, ◌∷◌, [], OnOk};
+ghost use Rattle.rv32_instr.specs.declared.InstrKind.TheVariants.{Csrrci, Lui};
+ghost use Rattle.service_gen.specs.Pieces.{ends};
+
+use rv32_instr::{Instr, InstrKind};
+use rv32_routine::emit::emit;
+use sloth_base::numbers::Reg;
+use std::alloc::AllocError;
+
+/// Masks interrupts, and loads the address of the service words into x4.
+pub fn open(code: &mut Vec<Instr>) -> Result<(), AllocError>
+    ensures { OnOk result (code.new.items ≡ code.old.items ++ Csrrci 0 8 0x300 ∷ Lui 4 0x80000 ∷ []) }
+{
+    let opened = [
+        InstrKind::Csrrci {
+            rd: Reg(0),
+            number: 8,
+            csr: 0x300,
+        },
+        InstrKind::Lui {
+            rd: Reg(4),
+            imm: 0x8_0000,
+        },
+    ];
+    emit(code, &opened)
+}
+
+/// Ends the running task: its pending byte, its Active word and its events become 0. x4 holds 0x80000000.
+pub fn end(code: &mut Vec<Instr>) -> Result<(), AllocError>
+    ensures { OnOk result (code.new.items ≡ code.old.items ++ ends) }
+{
+    let ended = [
+        InstrKind::Lw {
+            rd: Reg(3),
+            rs1: Reg(4),
+            imm: 0,
+        },
+        InstrKind::Lui {
+            rd: Reg(1),
+            imm: 0x1_0000,
+        },
+        InstrKind::Add {
+            rd: Reg(1),
+            rs1: Reg(1),
+            rs2: Reg(3),
+        },
+        InstrKind::Sb {
+            rs1: Reg(1),
+            rs2: Reg(0),
+            imm: -1,
+        },
+        InstrKind::Slli {
+            rd: Reg(1),
+            rs1: Reg(3),
+            amount: 3,
+        },
+        InstrKind::Slli {
+            rd: Reg(3),
+            rs1: Reg(3),
+            amount: 2,
+        },
+        InstrKind::Add {
+            rd: Reg(3),
+            rs1: Reg(3),
+            rs2: Reg(1),
+        },
+        InstrKind::Add {
+            rd: Reg(3),
+            rs1: Reg(3),
+            rs2: Reg(4),
+        },
+        InstrKind::Sw {
+            rs1: Reg(3),
+            rs2: Reg(0),
+            imm: -8,
+        },
+        InstrKind::Sw {
+            rs1: Reg(3),
+            rs2: Reg(0),
+            imm: -4,
+        },
+    ];
+    emit(code, &ended)
+}

@@ -1,0 +1,19 @@
+//! TerminateTask: the running task ends, and what runs below it goes on.
+ghost use Rattle.std.specs.Prelude.{◌≡◌, IfOk};
+ghost use Rattle.service_gen.specs.TerminateTask.{Terminates};
+
+use crate::pieces::{end, open};
+use rv32_instr::Instr;
+use rv32_routine::pieces::leave;
+use std::alloc::{AllocError, Global};
+
+/// The masking instruction, the end of the running task, and the way to what runs below.
+pub fn code(alloc: Global) -> Result<Vec<Instr>, AllocError>
+    ensures { IfOk result (λ code. Terminates code.items) }
+{
+    let mut code = Vec::new(alloc);
+    open(&mut code)?;
+    end(&mut code)?;
+    leave(&mut code)?;
+    Ok(code)
+}

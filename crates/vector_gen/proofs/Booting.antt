@@ -1,0 +1,265 @@
+-- The code of boot has its effect.
+use Rattle.std.proofs.Common.{◌≡◌, ℕ, zero, suc, ◌+◌, ◌*◌, ◌%◌, ◌<◌, ◌≤◌, List, [], ◌∷◌, ◌++◌, length, get_or, refl, ◌⊎◌, sym, ap, ◌∙◌, subst, arith, inl, inr, ⊎_elim, append_assoc, length-append, ◌^◌}
+use Rattle.std.specs.Prelude.{Bool, false, true, set, pos}
+use Rattle.std.proofs.lemmas.Bool.{cases_eq}
+use Rattle.std.proofs.lemmas.List.{length-set, get_or-set_same, get_or-set_other}
+use Rattle.sloth_base.specs.declared.config.TaskDecl.{TaskDecl}
+use Rattle.sloth_base.specs.Machine.{Core, State}
+use Rattle.rv32_instr.specs.declared.InstrKind.{InstrKind}
+use Rattle.rv32_instr.specs.declared.InstrKind.TheVariants.{Lui, Addi, Sb}
+use Rattle.rv32_routine.specs.Constant.{hi}
+use Rattle.rv32_routine.specs.Place.{at}
+use Rattle.rv32_routine.specs.Masked.{Masked, WithArrivals}
+use Rattle.rv32_routine.specs.Owes.{Owes, Pending, Enabled, Level}
+use Rattle.rv32_routine.proofs.Parts.{hi_lo}
+use Rattle.rv32_routine.proofs.Spread.{spread, spread_is, spread_from}
+use Rattle.rv32_routine.proofs.Whole.{handles}
+use Rattle.vector_gen.specs.Boot.{raises, starts_one, starts, finishes, MayBoot, Booted, Boots}
+
+-- the lines' bytes after the tasks from this line on
+abbrev levels_with : ℕ → List TaskDecl → List ℕ → List ℕ → List ℕ
+levels_with line [] levels bytes = bytes
+levels_with line (task ∷ tasks) levels bytes = levels_with (suc line) tasks levels (set bytes line (get_or levels line 0))
+
+abbrev enabled_with : ℕ → List TaskDecl → List ℕ → List ℕ
+enabled_with line [] bytes = bytes
+enabled_with line (task ∷ tasks) bytes = enabled_with (suc line) tasks (set bytes line 1)
+
+abbrev raised_if : Bool → ℕ → List ℕ → List ℕ
+raised_if true line bytes = set bytes line 1
+raised_if false line bytes = bytes
+
+abbrev pending_with : ℕ → List TaskDecl → List ℕ → List ℕ
+pending_with line [] bytes = bytes
+pending_with line (task ∷ tasks) bytes = pending_with (suc line) tasks (raised_if task.autostart line bytes)
+
+module _ (from to : ℕ) (E : List ℕ → State → State → Type 0) (start : State) (x2 : ℕ) (tail levels : List ℕ) (small : (k : ℕ) → get_or levels k 0 < 256) where
+  -- with the registers that boot has
+  abbrev with_x3 : ℕ → Core → Core
+  with_x3 x3 c = record c { registers = 0 ∷ 0x1000_0000 ∷ x2 ∷ x3 ∷ 1 ∷ tail }
+
+  raises_owe : (auto : Bool) (line o : ℕ) (code : List InstrKind) (c : Core) → line < 32 → ((o' : ℕ) → Owes from to o' code 0 E start (record c { pending = raised_if auto line c.pending })) → get_or c.registers 1 0 ≡ 0x1000_0000 → get_or c.registers 4 0 ≡ 1 → Owes from to o (raises line auto ++ code) 0 E start c
+  raises_owe true line o code c h go one four = (Pending line, (omega arith, h), inl ((λ e. absurd (omega arith)), go (o + 4)))
+  raises_owe false line o code c h go one four = go o
+
+  starts_owe : (tasks : List TaskDecl) (line o x3 : ℕ) (code : List InstrKind) (c : Core) → line + length tasks ≤ 32 → ((o' x3' : ℕ) → Owes from to o' code 0 E start (with_x3 x3' (record c { levels = levels_with line tasks levels c.levels; enabled = enabled_with line tasks c.enabled; pending = pending_with line tasks c.pending }))) → Owes from to o (starts line tasks levels ++ code) 0 E start (with_x3 x3 c)
+  starts_owe [] line o x3 code c h go = go o x3
+  starts_owe (task ∷ tasks) line o x3 code c h go =
+      let v = get_or levels line 0 in
+      let below = small line in
+      let o2 = o + 4 + 4 in
+      let o3 = o2 + 4 in
+      let rest = starts (suc line) tasks levels ++ code in
+      let d = with_x3 v (record c { levels = set c.levels line v; enabled = set c.enabled line 1 }) in
+      let e : v % 256 ≡ v = omega arith in
+      let raised = raises_owe task.autostart line o3 rest d (omega arith) (λ o'. starts_owe tasks (suc line) o' v code (record c { levels = set c.levels line v; enabled = set c.enabled line 1; pending = raised_if task.autostart line c.pending }) (omega arith) go) refl refl in
+      let enabled = subst (λ l. Owes from to o3 l 0 E start d) (sym (append_assoc (raises line task.autostart) (starts (suc line) tasks levels) code)) raised in
+      let levelled : Owes from to o2 (Sb 1 4 (pos (32 + line)) ∷ ((raises line task.autostart ++ starts (suc line) tasks levels) ++ code)) 0 E start (with_x3 v (record c { levels = set c.levels line v })) =
+      (Enabled line, (omega arith, omega arith), enabled)
+      in
+      (v, omega arith, (Level line, (omega arith, omega arith), subst (λ b. Owes from to o2 (Sb 1 4 (pos (32 + line)) ∷ ((raises line task.autostart ++ starts (suc line) tasks levels) ++ code)) 0 E start (with_x3 v (record c { levels = set c.levels line b }))) (sym e) levelled))
+
+-- ---- line by line
+
+length-levels : (tasks : List TaskDecl) (line : ℕ) (levels bytes : List ℕ) → length (levels_with line tasks levels bytes) ≡ length bytes
+length-levels [] line levels bytes = refl
+length-levels (task ∷ tasks) line levels bytes = length-levels tasks (suc line) levels (set bytes line (get_or levels line 0)) ∙ length-set bytes line (get_or levels line 0)
+
+levels_other : (tasks : List TaskDecl) (line : ℕ) (levels bytes : List ℕ) (k : ℕ) → (k < line) ⊎ (line + length tasks ≤ k) → get_or (levels_with line tasks levels bytes) k 0 ≡ get_or bytes k 0
+levels_other [] line levels bytes k h = refl
+levels_other (task ∷ tasks) line levels bytes k h =
+    levels_other tasks (suc line) levels (set bytes line (get_or levels line 0)) k (grind (arith, h))
+    ∙ get_or-set_other bytes line k (get_or levels line 0) 0 (λ e. ⊎_elim (λ x. absurd (omega arith)) (λ x. absurd (omega arith)) h)
+
+levels_at : (tasks : List TaskDecl) (line : ℕ) (levels bytes : List ℕ) (k : ℕ) → line ≤ k → k < line + length tasks → line + length tasks ≤ length bytes → get_or (levels_with line tasks levels bytes) k 0 ≡ get_or levels k 0
+levels_at [] line levels bytes k l h long = absurd (omega arith)
+levels_at (task ∷ tasks) line levels bytes k l h long =
+    let v = get_or levels line 0 in
+    let longer = length-set bytes line v in
+    ⊎_elim
+    (λ e. levels_other tasks (suc line) levels (set bytes line v) k (inl (omega arith)) ∙ ap (λ j. get_or (set bytes line v) j 0) e ∙ get_or-set_same bytes line v 0 (omega arith) ∙ ap (λ j. get_or levels j 0) (sym e))
+    (λ ne. levels_at tasks (suc line) levels (set bytes line v) k (omega arith) (omega arith) (omega arith))
+    (cases_eq k line)
+
+length-enabled : (tasks : List TaskDecl) (line : ℕ) (bytes : List ℕ) → length (enabled_with line tasks bytes) ≡ length bytes
+length-enabled [] line bytes = refl
+length-enabled (task ∷ tasks) line bytes = length-enabled tasks (suc line) (set bytes line 1) ∙ length-set bytes line 1
+
+enabled_other : (tasks : List TaskDecl) (line : ℕ) (bytes : List ℕ) (k : ℕ) → (k < line) ⊎ (line + length tasks ≤ k) → get_or (enabled_with line tasks bytes) k 0 ≡ get_or bytes k 0
+enabled_other [] line bytes k h = refl
+enabled_other (task ∷ tasks) line bytes k h =
+    enabled_other tasks (suc line) (set bytes line 1) k (grind (arith, h))
+    ∙ get_or-set_other bytes line k 1 0 (λ e. ⊎_elim (λ x. absurd (omega arith)) (λ x. absurd (omega arith)) h)
+
+enabled_at : (tasks : List TaskDecl) (line : ℕ) (bytes : List ℕ) (k : ℕ) → line ≤ k → k < line + length tasks → line + length tasks ≤ length bytes → get_or (enabled_with line tasks bytes) k 0 ≡ 1
+enabled_at [] line bytes k l h long = absurd (omega arith)
+enabled_at (task ∷ tasks) line bytes k l h long =
+    let longer = length-set bytes line 1 in
+    ⊎_elim
+    (λ e. enabled_other tasks (suc line) (set bytes line 1) k (inl (omega arith)) ∙ ap (λ j. get_or (set bytes line 1) j 0) e ∙ get_or-set_same bytes line 1 0 (omega arith))
+    (λ ne. enabled_at tasks (suc line) (set bytes line 1) k (omega arith) (omega arith) (omega arith))
+    (cases_eq k line)
+
+length-raised : (auto : Bool) (line : ℕ) (bytes : List ℕ) → length (raised_if auto line bytes) ≡ length bytes
+length-raised true line bytes = length-set bytes line 1
+length-raised false line bytes = refl
+
+raised_other : (auto : Bool) (line : ℕ) (bytes : List ℕ) (k : ℕ) → (k ≡ line → ⊥) → get_or (raised_if auto line bytes) k 0 ≡ get_or bytes k 0
+raised_other true line bytes k ne = get_or-set_other bytes line k 1 0 ne
+raised_other false line bytes k ne = refl
+
+raised_same : (auto : Bool) (line : ℕ) (bytes : List ℕ) → line < length bytes → auto ≡ true → get_or (raised_if auto line bytes) line 0 ≡ 1
+raised_same true line bytes h e = get_or-set_same bytes line 1 0 h
+raised_same false line bytes h e = absurd (cc)
+
+raised_not : (auto : Bool) (line : ℕ) (bytes : List ℕ) → auto ≡ false → get_or (raised_if auto line bytes) line 0 ≡ get_or bytes line 0
+raised_not true line bytes e = absurd (cc)
+raised_not false line bytes e = refl
+
+length-pending : (tasks : List TaskDecl) (line : ℕ) (bytes : List ℕ) → length (pending_with line tasks bytes) ≡ length bytes
+length-pending [] line bytes = refl
+length-pending (task ∷ tasks) line bytes = length-pending tasks (suc line) (raised_if task.autostart line bytes) ∙ length-raised task.autostart line bytes
+
+pending_other : (tasks : List TaskDecl) (line : ℕ) (bytes : List ℕ) (k : ℕ) → (k < line) ⊎ (line + length tasks ≤ k) → get_or (pending_with line tasks bytes) k 0 ≡ get_or bytes k 0
+pending_other [] line bytes k h = refl
+pending_other (task ∷ tasks) line bytes k h =
+    pending_other tasks (suc line) (raised_if task.autostart line bytes) k (grind (arith, h))
+    ∙ raised_other task.autostart line bytes k (λ e. ⊎_elim (λ x. absurd (omega arith)) (λ x. absurd (omega arith)) h)
+
+pending_raised : (tasks : List TaskDecl) (line : ℕ) (bytes : List ℕ) (j : ℕ) (d : TaskDecl) → j < length tasks → line + length tasks ≤ length bytes → (get_or tasks j d).autostart ≡ true → get_or (pending_with line tasks bytes) (line + j) 0 ≡ 1
+pending_raised [] line bytes j d h long auto = absurd (omega arith)
+pending_raised (task ∷ tasks) line bytes zero d h long auto =
+    let e : line + 0 ≡ line = omega arith in
+    ap (λ k. get_or (pending_with (suc line) tasks (raised_if task.autostart line bytes)) k 0) e
+    ∙ pending_other tasks (suc line) (raised_if task.autostart line bytes) line (inl (omega arith))
+    ∙ raised_same task.autostart line bytes (omega arith) auto
+pending_raised (task ∷ tasks) line bytes (suc j) d h long auto =
+    let e : line + suc j ≡ suc line + j = omega arith in
+    let longer = length-raised task.autostart line bytes in
+    ap (λ k. get_or (pending_with (suc line) tasks (raised_if task.autostart line bytes)) k 0) e
+    ∙ pending_raised tasks (suc line) (raised_if task.autostart line bytes) j d (omega arith) (omega arith) auto
+
+pending_kept : (tasks : List TaskDecl) (line : ℕ) (bytes : List ℕ) (j : ℕ) (d : TaskDecl) → j < length tasks → (get_or tasks j d).autostart ≡ false → get_or (pending_with line tasks bytes) (line + j) 0 ≡ get_or bytes (line + j) 0
+pending_kept [] line bytes j d h auto = absurd (omega arith)
+pending_kept (task ∷ tasks) line bytes zero d h auto =
+    let e : line + 0 ≡ line = omega arith in
+    ap (λ k. get_or (pending_with (suc line) tasks (raised_if task.autostart line bytes)) k 0) e
+    ∙ pending_other tasks (suc line) (raised_if task.autostart line bytes) line (inl (omega arith))
+    ∙ raised_not task.autostart line bytes auto
+    ∙ ap (λ k. get_or bytes k 0) (sym e)
+pending_kept (task ∷ tasks) line bytes (suc j) d h auto =
+    let e : line + suc j ≡ suc line + j = omega arith in
+    ap (λ k. get_or (pending_with (suc line) tasks (raised_if task.autostart line bytes)) k 0) e
+    ∙ pending_kept tasks (suc line) (raised_if task.autostart line bytes) j d (omega arith) auto
+    ∙ raised_other task.autostart line bytes (suc line + j) (λ e. absurd (omega arith))
+    ∙ ap (λ k. get_or bytes k 0) (sym e)
+
+length-starts : (tasks : List TaskDecl) (line : ℕ) (levels : List ℕ) → length (starts line tasks levels) ≤ 4 * length tasks
+length-starts [] line levels = omega arith
+length-starts (task ∷ tasks) line levels =
+    let one = length-one task.autostart line in
+    let ih = length-starts tasks (suc line) levels in
+    let e = length-append (starts_one line (get_or levels line 0) task.autostart) (starts (suc line) tasks levels) in
+    omega arith
+  where
+    length-one : (auto : Bool) (line : ℕ) → length (raises line auto) ≤ 1
+    length-one true line = omega arith
+    length-one false line = omega arith
+
+-- the first five registers do not matter for the others
+others : (a b c d x y z w : ℕ) (tail : List ℕ) (i : ℕ) → 5 ≤ i → get_or (0 ∷ a ∷ b ∷ c ∷ d ∷ tail) i 0 ≡ get_or (0 ∷ x ∷ y ∷ z ∷ w ∷ tail) i 0
+others a b c d x y z w tail zero h = absurd (omega arith)
+others a b c d x y z w tail (suc zero) h = absurd (omega arith)
+others a b c d x y z w tail (suc (suc zero)) h = absurd (omega arith)
+others a b c d x y z w tail (suc (suc (suc zero))) h = absurd (omega arith)
+others a b c d x y z w tail (suc (suc (suc (suc zero)))) h = absurd (omega arith)
+others a b c d x y z w tail (suc (suc (suc (suc (suc i))))) h = refl
+
+abbrev pub boot_code : List TaskDecl → List ℕ → ℕ → List InstrKind
+boot_code tasks levels idle = Lui 1 0x1_0000 ∷ Addi 4 0 (pos 1) ∷ (starts 0 tasks levels ++ finishes idle)
+
+module _ (tasks : List TaskDecl) (levels : List ℕ) (idle : ℕ) (few : length tasks ≤ 30) (small : (k : ℕ) → get_or levels k 0 < 256) (fits : idle < 2 ^ 32) (aligned : idle % 4 ≡ 0) (offset : ℕ) (c : Core) (h : MayBoot offset (boot_code tasks levels idle) c) where
+  end_owes : (from to o x2 x3 : ℕ) → Owes from to o (finishes idle) 0 (Booted tasks levels idle) (at offset (spread c)) (record (spread c) { registers = 0 ∷ 0x1000_0000 ∷ x2 ∷ x3 ∷ 1 ∷ spread_from 27 5 c.registers; levels = levels_with 0 tasks levels c.levels; enabled = enabled_with 0 tasks c.enabled; pending = pending_with 0 tasks c.pending })
+  end_owes from to o x2 x3 =
+      let n = length tasks in
+      let long_levels = h.levels in
+      let long_enabled = h.enabled in
+      let long_pending = h.can_run.lines in
+      let at_line : (line : ℕ) → 0 + line ≡ line = λ line. omega arith in (
+        0x8000_0000,
+        refl,
+        (
+          2147484660,
+          refl,
+          (
+            128,
+            refl,
+            (
+              _,
+              refl,
+              refl,
+              (
+                hi idle * 4096,
+                refl,
+                (
+                  idle,
+                  hi_lo idle fits,
+                  (
+                    c.mepc,
+                    refl,
+                    refl,
+                    record {
+                      touches = refl;
+                      level = λ line below. levels_at tasks 0 levels c.levels line (omega arith) (omega arith) (omega arith);
+                      other_levels = λ line past. levels_other tasks 0 levels c.levels line (inr (omega arith));
+                      enabled = λ line below. enabled_at tasks 0 c.enabled line (omega arith) (omega arith) (omega arith);
+                      other_enabled = λ line past. enabled_other tasks 0 c.enabled line (inr (omega arith));
+                      raised = λ line d below auto. subst (λ k. get_or (pending_with 0 tasks c.pending) k 0 ≡ 1) (at_line line) (pending_raised tasks 0 c.pending line d below (omega arith) auto);
+                      unraised = λ line d below auto. subst (λ k. get_or (pending_with 0 tasks c.pending) k 0 ≡ get_or c.pending k 0) (at_line line) (pending_kept tasks 0 c.pending line d below auto);
+                      other_pending = λ line past. pending_other tasks 0 c.pending line (inr (omega arith));
+                      lines = (length-pending tasks 0 c.pending ∙ h.can_run.lines, length-enabled tasks 0 c.enabled ∙ h.enabled, length-levels tasks 0 levels c.levels ∙ h.levels);
+                      pc = omega arith;
+                      running = refl;
+                      x2 = refl;
+                      kept = λ i past. others 0x1000_0000 2147484660 idle 1 (get_or c.registers 1 0) (get_or c.registers 2 0) (get_or c.registers 3 0) (get_or c.registers 4 0) (spread_from 27 5 c.registers) i past;
+                      zero = refl;
+                      registers = refl;
+                      ram = refl;
+                      opened = refl;
+                      previous = refl;
+                      scratch = refl;
+                      controller = refl;
+                    },
+                  ),
+                ),
+              ),
+            ),
+          ),
+        ),
+      )
+
+  owes : (from to : ℕ) → Owes from to offset (boot_code tasks levels idle) 0 (Booted tasks levels idle) (at offset (spread c)) (spread c)
+  owes from to = (
+    0x1000_0000,
+    refl,
+    (
+      1,
+      refl,
+      starts_owe from to (Booted tasks levels idle) (at offset (spread c)) (get_or c.registers 2 0) (spread_from 27 5 c.registers) levels small tasks 0 (offset + 4 + 4) (get_or c.registers 3 0) (finishes idle) (spread c) (omega arith)
+          (λ o x3. end_owes from to o (get_or c.registers 2 0) x3),
+    ),
+  )
+
+  pub runs_it : Masked 130 (at offset c) (WithArrivals (Booted tasks levels idle) (at offset c))
+  runs_it =
+      let can = h.can_run in
+      let to = offset + 4 * length (boot_code tasks levels idle) in
+      let bound = length-starts tasks 0 levels in
+      let all = length-append (starts 0 tasks levels) (finishes idle) in
+      handles offset 130 (boot_code tasks levels idle) c (Booted tasks levels idle) (at offset c)
+      (record { masked = h.masked; there = can.controller; lines = can.lines; aligned = can.aligned; fits = can.inside; placed = can.placed })
+      (omega arith)
+      (subst (λ x. Owes offset to offset (boot_code tasks levels idle) 0 (Booted tasks levels idle) (at offset x) x) (spread_is c can.registers can.zero) (owes offset to))
+
+pub boots : (tasks : List TaskDecl) (levels : List ℕ) (idle : ℕ) → length tasks ≤ 30 → ((k : ℕ) → get_or levels k 0 < 256) → idle < 2 ^ 32 → Boots tasks levels idle (boot_code tasks levels idle)
+boots tasks levels idle few small fits = record { runs = λ offset c aligned h. runs_it tasks levels idle few small fits aligned offset c h }

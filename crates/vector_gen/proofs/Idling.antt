@@ -1,0 +1,23 @@
+-- The idle loop stays where it is.
+use Rattle.std.proofs.Common.{◌≡◌, ℕ, ◌+◌, ◌%◌, ◌≤◌, [], ◌∷◌, ap, ◌∙◌, arith, None}
+use Rattle.std.specs.Prelude.{pos}
+use Rattle.sloth_base.specs.Machine.{Core}
+use Rattle.rv32_instr.specs.declared.InstrKind.TheVariants.{Jal}
+use Rattle.rv32_instr.specs.Effect.{plus}
+use Rattle.rv32_instr.specs.Execute.{Going, step, touched, perform, touched_by, jumps}
+use Rattle.rv32_routine.specs.Place.{at, InPlace}
+use Rattle.rv32_routine.proofs.Machine.{step_at, touched_at, jump_at}
+use Rattle.vector_gen.specs.Idle.{Idles}
+
+stays : (o : ℕ) (c : Core) → o % 4 ≡ 0 → o + 4 ≤ 0x20_0000 → InPlace c.ram o (Jal 0 (pos 0) ∷ []) → step (at o c) ≡ Going (at o c)
+unfolding perform
+stays o c al h p =
+    let e : plus (0x8000_0000 + o) (pos 0) ≡ 0x8000_0000 + o = omega arith in
+    step_at o c (Jal 0 (pos 0)) (p.0, h) ∙ ap (λ a. jumps a c) e ∙ jump_at o c al
+
+untouched : (o : ℕ) (c : Core) → InPlace c.ram o (Jal 0 (pos 0) ∷ []) → touched (at o c) ≡ None
+unfolding touched_by
+untouched o c p = touched_at o c (Jal 0 (pos 0)) p.0
+
+pub idles : Idles (Jal 0 (pos 0) ∷ [])
+idles = record { stays = stays; untouched = untouched }

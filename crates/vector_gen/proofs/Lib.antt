@@ -1,0 +1,3 @@
+pub mod Booting
+pub mod Idling
+pub mod Jumping

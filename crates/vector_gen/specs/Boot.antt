@@ -1,0 +1,67 @@
+-- Boot.
+use Rattle.std.specs.Prelude.{ℕ, suc, ◌+◌, ◌%◌, ◌≡◌, ◌<◌, ◌≤◌, Bool, true, false, pos, List, [], ◌∷◌, ◌++◌, length, slice_index, slice_index_or}
+use Rattle.sloth_base.specs.declared.config.TaskDecl.{TaskDecl}
+use Rattle.sloth_base.specs.Machine.{Core, State}
+use Rattle.sloth_region.specs.Layout.{idle_context, context_bytes}
+use Rattle.rv32_instr.specs.declared.InstrKind.{InstrKind}
+use Rattle.rv32_instr.specs.declared.InstrKind.TheVariants.{Lui, Addi, Sb, Csrrw, Mret}
+use Rattle.rv32_routine.specs.Constant.{hi, lo}
+use Rattle.rv32_routine.specs.Place.{at}
+use Rattle.rv32_routine.specs.Masked.{Masked, WithArrivals}
+use Rattle.rv32_routine.specs.Kernel.{CanRun}
+
+-- ---- the code
+
+-- x1 holds the controller's address, x4 holds 1
+abbrev pub raises : ℕ → Bool → List InstrKind
+raises line true = Sb 1 4 (pos line) ∷ []
+raises line false = []
+
+abbrev pub starts_one : ℕ → ℕ → Bool → List InstrKind
+starts_one line level autostart = Addi 3 0 (pos level) ∷ Sb 1 3 (pos (64 + line)) ∷ Sb 1 4 (pos (32 + line)) ∷ raises line autostart
+
+abbrev pub starts : ℕ → List TaskDecl → List ℕ → List InstrKind
+starts line [] levels = []
+starts line (task ∷ tasks) levels = starts_one line (slice_index levels line) task.autostart ++ starts (suc line) tasks levels
+
+abbrev pub finishes : ℕ → List InstrKind
+finishes idle =
+    Lui 2 0x8_0000 ∷ Addi 2 2 (pos 1012) ∷ Addi 3 0 (pos 128) ∷ Csrrw 0 3 0x300 ∷ Lui 3 (hi idle) ∷ Addi 3 3 (lo idle) ∷ Csrrw 0 3 0x341
+    ∷ Mret ∷ []
+
+-- ---- what it needs, and its effect
+
+-- the code stands at an offset, and runs masked
+pub record MayBoot (offset : ℕ) (code : List InstrKind) (core : Core) : Type 0 where
+  pub masked : core.mie ≡ false
+  pub enabled : length core.enabled ≡ 32
+  pub levels : length core.levels ≡ 32
+  pub can_run : CanRun offset code core
+
+-- Each task's line has its level, is enabled, and is pending where the task is autostarted. All other lines' bytes, and all
+-- of RAM, stay. The idle loop is next, with interrupts open, at the level that was to be gone back to.
+pub record Booted (tasks : List TaskDecl) (levels : List ℕ) (idle : ℕ) (touched : List ℕ) (start end : State) : Type 0 where
+  pub touches : touched ≡ []
+  pub level : (line : ℕ) → line < length tasks → slice_index end.core.levels line ≡ slice_index levels line
+  pub other_levels : (line : ℕ) → length tasks ≤ line → slice_index end.core.levels line ≡ slice_index start.core.levels line
+  pub enabled : (line : ℕ) → line < length tasks → slice_index end.core.enabled line ≡ 1
+  pub other_enabled : (line : ℕ) → length tasks ≤ line → slice_index end.core.enabled line ≡ slice_index start.core.enabled line
+  pub raised : (line : ℕ) (d : TaskDecl) → line < length tasks → (slice_index_or tasks line d).autostart ≡ true → slice_index end.core.pending line ≡ 1
+  pub unraised : (line : ℕ) (d : TaskDecl) → line < length tasks → (slice_index_or tasks line d).autostart ≡ false → slice_index end.core.pending line ≡ slice_index start.core.pending line
+  pub other_pending : (line : ℕ) → length tasks ≤ line → slice_index end.core.pending line ≡ slice_index start.core.pending line
+  pub lines : (length end.core.pending ≡ 32) × (length end.core.enabled ≡ 32) × (length end.core.levels ≡ 32)
+  pub pc : end.pc ≡ idle
+  pub running : end.core.ilevel ≡ start.core.plevel
+  pub x2 : slice_index end.core.registers 2 ≡ 0x8000_0000 + (idle_context + context_bytes)
+  pub kept : (i : ℕ) → 5 ≤ i → slice_index end.core.registers i ≡ slice_index start.core.registers i
+  pub zero : slice_index end.core.registers 0 ≡ 0
+  pub registers : length end.core.registers ≡ 32
+  pub ram : end.core.ram ≡ start.core.ram
+  pub opened : end.core.mie ≡ true
+  pub previous : end.core.mpie ≡ true
+  pub scratch : end.core.mscratch ≡ start.core.mscratch
+  pub controller : end.core.controller ≡ start.core.controller
+
+-- Code of boot: at most 130 instructions lead to its effect, whatever lines arrive.
+pub record Boots (tasks : List TaskDecl) (levels : List ℕ) (idle : ℕ) (code : List InstrKind) : Type 0 where
+  pub runs : (offset : ℕ) (core : Core) → idle % 4 ≡ 0 → MayBoot offset code core → Masked 130 (at offset core) (WithArrivals (Booted tasks levels idle) (at offset core))

@@ -1,0 +1,21 @@
+-- The vector words.
+use Rattle.std.specs.Prelude.{ℕ, ℤ, ◌+◌, ◌*◌, ◌%◌, ◌≡◌, ◌<◌, ◌≤◌, List, length, slice_index, slice_index_or}
+use Rattle.rv32_instr.specs.declared.InstrKind.{InstrKind}
+use Rattle.rv32_instr.specs.declared.InstrKind.TheVariants.{Jal}
+use Rattle.rv32_instr.specs.Effect.{plus}
+
+-- each handler stands behind the vector words, within reach of a jump, at a multiple of 4
+pub record AreInReach (handlers : List ℕ) : Type 0 where
+  pub long : length handlers ≡ 32
+  pub aligned : (line : ℕ) → line < 32 → slice_index handlers line % 4 ≡ 0
+  pub behind : (line : ℕ) → line < 32 → 0x8000_0480 ≤ slice_index handlers line
+  pub near : (line : ℕ) → line < 32 → slice_index handlers line < 0x8010_0400
+
+-- an instruction at an address jumps to another, and writes no register
+abbrev pub IsJump : ℕ → ℕ → InstrKind → Type 0
+IsJump from target kind = (imm : ℤ) × (kind ≡ Jal 0 imm) × (plus from imm ≡ target)
+
+-- each word, at 0x80000400 + 4 * line, jumps to the line's handler; there are so many
+pub record AreJumps (words : ℕ) (handlers : List ℕ) (code : List InstrKind) : Type 0 where
+  pub many : length code ≡ words
+  pub each : (line : ℕ) (d : InstrKind) → line < words → IsJump (0x8000_0400 + 4 * line) (slice_index handlers line) (slice_index_or code line d)

@@ -1,0 +1,47 @@
+//! The vector words: for each line a jump to its handler.
+ghost use Rattle.std.specs.Prelude.{◌≡◌, ◌<◌, ◌+◌, ◌%◌, ◌^◌, [], IfOk};
+ghost use Rattle.rv32_instr.specs.Range.{InRange};
+ghost use Rattle.vector_gen.specs.Vectors.{AreInReach, AreJumps, IsJump};
+
+use rv32_instr::{Block, Instr, InstrKind};
+use rv32_routine::emit::emit;
+use sloth_base::list::List;
+use sloth_base::memory::NoMemory;
+use sloth_base::numbers::Reg;
+use sloth_region::map::Map;
+use std::alloc::Global;
+
+/// Where the vector words stand.
+const VECTORS: u32 = 0x8000_0400;
+
+/// The 32 vector words.
+pub fn vectors(alloc: Global, map: &Map) -> Result<Block, NoMemory>
+    requires { AreInReach map.now.handlers }
+    ensures at { IfOk result (λ block. block.at ≡ 0x80000400) }
+    ensures marks { IfOk result (λ block. block.marks ≡ []) }
+    ensures effect { IfOk result (λ block. AreJumps 32 map.now.handlers block.code) }
+{
+    let mut code = Vec::new(alloc);
+    for line in 0..32 {
+        let from = VECTORS + 4 * line;
+        emit(&mut code, &[jump(from, map.handlers[line as usize])])?;
+    }
+    Ok(Block {
+        at: VECTORS,
+        code: List::from_vec(code),
+        marks: List::from_vec(Vec::new(alloc)),
+    })
+}
+
+/// The jump from an address to one behind it.
+fn jump(from: u32, target: u32) -> InstrKind
+    requires near { (from < target) × (target < from + 0x100000) }
+    requires aligned { (from % 4 ≡ 0) × (target % 4 ≡ 0) × (from + 0x100000 < 2 ^ 32) }
+    ensures fits { InRange result }
+    ensures jumps { IsJump from target result }
+{
+    InstrKind::Jal {
+        rd: Reg(0),
+        imm: (target - from) as i32,
+    }
+}
