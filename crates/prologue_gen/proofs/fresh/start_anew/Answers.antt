@@ -1,0 +1,17 @@
+use Rattle.std.proofs.Common.{◌≡◌, List, [], ◌∷◌, ◌++◌, ap, ◌∙◌, append_assoc}
+use Rattle.rv32_instr.specs.declared.InstrKind.{InstrKind}
+use Rattle.rv32_instr.specs.declared.InstrKind.TheVariants.{Mret}
+use Rattle.rv32_routine.specs.Pieces.{clears, clears_words}
+use Rattle.prologue_gen.specs.Pieces.{begins}
+use Rattle.prologue_gen.proofs.fresh.start_anew.Goals as goal
+
+four : (all old a b d e : List InstrKind) → all ≡ (((old ++ a) ++ b) ++ d) ++ e → all ≡ old ++ (a ++ (b ++ (d ++ e)))
+four all old a b d e h = h ∙ append_assoc ((old ++ a) ++ b) d e ∙ append_assoc (old ++ a) b (d ++ e) ∙ append_assoc old a (b ++ (d ++ e))
+
+pub returns : goal.returns
+returns c =
+    four c.emit.new.code.items c.args.code.now.items (begins c.args.frame c.args.first) (clears_words c.args.words 0 2) (clears 25 5) (Mret ∷ [])
+    (c.in_ok-emit.ensures
+    ∙ ap (λ (x : List InstrKind). x ++ Mret ∷ []) (c.in_ok-clear.ensures
+    ∙ ap (λ (x : List InstrKind). x ++ clears 25 5) (c.in_ok-clear_words.ensures
+    ∙ ap (λ (x : List InstrKind). x ++ clears_words c.args.words 0 2) c.in_ok-begin.ensures)))

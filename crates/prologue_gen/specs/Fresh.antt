@@ -1,0 +1,69 @@
+-- The prologue of a task that starts anew: what was preempted is saved in a context, and the task begins.
+use Rattle.std.specs.Prelude.{ℕ, ℤ, ◌+◌, ◌*◌, ◌%◌, ◌≡◌, ◌<◌, ◌≤◌, ◌⊎◌, false, true, List, [], ◌∷◌, length, replicate, slice_index}
+use Rattle.sloth_base.specs.Machine.{Core, State}
+use Rattle.sloth_region.specs.Layout.{cur, active, below_word, idle_context, context_bytes}
+use Rattle.rv32_instr.specs.declared.InstrKind.{InstrKind}
+use Rattle.rv32_instr.specs.declared.InstrKind.TheVariants.{Jal}
+use Rattle.rv32_instr.specs.Ram.{word_at, with_word, with_words}
+use Rattle.rv32_instr.specs.Effect.{plus}
+use Rattle.rv32_routine.specs.Masked.{Masked, WithArrivals}
+use Rattle.rv32_routine.specs.Place.{at, InPlace}
+use Rattle.rv32_routine.specs.Pieces.{registers_from}
+use Rattle.rv32_routine.specs.Kernel.{CanRun}
+
+-- the offset of a line's vector word
+abbrev pub vector : ℕ → ℕ
+vector line = 0x400 + 4 * line
+
+-- bytes apart from those of code of so many instructions at an offset
+abbrev pub IsApartFrom : ℕ → ℕ → ℕ → ℕ → Type 0
+IsApartFrom offset instructions place bytes = (place + bytes ≤ offset) ⊎ (offset + 4 * instructions ≤ place)
+
+-- The state in which the line has just been taken. The vector word jumps to the code; the context of what was preempted is
+-- to stand at `place`, directly below x2, and the task's first frame at `frame`, of so many words.
+pub record MayEnter (offset task place frame words : ℕ) (code : List InstrKind) (core : Core) : Type 0 where
+  pub can_run : CanRun offset code core
+  pub masked : core.mie ≡ false
+  pub previous : core.mpie ≡ true
+  pub jump : ℤ
+  pub vector_word : InPlace core.ram (vector task) (Jal 0 jump ∷ [])
+  pub to_code : plus (0x8000_0000 + vector task) jump ≡ 0x8000_0000 + offset
+  pub x2 : slice_index core.registers 2 ≡ 0x8000_0000 + (place + context_bytes)
+  pub aligned : place % 4 ≡ 0
+  pub behind : idle_context ≤ place
+  pub inside : place + context_bytes ≤ 0x20_0000
+  pub apart : IsApartFrom offset (length code) place context_bytes
+  pub frame_aligned : frame % 4 ≡ 0
+  pub frame_inside : frame + 4 * words ≤ 0x20_0000
+  pub frame_apart : IsApartFrom offset (length code) frame (4 * words)
+
+-- what the context of the preempted task or of the idle loop says
+abbrev pub with_context : Core → ℕ → List ℕ
+with_context core place =
+    with_words (with_words core.ram (place + 4 * 5) (registers_from 27 5 core.registers)) place
+    (core.mepc ∷ core.plevel ∷ word_at core.ram cur ∷ word_at core.ram below_word ∷ [])
+
+-- The task runs at its level, Active, with x5 to x29 and the words of its frame zero, at its first item.
+pub record Entered (task level first place frame words : ℕ) (touched : List ℕ) (start end : State) : Type 0 where
+  pub touches : touched ≡ []
+  pub ram :
+      end.core.ram
+      ≡ with_words (with_word (with_word (with_word (with_context start.core place) below_word (0x8000_0000 + place)) cur (task + 1)) (active task) 1) frame (replicate words 0)
+  pub pc : end.pc ≡ first
+  pub running : end.core.ilevel ≡ level
+  pub x2 : slice_index end.core.registers 2 ≡ 0x8000_0000 + frame
+  pub zeros : (i : ℕ) → 5 ≤ i → i < 30 → slice_index end.core.registers i ≡ 0
+  pub kept : (i : ℕ) → 30 ≤ i → slice_index end.core.registers i ≡ slice_index start.core.registers i
+  pub zero : slice_index end.core.registers 0 ≡ 0
+  pub registers : length end.core.registers ≡ 32
+  pub opened : end.core.mie ≡ true
+  pub previous : end.core.mpie ≡ true
+  pub pending : end.core.pending ≡ start.core.pending
+  pub enabled : end.core.enabled ≡ start.core.enabled
+  pub levels : end.core.levels ≡ start.core.levels
+  pub scratch : end.core.mscratch ≡ start.core.mscratch
+  pub controller : end.core.controller ≡ start.core.controller
+
+-- Code of a prologue: with the jump of the vector word, at most 75 + words instructions lead to its effect, whatever lines arrive.
+pub record Enters (task level first frame words : ℕ) (code : List InstrKind) : Type 0 where
+  pub runs : (offset place : ℕ) (core : Core) → first % 4 ≡ 0 → MayEnter offset task place frame words code core → Masked (75 + words) (at (vector task) core) (WithArrivals (Entered task level first place frame words) (at (vector task) core))

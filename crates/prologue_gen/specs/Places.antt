@@ -1,0 +1,49 @@
+-- What a prologue needs of the configuration, the task code and the map.
+use Rattle.std.specs.Prelude.{ℕ, ◌+◌, ◌-◌, ◌*◌, ◌≡◌, ◌<◌, ◌≤◌, false, if◌then◌else◌, Some, List, length, slice_index, slice_index_or}
+use Rattle.std.specs.List.{slice_get}
+use Rattle.sloth_base.specs.declared.app.App.{App}
+use Rattle.sloth_base.specs.declared.app.Func.{Func}
+use Rattle.sloth_base.specs.declared.config.Config.{Config}
+use Rattle.sloth_base.specs.declared.config.TaskDecl.{TaskDecl}
+use Rattle.sloth_base.specs.declared.places.Levels.{Levels}
+use Rattle.sloth_base.specs.declared.places.Places.{Places}
+use Rattle.sloth_region.specs.declared.extent.Extent.{Extent}
+use Rattle.sloth_region.specs.declared.map.Map.{Map}
+use Rattle.rv32_instr.specs.declared.InstrKind.{InstrKind}
+use Rattle.prologue_gen.specs.Fresh.{Enters}
+
+-- the function at this place is the task's body
+abbrev pub IsBody : List Func → ℕ → ℕ → Type 0
+IsBody funcs task body = (body < length funcs) × ((d : Func) → (slice_index_or funcs body d).task ≡ Some task)
+
+-- the task has no events, so it never waits
+abbrev pub IsBasic : List TaskDecl → ℕ → Type 0
+IsBasic tasks task = (d : TaskDecl) → (slice_index_or tasks task d).extended ≡ false
+
+-- the level at which a task starts to run: one that is not preempted starts at the highest
+abbrev pub start_level : TaskDecl → ℕ → Levels → ℕ
+start_level decl task levels = if decl.non then levels.top else slice_index levels.task task
+
+-- the address of a function's first item
+abbrev pub first_item : Places → ℕ → ℕ
+first_item places body = slice_index places.items (slice_index places.first body)
+
+-- the offset of the frame of so many words at the end of a stack
+abbrev pub frame_at : Extent → ℕ → ℕ
+frame_at stack words = stack.base + stack.len - 4 * words - 0x8000_0000
+
+-- a stack lies in RAM, and has room for a context
+abbrev pub IsStack : Extent → Type 0
+IsStack stack = (0x8000_0000 ≤ stack.base) × (stack.base + stack.len ≤ 0x8020_0000) × (128 ≤ stack.len)
+
+-- The code enters the task: it begins at the first item of its body, with its frame at the end of its stack, at its level.
+pub record EntersTask (task : ℕ) (config : Config) (app : App) (levels : Levels) (map : Map) (code : List InstrKind) : Type 0 where
+  pub decl : TaskDecl
+  pub is_decl : slice_get config.tasks task ≡ Some decl
+  pub body : ℕ
+  pub func : Func
+  pub is_func : slice_get app.funcs body ≡ Some func
+  pub is_body : func.task ≡ Some task
+  pub stack : Extent
+  pub is_stack : slice_get map.stacks task ≡ Some stack
+  pub enters : Enters task (start_level decl task levels) (first_item map.places body) (frame_at stack func.frame_words) func.frame_words code

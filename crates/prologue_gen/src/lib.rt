@@ -1,0 +1,8 @@
+//! The prologues: the code that runs where a task's interrupt line is taken.
+#![tactic(auto)]
+
+mod body;
+mod fresh;
+mod prologue_block;
+
+pub use prologue_block::prologue;

@@ -1,0 +1,89 @@
+//! The block of a prologue.
+ghost use Rattle.std.specs.Prelude.{◌≡◌, ◌+◌, ◌-◌, ◌*◌, ◌<◌, ◌≤◌, ℕ, [], All, IfOk, slice_index, length};
+ghost use Rattle.prologue_gen.specs.Fresh.{Enters};
+ghost use Rattle.prologue_gen.specs.Places.{IsBody, IsBasic, IsStack, EntersTask, frame_at};
+
+use crate::body::body_of;
+use crate::fresh::{mark_active, save_context, start_anew};
+use rv32_instr::{Block, Instr};
+use sloth_base::app::App;
+use sloth_base::config::Config;
+use sloth_base::list::List;
+use sloth_base::memory::NoMemory;
+use sloth_base::numbers::TaskId;
+use sloth_base::places::Levels;
+use sloth_region::extent::Extent;
+use sloth_region::map::Map;
+use std::alloc::{AllocError, Global};
+
+/// The prologue of a basic task, at its address in the map.
+pub fn prologue(
+    alloc: Global,
+    task: TaskId,
+    config: &Config,
+    app: &App,
+    levels: &Levels,
+    map: &Map,
+) -> Result<Block, NoMemory>
+    requires exists { (task < length config.now.tasks) × (length config.now.tasks ≤ 30) }
+    requires basic { IsBasic config.now.tasks task }
+    requires levels { (levels.now.top < 32) × ((t : ℕ) → slice_index levels.now.task t < 32) }
+    requires body { (body : ℕ) × IsBody app.now.funcs task body }
+    requires frames { All (λ func. func.frame_words ≤ 32) app.now.funcs }
+    requires stacks { (length map.now.stacks ≡ length config.now.tasks) × All IsStack map.now.stacks }
+    requires items { (length app.now.funcs ≤ length map.now.places.first) × All (λ i. i < length map.now.places.items) map.now.places.first }
+    ensures at { IfOk result (λ block. block.at ≡ slice_index map.now.handlers task) }
+    ensures marks { IfOk result (λ block. block.marks ≡ []) }
+    ensures effect { IfOk result (λ block. EntersTask task config.now app.now levels.now map.now block.code) }
+{
+    let body = body_of(app.funcs.items(), task);
+    let words = app.funcs.items()[body].frame_words;
+    let stack = map.stacks.items()[task.0 as usize];
+    let first = map.places.items.items()[map.places.first.items()[body] as usize];
+    let level = if config.tasks.items()[task.0 as usize].non {
+        levels.top
+    } else {
+        levels.task[task.0 as usize]
+    };
+    let code = code(
+        alloc,
+        task.0,
+        level,
+        frame_address(stack, words),
+        words,
+        first,
+    )?;
+    Ok(Block {
+        at: map.handlers[task.0 as usize],
+        code: List::from_vec(code),
+        marks: List::from_vec(Vec::new(alloc)),
+    })
+}
+
+/// The address of a frame of so many words at the end of a stack.
+fn frame_address(stack: Extent, words: u32) -> u32
+    requires { IsStack stack × (words ≤ 32) }
+    ensures { result ≡ 0x80000000 + frame_at stack words }
+{
+    stack.base + stack.len - 4 * words
+}
+
+/// The code of a prologue.
+fn code(
+    alloc: Global,
+    task: u32,
+    level: u8,
+    frame: u32,
+    words: u32,
+    first: u32,
+) -> Result<Vec<Instr>, AllocError>
+    requires small { (task < 30) × (level < 32) × (words ≤ 32) }
+    requires in_ram { 0x80000000 ≤ frame }
+    ensures { IfOk result (λ code. Enters task level first (frame - 0x80000000) words code.items) }
+{
+    let mut code = Vec::new(alloc);
+    save_context(&mut code)?;
+    mark_active(&mut code, task, level)?;
+    start_anew(&mut code, frame, words, first)?;
+    Ok(code)
+}
