@@ -1,6 +1,6 @@
 -- What holds of each object of a tree without a fault.
-use Rattle.std.proofs.Common.{◌≡◌, ◌∙◌, ◌⊎◌, inl, inr, ⊎_elim, ℕ, ◌<◌, ◌≤◌, ◌+◌, Bool, true, false, List, [], ◌∷◌, ◌++◌, length, take, get_or, suc, zero, refl, ap, sym, subst, append_assoc, append-nil, add-one, arith}
-use Rattle.std.specs.Prelude.{◌&&◌, ◌==◌, ◌||◌, not, codes, count_by, map, filter}
+use Rattle.std.proofs.Common.{◌≡◌, ◌∙◌, inl, inr, ⊎_elim, ℕ, ◌<◌, ◌≤◌, ◌+◌, Bool, true, false, List, [], ◌∷◌, ◌++◌, length, take, get_or, suc, zero, refl, ap, sym, subst, append_assoc, append-nil, add-one, arith}
+use Rattle.std.specs.Prelude.{◌&&◌, ◌==◌, ◌||◌, not, codes, count_by, filter}
 use Rattle.std.proofs.lemmas.List.Sums.{count_by_more_yes, count_by_more_no, length-filter}
 use Rattle.std.proofs.lemmas.List.{length-map}
 use Rattle.std.proofs.lemmas.Bool.{eqb-false, cases_lt}

@@ -1,6 +1,6 @@
 -- The configuration that a tree means, where it has no fault. Tasks, resources and events have the numbers of their objects, each kind in
 -- the order of the text.
-use Rattle.std.specs.Prelude.{◌≡◌, ℕ, Bool, if◌then◌else◌, not, ◌==◌, bit_or, List, [], ◌∷◌, ◌++◌, map, filter, fold, position, codes, Option, Some, None, unwrap_or}
+use Rattle.std.specs.Prelude.{◌≡◌, ℕ, if◌then◌else◌, ◌==◌, bit_or, List, [], ◌∷◌, ◌++◌, map, filter, fold, position, codes, Option, Some, None, unwrap_or}
 use Rattle.std.specs.List.{list_any}
 use Rattle.std.specs.Str.{bytes_eq}
 use Rattle.sloth_base.specs.declared.config.TaskDecl.{TaskDecl}
@@ -58,7 +58,7 @@ task_of names events object = record {
   non = first_is object.attrs (codes "SCHEDULE") (codes "NON");
   autostart = first_is object.attrs (codes "AUTOSTART") (codes "TRUE");
   resources = resources_of names object.attrs;
-  events = event_mask events object.attrs
+  events = event_mask events object.attrs;
 }
 
 abbrev pub tasks_of : List (List ℕ) → List EventDecl → List OilObject → List TaskDecl
@@ -70,7 +70,7 @@ config_of objects = record {
   tasks = tasks_of (resource_names objects) (events_of objects) objects;
   resources = resource_names objects;
   events = events_of objects;
-  res_scheduler = has_scheduler objects
+  res_scheduler = has_scheduler objects;
 }
 
 abbrev pub IsConfig : OilTree → Config → Type 0

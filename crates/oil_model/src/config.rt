@@ -133,7 +133,12 @@ fn event_mask(events: &[EventDecl], attrs: &[OilAttr]) -> u32
     mask
 }
 
-fn task_of(alloc: Global, names: &[Name], events: &[EventDecl], object: &OilObject) -> Result<TaskDecl, NoMemory>
+fn task_of(
+    alloc: Global,
+    names: &[Name],
+    events: &[EventDecl],
+    object: &OilObject,
+) -> Result<TaskDecl, NoMemory>
     requires { length names.now ≤ 32 }
     ensures { IfOk result (λ task. task ≡ task_of names.now events.now object.now) }
 {
@@ -150,7 +155,12 @@ fn task_of(alloc: Global, names: &[Name], events: &[EventDecl], object: &OilObje
 }
 
 /// The tasks, in the order of their numbers.
-pub fn tasks_of(alloc: Global, names: &[Name], events: &[EventDecl], objects: &[OilObject]) -> Result<Vec<TaskDecl>, NoMemory>
+pub fn tasks_of(
+    alloc: Global,
+    names: &[Name],
+    events: &[EventDecl],
+    objects: &[OilObject],
+) -> Result<Vec<TaskDecl>, NoMemory>
     requires { length names.now ≤ 32 }
     ensures { IfOk result (λ tasks. tasks.items ≡ tasks_of names.now events.now objects.now) }
 {
