@@ -1,3 +1,13 @@
 pub mod Drops
 pub mod Found
 pub mod NoFaults
+pub mod Lists
+pub mod Attributes
+pub mod RangeNames
+pub mod RangeEvents
+pub mod Unions
+pub mod RangeUnions
+pub mod RangeTasks
+pub mod RangeExtended
+pub mod Range
+pub mod RangeWords

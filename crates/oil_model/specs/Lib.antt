@@ -7,3 +7,4 @@ pub mod AttributeFaults
 pub mod TaskFaults
 pub mod ModelFaults
 pub mod Configs
+pub mod Trees

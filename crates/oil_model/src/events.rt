@@ -1,6 +1,6 @@
 //! Events and their masks. AUTO events, in the order of their objects, take the lowest bit that is in no number mask and was given
 //! to no earlier AUTO event (OIL 2.5, section 3.2.6).
-ghost use Rattle.std.specs.Prelude.{◌≡◌, IfOk, find, option_copied, bytes_eq};
+ghost use Rattle.std.specs.Prelude.{◌≡◌, ◌<◌, All, IfOk, find, option_copied, bytes_eq};
 ghost use Rattle.sloth_refusal.specs.Search.{Finds, Somewhere};
 ghost use Rattle.oil_model.specs.Events.{is_event, number_bits, number_masks, free_bit, is_auto, mask_by, taken_more, number_mask, lacks_bit, BitFault, events_of, mask_named};
 
@@ -144,7 +144,8 @@ pub fn events_without_bit(objects: &[OilObject]) -> Option<Refusal>
 
 /// The events of the configuration.
 pub fn events_of(alloc: Global, objects: &[OilObject]) -> Result<Vec<EventDecl>, NoMemory>
-    ensures { IfOk result (λ events. events.items ≡ events_of objects.now) }
+    ensures events { IfOk result (λ events. events.items ≡ events_of objects.now) }
+    ensures fit { IfOk result (λ events. All (λ event. event.mask < 4294967296) events.items) }
 {
     let mut taken = number_masks(objects);
     let mut events = Vec::new(alloc);

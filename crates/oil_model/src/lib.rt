@@ -12,4 +12,4 @@ mod resolving;
 mod table;
 mod task_faults;
 
-pub use resolving::resolve;
+pub use resolving::{one_config, resolve};

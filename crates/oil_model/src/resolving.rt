@@ -1,7 +1,11 @@
 //! The configuration of a tree, or its least fault.
 ghost use Rattle.std.specs.Prelude.{◌≡◌, ◌≤◌, IfOk, OnOk, IfErr, length};
 ghost use Rattle.sloth_refusal.specs.Order.{NoFault, ErrorIs};
+ghost use Rattle.sloth_base.specs.ConfigRange.{InRange};
+ghost use Rattle.sloth_base.specs.declared.config.Config.{Config};
+ghost use Rattle.oil_parse.specs.declared.tree.OilTree.{OilTree};
 ghost use Rattle.oil_model.specs.Objects.{has_scheduler};
+ghost use Rattle.oil_model.specs.Trees.{IsTree};
 ghost use Rattle.oil_model.specs.Events.{events_of};
 ghost use Rattle.oil_model.specs.ModelFaults.{ModelFault};
 ghost use Rattle.oil_model.specs.Configs.{resource_names, config_of, IsConfig};
@@ -40,8 +44,10 @@ fn config_of(
 
 /// The configuration of a tree (OIL 2.5), or the least of its faults O7 to O15.
 pub fn resolve(alloc: Global, tree: &OilTree) -> Result<Config, BuildError>
+    requires { IsTree tree.now }
     ensures config { IfOk result (IsConfig tree.now) }
     ensures none { OnOk result (NoFault (ModelFault tree.now)) }
+    ensures in_range { IfOk result InRange }
     ensures refused { IfErr result (λ error. ErrorIs (ModelFault tree.now) error) }
 {
     let objects = tree.objects.items();
@@ -58,3 +64,8 @@ pub fn resolve(alloc: Global, tree: &OilTree) -> Result<Config, BuildError>
         Err(NoMemory) => Err(BuildError::Memory),
     }
 }
+
+/// A tree has one configuration.
+pub fn one_config()
+    ensures { (tree : OilTree) (one other : Config) → IsConfig tree one → IsConfig tree other → one ≡ other }
+{}
