@@ -1,13 +1,41 @@
-//! Arrivals of interrupt lines.
-ghost use Rattle.std.specs.Prelude.{◌≡◌, ◌<◌, [], ◌∷◌};
+//! The machine with an interrupt controller: its start, and arrivals.
+ghost use Rattle.std.specs.Prelude.{◌≡◌, ◌<◌, [], ◌∷◌, IfOk};
 ghost use Rattle.sloth_base.specs.Arrive.{state_arrive};
+ghost use Rattle.sloth_base.specs.ImageRange.{InFormat};
 
-use crate::machine::Machine;
+use crate::machine::{Hart, Machine};
 use crate::sloth::SlothBus;
+use sloth_base::image::Image;
+use sloth_base::memory::NoMemory;
 use sloth_base::numbers::Line;
+use std::alloc::Global;
 
 impl Machine<SlothBus> {
     ghost use Rattle.rv32_machine.specs.State.{state};
+    ghost use Rattle.rv32_machine.specs.Start.{start};
+
+    /// The machine that starts on this image.
+    pub fn starting(alloc: Global, image: &Image) -> Result<Machine<SlothBus>, NoMemory>
+        requires { InFormat image.now }
+        ensures state { IfOk result (λ machine. state (λ bus. bus) machine ≡ start image.now) }
+        ensures count { IfOk result (λ machine. machine.count ≡ 0) }
+    {
+        let bus = SlothBus::new(alloc, image)?;
+        Ok(Machine {
+            hart: Hart {
+                pc: 0x8000_0480,
+                registers: [0; 32],
+                mie: false,
+                mpie: false,
+                mscratch: 0,
+                mepc: 0,
+                ilevel: 0,
+                plevel: 0,
+            },
+            count: 0,
+            bus,
+        })
+    }
 
     /// The line's pending byte becomes 1.
     pub fn arrive(&mut self, line: Line)

@@ -1,0 +1,51 @@
+//! The program: its words go to the top call, and its status is how it ends.
+#![tactic(auto)]
+
+use sloth_cli::{Status, sloth_top};
+use sloth_io::file_store::FileStore;
+use sloth_io::out_sink::OutSink;
+use std::env;
+use std::env::Env;
+use std::io::ErrorKind;
+use std::process::ExitCode;
+
+fn code(status: Status) -> u8 {
+    match status {
+        Status::Done => 0,
+        Status::Usage => 1,
+        Status::Refused => 2,
+        Status::ReadFault => 3,
+        Status::WriteFault => 4,
+        Status::NoMemory => 5,
+        Status::TooLong => 6,
+        Status::Stopped => 7,
+        Status::NotAnImage => 8,
+    }
+}
+
+// The words without the program's own name, or the status to end with: 5 for want of memory, and 1 where a word is not UTF-8.
+fn words(rt: &(impl Env + AllocGlobal)) -> Result<Vec<String>, u8> {
+    let mut words = Vec::new(rt.alloc());
+    let args = match env::args(rt) {
+        Ok(args) => args,
+        Err(fault) if fault.kind() == ErrorKind::OutOfMemory => return Err(5),
+        Err(_) => return Err(1),
+    };
+    for word in args.skip(1) {
+        if words.push(word).is_err() {
+            return Err(5);
+        }
+    }
+    Ok(words)
+}
+
+fn main(rt: HostRuntime) -> ExitCode {
+    let words = match words(&rt) {
+        Ok(words) => words,
+        Err(status) => return ExitCode::from(status),
+    };
+    let mut files = FileStore::new(&rt);
+    let mut out = OutSink::new(&rt);
+    let status = sloth_top(rt.alloc(), words.as_slice(), &mut files, &mut out);
+    ExitCode::from(code(status))
+}

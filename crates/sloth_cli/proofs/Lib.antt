@@ -1,0 +1,4 @@
+mod Draining
+mod Turning
+mod Running
+mod Causes

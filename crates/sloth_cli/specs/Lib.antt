@@ -1,0 +1,4 @@
+pub mod Runner
+pub mod Command
+pub mod LastLine
+pub mod Top

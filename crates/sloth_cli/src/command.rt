@@ -1,0 +1,63 @@
+//! The words of a command.
+ghost use Rattle.std.specs.Prelude.{◌≡◌, ◌≤◌, ◌↔◌, ℕ, IsTrue, IfSome, IfNone, codes, decimal};
+ghost use Rattle.sloth_cli.specs.Command.{IsCommand, NoCommand, words_of};
+
+use itoa::Buffer;
+
+/// The words `run OIL SRC ARR IMG N`.
+#[derive(Clone, Copy)]
+pub struct Run<'a> {
+    pub oil: &'a str,
+    pub src: &'a str,
+    pub arr: &'a str,
+    pub img: &'a str,
+    /// The number of instructions, 0 to 1,000,000.
+    pub n: u32,
+}
+
+// A number of instructions, without sign and without a leading zero.
+fn instructions(word: &str) -> Option<u32>
+    ensures some { IfSome result (λ n. (word.now ≡ decimal n) × (n ≤ 1000000)) }
+    ensures none { IfNone result ((n : ℕ) → n ≤ 1000000 → word.now ≡ decimal n → ⊥) }
+{
+    let Ok(n) = word.parse::<u32>() else {
+        return None;
+    };
+    if n > 1_000_000 {
+        return None;
+    }
+    let mut buffer = Buffer::new();
+    if buffer.format(n) == word {
+        return Some(n);
+    }
+    None
+}
+
+fn is_run(word: &str) -> bool
+    ensures { IsTrue result ↔ (word.now ≡ codes "run") }
+{
+    word == "run"
+}
+
+/// The command of these words, if they are one's.
+pub fn command(words: &[String]) -> Option<Run<'_>>
+    ensures some { IfSome result (λ c. IsCommand (words_of words.now) (record { oil = c.oil.now; src = c.src.now; arr = c.arr.now; img = c.img.now; n = c.n })) }
+    ensures none { IfNone result (NoCommand (words_of words.now)) }
+{
+    if words.len() != 6 {
+        return None;
+    }
+    if !is_run(words[0].as_str()) {
+        return None;
+    }
+    match instructions(words[5].as_str()) {
+        None => None,
+        Some(n) => Some(Run {
+            oil: words[1].as_str(),
+            src: words[2].as_str(),
+            arr: words[3].as_str(),
+            img: words[4].as_str(),
+            n,
+        }),
+    }
+}
