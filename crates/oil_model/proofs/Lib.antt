@@ -10,4 +10,3 @@ pub mod RangeUnions
 pub mod RangeTasks
 pub mod RangeExtended
 pub mod Range
-pub mod RangeWords
