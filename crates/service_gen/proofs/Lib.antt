@@ -1,1 +1,5 @@
 pub mod TerminateTask
+pub mod Activating
+pub mod Others
+pub mod Telling
+pub mod Releasing

@@ -1,3 +1,7 @@
-pub mod Marks
+pub mod Block
 pub mod TerminateTask
 pub mod Pieces
+pub mod ActivateTask
+pub mod Back
+pub mod GetTaskID
+pub mod ReleaseResource

@@ -1,11 +1,13 @@
 //! The code of the operating system services (OSEK OS 2.2.3, section 13) that need no events.
 #![tactic(auto)]
 
-ghost use Rattle.std.specs.Prelude.{◌≡◌, [], ◌∷◌, IfOk, slice_index};
-ghost use Rattle.service_gen.specs.TerminateTask.{Terminates};
-ghost use Rattle.service_gen.specs.Marks.{opening, HasBlock};
+ghost use Rattle.std.specs.Prelude.{◌≡◌, ◌+◌, ◌*◌, ◌<◌, [], ◌∷◌, IfOk, slice_index};
+ghost use Rattle.service_gen.specs.Block.{opening, code_of, HasBlock, Serves};
 
+mod activate_task;
+mod get_task_id;
 mod pieces;
+mod release_resource;
 mod terminate_task;
 
 use rv32_instr::{Block, Instr};
@@ -16,10 +18,10 @@ use sloth_base::memory::NoMemory;
 use sloth_base::places::Levels;
 use sloth_base::service::Service;
 use sloth_region::map::Map;
-use std::alloc::Global;
+use std::alloc::{AllocError, Global};
 
-/// The block of TerminateTask, at its address in the map. Its first instruction, under an opening mark, masks
-/// interrupts.
+/// The block of a service with its object, at its address in the map. Its first instruction, under an opening mark,
+/// masks interrupts.
 pub fn block(
     alloc: Global,
     service: Service,
@@ -29,16 +31,17 @@ pub fn block(
     map: &Map,
 ) -> Result<Block, NoMemory>
     requires { HasBlock service object }
-    ensures at { IfOk result (λ block. block.at ≡ slice_index map.now.places.blocks 40) }
-    ensures marks { IfOk result (λ block. block.marks ≡ opening (slice_index map.now.places.blocks 40) 1 ∷ []) }
-    ensures effect { IfOk result (λ block. Terminates block.code) }
+    ensures at { IfOk result (λ block. block.at ≡ slice_index map.now.places.blocks (code_of service * 40 + object)) }
+    ensures marks { IfOk result (λ block. block.marks ≡ opening block.at (code_of service) ∷ []) }
+    ensures effect { IfOk result (λ block. Serves service object block.code) }
 {
-    let at = map.places.blocks[40];
-    let code = terminate_task::code(alloc)?;
+    let number = number_of(service);
+    let at = map.places.blocks[number as usize * 40 + small(service, object) as usize];
+    let code = code(alloc, service, small(service, object))?;
     let mark = Mark {
         address: at,
         kind: MarkKind::Opening,
-        a: 1,
+        a: number,
         b: 0,
         c: 0,
     };
@@ -48,4 +51,54 @@ pub fn block(
         code: List::from_vec(code),
         marks: List::from_vec(marks),
     })
+}
+
+/// The code of a service.
+fn number_of(service: Service) -> u8
+    ensures is { result ≡ code_of service }
+    ensures below { result < 12 }
+{
+    match service {
+        Service::ActivateTask => 0,
+        Service::TerminateTask => 1,
+        Service::ChainTask => 2,
+        Service::Schedule => 3,
+        Service::GetTaskID => 4,
+        Service::GetTaskState => 5,
+        Service::GetResource => 6,
+        Service::ReleaseResource => 7,
+        Service::SetEvent => 8,
+        Service::ClearEvent => 9,
+        Service::GetEvent => 10,
+        Service::WaitEvent => 11,
+    }
+}
+
+/// The object's number, which is below 40.
+fn small(service: Service, object: u32) -> u8
+    requires { HasBlock service object }
+    ensures is { result ≡ object }
+    ensures below { result < 40 }
+{
+    match service {
+        Service::ActivateTask => object as u8,
+        Service::TerminateTask => object as u8,
+        Service::GetTaskID => object as u8,
+        Service::ReleaseResource => object as u8,
+        _ => unreachable!(),
+    }
+}
+
+/// The instructions.
+fn code(alloc: Global, service: Service, object: u8) -> Result<Vec<Instr>, AllocError>
+    requires { HasBlock service object }
+    ensures { IfOk result (λ code. Serves service object code.items) }
+{
+    match service {
+        Service::ActivateTask => activate_task::code(alloc, object),
+        Service::TerminateTask => terminate_task::code(alloc),
+        Service::GetTaskID => get_task_id::code(alloc),
+        Service::ReleaseResource => release_resource::code(alloc, object),
+        _ => unreachable!(),
+    }
 }

@@ -1,7 +1,7 @@
 //! Pieces of code that several services have.
-ghost use Rattle.std.specs.Prelude.{◌≡◌, ◌++◌, ◌∷◌, [], OnOk};
+ghost use Rattle.std.specs.Prelude.{◌≡◌, ◌<◌, ◌++◌, ◌∷◌, [], OnOk};
 ghost use Rattle.rv32_instr.specs.declared.InstrKind.TheVariants.{Csrrci, Lui};
-ghost use Rattle.service_gen.specs.Pieces.{ends};
+ghost use Rattle.service_gen.specs.Pieces.{ends, busy, raises, back};
 
 use rv32_instr::{Instr, InstrKind};
 use rv32_routine::emit::emit;
@@ -82,4 +82,97 @@ pub fn end(code: &mut Vec<Instr>) -> Result<(), AllocError>
         },
     ];
     emit(code, &ended)
+}
+
+/// `rd` := 1 where the task isn't Suspended, else 0, by another register. x4 holds 0x80000000.
+pub fn look_at(code: &mut Vec<Instr>, task: u8, rd: Reg, other: Reg) -> Result<(), AllocError>
+    requires { (task < 30) × (rd < 32) × (other < 32) }
+    ensures { OnOk result (code.new.items ≡ code.old.items ++ busy task rd other) }
+{
+    let looked_at = [
+        InstrKind::Lui {
+            rd: other,
+            imm: 0x1_0000,
+        },
+        InstrKind::Lbu {
+            rd,
+            rs1: other,
+            imm: 32 + task as i32,
+        },
+        InstrKind::Xori {
+            rd,
+            rs1: rd,
+            imm: 1,
+        },
+        InstrKind::Lbu {
+            rd: other,
+            rs1: other,
+            imm: task as i32,
+        },
+        InstrKind::Or {
+            rd,
+            rs1: rd,
+            rs2: other,
+        },
+        InstrKind::Lw {
+            rd: other,
+            rs1: Reg(4),
+            imm: 4 + 12 * task as i32,
+        },
+        InstrKind::Or {
+            rd,
+            rs1: rd,
+            rs2: other,
+        },
+    ];
+    emit(code, &looked_at)
+}
+
+/// The task's pending byte becomes 1.
+pub fn raise(code: &mut Vec<Instr>, task: u8) -> Result<(), AllocError>
+    requires { task < 30 }
+    ensures { OnOk result (code.new.items ≡ code.old.items ++ raises task) }
+{
+    let raised = [
+        InstrKind::Lui {
+            rd: Reg(1),
+            imm: 0x1_0000,
+        },
+        InstrKind::Addi {
+            rd: Reg(3),
+            rs1: Reg(0),
+            imm: 1,
+        },
+        InstrKind::Sb {
+            rs1: Reg(1),
+            rs2: Reg(3),
+            imm: task as i32,
+        },
+    ];
+    emit(code, &raised)
+}
+
+/// Back to the caller, whose address is in x31, at the level that runs.
+pub fn go_back(code: &mut Vec<Instr>) -> Result<(), AllocError>
+    ensures { OnOk result (code.new.items ≡ code.old.items ++ back) }
+{
+    let gone_back = [
+        InstrKind::Csrrs {
+            rd: Reg(3),
+            rs1: Reg(0),
+            csr: 0x7C0,
+        },
+        InstrKind::Csrrw {
+            rd: Reg(0),
+            rs1: Reg(3),
+            csr: 0x7C1,
+        },
+        InstrKind::Csrrw {
+            rd: Reg(0),
+            rs1: Reg(31),
+            csr: 0x341,
+        },
+        InstrKind::Mret,
+    ];
+    emit(code, &gone_back)
 }
