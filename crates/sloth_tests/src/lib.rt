@@ -15,6 +15,8 @@ mod oil_parse_tests;
 #[cfg(test)]
 mod rv32_instr_tests;
 #[cfg(test)]
+mod rv32_machine_tests;
+#[cfg(test)]
 mod sloth_io_tests;
 #[cfg(test)]
 mod sloth_refusal_tests;
