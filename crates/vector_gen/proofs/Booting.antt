@@ -262,4 +262,7 @@ module _ (tasks : List TaskDecl) (levels : List ℕ) (idle : ℕ) (few : length 
       (subst (λ x. Owes offset to offset (boot_code tasks levels idle) 0 (Booted tasks levels idle) (at offset x) x) (spread_is c can.registers can.zero) (owes offset to))
 
 pub boots : (tasks : List TaskDecl) (levels : List ℕ) (idle : ℕ) → length tasks ≤ 30 → ((k : ℕ) → get_or levels k 0 < 256) → idle < 2 ^ 32 → Boots tasks levels idle (boot_code tasks levels idle)
-boots tasks levels idle few small fits = record { runs = λ offset c aligned h. runs_it tasks levels idle few small fits aligned offset c h }
+boots tasks levels idle few small fits =
+    let bound = length-starts tasks 0 levels in
+    let all = length-append (starts 0 tasks levels) (finishes idle) in
+    record { size = omega arith; runs = λ offset c aligned h. runs_it tasks levels idle few small fits aligned offset c h }

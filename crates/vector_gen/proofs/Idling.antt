@@ -1,5 +1,5 @@
 -- The idle loop stays where it is.
-use Rattle.std.proofs.Common.{◌≡◌, ℕ, ◌+◌, ◌%◌, ◌≤◌, [], ◌∷◌, ap, ◌∙◌, arith, None}
+use Rattle.std.proofs.Common.{refl, ◌≡◌, ℕ, ◌+◌, ◌%◌, ◌≤◌, [], ◌∷◌, ap, ◌∙◌, arith, None}
 use Rattle.std.specs.Prelude.{pos}
 use Rattle.sloth_base.specs.Machine.{Core}
 use Rattle.rv32_instr.specs.declared.InstrKind.TheVariants.{Jal}
@@ -20,4 +20,4 @@ unfolding touched_by
 untouched o c p = touched_at o c (Jal 0 (pos 0)) p.0
 
 pub idles : Idles (Jal 0 (pos 0) ∷ [])
-idles = record { stays = stays; untouched = untouched }
+idles = record { word = refl; stays = stays; untouched = untouched }

@@ -1,3 +1,4 @@
 pub mod Booting
 pub mod Idling
 pub mod Jumping
+pub mod Stepping

@@ -1,5 +1,5 @@
 -- Boot.
-use Rattle.std.specs.Prelude.{ℕ, suc, ◌+◌, ◌%◌, ◌≡◌, ◌<◌, ◌≤◌, Bool, true, false, pos, List, [], ◌∷◌, ◌++◌, length, slice_index, slice_index_or}
+use Rattle.std.specs.Prelude.{ℕ, suc, ◌+◌, ◌*◌, ◌%◌, ◌≡◌, ◌<◌, ◌≤◌, Bool, true, false, pos, List, [], ◌∷◌, ◌++◌, length, slice_index, slice_index_or}
 use Rattle.sloth_base.specs.declared.config.TaskDecl.{TaskDecl}
 use Rattle.sloth_base.specs.Machine.{Core, State}
 use Rattle.sloth_region.specs.Layout.{idle_context, context_bytes}
@@ -64,4 +64,5 @@ pub record Booted (tasks : List TaskDecl) (levels : List ℕ) (idle : ℕ) (touc
 
 -- Code of boot: at most 130 instructions lead to its effect, whatever lines arrive.
 pub record Boots (tasks : List TaskDecl) (levels : List ℕ) (idle : ℕ) (code : List InstrKind) : Type 0 where
+  pub size : length code ≤ 10 + 4 * length tasks
   pub runs : (offset : ℕ) (core : Core) → idle % 4 ≡ 0 → MayBoot offset code core → Masked 130 (at offset core) (WithArrivals (Booted tasks levels idle) (at offset core))

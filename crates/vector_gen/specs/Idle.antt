@@ -1,5 +1,5 @@
 -- The idle loop.
-use Rattle.std.specs.Prelude.{ℕ, ◌+◌, ◌%◌, ◌≡◌, ◌≤◌, List, None}
+use Rattle.std.specs.Prelude.{ℕ, ◌+◌, ◌%◌, ◌≡◌, ◌≤◌, List, length, None}
 use Rattle.sloth_base.specs.declared.image.Mark.{Mark}
 use Rattle.sloth_base.specs.declared.image.MarkKind.TheVariants as mark
 use Rattle.sloth_base.specs.Machine.{Core}
@@ -10,7 +10,8 @@ use Rattle.rv32_routine.specs.Place.{at, InPlace}
 abbrev pub idle_mark : ℕ → Mark
 idle_mark address = record { address = address; kind = mark.Idle; a = 0; b = 0; c = 0 }
 
--- In place, it goes back to itself and changes nothing: it never masks, and touches no line.
+-- One word, which in place goes back to itself and changes nothing: it never masks, and touches no line.
 pub record Idles (code : List InstrKind) : Type 0 where
+  pub word : length code ≡ 1
   pub stays : (offset : ℕ) (core : Core) → offset % 4 ≡ 0 → offset + 4 ≤ 0x20_0000 → InPlace core.ram offset code → step (at offset core) ≡ Going (at offset core)
   pub untouched : (offset : ℕ) (core : Core) → InPlace core.ram offset code → touched (at offset core) ≡ None

@@ -1,8 +1,11 @@
 -- The vector words.
-use Rattle.std.specs.Prelude.{ℕ, ℤ, ◌+◌, ◌*◌, ◌%◌, ◌≡◌, ◌<◌, ◌≤◌, List, length, slice_index, slice_index_or}
+use Rattle.std.specs.Prelude.{ℕ, ℤ, ◌+◌, ◌*◌, ◌%◌, ◌≡◌, ◌<◌, ◌≤◌, List, length, slice_index, slice_index_or, None}
+use Rattle.sloth_base.specs.Machine.{Core}
 use Rattle.rv32_instr.specs.declared.InstrKind.{InstrKind}
 use Rattle.rv32_instr.specs.declared.InstrKind.TheVariants.{Jal}
 use Rattle.rv32_instr.specs.Effect.{plus}
+use Rattle.rv32_instr.specs.Execute.{Going, step, touched}
+use Rattle.rv32_routine.specs.Place.{at, InPlace}
 
 -- each handler stands behind the vector words, within reach of a jump, at a multiple of 4
 pub record AreInReach (handlers : List ℕ) : Type 0 where
@@ -19,3 +22,8 @@ IsJump from target kind = (imm : ℤ) × (kind ≡ Jal 0 imm) × (plus from imm 
 pub record AreJumps (words : ℕ) (handlers : List ℕ) (code : List InstrKind) : Type 0 where
   pub many : length code ≡ words
   pub each : (line : ℕ) (d : InstrKind) → line < words → IsJump (0x8000_0400 + 4 * line) (slice_index handlers line) (slice_index_or code line d)
+
+-- In place at 0x80000400, the word of each line is a step to the line's handler, which changes nothing else and touches no line.
+pub record StepToHandlers (handlers : List ℕ) (code : List InstrKind) : Type 0 where
+  pub steps : (line : ℕ) (core : Core) → line < 32 → InPlace core.ram 0x400 code → step (at (0x400 + 4 * line) core) ≡ Going (record { pc = slice_index handlers line; core = core })
+  pub untouched : (line : ℕ) (core : Core) → line < 32 → InPlace core.ram 0x400 code → touched (at (0x400 + 4 * line) core) ≡ None

@@ -1,7 +1,7 @@
 //! The vector words: for each line a jump to its handler.
 ghost use Rattle.std.specs.Prelude.{◌≡◌, ◌<◌, ◌+◌, ◌%◌, ◌^◌, [], IfOk};
 ghost use Rattle.rv32_instr.specs.Range.{InRange};
-ghost use Rattle.vector_gen.specs.Vectors.{AreInReach, AreJumps, IsJump};
+ghost use Rattle.vector_gen.specs.Vectors.{AreInReach, AreJumps, IsJump, StepToHandlers};
 
 use rv32_instr::{Block, Instr, InstrKind};
 use rv32_routine::emit::emit;
@@ -20,6 +20,7 @@ pub fn vectors(alloc: Global, map: &Map) -> Result<Block, NoMemory>
     ensures at { IfOk result (λ block. block.at ≡ 0x80000400) }
     ensures marks { IfOk result (λ block. block.marks ≡ []) }
     ensures effect { IfOk result (λ block. AreJumps 32 map.now.handlers block.code) }
+    ensures steps { IfOk result (λ block. StepToHandlers map.now.handlers block.code) }
 {
     let mut code = Vec::new(alloc);
     for line in 0..32 {
