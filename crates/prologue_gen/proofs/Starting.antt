@@ -310,4 +310,6 @@ module _ (task level first frame words : ℕ) (is_task : task < 30) (low_level :
       (subst (λ x. Owes offset to offset whole 0 E (at (vector task) x) x) (spread_is c can.registers can.zero) all))
 
 pub enters : (task level first frame words : ℕ) → task < 30 → level < 32 → first < 2 ^ 32 → words ≤ 32 → Enters task level first frame words (code task level (0x8000_0000 + frame) words first)
-enters task level first frame words a b d f = record { runs = λ offset place core e h. runs_it task level first frame words a b d e f offset place core h }
+enters task level first frame words a b d f =
+    let long = length-code task level (0x8000_0000 + frame) words first in
+    record { size = omega arith; runs = λ offset place core e h. runs_it task level first frame words a b d e f offset place core h }

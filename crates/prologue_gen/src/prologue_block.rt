@@ -16,7 +16,8 @@ use sloth_region::extent::Extent;
 use sloth_region::map::Map;
 use std::alloc::{AllocError, Global};
 
-/// The prologue of a basic task, at its address in the map.
+/// The prologue of a basic task, at the address of its line's handler in the map: 74 instructions, and one for each word
+/// of the frame of the task's body.
 pub fn prologue(
     alloc: Global,
     task: TaskId,
