@@ -1,0 +1,55 @@
+-- Arrivals as the abstract scheduler sees them.
+use Rattle.std.specs.Prelude.{ℕ, ◌+◌, ◌<◌, ◌≡◌, List, [], ◌∷◌, ◌++◌, map, length, All}
+use Rattle.sloth_base.specs.declared.config.Config.{Config}
+use Rattle.sloth_base.specs.declared.app.App.{App}
+use Rattle.sloth_base.specs.declared.event.Arrival.{Arrival}
+use Rattle.sloth_base.specs.declared.event.Event.TheVariants as event
+use Rattle.sloth_base.specs.declared.event.Stamped.{Stamped}
+use Rattle.sloth_base.specs.Arrivals.{moments, NeverFalls}
+use Rattle.observe.specs.Observe.{View, stamp}
+use Rattle.osek_machine.specs.State.{System}
+use Rattle.osek_machine.specs.Steps.{admitted}
+use Rattle.rv32_routine.specs.Trace.{Trace, touched_of, untouched_of}
+
+-- what is fixed in a run: the system, what the run is observed by, and what arrives
+pub record Setting : Type 0 where
+  pub config : Config
+  pub app : App
+  pub view : View
+  pub arrivals : List Arrival
+
+-- each line is a task's, and the moments, from 1 on, never fall
+pub record IsSetting (given : Setting) : Type 0 where
+  pub tasks : given.view.tasks ≡ length given.config.tasks
+  pub ordered : NeverFalls 1 given.arrivals
+  pub lines : All (λ a. a.line < length given.config.tasks) given.arrivals
+
+-- the lines that arrive before the instruction of a count
+abbrev pub lines_at : List Arrival → ℕ → List ℕ
+lines_at arrivals count = map (λ a. a.line) (moments count (count + 1) arrivals)
+
+-- the system after these lines, in order, have activated their tasks
+abbrev pub with_admits : List ℕ → System → System
+with_admits [] s = s
+with_admits (t ∷ lines) s = with_admits lines (admitted t s)
+
+abbrev pub AllBelow : ℕ → List ℕ → Type 0
+AllBelow n [] = Unit {0}
+AllBelow n (t ∷ lines) = (t < n) × AllBelow n lines
+
+abbrev pub admit_event : Arrival → Stamped
+admit_event a = stamp a.at a.at (event.Admit a.line)
+
+-- the arrivals of these lines at a moment
+abbrev pub at_moment : ℕ → List ℕ → List Arrival
+at_moment count lines = map (λ line. record { at = count; line = line }) lines
+
+-- Of the arrivals inside a stretch whose first instruction is that of the count: those whose line that instruction or a later
+-- one of the stretch touches stand before its event, and the others behind it.
+abbrev pub before_event : ℕ → Trace → List Arrival
+before_event count [] = []
+before_event count (entry ∷ trace) = at_moment count (touched_of (entry ∷ trace) entry.0) ++ before_event (count + 1) trace
+
+abbrev pub behind_event : ℕ → Trace → List Arrival
+behind_event count [] = []
+behind_event count (entry ∷ trace) = at_moment count (untouched_of (entry ∷ trace) entry.0) ++ behind_event (count + 1) trace
