@@ -1,0 +1,195 @@
+-- The instructions of each item. The last one, which commits the item, changes what task code sees; those before it use x30 and x31 alone.
+use Rattle.std.specs.Prelude.{ℕ, zero, suc, ◌+◌, ◌*◌, ◌/◌, ◌%◌, ◌^◌, ℤ, pos, ◌-ℤ◌, neg_ℤ, List, [], ◌∷◌, ◌++◌, length, get_or, None}
+use Rattle.sloth_base.specs.declared.app.App.{App}
+use Rattle.sloth_base.specs.declared.app.Func.{Func}
+use Rattle.sloth_base.specs.declared.app.Call.{Call}
+use Rattle.sloth_base.specs.declared.app.Op.{Op}
+use Rattle.sloth_base.specs.declared.app.Op.TheVariants as op
+use Rattle.sloth_base.specs.declared.app.AluKind.{AluKind}
+use Rattle.sloth_base.specs.declared.app.AluKind.TheVariants as alu
+use Rattle.sloth_base.specs.declared.app.ImmKind.{ImmKind}
+use Rattle.sloth_base.specs.declared.app.ImmKind.TheVariants as imm
+use Rattle.sloth_base.specs.declared.app.BranchKind.{BranchKind}
+use Rattle.sloth_base.specs.declared.app.BranchKind.TheVariants as branch
+use Rattle.sloth_base.specs.declared.app.Width.{Width}
+use Rattle.sloth_base.specs.declared.app.Width.TheVariants as width
+use Rattle.sloth_base.specs.declared.service.Service.{Service}
+use Rattle.sloth_base.specs.declared.service.Service.TheVariants as service
+use Rattle.sloth_base.specs.declared.places.Places.{Places}
+use Rattle.rv32_instr.specs.Fields.{signed}
+use Rattle.rv32_instr.specs.declared.InstrKind.{InstrKind}
+use Rattle.rv32_instr.specs.declared.InstrKind.TheVariants.{Lui, Auipc, Jal, Jalr, Beq, Bne, Blt, Bge, Bltu, Bgeu, Lb, Lh, Lw, Lbu, Lhu, Sb, Sh, Sw, Addi, Slti, Sltiu, Xori, Ori, Andi, Slli, Srli, Srai, Add, Sub, Sll, Slt, Sltu, Xor, Srl, Sra, Or, And}
+
+-- a word is high * 4096 + low modulo 2^32
+abbrev pub high : ℕ → ℕ
+high value = (value + 0x800) / 4096 % 2 ^ 20
+
+abbrev pub low : ℕ → ℤ
+low value = signed 12 (value % 4096)
+
+-- ---- addresses
+
+abbrev pub code : Service → ℕ
+code service.ActivateTask = 0
+code service.TerminateTask = 1
+code service.ChainTask = 2
+code service.Schedule = 3
+code service.GetTaskID = 4
+code service.GetTaskState = 5
+code service.GetResource = 6
+code service.ReleaseResource = 7
+code service.SetEvent = 8
+code service.ClearEvent = 9
+code service.GetEvent = 10
+code service.WaitEvent = 11
+
+abbrev pub item_address : Places → ℕ → ℕ → ℕ
+item_address places func index = get_or places.items (get_or places.first func 0 + index) 0
+
+abbrev pub symbol_address : Places → ℕ → ℕ
+symbol_address places symbol = get_or places.symbols symbol 0
+
+abbrev pub block_address : Places → Service → ℕ → ℕ
+block_address places s object = get_or places.blocks (code s * 40 + object) 0
+
+-- how far it is from one address to another
+abbrev pub distance : ℕ → ℕ → ℤ
+distance from to = pos to -ℤ pos from
+
+abbrev pub missing : Func
+missing = record { name = []; line = 0; task = None; frame_words = 0; items = []; labels = [] }
+
+abbrev pub function : App → ℕ → Func
+function app f = get_or app.funcs f missing
+
+abbrev pub label_address : App → Places → ℕ → ℕ → ℕ
+label_address app places func label =
+    item_address places func (get_or (function app func).labels label (record { name = []; line = 0; item = 0; holds = [] })).item
+
+-- ---- one instruction
+
+abbrev pub register_operation : AluKind → ℕ → ℕ → ℕ → InstrKind
+register_operation alu.Add rd rs1 rs2 = Add rd rs1 rs2
+register_operation alu.Sub rd rs1 rs2 = Sub rd rs1 rs2
+register_operation alu.Sll rd rs1 rs2 = Sll rd rs1 rs2
+register_operation alu.Slt rd rs1 rs2 = Slt rd rs1 rs2
+register_operation alu.Sltu rd rs1 rs2 = Sltu rd rs1 rs2
+register_operation alu.Xor rd rs1 rs2 = Xor rd rs1 rs2
+register_operation alu.Srl rd rs1 rs2 = Srl rd rs1 rs2
+register_operation alu.Sra rd rs1 rs2 = Sra rd rs1 rs2
+register_operation alu.Or rd rs1 rs2 = Or rd rs1 rs2
+register_operation alu.And rd rs1 rs2 = And rd rs1 rs2
+
+-- the amount of a shift, which is not negative
+abbrev pub amount : ℤ → ℕ
+amount (pos n) = n
+amount z = 0
+
+abbrev pub number_operation : ImmKind → ℕ → ℕ → ℤ → InstrKind
+number_operation imm.Addi rd rs1 number = Addi rd rs1 number
+number_operation imm.Slti rd rs1 number = Slti rd rs1 number
+number_operation imm.Sltiu rd rs1 number = Sltiu rd rs1 number
+number_operation imm.Xori rd rs1 number = Xori rd rs1 number
+number_operation imm.Ori rd rs1 number = Ori rd rs1 number
+number_operation imm.Andi rd rs1 number = Andi rd rs1 number
+number_operation imm.Slli rd rs1 number = Slli rd rs1 (amount number)
+number_operation imm.Srli rd rs1 number = Srli rd rs1 (amount number)
+number_operation imm.Srai rd rs1 number = Srai rd rs1 (amount number)
+
+abbrev pub load : Width → ℕ → ℕ → ℤ → InstrKind
+load width.Byte rd base offset = Lb rd base offset
+load width.Half rd base offset = Lh rd base offset
+load width.Word rd base offset = Lw rd base offset
+load width.ByteU rd base offset = Lbu rd base offset
+load width.HalfU rd base offset = Lhu rd base offset
+
+abbrev pub store : Width → ℕ → ℕ → ℤ → InstrKind
+store width.Byte rs base offset = Sb base rs offset
+store width.Half rs base offset = Sh base rs offset
+store width.Word rs base offset = Sw base rs offset
+store width.ByteU rs base offset = Sb base rs offset
+store width.HalfU rs base offset = Sh base rs offset
+
+-- jumps by 12 where the branch is not taken
+abbrev pub opposite : BranchKind → ℕ → ℕ → InstrKind
+opposite branch.Beq a b = Bne a b (pos 12)
+opposite branch.Bne a b = Beq a b (pos 12)
+opposite branch.Blt a b = Bge a b (pos 12)
+opposite branch.Bge a b = Blt a b (pos 12)
+opposite branch.Bltu a b = Bgeu a b (pos 12)
+opposite branch.Bgeu a b = Bltu a b (pos 12)
+
+-- ---- several
+
+-- a word in a register
+abbrev pub number_in : ℕ → ℕ → List InstrKind
+number_in rd value = Lui rd (high value) ∷ Addi rd rd (low value) ∷ []
+
+-- x31 is the address of a masked index into a symbol, less the low part
+abbrev pub indexed : ℕ → ℕ → ℕ → List InstrKind
+indexed index mask address = Andi 31 index (pos mask) ∷ Lui 30 (high address) ∷ Add 31 31 30 ∷ []
+
+-- zeros in so many words of a new frame, from word k on
+abbrev pub zeros : ℕ → ℕ → List InstrKind
+zeros zero k = []
+zeros (suc n) k = Sw 2 0 (pos (4 * k)) ∷ zeros n (k + 1)
+
+-- a call, at an address, of a function with so many frame words
+abbrev pub calls : (address words target : ℕ) → List InstrKind
+calls address words target =
+    Addi 2 2 (neg_ℤ (pos (4 + 4 * words))) ∷ (zeros words 0
+    ++ (Auipc 31 0 ∷ Sw 2 31 (pos (4 * words)) ∷ Jal 0 (distance (address + 4 * (words + 3)) target) ∷ []))
+
+-- the mask of the named events in x30, where the service has one
+abbrev pub mask_of : Service → ℕ → List InstrKind
+mask_of service.SetEvent mask = number_in 30 mask
+mask_of service.ClearEvent mask = number_in 30 mask
+mask_of service.WaitEvent mask = number_in 30 mask
+mask_of service.ActivateTask mask = []
+mask_of service.TerminateTask mask = []
+mask_of service.ChainTask mask = []
+mask_of service.Schedule mask = []
+mask_of service.GetTaskID mask = []
+mask_of service.GetTaskState mask = []
+mask_of service.GetResource mask = []
+mask_of service.ReleaseResource mask = []
+mask_of service.GetEvent mask = []
+
+-- the jump to the service's block, from an address
+abbrev pub served : Places → Call → ℕ → List InstrKind
+served places call address =
+    mask_of call.service call.mask
+    ++ (Jal 31 (distance (address + 4 * length (mask_of call.service call.mask)) (block_address places call.service call.object)) ∷ [])
+
+-- ---- an item, at its address
+
+abbrev pub expanded : App → Places → (func address : ℕ) → Op → List InstrKind
+expanded app places func address (op.Alu kind rd rs1 rs2) = register_operation kind rd rs1 rs2 ∷ []
+expanded app places func address (op.AluImm kind rd rs1 number) = number_operation kind rd rs1 number ∷ []
+expanded app places func address (op.Lui rd number) = Lui rd number ∷ []
+expanded app places func address (op.Li rd value) = Lui 31 (high value) ∷ Addi rd 31 (low value) ∷ []
+expanded app places func address (op.FrameLoad rd word) = Lw rd 2 (pos (4 * word)) ∷ []
+expanded app places func address (op.FrameStore rs word) = Sw 2 rs (pos (4 * word)) ∷ []
+expanded app places func address (op.Load w rd symbol offset) =
+    Lui 31 (high (symbol_address places symbol + offset)) ∷ load w rd 31 (low (symbol_address places symbol + offset)) ∷ []
+expanded app places func address (op.Store w rs symbol offset) =
+    Lui 31 (high (symbol_address places symbol + offset)) ∷ store w rs 31 (low (symbol_address places symbol + offset)) ∷ []
+expanded app places func address (op.LoadAt w rd symbol index mask) =
+    indexed index mask (symbol_address places symbol) ++ (load w rd 31 (low (symbol_address places symbol)) ∷ [])
+expanded app places func address (op.StoreAt w rs symbol index mask) =
+    indexed index mask (symbol_address places symbol) ++ (store w rs 31 (low (symbol_address places symbol)) ∷ [])
+expanded app places func address (op.Branch kind rs1 rs2 label) =
+    number_in 31 (address + 24)
+    ++ (opposite kind rs1 rs2 ∷ (number_in 31 (label_address app places func label) ++ (Jalr 0 31 (pos 0) ∷ [])))
+expanded app places func address (op.Jump label) = Jal 0 (distance address (label_address app places func label)) ∷ []
+expanded app places func address (op.Invoke callee) = calls address (function app callee).frame_words (item_address places callee 0)
+expanded app places func address op.Return =
+    Lw 31 2 (pos (4 * (function app func).frame_words)) ∷ Addi 2 2 (pos (4 + 4 * (function app func).frame_words)) ∷ Jalr 0 31 (pos 12) ∷ []
+expanded app places func address (op.Serve call) = served places call address
+
+-- the item of a function
+abbrev pub operation : App → ℕ → ℕ → Op
+operation app func index = (get_or (function app func).items index (record { line = 0; op = op.Return })).op
+
+abbrev pub expansion : App → Places → (func index : ℕ) → List InstrKind
+expansion app places func index = expanded app places func (item_address places func index) (operation app func index)

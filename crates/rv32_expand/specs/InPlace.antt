@@ -1,0 +1,80 @@
+-- The items of task code stand in an image, and its marks say where.
+use Rattle.std.specs.Prelude.{ℕ, ◌+◌, ◌-◌, ◌*◌, ◌<◌, ◌≡◌, ◌∷◌, List, [], map, length, get_or, All, Contains, Some}
+use Rattle.sloth_base.specs.declared.app.App.{App}
+use Rattle.sloth_base.specs.declared.app.Op.{Op}
+use Rattle.sloth_base.specs.declared.app.Op.TheVariants as op
+use Rattle.sloth_base.specs.declared.image.Image.{Image}
+use Rattle.sloth_base.specs.declared.image.Mark.{Mark}
+use Rattle.sloth_base.specs.declared.image.MarkKind.{MarkKind}
+use Rattle.sloth_base.specs.declared.image.MarkKind.TheVariants as kind
+use Rattle.sloth_base.specs.declared.places.Places.{Places}
+use Rattle.rv32_instr.specs.Encode.{Encode}
+use Rattle.rv32_instr.specs.Ram.{word_at}
+use Rattle.rv32_instr.specs.declared.InstrKind.{InstrKind}
+use Rattle.rv32_expand.specs.Expansion.{code, function, operation, expansion, item_address}
+
+-- the register of an item's result: its destination, a store's source, or x0
+abbrev pub result_register : Op → ℕ
+result_register (op.Alu kind rd rs1 rs2) = rd
+result_register (op.AluImm kind rd rs1 number) = rd
+result_register (op.Lui rd number) = rd
+result_register (op.Li rd value) = rd
+result_register (op.FrameLoad rd word) = rd
+result_register (op.FrameStore rs word) = rs
+result_register (op.Load w rd symbol offset) = rd
+result_register (op.Store w rs symbol offset) = rs
+result_register (op.LoadAt w rd symbol index mask) = rd
+result_register (op.StoreAt w rs symbol index mask) = rs
+result_register (op.Branch kind rs1 rs2 label) = 0
+result_register (op.Jump label) = 0
+result_register (op.Invoke callee) = 0
+result_register op.Return = 0
+result_register (op.Serve call) = 0
+
+-- the mark of an item at an address: of a service it names the service
+abbrev pub mark_of : Op → (address func index : ℕ) → Mark
+mark_of (op.Serve call) address func index = record { address = address; kind = kind.Jump; a = code call.service; b = func; c = index }
+mark_of operation address func index = record { address = address; kind = kind.Item; a = result_register operation; b = func; c = index }
+
+-- the address of an item's last word
+abbrev pub last_address : App → Places → (func index : ℕ) → ℕ
+last_address app places func index = item_address places func index + 4 * (length (expansion app places func index) - 1)
+
+abbrev pub item_mark : App → Places → (func index : ℕ) → Mark
+item_mark app places func index = mark_of (operation app func index) (last_address app places func index) func index
+
+-- the words of these instructions stand at an address, one after the other
+abbrev pub CodeAt : List ℕ → ℕ → List InstrKind → Type 0
+CodeAt memory address [] = Unit {0}
+CodeAt memory address (i ∷ rest) = (word_at memory (address - 0x8000_0000) ≡ Encode i) × CodeAt memory (address + 4) rest
+
+-- an item of the task code
+pub record IsItem (app : App) (func index : ℕ) : Type 0 where
+  pub declared : func < length app.funcs
+  pub inside : index < length (function app func).items
+
+-- a mark is of an item where it is an item mark or that of a jump to a service
+abbrev pub IsOfItem : MarkKind → Type 0 → Type 0
+IsOfItem kind.Item Fact = Fact
+IsOfItem kind.Jump Fact = Fact
+IsOfItem kind.Opening Fact = Unit {0}
+IsOfItem kind.Idle Fact = Unit {0}
+IsOfItem kind.Back Fact = Unit {0}
+
+-- the name of the body of a task
+abbrev pub IsBodyName : App → ℕ → List ℕ → Type 0
+IsBodyName app task name = (func : ℕ) × (func < length app.funcs) × ((function app func).task ≡ Some task) × ((function app func).name ≡ name)
+
+-- With one list of addresses for all items, symbols and service blocks. A mark's address is its own, so that an item has one mark.
+pub record ItemsInPlace (image : Image) (app : App) : Type 0 where
+  pub places : Places
+  pub code : (func index : ℕ) → IsItem app func index
+      → CodeAt image.memory (item_address places func index) (expansion app places func index)
+  pub inside : (func index : ℕ) → IsItem app func index
+      → (0x8000_0000 < item_address places func index + 1) × (last_address app places func index + 4 < 0x8000_0000 + length image.memory + 1)
+  pub adjacent : (func index : ℕ) → IsItem app func index → IsItem app func (index + 1)
+      → item_address places func (index + 1) ≡ item_address places func index + 4 * length (expansion app places func index)
+  pub marked : (func index : ℕ) → IsItem app func index → Contains image.marks (item_mark app places func index)
+  pub only : All (λ mark. IsOfItem mark.kind (IsItem app mark.b mark.c × (mark ≡ item_mark app places mark.b mark.c))) image.marks
+  pub functions : image.funcs ≡ map (λ f. f.name) app.funcs
+  pub tasks : (task : ℕ) → task < length image.tasks → IsBodyName app task (get_or image.tasks task [])

@@ -1,0 +1,2 @@
+//! The instructions of each item of task code.
+#![tactic(auto)]
