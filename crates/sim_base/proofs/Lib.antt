@@ -1,0 +1,4 @@
+pub mod Levels
+pub mod Tops
+pub mod Choice
+pub mod MirrorOf

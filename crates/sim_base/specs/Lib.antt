@@ -1,0 +1,9 @@
+pub mod Build
+pub mod Position
+pub mod Context
+pub mod ServiceWords
+pub mod DataStands
+pub mod Stands
+pub mod Admits
+pub mod Framing
+pub mod Laws
