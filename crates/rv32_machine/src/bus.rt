@@ -1,5 +1,5 @@
 //! What the hart stands on: memory, and the choice of an interrupt line.
-ghost use Rattle.std.specs.Prelude.{◌≡◌, ◌<◌, true, None, Some, IfOk, IfErr, OnOk, OnErr, IsTrue};
+ghost use Rattle.std.specs.Prelude.{◌≡◌, ◌<◌, true, false, None, Some, IfOk, IfErr, OnOk, OnErr, IsTrue};
 ghost use Rattle.std.specs.Option.{ForSome};
 ghost use Rattle.sloth_base.specs.Choose.{IsChosen};
 ghost use Rattle.sloth_base.specs.Take.{without_pending};
@@ -34,9 +34,9 @@ pub trait Bus {
         ensures chosen { IsTrue (memory self.now).controller → IsChosen (memory self.now).lines level result }
         ensures there { ForSome result (λ line. (line < 32) × ((memory self.now).controller ≡ true)) };
 
-    /// The line is no longer pending.
+    /// The line is no longer pending, where there is a controller.
     fn take(&mut self, line: Line)
-        requires there { (memory self.old).controller ≡ true }
-        requires in_range { line < 32 }
-        ensures { memory self.new ≡ record (memory self.old) { lines = without_pending line (memory self.old).lines } };
+        requires { line < 32 }
+        ensures there { (memory self.old).controller ≡ true → memory self.new ≡ record (memory self.old) { lines = without_pending line (memory self.old).lines } }
+        ensures not_there { (memory self.old).controller ≡ false → memory self.new ≡ memory self.old };
 }
