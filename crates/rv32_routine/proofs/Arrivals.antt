@@ -1,9 +1,10 @@
 -- Arrivals as sets of lines, and which of them come early.
-use Rattle.std.proofs.Common.{◌≡◌, ℕ, ◌<◌, List, [], ◌∷◌, ◌++◌, length, get_or, refl, sym, ap, ◌∙◌, arith, Option, Some, None, ⊎_elim}
+use Rattle.std.proofs.Common.{◌≡◌, ℕ, ◌<◌, List, [], ◌∷◌, ◌++◌, length, get_or, refl, sym, ap, ◌∙◌, subst, arith, Option, Some, None, ⊎_elim}
 use Rattle.std.specs.Prelude.{set, Bool, true, false, cond, ◌||◌, ◌&&◌, not, eqb, ◌≢◌}
 use Rattle.std.proofs.lemmas.Bool.{cases_eq, eq-eqb, ne_eqb, cases_Bool}
 use Rattle.std.proofs.lemmas.List.{length-set, get_or-set_same, get_or-set_other, ext_get_or, set_comm}
 use Rattle.sloth_base.specs.Arrive.{arrive}
+use Rattle.rv32_routine.specs.Owes.{AreOf}
 use Rattle.rv32_routine.specs.Trace.{Trace, touches, touched_of, untouched_of, early, late}
 
 pub arrive-append : (a b p : List ℕ) → arrive (a ++ b) p ≡ arrive b (arrive a p)
@@ -288,3 +289,16 @@ taken_early t p = same_arrivals (taken t []) (early t) p (λ k. taken_has t [] k
 
 pub left_late : (t : Trace) (p : List ℕ) → arrive (left t []) p ≡ arrive (late t) p
 left_late t p = same_arrivals (left t []) (late t) p (λ k. left_has t [] k ∙ ap (λ x. x || has (late t) k) (and_false (not (touches t k))))
+
+pub are_of : (k : ℕ) (a : List ℕ) → AreOf k (of_line k a)
+are_of k [] = tt
+are_of k (l ∷ a) =
+    ⊎_elim
+    (λ e. subst (λ b. AreOf k (cond b (l ∷ of_line k a) (of_line k a))) (sym (eq-eqb l k e)) (e, are_of k a))
+    (λ n. subst (λ b. AreOf k (cond b (l ∷ of_line k a) (of_line k a))) (sym (ne_eqb l k n)) (are_of k a))
+    (cases_eq l k)
+
+-- arrivals of a line leave the bytes of the others
+pub other_bytes : (k : ℕ) (a p : List ℕ) (j : ℕ) → AreOf k a → j ≢ k → get_or (arrive a p) j 0 ≡ get_or p j 0
+other_bytes k [] p j h ne = refl
+other_bytes k (l ∷ a) p j h ne = other_bytes k a (set p l 1) j h.1 ne ∙ get_or-set_other p l j 1 0 (λ e. ne (e ∙ h.0))

@@ -18,7 +18,7 @@ use Rattle.rv32_routine.specs.Trace.{Trace, touched_lines}
 use Rattle.rv32_routine.specs.Masked.{OnGoing, Masked}
 use Rattle.rv32_routine.specs.Place.{at, InPlace}
 use Rattle.rv32_routine.specs.Owes.{IsApart, Pending, Enabled, Level, Ways, owes_one, Owes}
-use Rattle.rv32_routine.proofs.Arrivals.{arrive-append, arrive-set, length-arrive, of_line, not_line, parted, found_of_line, stored_parted, taken, left}
+use Rattle.rv32_routine.proofs.Arrivals.{arrive-append, arrive-set, length-arrive, of_line, not_line, are_of, parted, found_of_line, stored_parted, taken, left}
 use Rattle.rv32_routine.proofs.Words.{get_or-with_word, word_at-agree}
 use Rattle.rv32_routine.proofs.Masked.{masked_here, masked_step, masked_map}
 use Rattle.rv32_routine.proofs.Machine.{Here, step_at, touched_at, next_at, jump_at}
@@ -129,7 +129,7 @@ module _ (from to : ℕ) (ram : List ℕ) (inside : to ≤ 0x20_0000) where
         let v = get_or own.pending l 0 in
         let below = place.1 in
         let long = i.lines in
-        touch l (with_register own rd v) _ _ (load_pending now rd address l word pc i.there place ∙ ap (λ v. goes_on pc (with_register now rd v)) (found_of_line l m c.pending (omega arith)) ∙ ap (λ p. goes_on pc (with_register (record c { pending = p }) rd v)) (sym (parted l m c.pending)) ∙ ap (goes_on pc) (with_register-arrive own rd v (not_line l m))) (load_touches rd address l place) (with_register_inside own rd v (arrive_inside c (of_line l m) i)) (h (of_line l m))
+        touch l (with_register own rd v) _ _ (load_pending now rd address l word pc i.there place ∙ ap (λ v. goes_on pc (with_register now rd v)) (found_of_line l m c.pending (omega arith)) ∙ ap (λ p. goes_on pc (with_register (record c { pending = p }) rd v)) (sym (parted l m c.pending)) ∙ ap (goes_on pc) (with_register-arrive own rd v (not_line l m))) (load_touches rd address l place) (with_register_inside own rd v (arrive_inside c (of_line l m) i)) (h (of_line l m) (are_of l m))
     one (Load width.ByteU rd address) word c i (Enabled l, place, h) =
         let pc = 0x8000_0000 + o in
         let now = core_arrive (w ++ a) c in
@@ -159,7 +159,7 @@ module _ (from to : ℕ) (ram : List ℕ) (inside : to ≤ 0x20_0000) where
         let m = w ++ a in
         let now = core_arrive m c in
         let own = core_arrive (of_line l m) c in
-        touch l (record own { pending = set own.pending l 0 }) _ _ (store_pending now address l value word pc i.there place ∙ ap (λ v. goes_on pc (record now { pending = set now.pending l v })) (flag-zero (value % 256) z) ∙ ap (λ p. goes_on pc (record c { pending = p })) (stored_parted l 0 m c.pending)) (store_touches address l value place z) (pending_inside own l 0 (arrive_inside c (of_line l m) i)) (h (of_line l m))
+        touch l (record own { pending = set own.pending l 0 }) _ _ (store_pending now address l value word pc i.there place ∙ ap (λ v. goes_on pc (record now { pending = set now.pending l v })) (flag-zero (value % 256) z) ∙ ap (λ p. goes_on pc (record c { pending = p })) (stored_parted l 0 m c.pending)) (store_touches address l value place z) (pending_inside own l 0 (arrive_inside c (of_line l m) i)) (h (of_line l m) (are_of l m))
     one (Store width.Byte address value) word c i (Enabled l, place, h) =
         let pc = 0x8000_0000 + o in
         let now = core_arrive (w ++ a) c in

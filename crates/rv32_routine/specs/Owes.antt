@@ -44,10 +44,15 @@ pub record Ways : Type 1 where
   -- the routine has gone back
   pub done : State → Type 0
 
+-- arrivals of this line alone
+abbrev pub AreOf : ℕ → List ℕ → Type 0
+AreOf line [] = Unit {0}
+AreOf line (arrived ∷ lines) = (arrived ≡ line) × AreOf line lines
+
 -- a load of a controller byte
 abbrev pub owes_load : LineByte → ℕ → Core → Ways → Type 0
 owes_load (Pending line) rd core ways =
-    (lines : List ℕ) →
+    (lines : List ℕ) → AreOf line lines →
     let now = core_arrive lines core in
     ways.touch line lines (with_register now rd (slice_index now.pending line))
 owes_load (Enabled line) rd core ways = ways.next (with_register core rd (slice_index core.enabled line))
@@ -57,7 +62,7 @@ owes_load (Level line) rd core ways = ways.next (with_register core rd (slice_in
 abbrev pub owes_store : LineByte → ℕ → Core → Ways → Type 0
 owes_store (Pending line) value core ways =
     (value % 256 ≢ 0) × ways.next (record core { pending = slice_set core.pending line 1 })
-    ⊎ (value % 256 ≡ 0) × ((lines : List ℕ) →
+    ⊎ (value % 256 ≡ 0) × ((lines : List ℕ) → AreOf line lines →
     let now = core_arrive lines core in
     ways.touch line lines (record now { pending = slice_set now.pending line 0 }))
 owes_store (Enabled line) value core ways = ways.next (record core { enabled = slice_set core.enabled line (flag_of (value % 256)) })

@@ -23,7 +23,7 @@ abbrev pub body : ℕ → List InstrKind
 body task = Lui 4 0x8_0000 ∷ (busy task 10 1 ++ (Slli 10 10 2 ∷ (raises task ++ back)))
 
 -- a pending byte stays a bit under arrivals
-bit_arrives : (lines bytes : List ℕ) (k : ℕ) → k < length bytes → get_or bytes k 0 < 2 → get_or (arrive lines bytes) k 0 < 2
+pub bit_arrives : (lines bytes : List ℕ) (k : ℕ) → k < length bytes → get_or bytes k 0 < 2 → get_or (arrive lines bytes) k 0 < 2
 bit_arrives lines bytes k h small =
     let e = byte_after lines bytes k h in
     ⊎_elim
@@ -75,7 +75,7 @@ module _ (offset task : ℕ) (c : Core) (h : MayActivate offset task (Csrrci 0 8
               (
                 Pending task,
                 (omega arith, line),
-                λ lines. (
+                λ lines only. (
                   bit_or (bit_xor e 1) (get_or (arrive lines c.pending) task 0),
                   refl,
                   (

@@ -3,3 +3,5 @@ pub mod Activating
 pub mod Others
 pub mod Telling
 pub mod Releasing
+pub mod Ending
+pub mod Chaining

@@ -52,7 +52,7 @@ module _ (offset task place : ℕ) (c : Core) (h : MayTerminate offset task plac
                 (omega arith, omega arith),
                 inr (
                   refl,
-                  λ lines. (
+                  λ lines only. (
                     8 * (task + 1),
                     omega arith,
                     (

@@ -7,6 +7,7 @@ use Rattle.sloth_base.specs.declared.service.Service.TheVariants.{ActivateTask, 
 use Rattle.rv32_instr.specs.declared.InstrKind.{InstrKind}
 use Rattle.service_gen.specs.ActivateTask.{Activates}
 use Rattle.service_gen.specs.TerminateTask.{Terminates}
+use Rattle.service_gen.specs.ChainTask.{Chains}
 use Rattle.service_gen.specs.GetTaskID.{TellsTask}
 use Rattle.service_gen.specs.ReleaseResource.{Releases}
 
@@ -33,6 +34,7 @@ code_of WaitEvent = 11
 abbrev pub HasBlock : Service → ℕ → Type 0
 HasBlock ActivateTask object = object < 30
 HasBlock TerminateTask object = object ≡ 0
+HasBlock ChainTask object = object < 30
 HasBlock GetTaskID object = object ≡ 0
 HasBlock ReleaseResource object = object ≤ 32
 HasBlock service object = ⊥
@@ -41,6 +43,7 @@ HasBlock service object = ⊥
 abbrev pub Serves : Service → ℕ → List InstrKind → Type 0
 Serves ActivateTask object code = Activates object code
 Serves TerminateTask object code = Terminates code
+Serves ChainTask object code = Chains object code
 Serves GetTaskID object code = TellsTask code
 Serves ReleaseResource object code = Releases object code
 Serves service object code = ⊥

@@ -5,3 +5,4 @@ pub mod ActivateTask
 pub mod Back
 pub mod GetTaskID
 pub mod ReleaseResource
+pub mod ChainTask

@@ -5,6 +5,7 @@ ghost use Rattle.std.specs.Prelude.{◌≡◌, ◌+◌, ◌*◌, ◌<◌, [], �
 ghost use Rattle.service_gen.specs.Block.{opening, code_of, HasBlock, Serves};
 
 mod activate_task;
+mod chain_task;
 mod get_task_id;
 mod pieces;
 mod release_resource;
@@ -83,6 +84,7 @@ fn small(service: Service, object: u32) -> u8
     match service {
         Service::ActivateTask => object as u8,
         Service::TerminateTask => object as u8,
+        Service::ChainTask => object as u8,
         Service::GetTaskID => object as u8,
         Service::ReleaseResource => object as u8,
         _ => unreachable!(),
@@ -97,6 +99,7 @@ fn code(alloc: Global, service: Service, object: u8) -> Result<Vec<Instr>, Alloc
     match service {
         Service::ActivateTask => activate_task::code(alloc, object),
         Service::TerminateTask => terminate_task::code(alloc),
+        Service::ChainTask => chain_task::code(alloc, object),
         Service::GetTaskID => get_task_id::code(alloc),
         Service::ReleaseResource => release_resource::code(alloc, object),
         _ => unreachable!(),
