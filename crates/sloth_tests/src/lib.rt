@@ -11,6 +11,8 @@ mod observe_tests;
 #[cfg(test)]
 mod oil_lex_tests;
 #[cfg(test)]
+mod oil_model_tests;
+#[cfg(test)]
 mod oil_parse_tests;
 #[cfg(test)]
 mod rv32_instr_tests;
