@@ -17,3 +17,6 @@ pub mod Induct
 pub mod WholeRun
 pub mod Boot
 pub mod Simulated
+pub mod Routes
+pub mod Passing
+pub mod Invariants
