@@ -1,7 +1,7 @@
 -- The line that is taken is that of the top task.
 use Rattle.std.proofs.Common.{◌≡◌, ℕ, ◌<◌, ◌≤◌, List, [], ◌∷◌, length, refl, sym, subst, arith, ⊎_elim, inl, inr, true, cond, Some, None}
 use Rattle.std.specs.Prelude.{◌⊎◌, slice_index}
-use Rattle.std.proofs.lemmas.Bool.{cases_lt}
+use Rattle.std.proofs.lemmas.Bool.{cases_lt, false≢true}
 use Rattle.sloth_base.specs.Machine.{Core, State}
 use Rattle.sloth_base.specs.Lines.{lines_of}
 use Rattle.sloth_base.specs.Choose.{MayTake, IsChosen, choose_line, choose}
@@ -9,13 +9,13 @@ use Rattle.sloth_base.proofs.Choosing.{choose_line-is}
 use Rattle.osek_machine.specs.declared.state.TaskState.{TaskState}
 use Rattle.osek_machine.specs.declared.state.TaskState.TheVariants as mode
 use Rattle.osek_machine.specs.State.{System, task, declaration}
-use Rattle.osek_machine.specs.Priority.{is_in, IsTop}
+use Rattle.osek_machine.specs.Priority.{is_in, IsDue, IsTop}
 use Rattle.sim_run.specs.Mirror.{priority_of, level_of}
 use Rattle.sim_base.specs.Build.{Build}
-use Rattle.sim_base.specs.Context.{Running}
-use Rattle.sim_base.specs.Stands.{Stands, IsLineOf, Falling}
-use Rattle.sim_base.proofs.Levels.{above_from, level_of-below}
-use Rattle.sim_base.proofs.Tops.{static_le, rank_active, rank_ready, first_most}
+use Rattle.sim_base.specs.Context.{Running, RunsTask, RunsIdle}
+use Rattle.sim_base.specs.Stands.{Stands, IsLineOf, Falling, AreActive}
+use Rattle.sim_base.proofs.Levels.{above_from, at_most_from, level_of-below, level_of-some}
+use Rattle.sim_base.proofs.Tops.{static_le, rank_active, rank_ready, first_most, top_running}
 
 choice_is : (core : Core) → core.controller ≡ true → IsChosen (lines_of core) core.ilevel (choose core)
 unfolding choose
@@ -77,6 +77,32 @@ module _ (b : Build) (state : State) (s : System) (k : Stands b state s) (few : 
       absurd (chosen_none state.core k.fixed.controller e u (ready_may u h r a)))
       (λ (a : level_of b.config (declaration b.config u).priority ≤ state.core.ilevel). a)
       (cases_lt state.core.ilevel (level_of b.config (declaration b.config u).priority))
+
+  -- then the first of the Active tasks is the top one
+  pub running_top : choose state.core ≡ None → (t : ℕ) (below : List ℕ) → k.stack ≡ t ∷ below → IsTop b.config s [] t
+  running_top e t below is =
+      let active : AreActive b s (t ∷ below) = subst (AreActive b s) is k.active in
+      let run : RunsTask b state s t below = subst (Running b state s) is k.running in
+      top_running b s t below [] active refl
+      (λ u h r o.
+      let a = none_above e u h r in
+      let v = run.level in
+      at_most_from b.config u (priority_of b.config s t) h (omega arith))
+
+  -- and where no task is Active, none is due
+  pub none_due : choose state.core ≡ None → k.stack ≡ [] → (u : ℕ) → u < length b.config.tasks → ¬ (IsDue s u)
+  none_due e is u h due =
+      ⊎_elim
+      (λ (r : (task s u).state ≡ mode.Ready).
+      let run : RunsIdle b state = subst (Running b state s) is k.running in
+      let a = none_above e u h r in
+      let v = run.level in
+      let w = level_of-some b.config u h in
+      absurd (omega arith))
+      (λ (r : (task s u).state ≡ mode.Active).
+      let active : AreActive b s [] = subst (AreActive b s) is k.active in
+      absurd (false≢true (active.all u h r)))
+      due
 
   module _ (t : ℕ) (e : choose state.core ≡ Some t) where
     chosen : IsChosen (lines_of state.core) state.core.ilevel (Some t)

@@ -1,5 +1,5 @@
 -- Levels keep the order of the priorities.
-use Rattle.std.proofs.Common.{◌≡◌, ℕ, zero, suc, ◌+◌, ◌<◌, ◌≤◌, List, [], ◌∷◌, length, get_or, arith, ⊎_elim, leb, cond}
+use Rattle.std.proofs.Common.{refl, ◌≡◌, ℕ, zero, suc, ◌+◌, ◌<◌, ◌≤◌, List, [], ◌∷◌, length, get_or, arith, ⊎_elim, leb, cond}
 use Rattle.std.specs.Prelude.{count_by, nat_le}
 use Rattle.std.proofs.lemmas.Bool.{cases_lt, le-leb, lt-leb}
 use Rattle.std.proofs.lemmas.List.Sums.{sum_by-cons, count_by-le-length}
@@ -57,6 +57,22 @@ level_of-mono config p q h = levels_in-mono config.tasks p q h
 pub level_of-below : (config : Config) (t p : ℕ) → t < length config.tasks → p < (declaration config t).priority
     → level_of config p < level_of config (declaration config t).priority
 level_of-below config t p l h = levels_in-below config.tasks t p l h
+
+levels_in-some : (ds : List TaskDecl) (t : ℕ) → t < length ds → 0 < levels_in ds (get_or ds t undeclared).priority
+levels_in-some [] t l = absurd (omega arith)
+levels_in-some (d ∷ ds) zero l =
+    let c = levels_in-cons d ds d.priority in
+    let e : ◌≡◌ {A = ℕ} (cond (leb d.priority d.priority) 1 0) 1 = rw (le-leb d.priority d.priority (omega arith)) refl in
+    omega arith
+levels_in-some (d ∷ ds) (suc t) l =
+    let q = (get_or ds t undeclared).priority in
+    let h = levels_in-some ds t (omega arith) in
+    let c = levels_in-cons d ds q in
+    omega arith
+
+-- the level of a task is above that of the idle loop
+pub level_of-some : (config : Config) (t : ℕ) → t < length config.tasks → 0 < level_of config (declaration config t).priority
+level_of-some config t l = levels_in-some config.tasks t l
 
 -- a level is at most the number of tasks
 pub level_of-few : (config : Config) (p : ℕ) → level_of config p ≤ length config.tasks

@@ -5,3 +5,8 @@ pub mod MirrorOf
 pub mod Framing
 pub mod Contexts
 pub mod Parts
+pub mod Arrive
+pub mod Leave
+pub mod Undisturbed
+pub mod TaskMoves
+pub mod TaskSteps

@@ -33,7 +33,7 @@ line_waiting mode.Active mask p e q h = cc
 line_waiting (mode.Waiting w) mask p e q h = h
 
 -- the task that runs by the abstract machine is the first of the stack
-first_is : (b : Build) (s : System) (t : ℕ) (below : List ℕ) → AreActive b s (t ∷ below) → (u : ℕ) → Runs b.config s u → t ≡ u
+pub first_is : (b : Build) (s : System) (t : ℕ) (below : List ℕ) → AreActive b s (t ∷ below) → (u : ℕ) → Runs b.config s u → t ≡ u
 first_is b s t below a u r =
     ⊎_elim (λ (e : eqb t u ≡ true). eqb-true t u e)
     (λ (k : is_in u below ≡ true).

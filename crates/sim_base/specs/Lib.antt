@@ -4,6 +4,6 @@ pub mod Context
 pub mod ServiceWords
 pub mod DataStands
 pub mod Stands
-pub mod Admits
 pub mod Framing
+pub mod Moves
 pub mod Laws
