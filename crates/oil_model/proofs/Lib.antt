@@ -1,4 +1,3 @@
-pub mod Drops
 pub mod Found
 pub mod NoFaults
 pub mod Lists
