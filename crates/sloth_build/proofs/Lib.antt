@@ -4,3 +4,4 @@ mod Cutting
 mod Guessing
 mod Formats
 mod Readings
+mod Unique

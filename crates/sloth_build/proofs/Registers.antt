@@ -4,7 +4,7 @@ use Rattle.std.proofs.lemmas.Fmt.{decimal_injective}
 use Rattle.sloth_build.specs.RegisterNames.{numbered, IsNumbered, IsRegister}
 
 -- what a text that is a letter and a number names
-reads : (text : List ℕ) (letter n r : ℕ) → n < 2 ^ 32 → text ≡ letter ∷ decimal n → IsNumbered text r → (n ≤ 31) × (numbered letter n ≡ Some r)
+pub reads : (text : List ℕ) (letter n r : ℕ) → n < 2 ^ 32 → text ≡ letter ∷ decimal n → IsNumbered text r → (n ≤ 31) × (numbered letter n ≡ Some r)
 reads text letter n r small e h =
     let both : letter ∷ decimal n ≡ h.letter ∷ decimal h.number = sym e ∙ h.spelled in
     let digits : decimal n ≡ decimal h.number = cc in

@@ -6,6 +6,7 @@ pub mod building;
 pub mod cut;
 pub mod image;
 pub mod kernel;
+pub mod laws;
 pub mod list;
 pub mod number;
 pub mod oil;

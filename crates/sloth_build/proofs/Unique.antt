@@ -1,0 +1,89 @@
+-- Texts of the form have one meaning.
+use Rattle.std.proofs.Common.{◌≡◌, ◌≤◌, ◌∙◌, ℕ, ℤ, List, ◌∷◌, Some, None, sym, ap, subst, arith, inl, inr, drop, length, refl}
+use Rattle.std.specs.Prelude.{decimal, codes}
+use Rattle.std.proofs.lemmas.Fmt.{decimal_injective, signed_decimal_injective}
+use Rattle.sloth_base.specs.declared.config.Config.{Config}
+use Rattle.sloth_base.specs.declared.app.App.{App}
+use Rattle.sloth_build.specs.Form.{OilText, one_task, IsAddition, one_body, Accepted}
+use Rattle.sloth_build.specs.RegisterNames.{numbered, IsNumbered, IsRegister}
+use Rattle.sloth_build.proofs.Numerals.{small-magnitude}
+use Rattle.sloth_build.proofs.Registers.{reads}
+use Rattle.sloth_build.proofs.Cutting.{until}
+use Rattle.sloth_build.proofs.Guessing.{oil-parts, source-parts}
+
+not-numbered : (text : List ℕ) (b n r : ℕ) (rest : List ℕ) → text ≡ b ∷ rest → ((m : ℕ) → numbered b m ≡ None) → IsNumbered text r → ⊥
+not-numbered text b n r rest e none h =
+    let both : b ∷ rest ≡ h.letter ∷ decimal h.number = sym e ∙ h.spelled in
+    let letter : h.letter ≡ b = cc in
+    let m : numbered h.letter h.number ≡ None = ap (λ x. numbered x h.number) letter ∙ none h.number in
+    let s = h.means in cc
+
+numbered-one : (text : List ℕ) (r s : ℕ) → IsNumbered text r → IsNumbered text s → r ≡ s
+numbered-one text r s h i =
+    let small : h.number ≤ 31 = h.in_range in
+    let other : numbered h.letter h.number ≡ Some s = (reads text h.letter h.number s (omega arith) h.spelled i).1 in
+    let mine = h.means in cc
+
+zero-one : (text : List ℕ) (s : ℕ) → text ≡ codes "zero" → IsRegister text s → 0 ≡ s
+zero-one text s e i = elim i [ inl q ↦ sym q.1 | inr q ↦ elim q [ inl p ↦ absurd (let d : codes "zero" ≡ codes "fp" = sym e ∙ p.0 in cc) | inr w ↦ absurd (not-numbered text 122 0 s _ e (λ m. refl) w) ] ]
+
+frame-one : (text : List ℕ) (s : ℕ) → text ≡ codes "fp" → IsRegister text s → 8 ≡ s
+frame-one text s e i = elim i [ inl q ↦ absurd (let d : codes "zero" ≡ codes "fp" = sym q.0 ∙ e in cc) | inr q ↦ elim q [ inl p ↦ sym p.1 | inr w ↦ absurd (not-numbered text 102 0 s _ e (λ m. refl) w) ] ]
+
+numbered-first : (text : List ℕ) (r s : ℕ) → IsNumbered text r → IsRegister text s → r ≡ s
+numbered-first text r s w i =
+    elim i [
+      | inl p ↦ absurd (not-numbered text 122 0 r _ p.0 (λ m. refl) w)
+      | inr v ↦ elim v [ inl p ↦ absurd (not-numbered text 102 0 r _ p.0 (λ m. refl) w) | inr u ↦ numbered-one text r s w u ]
+    ]
+
+-- a text names one register
+pub register-one : (text : List ℕ) (r s : ℕ) → IsRegister text r → IsRegister text s → r ≡ s
+register-one text r s (inl p) i = p.1 ∙ zero-one text s p.0 i
+register-one text r s (inr (inl p)) i = p.1 ∙ frame-one text s p.0 i
+register-one text r s (inr (inr w)) i = numbered-first text r s w i
+
+-- a text is one configuration
+pub oil-one : (text : List ℕ) (c d : Config) → (h : OilText text c) → (i : OilText text d) → (h.name ≡ i.name) × (c ≡ d)
+oil-one text c d h i =
+    let a : List ℕ = drop 63 text in
+    let word : List ℕ = until 32 a in
+    let b : List ℕ = drop (length word) a in
+    let e : List ℕ = drop 14 b in
+    let first = oil-parts text a word b e (until 59 e) h.name h.priority h.is_name h.in_range h.spelled refl refl refl refl refl in
+    let second = oil-parts text a word b e (until 59 e) i.name i.priority i.is_name i.in_range i.spelled refl refl refl refl refl in
+    let name : h.name ≡ i.name = sym first.0 ∙ second.0 in
+    let p = h.in_range in
+    let q = i.in_range in
+    let priority : h.priority ≡ i.priority = decimal_injective h.priority i.priority (omega arith) (omega arith) (sym first.1 ∙ second.1) in
+    (name, h.means ∙ ap (λ x. one_task x h.priority) name ∙ ap (one_task i.name) priority ∙ sym i.means)
+
+-- and one addition
+pub source-one : (text name : List ℕ) (a b c d : ℕ) (n m : ℤ) → IsAddition text name a b n → IsAddition text name c d m → one_body name a b n ≡ one_body name c d m
+source-one text name a b c d n m h i =
+    let t1 : List ℕ = drop 5 text in
+    let t2 : List ℕ = drop (length name) t1 in
+    let r0 : List ℕ = drop 6 t2 in
+    let result : List ℕ = until 44 r0 in
+    let r1 : List ℕ = drop (length result) r0 in
+    let r2 : List ℕ = drop 2 r1 in
+    let operand : List ℕ = until 44 r2 in
+    let r3 : List ℕ = drop (length operand) r2 in
+    let r4 : List ℕ = drop 2 r3 in
+    let first = source-parts text name t1 t2 r0 result r1 r2 operand r3 r4 (until 10 r4) h.result_name h.operand_name a b n h.is_result h.is_operand h.least h.greatest h.spelled refl refl refl refl refl refl refl refl refl refl in
+    let second = source-parts text name t1 t2 r0 result r1 r2 operand r3 r4 (until 10 r4) i.result_name i.operand_name c d m i.is_result i.is_operand i.least i.greatest i.spelled refl refl refl refl refl refl refl refl refl refl in
+    let P : List ℕ → Type 0 = λ x. IsRegister x a in
+    let Q : List ℕ → Type 0 = λ x. IsRegister x b in
+    let one : a ≡ c = register-one i.result_name a c (subst P (sym first.0 ∙ second.0) h.is_result) i.is_result in
+    let two : b ≡ d = register-one i.operand_name b d (subst Q (sym first.1 ∙ second.1) h.is_operand) i.is_operand in
+    let number : n ≡ m = signed_decimal_injective n m (small-magnitude n h.least h.greatest) (small-magnitude m i.least i.greatest) (sym first.2 ∙ second.2) in
+    ap (λ x. one_body name x b n) one ∙ ap (λ x. one_body name c x n) two ∙ ap (one_body name c d) number
+
+pub one-meaning : (oil src : List ℕ) (c d : Config) (a b : App) → Accepted oil src c a → Accepted oil src d b → (c ≡ d) × (a ≡ b)
+one-meaning oil src c d a b h i =
+    let one = oil-one oil c d h.configuration i.configuration in
+    let x = h.code in
+    let y = i.code in
+    let name : h.configuration.name ≡ i.configuration.name = one.0 in
+    let P : List ℕ → Type 0 = λ w. IsAddition src w x.result x.operand x.number in
+    (one.1, x.means ∙ ap (λ w. one_body w x.result x.operand x.number) name ∙ source-one src i.configuration.name x.result x.operand y.result y.operand x.number y.number (subst P name x.addition) y.addition ∙ sym y.means)
