@@ -47,7 +47,7 @@ busies e (suc (suc p)) a x y z = absurd (omega arith)
 busies (suc (suc e)) p a x y z = absurd (omega arith)
 
 -- a branch at an offset reaches the instruction behind so many more
-lands : (o k n : ℕ) → o ≤ 0x20_0000 → n ≤ 68 → k ≡ 4 + 4 * n → plus (0x8000_0000 + o) (pos k) ≡ 0x8000_0000 + (o + 4 + 4 * n)
+pub lands : (o k n : ℕ) → o ≤ 0x20_0000 → n ≤ 68 → k ≡ 4 + 4 * n → plus (0x8000_0000 + o) (pos k) ≡ 0x8000_0000 + (o + 4 + 4 * n)
 lands o k n small few e = omega arith
 
 module _ (offset task own place : ℕ) (c : Core) (h : MayChain offset task own place (Csrrci 0 8 0x300 ∷ body task) c) where

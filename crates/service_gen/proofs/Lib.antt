@@ -5,3 +5,4 @@ pub mod Telling
 pub mod Releasing
 pub mod Ending
 pub mod Chaining
+pub mod Taking

@@ -1,13 +1,15 @@
 -- Service blocks.
-use Rattle.std.specs.Prelude.{ℕ, ◌≡◌, ◌<◌, ◌≤◌, List}
+use Rattle.std.specs.Prelude.{ℕ, ◌≡◌, ◌<◌, ◌≤◌, List, slice_index}
 use Rattle.sloth_base.specs.declared.image.Mark.{Mark}
 use Rattle.sloth_base.specs.declared.image.MarkKind.TheVariants as mark
 use Rattle.sloth_base.specs.declared.service.Service.{Service}
 use Rattle.sloth_base.specs.declared.service.Service.TheVariants.{ActivateTask, TerminateTask, ChainTask, Schedule, GetTaskID, GetTaskState, GetResource, ReleaseResource, SetEvent, ClearEvent, GetEvent, WaitEvent}
+use Rattle.sloth_base.specs.declared.places.Levels.{Levels}
 use Rattle.rv32_instr.specs.declared.InstrKind.{InstrKind}
 use Rattle.service_gen.specs.ActivateTask.{Activates}
 use Rattle.service_gen.specs.TerminateTask.{Terminates}
 use Rattle.service_gen.specs.ChainTask.{Chains}
+use Rattle.service_gen.specs.GetResource.{Takes}
 use Rattle.service_gen.specs.GetTaskID.{TellsTask}
 use Rattle.service_gen.specs.ReleaseResource.{Releases}
 
@@ -36,14 +38,16 @@ HasBlock ActivateTask object = object < 30
 HasBlock TerminateTask object = object ≡ 0
 HasBlock ChainTask object = object < 30
 HasBlock GetTaskID object = object ≡ 0
+HasBlock GetResource object = object ≤ 32
 HasBlock ReleaseResource object = object ≤ 32
 HasBlock service object = ⊥
 
 -- the code of a service with its object has the service's effect
-abbrev pub Serves : Service → ℕ → List InstrKind → Type 0
-Serves ActivateTask object code = Activates object code
-Serves TerminateTask object code = Terminates code
-Serves ChainTask object code = Chains object code
-Serves GetTaskID object code = TellsTask code
-Serves ReleaseResource object code = Releases object code
-Serves service object code = ⊥
+abbrev pub Serves : Service → ℕ → Levels → List InstrKind → Type 0
+Serves ActivateTask object levels code = Activates object code
+Serves TerminateTask object levels code = Terminates code
+Serves ChainTask object levels code = Chains object code
+Serves GetTaskID object levels code = TellsTask code
+Serves GetResource object levels code = Takes object (slice_index levels.ceiling object) code
+Serves ReleaseResource object levels code = Releases object code
+Serves service object levels code = ⊥

@@ -6,3 +6,4 @@ pub mod Back
 pub mod GetTaskID
 pub mod ReleaseResource
 pub mod ChainTask
+pub mod GetResource

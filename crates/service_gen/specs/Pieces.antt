@@ -1,7 +1,7 @@
 -- Pieces of code that several services have.
 use Rattle.std.specs.Prelude.{ℕ, ◌+◌, ◌*◌, pos, negsuc, List, [], ◌∷◌}
 use Rattle.rv32_instr.specs.declared.InstrKind.{InstrKind}
-use Rattle.rv32_instr.specs.declared.InstrKind.TheVariants.{Beq, Lui, Lw, Lbu, Sw, Sb, Add, Addi, Or, Xori, Slli, Csrrs, Csrrw, Mret}
+use Rattle.rv32_instr.specs.declared.InstrKind.TheVariants.{Beq, Bgeu, Lui, Lw, Lbu, Sw, Sb, Add, Addi, Or, Xori, Slli, Csrrs, Csrrw, Mret}
 
 -- the end of the running task: its pending byte, its Active word and its events become 0; x4 holds 0x80000000
 abbrev pub ends : List InstrKind
@@ -34,3 +34,12 @@ asks task = Lw 3 4 (pos 0) ∷ Addi 1 0 (pos (task + 1)) ∷ Beq 3 1 (pos 56) �
 -- it goes on behind the refusal where the task is Suspended; the status is E_OS_LIMIT (4)
 abbrev pub refuses : List InstrKind
 refuses = Beq 3 0 (pos 24) ∷ Addi 10 0 (pos 4) ∷ []
+
+-- saves the level that runs for a resource, and leaves the greater of it and the ceiling in x3
+abbrev pub takes : ℕ → ℕ → List InstrKind
+takes resource ceiling =
+    Csrrs 3 0 0x7C0 ∷ Sw 4 3 (pos (752 + 4 * resource)) ∷ Addi 1 0 (pos ceiling) ∷ Bgeu 3 1 (pos 8) ∷ Addi 3 1 (pos 0) ∷ []
+
+-- back to the caller, at the level in x3, with the status E_OK (0)
+abbrev pub goes_on_at : List InstrKind
+goes_on_at = Csrrw 0 3 0x7C1 ∷ Csrrw 0 31 0x341 ∷ Addi 10 0 (pos 0) ∷ Mret ∷ []

@@ -6,6 +6,7 @@ ghost use Rattle.service_gen.specs.Block.{opening, code_of, HasBlock, Serves};
 
 mod activate_task;
 mod chain_task;
+mod get_resource;
 mod get_task_id;
 mod pieces;
 mod release_resource;
@@ -34,11 +35,11 @@ pub fn block(
     requires { HasBlock service object }
     ensures at { IfOk result (λ block. block.at ≡ slice_index map.now.places.blocks (code_of service * 40 + object)) }
     ensures marks { IfOk result (λ block. block.marks ≡ opening block.at (code_of service) ∷ []) }
-    ensures effect { IfOk result (λ block. Serves service object block.code) }
+    ensures effect { IfOk result (λ block. Serves service object levels.now block.code) }
 {
     let number = number_of(service);
     let at = map.places.blocks[number as usize * 40 + small(service, object) as usize];
-    let code = code(alloc, service, small(service, object))?;
+    let code = code(alloc, service, small(service, object), levels)?;
     let mark = Mark {
         address: at,
         kind: MarkKind::Opening,
@@ -86,21 +87,30 @@ fn small(service: Service, object: u32) -> u8
         Service::TerminateTask => object as u8,
         Service::ChainTask => object as u8,
         Service::GetTaskID => object as u8,
+        Service::GetResource => object as u8,
         Service::ReleaseResource => object as u8,
         _ => unreachable!(),
     }
 }
 
 /// The instructions.
-fn code(alloc: Global, service: Service, object: u8) -> Result<Vec<Instr>, AllocError>
+fn code(
+    alloc: Global,
+    service: Service,
+    object: u8,
+    levels: &Levels,
+) -> Result<Vec<Instr>, AllocError>
     requires { HasBlock service object }
-    ensures { IfOk result (λ code. Serves service object code.items) }
+    ensures { IfOk result (λ code. Serves service object levels.now code.items) }
 {
     match service {
         Service::ActivateTask => activate_task::code(alloc, object),
         Service::TerminateTask => terminate_task::code(alloc),
         Service::ChainTask => chain_task::code(alloc, object),
         Service::GetTaskID => get_task_id::code(alloc),
+        Service::GetResource => {
+            get_resource::code(alloc, object, levels.ceiling[object as usize])
+        }
         Service::ReleaseResource => release_resource::code(alloc, object),
         _ => unreachable!(),
     }
