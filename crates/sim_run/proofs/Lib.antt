@@ -20,3 +20,4 @@ pub mod Simulated
 pub mod Routes
 pub mod Passing
 pub mod Invariants
+pub mod Stretched

@@ -14,9 +14,11 @@ use Rattle.osek_machine.specs.Priority.{IsTop, IsDue, rank, is_in, is_active, cu
 use Rattle.osek_machine.specs.Services.{if_suspended, activated}
 use Rattle.osek_machine.specs.Steps.{OsekStep, admitted}
 use Rattle.osek_machine.specs.Runs.{Leads, ReadySince, PassesOver}
-use Rattle.sim_run.specs.Admits.{with_admits, AllBelow, admit_event}
+use Rattle.rv32_routine.specs.Trace.{Trace, early}
+use Rattle.sim_run.specs.Admits.{with_admits, AllBelow, admit_event, before_event}
 use Rattle.sim_run.proofs.Follow.{leads-append, booted_admitted}
-use Rattle.sim_run.proofs.Events.{EachArrival, IsFrom}
+use Rattle.sim_run.proofs.Events.{EachArrival, IsFrom, before_within}
+use Rattle.sim_run.proofs.Traces.{lines_before}
 
 is_suspended : (t : TaskState) → (t ≡ mode.Suspended) ⊎ (t ≡ mode.Suspended → ⊥)
 is_suspended mode.Suspended = inl refl
@@ -182,3 +184,12 @@ passes_over c app past k to t a s h b l m top active u declared ready above =
     let y = same_rank c s z t (kept_admits (map (λ x. x.line) a) t s (not_suspended (task s t).state active)) in
     omega arith)
     ready
+
+pub passes_inner : (c : Config) (app : App) (past : List Stamped) (k t : ℕ) (s : System) (trace : Trace) → Leads c app past (opening c app) s → s.booted ≡ true
+    → AllBelow (length c.tasks) (early trace) → IsTop c s [] t → (task s t).state ≡ mode.Active
+    → PassesOver c app (past ++ map admit_event (before_event (k + 1) trace)) (with_admits (early trace) s) t k
+passes_inner c app past k t s trace h b l top active =
+    let e = lines_before (k + 1) trace in
+    subst (λ lines. PassesOver c app (past ++ map admit_event (before_event (k + 1) trace)) (with_admits lines s) t k) e
+    (passes_over c app past k (k + 1 + length trace) t (before_event (k + 1) trace) s h b (subst (AllBelow (length c.tasks)) (sym e) l)
+    (before_within (k + 1) (k + 1 + length trace) (k + 1) trace (omega arith) (omega arith)) top active)
