@@ -15,6 +15,8 @@ mod oil_model_tests;
 #[cfg(test)]
 mod oil_parse_tests;
 #[cfg(test)]
+mod prologue_gen_tests;
+#[cfg(test)]
 mod rv32_instr_tests;
 #[cfg(test)]
 mod rv32_machine_tests;
@@ -23,4 +25,8 @@ mod sloth_io_tests;
 #[cfg(test)]
 mod sloth_refusal_tests;
 #[cfg(test)]
+mod small_kernel;
+#[cfg(test)]
 mod trace_text_tests;
+#[cfg(test)]
+mod vector_gen_tests;

@@ -1,4 +1,4 @@
-use Rattle.std.proofs.Common.{◌≡◌, [], length}
+use Rattle.std.proofs.Common.{◌≡◌, []}
 use Rattle.observe.specs.Progress.{expected_of, remaining}
 use Rattle.sloth_tests.proofs.observe_tests.events_of.Given as goal
 
