@@ -1,0 +1,2 @@
+pub mod EndRam
+pub mod Terminate
