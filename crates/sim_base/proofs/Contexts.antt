@@ -1,12 +1,11 @@
 -- What a task's context, and the chain of contexts, say stands as long as their bytes stay.
-use Rattle.std.proofs.Common.{◌≡◌, ℕ, ◌+◌, ◌*◌, ◌<◌, ◌≤◌, List, [], ◌∷◌, refl, sym, ap, ◌∙◌, subst, arith}
-use Rattle.rv32_instr.specs.Ram.{word_at}
+use Rattle.std.proofs.Common.{◌≡◌, ℕ, ◌+◌, ◌*◌, ◌≤◌, List, [], ◌∷◌, refl, sym, ap, ◌∙◌, subst, arith}
 use Rattle.osek_machine.specs.State.{Task, System, task, declaration}
 use Rattle.osek_machine.specs.Priority.{current_priority}
 use Rattle.sim_run.specs.Mirror.{level_of}
 use Rattle.sim_base.specs.Build.{Build}
 use Rattle.sim_base.specs.Position.{Thread, thread_at}
-use Rattle.sim_base.specs.Context.{Context, Saved, SavedIdle, Chain}
+use Rattle.sim_base.specs.Context.{Context, Saved, Chain}
 use Rattle.sim_base.specs.DataStands.{DataStands}
 use Rattle.sim_base.specs.Framing.{Agree, SameThread, SamePart, Each}
 use Rattle.sim_base.proofs.Framing.{word_kept, position_kept, position_below}

@@ -1,5 +1,5 @@
 -- What a task's position and its frames say stands as long as its bytes stay.
-use Rattle.std.proofs.Common.{◌≡◌, ℕ, ◌+◌, ◌*◌, ◌<◌, ◌≤◌, List, [], ◌∷◌, length, refl, sym, ap, ◌∙◌, subst, arith, ⊎_elim, inl, inr, Bool}
+use Rattle.std.proofs.Common.{◌≡◌, ℕ, ◌+◌, ◌*◌, ◌≤◌, List, [], ◌∷◌, length, refl, sym, ◌∙◌, subst, arith, ⊎_elim, inl, inr, Bool}
 use Rattle.std.specs.Prelude.{◌⊎◌}
 use Rattle.sloth_base.specs.declared.app.Op.{Op}
 use Rattle.sloth_base.specs.declared.app.Op.TheVariants as op
@@ -8,7 +8,7 @@ use Rattle.rv32_routine.proofs.Words.{word_at-agree}
 use Rattle.rv32_expand.specs.Expansion.{item_address, operation}
 use Rattle.osek_machine.specs.State.{Frame, Task, function}
 use Rattle.sim_base.specs.Build.{Build}
-use Rattle.sim_base.specs.Position.{Thread, AreWords, OuterAt, FramesAt, HasIndexed, HasTarget, HasMask, HasScratch, InExpansion, AtBlock, Standing, Owing, Calling, Returning, Position}
+use Rattle.sim_base.specs.Position.{Thread, AreWords, OuterAt, FramesAt, HasIndexed, HasTarget, HasScratch, InExpansion, AtBlock, Standing, Owing, Calling, Returning, Position}
 use Rattle.sim_base.specs.Framing.{Agree, SamePlace}
 
 pub word_kept : (old new : List ℕ) (from to place : ℕ) → Agree old new from to → from ≤ place → place + 4 ≤ to → word_at new place ≡ word_at old place
@@ -97,7 +97,7 @@ module _ (old new : Thread) (e : SamePlace old new) where
 -- ---- positions
 
 -- how a position is by cases
-position_elim : (b : Build) (ram : List ℕ) (t : ℕ) (own : Task) (frame : Frame) (outer : List Frame) (th : Thread) (place : ℕ) (P : Type 0)
+pub position_elim : (b : Build) (ram : List ℕ) (t : ℕ) (own : Task) (frame : Frame) (outer : List Frame) (th : Thread) (place : ℕ) (P : Type 0)
     → (Standing b ram (b.top t) own frame outer th place → P) → (Owing b ram t own frame outer th place → P)
     → (Calling b ram (b.top t) own frame outer th place → P) → (Returning b ram (b.top t) own frame outer th place → P)
     → Standing b ram (b.top t) own frame outer th place

@@ -1,6 +1,6 @@
 -- Going back to the task below, or to the idle loop.
-use Rattle.std.proofs.Common.{◌≡◌, ℕ, ◌+◌, ◌*◌, ◌<◌, ◌≤◌, List, [], ◌∷◌, length, refl, sym, ap, ◌∙◌, subst, arith, ⊎_elim, true, eqb}
-use Rattle.std.specs.Prelude.{◌⊎◌, ◌≢◌, slice_index}
+use Rattle.std.proofs.Common.{◌≡◌, ℕ, ◌+◌, ◌<◌, List, [], ◌∷◌, length, sym, ap, ◌∙◌, subst, arith, ⊎_elim, true, eqb}
+use Rattle.std.specs.Prelude.{◌≢◌}
 use Rattle.std.proofs.lemmas.Bool.{or_cases, eqb-true}
 use Rattle.sloth_base.specs.Machine.{State}
 use Rattle.rv32_instr.specs.Ram.{word_at}

@@ -10,3 +10,7 @@ pub mod Leave
 pub mod Undisturbed
 pub mod TaskMoves
 pub mod TaskSteps
+pub mod Below
+pub mod Spot
+pub mod Fresh
+pub mod Entering

@@ -1,22 +1,20 @@
 -- What depends on one task alone.
-use Rattle.std.proofs.Common.{◌≡◌, ℕ, ◌+◌, ◌*◌, ◌%◌, ◌<◌, ◌≤◌, List, [], ◌∷◌, length, set, refl, sym, ap, ◌∙◌, subst, arith, ⊎_elim, inl, inr, Bool, true, false, max, eqb}
+use Rattle.std.proofs.Common.{◌≡◌, ℕ, ◌+◌, ◌*◌, ◌%◌, ◌<◌, List, [], ◌∷◌, length, refl, sym, ap, ◌∙◌, subst, arith, ⊎_elim, inl, inr, Bool, true, false, max}
 use Rattle.std.specs.Prelude.{◌⊎◌, ◌≢◌, slice_index}
-use Rattle.std.proofs.lemmas.Bool.{cases_eq, cases_order, or_left, or_right, eq-eqb}
+use Rattle.std.proofs.lemmas.Bool.{cases_eq, cases_order}
 use Rattle.std.proofs.lemmas.List.{get_or-set_same, get_or-set_other}
 use Rattle.sloth_base.specs.Machine.{State}
 use Rattle.sloth_region.specs.Layout.{active, events, wait, resume, saved}
 use Rattle.rv32_instr.specs.Ram.{word_at, with_word}
 use Rattle.rv32_routine.proofs.Words.{word_at-other}
-use Rattle.osek_machine.specs.declared.state.TaskState.{TaskState}
-use Rattle.osek_machine.specs.declared.state.TaskState.TheVariants as mode
 use Rattle.osek_machine.specs.State.{Frame, Task, System, sleeping, task, with_task, declaration}
 use Rattle.osek_machine.specs.Priority.{is_in, is_active, ceiling, current_priority}
-use Rattle.sim_run.specs.Mirror.{priority_of, level_of}
+use Rattle.sim_run.specs.Mirror.{level_of}
 use Rattle.sim_base.specs.Build.{Build}
-use Rattle.sim_base.specs.Position.{thread_of, FramesAt}
+use Rattle.sim_base.specs.Position.{thread_of}
 use Rattle.sim_base.specs.Context.{Running, Rested, Resumes}
 use Rattle.sim_base.specs.ServiceWords.{ServiceWords, HeldWords, IsWaitWord, base_priority}
-use Rattle.sim_base.specs.Stands.{IsActive, Falling, IsAlive}
+use Rattle.sim_base.specs.Stands.{IsActive, Falling}
 use Rattle.sim_base.specs.Framing.{Agree, SamePart, Each}
 use Rattle.sim_base.proofs.Framing.{word_kept, frames_kept, frames_below}
 use Rattle.sim_base.proofs.Contexts.{context_same, chain_kept}
@@ -111,22 +109,22 @@ rested_kept b old new t own frame outer place e a k =
     }
 
 pub resumes_kept : (b : Build) (old new : List ℕ) (t : ℕ) (own : Task) (a : Bool) (frames : List Frame)
-    → word_at new (resume t) ≡ word_at old (resume t) → (frames ≢ [] → Agree old new (b.low t) (b.top t)) → Resumes b old t own a frames → Resumes b new t own a frames
+    → word_at new (resume t) ≡ word_at old (resume t) → (a ≡ false → frames ≢ [] → Agree old new (b.low t) (b.top t)) → Resumes b old t own a frames → Resumes b new t own a frames
 resumes_kept b old new t own true frames e g h = e ∙ h
 resumes_kept b old new t own false [] e g h = e ∙ h
-resumes_kept b old new t own false (frame ∷ outer) e g h = (h.0, rested_kept b old new t own frame outer h.0 e (g (λ x. cc)) h.1)
+resumes_kept b old new t own false (frame ∷ outer) e g h = (h.0, rested_kept b old new t own frame outer h.0 e (g refl (λ x. cc)) h.1)
 
--- the service words of a task, where they stay, and its stack where there is something on it
+-- the service words of a task, where they stay, and its stack where it is to go on from a wait
 pub service_kept : (b : Build) (old new : List ℕ) (t : ℕ) (own : Task)
     → word_at new (active t) ≡ word_at old (active t) → word_at new (events t) ≡ word_at old (events t) → word_at new (wait t) ≡ word_at old (wait t)
     → word_at new (resume t) ≡ word_at old (resume t)
     → ((r : ℕ) → is_in r own.held ≡ true → word_at new (saved r) ≡ word_at old (saved r))
-    → (IsAlive own → Agree old new (b.low t) (b.top t)) → ServiceWords b old t own → ServiceWords b new t own
+    → (is_active own.state ≡ false → own.frames ≢ [] → Agree old new (b.low t) (b.top t)) → ServiceWords b old t own → ServiceWords b new t own
 service_kept b old new t own ea ee ew er eh g k = record {
   activity = ea ∙ k.activity;
   event_mask = ee ∙ k.event_mask;
   wait_mask = subst (IsWaitWord own.state) (sym ew) k.wait_mask;
-  resumption = resumes_kept b old new t own (is_active own.state) own.frames er (λ n. g (inr n)) k.resumption;
+  resumption = resumes_kept b old new t own (is_active own.state) own.frames er g k.resumption;
   held = held_kept b old new (base_priority b t own) own.held eh k.held;
 }
 

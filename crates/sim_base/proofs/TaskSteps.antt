@@ -1,12 +1,11 @@
 -- A step of the running task that changes only its own stack and the data is a move.
-use Rattle.std.proofs.Common.{◌≡◌, ℕ, ◌+◌, ◌*◌, ◌<◌, ◌≤◌, List, [], ◌∷◌, length, refl, sym, ap, ◌∙◌, subst, arith, Bool, true, false, cond, max, leb}
-use Rattle.std.specs.Prelude.{◌⊎◌, ◌≢◌, map}
+use Rattle.std.proofs.Common.{inr, ◌≡◌, ℕ, ◌+◌, ◌<◌, ◌≤◌, List, ◌∷◌, length, sym, ap, ◌∙◌, subst, arith, Bool, true, false, cond, max}
+use Rattle.std.specs.Prelude.{◌≢◌, map}
 use Rattle.sloth_base.specs.Machine.{State}
 use Rattle.sloth_base.specs.declared.config.Config.{Config}
 use Rattle.sloth_base.specs.declared.config.TaskDecl.{TaskDecl}
 use Rattle.sloth_region.specs.Layout.{active, events, wait, resume, saved}
 use Rattle.rv32_instr.specs.Ram.{word_at}
-use Rattle.osek_machine.specs.declared.state.TaskState.TheVariants as mode
 use Rattle.osek_machine.specs.State.{Frame, Task, System, task, declaration}
 use Rattle.osek_machine.specs.Priority.{is_in, is_active, highest, ceiling, greatest, current_priority}
 use Rattle.sim_run.specs.Mirror.{level_of}
@@ -74,7 +73,7 @@ module _ (b : Build) (old now : State) (s : System) (k : Stands b old s) (fits :
       let f = fits.few_tasks in
       service_kept b old.core.ram now.core.ram u (task s u)
       (low_word (active u) (omega arith)) (low_word (events u) (omega arith)) (low_word (wait u) (omega arith)) (low_word (resume u) (omega arith))
-      (held_word u h) (λ a. step.others u h m a) (k.words u h)
+      (held_word u h) (λ a f. step.others u h m (inr f)) (k.words u h)
 
   tidy : TidyTask own
   tidy = record {

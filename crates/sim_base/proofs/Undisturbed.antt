@@ -1,6 +1,5 @@
 -- Where no line is taken, what runs goes on.
-use Rattle.std.proofs.Common.{◌≡◌, ℕ, ◌<◌, ◌≤◌, List, [], ◌∷◌, length, refl, subst, Option, None}
-use Rattle.std.specs.Prelude.{◌⊎◌}
+use Rattle.std.proofs.Common.{◌≡◌, ℕ, ◌<◌, ◌≤◌, List, [], ◌∷◌, length, refl, subst, None}
 use Rattle.sloth_base.specs.Machine.{State}
 use Rattle.sloth_base.specs.Choose.{choose}
 use Rattle.osek_machine.specs.declared.state.TaskState.TheVariants as mode

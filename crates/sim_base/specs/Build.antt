@@ -3,6 +3,8 @@ use Rattle.std.specs.Prelude.{ℕ, ◌+◌, ◌*◌, ◌%◌, ◌<◌, ◌≤◌
 use Rattle.sloth_base.specs.declared.config.Config.{Config}
 use Rattle.sloth_base.specs.declared.app.App.{App}
 use Rattle.sloth_base.specs.declared.places.Places.{Places}
+use Rattle.sloth_base.specs.declared.service.Service.{Service}
+use Rattle.rv32_expand.specs.Expansion.{item_address, block_address}
 use Rattle.osek_machine.specs.State.{declaration, function, body_of}
 use Rattle.osek_machine.specs.Priority.{highest}
 use Rattle.sim_run.specs.Mirror.{level_of}
@@ -34,6 +36,10 @@ pub record Fits (b : Build) : Type 0 where
   pub few_tasks : length b.config.tasks ≤ 30
   pub ordered : (1024 ≤ b.data_from) × (b.data_from ≤ b.stacks_from) × (b.stacks_from ≤ 0x20_0000)
   pub idle_address : (b.idle < 4294967296) × (b.idle % 4 ≡ 0)
+  -- instructions stand at multiples of 4
+  pub items : (func index : ℕ) → item_address b.places func index % 4 ≡ 0
+  pub blocks : (s : Service) (object : ℕ) → block_address b.places s object % 4 ≡ 0
+  pub back_address : b.back % 4 ≡ 0
   -- each task's part lies in the stacks, and has room for its first frame and a context
   pub from : (t : ℕ) → t < length b.config.tasks → b.stacks_from ≤ b.low t
   pub to : (t : ℕ) → t < length b.config.tasks → (b.top t ≤ 0x20_0000) × (b.top t % 4 ≡ 0)

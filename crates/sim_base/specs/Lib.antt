@@ -6,4 +6,5 @@ pub mod DataStands
 pub mod Stands
 pub mod Framing
 pub mod Moves
+pub mod Entry
 pub mod Laws
