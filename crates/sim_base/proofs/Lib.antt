@@ -14,3 +14,5 @@ pub mod Below
 pub mod Spot
 pub mod Fresh
 pub mod Entering
+pub mod Leaving
+pub mod First
