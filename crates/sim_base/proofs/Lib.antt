@@ -16,3 +16,4 @@ pub mod Fresh
 pub mod Entering
 pub mod Leaving
 pub mod First
+pub mod Starting

@@ -14,6 +14,7 @@ use Rattle.sim_base.specs.Build.{Build, Fits}
 use Rattle.sim_base.specs.Stands.{Stands}
 use Rattle.sim_base.specs.Moves.{moved_to, TaskStep, TaskMove, TaskLeave}
 use Rattle.sim_base.specs.Entry.{TaskEntry}
+use Rattle.sim_base.specs.Start.{Starts, started}
 
 -- where the relation stands, the interrupt controller mirrors the abstract scheduler
 abbrev pub MirrorOfStands : Type 0
@@ -62,3 +63,7 @@ EntriesKeep = (b : Build) (old now : State) (s : System) (t : ℕ) (own : Task) 
 abbrev pub BelowIsFound : Type 0
 BelowIsFound = (b : Build) (state : State) (s : System) (t : ℕ) → Fits b → Stands b state s → Runs b.config s t
     → (place : ℕ) × IsBelow place state.core
+
+-- it stands where boot has started the system
+abbrev pub StartsStand : Type 0
+StartsStand = (b : Build) (state : State) → Fits b → Starts b state → Stands b state (started b)

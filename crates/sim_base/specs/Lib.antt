@@ -7,4 +7,5 @@ pub mod Stands
 pub mod Framing
 pub mod Moves
 pub mod Entry
+pub mod Start
 pub mod Laws

@@ -1,7 +1,7 @@
 //! The relation of the simulation, between states of the machine and of the abstract scheduler, and its laws.
 #![tactic(auto)]
 
-ghost use Rattle.sim_base.specs.Laws.{MirrorOfStands, ArrivalsAreAdmits, TakenIsTop, NoneTaken, StepsKeep, MovesKeep, LeavesKeep, EntriesKeep, BelowIsFound};
+ghost use Rattle.sim_base.specs.Laws.{MirrorOfStands, ArrivalsAreAdmits, TakenIsTop, NoneTaken, StepsKeep, MovesKeep, LeavesKeep, EntriesKeep, BelowIsFound, StartsStand};
 
 /// Where the relation stands, the interrupt controller mirrors the abstract scheduler.
 pub fn mirror_of_stands()
@@ -46,4 +46,9 @@ pub fn entries_keep()
 /// The context of what runs below the running task is where a routine looks for it.
 pub fn below_is_found()
     ensures { BelowIsFound }
+{}
+
+/// The relation stands where boot has started the system.
+pub fn starts_stand()
+    ensures { StartsStand }
 {}
