@@ -1,0 +1,202 @@
+-- The law of the entry of a task that starts anew.
+use Rattle.std.proofs.Common.{◌≡◌, ℕ, ◌+◌, ◌-◌, ◌*◌, ◌%◌, ◌<◌, ◌≤◌, List, [], ◌∷◌, ◌++◌, length, refl, sym, ap, ◌∙◌, subst, arith, ⊎_elim, inl, inr, Some}
+use Rattle.std.specs.Prelude.{◌⊎◌, slice_index, replicate}
+use Rattle.std.proofs.lemmas.List.{length-replicate}
+use Rattle.sloth_base.specs.declared.app.App.{App}
+use Rattle.sloth_base.specs.declared.app.Op.{Op}
+use Rattle.sloth_base.specs.declared.app.Op.TheVariants as op
+use Rattle.sloth_base.specs.declared.event.Event.TheVariants as event
+use Rattle.sloth_base.specs.declared.places.Places.{Places}
+use Rattle.sloth_base.specs.Machine.{State}
+use Rattle.sloth_base.specs.Choose.{choose}
+use Rattle.rv32_instr.specs.declared.InstrKind.{InstrKind}
+use Rattle.rv32_instr.specs.Ram.{word_at}
+use Rattle.rv32_routine.specs.Pieces.{registers_from}
+use Rattle.rv32_routine.proofs.Words.{word_below}
+use Rattle.rv32_expand.specs.Expansion.{mask_of, expanded, operation}
+use Rattle.osek_machine.specs.declared.state.TaskState.TheVariants as mode
+use Rattle.osek_machine.specs.State.{Task, System, task, with_task, declaration, function, body_of, entry_frame, zero_registers}
+use Rattle.osek_machine.specs.Priority.{is_active}
+use Rattle.osek_machine.specs.Services.{starts, entered}
+use Rattle.osek_machine.specs.Steps.{OsekStep, settled}
+use Rattle.sim_base.specs.Build.{Build, Fits, start_level}
+use Rattle.sim_base.specs.Position.{AreWords, thread_of}
+use Rattle.sim_base.specs.Context.{Context}
+use Rattle.sim_base.specs.Stands.{Stands}
+use Rattle.sim_base.proofs.Framing.{scratch_first}
+use Rattle.sim_base.proofs.Parts.{rests}
+use Rattle.sim_base.proofs.Tops.{falling_active}
+use Rattle.sim_base.proofs.Choice.{taken_declared, taken_ready, taken_top}
+use Rattle.sim_entries.specs.Range.{Sane}
+use Rattle.sim_entries.specs.Entries.{HasEntered, EndsEntry, EntersAnew, StandsAlone, context_words, first_words}
+use Rattle.sim_entries.proofs.Spot.{registers_small, zeros_small, zero_at, words_small, Spot, spot, first_in}
+use Rattle.sim_entries.proofs.EntryRam as ram
+use Rattle.sim_entries.proofs.Entry.{entry_stands}
+
+one_more : (code : List InstrKind) (last : InstrKind) → 0 < length (code ++ last ∷ [])
+one_more [] last = omega arith
+one_more (kind ∷ code) last = omega arith
+
+-- each item has an instruction
+pub expanded_some : (app : App) (places : Places) (func address : ℕ) (i : Op) → 0 < length (expanded app places func address i)
+expanded_some app places func address (op.Alu kind rd rs1 rs2) = omega arith
+expanded_some app places func address (op.AluImm kind rd rs1 number) = omega arith
+expanded_some app places func address (op.Lui rd number) = omega arith
+expanded_some app places func address (op.Li rd value) = omega arith
+expanded_some app places func address (op.FrameLoad rd word) = omega arith
+expanded_some app places func address (op.FrameStore rs word) = omega arith
+expanded_some app places func address (op.Load w rd symbol offset) = omega arith
+expanded_some app places func address (op.Store w rs symbol offset) = omega arith
+expanded_some app places func address (op.LoadAt w rd symbol index mask) = omega arith
+expanded_some app places func address (op.StoreAt w rs symbol index mask) = omega arith
+expanded_some app places func address (op.Branch kind rs1 rs2 label) = omega arith
+expanded_some app places func address (op.Jump label) = omega arith
+expanded_some app places func address (op.Invoke callee) = omega arith
+expanded_some app places func address op.Return = omega arith
+expanded_some app places func address (op.Serve call) = one_more (mask_of call.service call.mask) _
+
+module _ (b : Build) (state end : State) (s : System) (t place : ℕ) (fits : Fits b) (k : Stands b state s) (sane : Sane state)
+    (e : choose state.core ≡ Some t) (fresh : (task s t).frames ≡ []) (has_item : 0 < length (function b.app (body_of b.app.funcs t)).items) (alone : StandsAlone b s t)
+    (x2 : slice_index state.core.registers 2 ≡ 0x8000_0000 + (place + 128)) (effect : EntersAnew b t place state end) where
+  few : length b.config.tasks ≤ 32
+  few = let f = fits.few_tasks in omega arith
+
+  declared : t < length b.config.tasks
+  declared = taken_declared b state s k few t e
+
+  ready : (task s t).state ≡ mode.Ready
+  ready = taken_ready b state s k few t e
+
+  abbrev words : ℕ
+  words = first_words b t
+
+  abbrev frame : ℕ
+  frame = b.top t - 4 * words
+
+  abbrev own : Task
+  own = record (task s t) { state = mode.Active; registers = zero_registers; frames = entry_frame b.app (body_of b.app.funcs t) ∷ []; raised = (declaration b.config t).non }
+
+  is_next : settled (with_task s t own) ≡ settled (entered b.config b.app t s)
+  is_next = sym (ap (λ fs. settled (with_task s t (record (starts b.app t fs (task s t)) { state = mode.Active; raised = (declaration b.config t).non }))) fresh)
+
+  sp : Spot b s k.stack place
+  sp = spot b state s k.stack place fits k.apart k.active.falling x2 k.running
+
+  -- ---- the RAM
+  abbrev old : List ℕ
+  old = state.core.ram
+
+  abbrev four : List ℕ
+  four = context_words state.pc state.core.ilevel (word_at old 0) (word_at old 628)
+
+  abbrev rest : List ℕ
+  rest = registers_from 27 5 state.core.registers
+
+  abbrev zeros : List ℕ
+  zeros = replicate words 0
+
+  zeros_long : length zeros ≡ words
+  zeros_long = length-replicate words 0
+
+  few30 : t < 30
+  few30 = let g = fits.few_tasks in let l = declared in omega arith
+
+  frame_room : (b.low t + 128 ≤ frame) × (frame + 4 * length zeros ≡ b.top t) × (b.top t ≤ 2097152) × (1024 ≤ frame) × (frame % 4 ≡ 0)
+  frame_room =
+      let g = fits.room t declared in let y = fits.from t declared in let z = fits.to t declared in let v = fits.ordered in let n = zeros_long in
+      (omega arith, omega arith, omega arith, omega arith, omega arith)
+
+  -- the context is stored apart from the frame
+  apart_frame : (place + 128 ≤ frame) ⊎ (frame + 4 * length zeros ≤ place)
+  apart_frame =
+      let g = frame_room in
+      ⊎_elim (λ (a : b.top t ≤ place). inr (omega arith)) (λ (a : place + 128 ≤ b.low t). inl (omega arith))
+      (sp.alone t declared (λ v h.
+      let c = falling_active b s k.stack k.active.falling v (first_in k.stack v h) in
+      alone v c.declared (λ z. let r = ready in let d : (task s t).state ≡ mode.Active = subst (λ x. (task s x).state ≡ mode.Active) z c.active in cc) (inl c.active)))
+
+  small_four : (j : ℕ) → slice_index four j < 4294967296
+  small_four = words_small state.pc state.core.ilevel (word_at old 0) (word_at old 628) sane.pc (let i = sane.level in omega arith) (word_below old 0 sane.bytes) (word_below old 628 sane.bytes)
+
+  small_rest : (j : ℕ) → slice_index rest j < 4294967296
+  small_rest = registers_small 27 5 state.core.registers sane.registers
+
+  frame_inside : frame + 4 * length zeros ≤ 2097152
+  frame_inside = let g = frame_room in omega arith
+
+  abbrev new : List ℕ
+  new = ram.new old four rest zeros place t frame k.fixed.ram refl refl few30 sp.behind sp.aligned sp.inside frame_room.3 frame_inside apart_frame small_four small_rest (zeros_small words)
+
+  ram_is : end.core.ram ≡ new
+  ram_is = effect.ram
+
+  entered_new : HasEntered b old new four rest place t
+  entered_new =
+      let g = frame_room in
+      let d = few30 in
+      record {
+        size = ram.long_new old four rest zeros place t frame k.fixed.ram refl refl few30 sp.behind sp.aligned sp.inside frame_room.3 frame_inside apart_frame small_four small_rest (zeros_small words);
+        outside = λ i h x y. ram.outside old four rest zeros place t frame k.fixed.ram refl refl few30 sp.behind sp.aligned sp.inside frame_room.3 frame_inside apart_frame small_four small_rest (zeros_small words) i h x
+            (⊎_elim (λ (z : i < b.low t). inl (omega arith)) (λ (z : b.top t ≤ i). inr (omega arith)) y);
+        word = ram.word_is old four rest zeros place t frame k.fixed.ram refl refl few30 sp.behind sp.aligned sp.inside frame_room.3 frame_inside apart_frame small_four small_rest (zeros_small words);
+        register = ram.register_is old four rest zeros place t frame k.fixed.ram refl refl few30 sp.behind sp.aligned sp.inside frame_room.3 frame_inside apart_frame small_four small_rest (zeros_small words);
+        named = λ p h a n0 n1 n2 n3. ram.named old four rest zeros place t frame k.fixed.ram refl refl few30 sp.behind sp.aligned sp.inside frame_room.3 frame_inside apart_frame small_four small_rest (zeros_small words) p h a n0 n1 n2;
+        current = ram.current_is old four rest zeros place t frame k.fixed.ram refl refl few30 sp.behind sp.aligned sp.inside frame_room.3 frame_inside apart_frame small_four small_rest (zeros_small words);
+        link = ram.link_is old four rest zeros place t frame k.fixed.ram refl refl few30 sp.behind sp.aligned sp.inside frame_room.3 frame_inside apart_frame small_four small_rest (zeros_small words);
+        activity = ram.activity_is old four rest zeros place t frame k.fixed.ram refl refl few30 sp.behind sp.aligned sp.inside frame_room.3 frame_inside apart_frame small_four small_rest (zeros_small words);
+        resumption =
+            ram.named old four rest zeros place t frame k.fixed.ram refl refl few30 sp.behind sp.aligned sp.inside frame_room.3 frame_inside apart_frame small_four small_rest (zeros_small words)
+            (632 + 4 * t) (omega arith) (omega arith) (λ a. omega arith) (λ a. omega arith) (λ a. omega arith)
+            ∙ rests b old t (task s t) (is_active (task s t).state) (task s t).frames fresh (k.words t declared).resumption;
+      }
+
+  ends : EndsEntry t (start_level b t) state end
+  ends = record {
+    registers = effect.registers;
+    zero = effect.zero;
+    runs_at = effect.running;
+    open_to_lines = effect.opened;
+    previous = effect.previous;
+    pending = effect.pending;
+    enabled = effect.enabled;
+    levels = effect.levels;
+    controller = effect.controller;
+  }
+
+  context : Context b end.core.ram t own (thread_of end) frame
+  context = record {
+    x2 = effect.x2;
+    registers = λ i l. zero_at 25 i ∙ sym (effect.zeros (i + 5) (omega arith) (omega arith));
+    position = record {
+      frame = entry_frame b.app (body_of b.app.funcs t);
+      outer = [];
+      frames = refl;
+      inside = has_item;
+      here = inl (record {
+        free = ((k.tidy.each t declared).at_rest (ap is_active ready)).1;
+        frames = (
+          zeros_long,
+          subst (λ x. AreWords x frame zeros) (sym ram_is)
+              (ram.frame_words old four rest zeros place t frame k.fixed.ram refl refl few30 sp.behind sp.aligned sp.inside frame_room.3 frame_inside apart_frame small_four small_rest (zeros_small words)),
+          frame_room.1,
+        );
+        here = inl (record {
+          done = 0;
+          within = expanded_some b.app b.places _ _ _;
+          pc = let p = effect.pc in omega arith;
+          scratch = scratch_first b zero_registers (entry_frame b.app (body_of b.app.funcs t)) (operation b.app (body_of b.app.funcs t) 0) (thread_of end);
+        });
+      });
+    };
+    room = frame_room.0;
+    aligned = frame_room.4;
+  }
+
+  stands : Stands b end (settled (with_task s t own))
+  stands =
+      entry_stands b state s k fits t e alone place x2 end own refl refl refl refl refl ends
+      (subst (λ x. HasEntered b old x four rest place t) (sym ram_is) entered_new) frame context
+
+  -- The entry is a step of the abstract machine, and the states stand.
+  pub enter_law : OsekStep b.config b.app (event.Enter t) s (settled (entered b.config b.app t s)) × Stands b end (settled (entered b.config b.app t s))
+  enter_law = ((k.tidy.booted, taken_top b state s k few t e, ready, refl), subst (λ x. Stands b end x) is_next stands)

@@ -1,0 +1,4 @@
+pub mod EntryRam
+pub mod Spot
+pub mod Entry
+pub mod Enter

@@ -1,0 +1,20 @@
+-- The laws of boot and of entries.
+use Rattle.std.specs.Prelude.{ℕ, ◌+◌, ◌<◌, ◌≡◌, [], length, Some, slice_index}
+use Rattle.sloth_base.specs.declared.event.Event.TheVariants as event
+use Rattle.sloth_base.specs.Machine.{State}
+use Rattle.sloth_base.specs.Choose.{choose}
+use Rattle.sloth_region.specs.Layout.{context_bytes}
+use Rattle.osek_machine.specs.State.{System, task, function, body_of}
+use Rattle.osek_machine.specs.Services.{entered}
+use Rattle.osek_machine.specs.Steps.{OsekStep, settled}
+use Rattle.sim_base.specs.Build.{Build, Fits}
+use Rattle.sim_base.specs.Stands.{Stands}
+use Rattle.sim_entries.specs.Range.{Sane}
+use Rattle.sim_entries.specs.Entries.{EntersAnew, StandsAlone}
+
+-- Where a task's line is the one taken and the task is to start anew, its prologue is the event Enter, whatever ran.
+abbrev pub EnterLaw : Type 0
+EnterLaw = (b : Build) (state end : State) (s : System) (t place : ℕ) → Fits b → Stands b state s → Sane state
+    → choose state.core ≡ Some t → (task s t).frames ≡ [] → 0 < length (function b.app (body_of b.app.funcs t)).items → StandsAlone b s t
+    → slice_index state.core.registers 2 ≡ 0x8000_0000 + (place + context_bytes) → EntersAnew b t place state end
+    → OsekStep b.config b.app (event.Enter t) s (settled (entered b.config b.app t s)) × Stands b end (settled (entered b.config b.app t s))
