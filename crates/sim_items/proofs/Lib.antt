@@ -1,0 +1,3 @@
+pub mod Values
+pub mod Expansions
+pub mod Computed
