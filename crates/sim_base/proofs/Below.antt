@@ -55,7 +55,6 @@ chain_starts b ram s (t ∷ below) place fits f k =
     let top = context_below b ram t (task s t) (thread_at ram place) (place + 128) k.0.context in
     let from = fits.from t h in
     let to = fits.to t h in
-    let o = fits.ordered in
     let n = fits.few_tasks in
     let l = k.0.level in
     let m = level_of-few b.config (priority_of b.config s t) in

@@ -1,5 +1,6 @@
 -- What a task's context, and the chain of contexts, say stands as long as their bytes stay.
-use Rattle.std.proofs.Common.{◌≡◌, ℕ, ◌+◌, ◌*◌, ◌≤◌, List, [], ◌∷◌, refl, sym, ap, ◌∙◌, subst, arith}
+use Rattle.std.specs.Prelude.{slice_index}
+use Rattle.std.proofs.Common.{true, ◌≡◌, ℕ, ◌+◌, ◌*◌, ◌≤◌, List, [], ◌∷◌, refl, sym, ap, ◌∙◌, subst, arith}
 use Rattle.osek_machine.specs.State.{Task, System, task, declaration}
 use Rattle.osek_machine.specs.Priority.{current_priority}
 use Rattle.sim_run.specs.Mirror.{level_of}
@@ -76,9 +77,6 @@ chain_kept b old new s next idle (t ∷ below) place e k =
       ),
     )
 
-pub data_kept : (b : Build) (old new : List ℕ) (symbols : List (List ℕ)) → Agree old new b.data_from b.stacks_from → DataStands b old symbols → DataStands b new symbols
-data_kept b old new symbols a d y k l =
-    let w = d y k l in
-    let f = w.from in
-    let h = w.to in
-    record { from = w.from; to = w.to; holds = a _ (omega arith) (omega arith) ∙ w.holds }
+pub data_kept : (b : Build) (old new : List ℕ) (symbols : List (List ℕ)) → ((i : ℕ) → b.is_data i ≡ true → slice_index new i ≡ slice_index old i)
+    → DataStands b old symbols → DataStands b new symbols
+data_kept b old new symbols a d y k l = let w = d y k l in record { from = w.from; is_data = w.is_data; holds = a _ w.is_data ∙ w.holds }

@@ -13,7 +13,7 @@ use Rattle.osek_machine.specs.State.{Task, System, task, with_task, declaration}
 use Rattle.osek_machine.specs.Priority.{is_in, is_active, highest, current_priority}
 use Rattle.osek_machine.specs.Steps.{settled}
 use Rattle.sim_run.specs.Mirror.{level_of}
-use Rattle.sim_base.specs.Build.{Build, Fits}
+use Rattle.sim_base.specs.Build.{Build, Fits, IsElsewhere}
 use Rattle.sim_base.specs.Position.{thread_of, thread_at}
 use Rattle.sim_base.specs.Context.{Context, Chain, Running, RunsTask}
 use Rattle.sim_base.specs.ServiceWords.{ServiceWords, HeldWords, IsWaitWord, active_word}
@@ -88,17 +88,13 @@ module _ (b : Build) (old now : State) (s : System) (k : Stands b old s) (fits :
   part : (u : ℕ) → u < length b.config.tasks → u ≢ t → IsAlive (task s u) → is_first k.stack u ≡ false → Agree old_ram new_ram (b.low u) (b.top u)
   part u l n a f i x h =
       let v = fits.from u l in
-      let w = fits.ordered in
       entry.ram.outside i (omega arith)
       (⊎_elim (λ (y : b.top u ≤ place). inl (omega arith)) (λ (y : place + 128 ≤ b.low u). inr (omega arith)) (place_is.apart u l a f))
       (⊎_elim (λ (y : b.top t ≤ b.low u). inr (omega arith)) (λ (y : b.top u ≤ b.low t). inl (omega arith)) (entry.apart u l n a))
 
   -- code and data
-  below_stacks : (i : ℕ) → 1024 ≤ i → i < b.stacks_from → slice_index new_ram i ≡ slice_index old_ram i
-  below_stacks i x h =
-      entry.ram.outside i (omega arith)
-      (⊎_elim (λ (a : place + 128 ≤ 1024). inr (omega arith)) (λ (a : b.stacks_from ≤ place). inl (omega arith)) place_is.clear)
-      (inl (let w = fits.from t declared in omega arith))
+  elsewhere_kept : (i : ℕ) → IsElsewhere b i → slice_index new_ram i ≡ slice_index old_ram i
+  elsewhere_kept i g = entry.ram.outside i (let w = fits.elsewhere i g in omega arith) (place_is.clear i g) (fits.outside t i declared g)
 
   -- ---- the chain behind the task
 
@@ -124,7 +120,6 @@ module _ (b : Build) (old now : State) (s : System) (k : Stands b old s) (fits :
       let frame : run.place ≡ place + 128 = let x = run.context.x2 in let y = entry.x2 in omega arith in
       let low = run.context.room in
       let v = fits.from a here.declared in
-      let w = fits.ordered in
       let n = not_t a here.active in (
         record {
           level = entry.ram.level_word ∙ run.level ∙ sym (ap (λ x. level_of b.config (current_priority b.config (declaration b.config a) x)) same_a);
@@ -140,7 +135,7 @@ module _ (b : Build) (old now : State) (s : System) (k : Stands b old s) (fits :
           entry.ram.link_word ∙ run.link,
           chain_kept b old_ram new_ram s next
               (λ i x y. let u = fits.from t declared in
-              entry.ram.outside i x (⊎_elim (λ (c : place + 128 ≤ 1024). absurd (clear_of c)) (λ (c : b.stacks_from ≤ place). inl (omega arith)) place_is.clear) (inl (omega arith)))
+              entry.ram.outside i x (inl (let c = beyond in omega arith)) (inl (omega arith)))
               below run.next
               (each_from (SamePart b old_ram new_ram s next) below
               (λ u h.
@@ -151,13 +146,12 @@ module _ (b : Build) (old now : State) (s : System) (k : Stands b old s) (fits :
         ),
       )
     where
-      clear_of : place + 128 ≤ 1024 → ⊥
-      clear_of c =
+      beyond : 1024 ≤ place
+      beyond =
           let x = run.context.x2 in
           let y = entry.x2 in
           let low = run.context.room in
           let v = fits.from a (falling_head b s a below fl).declared in
-          let w = fits.ordered in
           omega arith
 
   held_nil : (task s t).held ≡ []
@@ -257,7 +251,6 @@ module _ (b : Build) (old now : State) (s : System) (k : Stands b old s) (fits :
   fixed : Fixed b now.core
   fixed =
       let v = k.fixed in
-      let u = fits.ordered in
       let m = entry.machine in
       record {
         open_to_lines = m.open_to_lines;
@@ -269,7 +262,7 @@ module _ (b : Build) (old now : State) (s : System) (k : Stands b old s) (fits :
         enabled = ap length m.enabled ∙ v.enabled;
         levels = ap length m.levels ∙ v.levels;
         ram = entry.ram.long;
-        code = λ i x y. below_stacks i x (omega arith) ∙ v.code i x y;
+        code = λ i x. elsewhere_kept i (inl x) ∙ v.code i x;
       }
 
   -- the states stand
@@ -289,7 +282,7 @@ module _ (b : Build) (old now : State) (s : System) (k : Stands b old s) (fits :
     };
     running = runs;
     words = service;
-    data_stands = data_kept b old_ram new_ram s.symbols (λ i x y. let u = fits.ordered in below_stacks i (omega arith) y) k.data_stands;
+    data_stands = data_kept b old_ram new_ram s.symbols (λ i x. elsewhere_kept i (inr x)) k.data_stands;
     apart = apart;
     tidy = tidy;
     fixed = fixed;

@@ -53,7 +53,7 @@ module _ (b : Build) (old now : State) (s : System) (k : Stands b old s) (fits :
   next_is = let a = run.link in let c = leave.link in omega arith
 
   runs : Running b now next below
-  runs = leave_runs b old.core.ram now.core.ram s next now place below leave.left (λ i x y. let v = fits.ordered in leave.high i x (omega arith)) part
+  runs = leave_runs b old.core.ram now.core.ram s next now place below leave.left leave.idle part
       (subst (Chain b old.core.ram s below) next_is run.chain)
 
   named : (p : ℕ) → p + 4 ≤ 884 → p % 4 ≡ 0 → p ≢ 0 → p ≢ 628 → p ≢ active t → p ≢ events t → p ≢ wait t → p ≢ resume t
@@ -113,7 +113,7 @@ module _ (b : Build) (old now : State) (s : System) (k : Stands b old s) (fits :
         };
         running = runs;
         words = words;
-        data_stands = data_kept b old.core.ram now.core.ram s.symbols (λ i x y. let u = fits.ordered in leave.high i (omega arith) y) k.data_stands;
+        data_stands = data_kept b old.core.ram now.core.ram s.symbols (λ i x. leave.elsewhere i (inr x)) k.data_stands;
         apart = λ x y h i n p q. k.apart x y h i n (alive x p) (alive y q);
         tidy = record {
           booted = v.booted;
@@ -130,6 +130,6 @@ module _ (b : Build) (old now : State) (s : System) (k : Stands b old s) (fits :
           enabled = leave.lengths.1 ∙ f.enabled;
           levels = ap length leave.levels ∙ f.levels;
           ram = leave.long ∙ f.ram;
-          code = λ i x y. let u = fits.ordered in leave.high i (omega arith) (omega arith) ∙ f.code i x y;
+          code = λ i x. leave.elsewhere i (inl x) ∙ f.code i x;
         };
       }

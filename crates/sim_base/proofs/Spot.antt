@@ -5,7 +5,7 @@ use Rattle.std.proofs.lemmas.Bool.{eqb-false, or_left}
 use Rattle.sloth_base.specs.Machine.{State}
 use Rattle.osek_machine.specs.State.{System, task}
 use Rattle.osek_machine.specs.Priority.{is_in}
-use Rattle.sim_base.specs.Build.{Build, Fits}
+use Rattle.sim_base.specs.Build.{Build, Fits, IsElsewhere}
 use Rattle.sim_base.specs.Position.{thread_of}
 use Rattle.sim_base.specs.Context.{Running}
 use Rattle.sim_base.specs.Stands.{Falling, IsAlive, StacksApart}
@@ -25,8 +25,8 @@ pub record Spot (b : Build) (s : System) (stack : List ℕ) (place : ℕ) : Type
   pub behind : 884 ≤ place
   pub aligned : place % 4 ≡ 0
   pub inside : place + 128 ≤ 0x20_0000
-  -- it is the idle loop's context, or lies in the stacks
-  pub clear : (place + 128 ≤ 1024) ⊎ (b.stacks_from ≤ place)
+  -- outside code and data
+  pub clear : (i : ℕ) → IsElsewhere b i → (i < place) ⊎ (place + 128 ≤ i)
   -- of the tasks that have something on their stacks only the running one has it in its part
   pub apart : (u : ℕ) → u < length b.config.tasks → IsAlive (task s u) → is_first stack u ≡ false → (b.top u ≤ place) ⊎ (place + 128 ≤ b.low u)
 
@@ -38,8 +38,8 @@ spot b state s [] place fits apart f x k =
       behind = omega arith;
       aligned = omega arith;
       inside = omega arith;
-      clear = inl (omega arith);
-      apart = λ u l a e. let w = fits.from u l in let v = fits.ordered in inr (omega arith);
+      clear = λ i g. let w = fits.elsewhere i g in inr (omega arith);
+      apart = λ u l a e. let w = fits.from u l in inr (omega arith);
     }
 spot b state s (t ∷ below) place fits apart f x k =
     let here = falling_head b s t below f in
@@ -48,13 +48,12 @@ spot b state s (t ∷ below) place fits apart f x k =
     let a = k.context.aligned in
     let w = fits.from t here.declared in
     let z = fits.to t here.declared in
-    let v = fits.ordered in
     let top = context_below b state.core.ram t (task s t) (thread_of state) k.place k.context in
     record {
       behind = omega arith;
       aligned = omega arith;
       inside = omega arith;
-      clear = inr (omega arith);
+      clear = λ i g. ⊎_elim (λ (y : i < b.low t). inl (omega arith)) (λ (y : b.top t ≤ i). inr (omega arith)) (fits.outside t i here.declared g);
       apart = λ u h g e. ⊎_elim (λ (y : b.top t ≤ b.low u). inr (omega arith)) (λ (y : b.top u ≤ b.low t). inl (omega arith))
           (apart t u here.declared h (eqb-false t u e) (inl here.active) g);
     }

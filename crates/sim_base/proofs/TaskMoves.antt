@@ -76,7 +76,7 @@ module _ (b : Build) (old now : State) (s : System) (k : Stands b old s) (fits :
     context = subst (λ v. Context b now.core.ram t v (thread_of now) step.place) (sym this) step.context;
     next = run.next;
     link = step.link ∙ run.link;
-    chain = chain_kept b old.core.ram now.core.ram s next (λ i x y. let v = fits.ordered in step.high i x (omega arith)) below run.next
+    chain = chain_kept b old.core.ram now.core.ram s next step.idle below run.next
         (each_from (SamePart b old.core.ram now.core.ram s next) below part)
         run.chain;
   }
@@ -133,6 +133,6 @@ module _ (b : Build) (old now : State) (s : System) (k : Stands b old s) (fits :
           enabled = ap length g.enabled ∙ f.enabled;
           levels = ap length g.levels ∙ f.levels;
           ram = g.ram ∙ f.ram;
-          code = λ i x y. step.high i (omega arith) y ∙ f.code i x y;
+          code = λ i x. step.code i x ∙ f.code i x;
         };
       }

@@ -45,7 +45,7 @@ module _ (b : Build) (old now : State) (s : System) (k : Stands b old s) (fits :
   here = falling_head b s t below stack.falling
 
   low_word : (place : ℕ) → place + 4 ≤ 1024 → word_at now.core.ram place ≡ word_at old.core.ram place
-  low_word place h = let v = fits.ordered in word_kept old.core.ram now.core.ram 0 b.data_from place step.low (omega arith) (omega arith)
+  low_word place h = word_kept old.core.ram now.core.ram 0 1024 place step.low (omega arith) (omega arith)
 
   held_word : (u : ℕ) → u < length b.config.tasks → (r : ℕ) → is_in r (task s u).held ≡ true → word_at now.core.ram (saved r) ≡ word_at old.core.ram (saved r)
   held_word u h r a = let l = (k.tidy.each u h).few r a in low_word (saved r) (omega arith)
@@ -85,14 +85,14 @@ module _ (b : Build) (old now : State) (s : System) (k : Stands b old s) (fits :
 
   move : TaskMove b old now s t own symbols
   move =
-      let v = fits.ordered in
       record {
         machine = step.machine;
         active = step.active;
         level = step.level ∙ run.level ∙ sym (ap (level_of b.config) (same_current b.config (declaration b.config t) (task s t) own step.held step.raised));
         current = low_word 0 (omega arith);
         link = low_word 628 (omega arith);
-        high = λ i x y. step.low i (omega arith) y;
+        idle = λ i x y. step.low i (omega arith) (omega arith);
+        code = step.code;
         others = step.others;
         own_words = own_words;
         other_words = other_words;

@@ -1,5 +1,5 @@
 -- What is built: the configuration, the task code, and where the image has everything.
-use Rattle.std.specs.Prelude.{ℕ, ◌+◌, ◌*◌, ◌%◌, ◌<◌, ◌≤◌, ◌≡◌, List, cond, length}
+use Rattle.std.specs.Prelude.{ℕ, ◌+◌, ◌*◌, ◌%◌, ◌<◌, ◌≤◌, ◌≡◌, ◌⊎◌, Bool, true, false, List, cond, length}
 use Rattle.sloth_base.specs.declared.config.Config.{Config}
 use Rattle.sloth_base.specs.declared.app.App.{App}
 use Rattle.sloth_base.specs.declared.places.Places.{Places}
@@ -17,9 +17,9 @@ pub record Build : Type 0 where
   -- Offsets from 0x80000000. The part of the stacks that a task has, from its low end up to its top.
   pub low : ℕ → ℕ
   pub top : ℕ → ℕ
-  -- code stands from 1024 on, data from here on, and stacks from there on
-  pub data_from : ℕ
-  pub stacks_from : ℕ
+  -- whether the byte at an offset is one of code, and one of data
+  pub is_code : ℕ → Bool
+  pub is_data : ℕ → Bool
   -- the addresses of the idle loop and of the instruction that comes back from Schedule
   pub idle : ℕ
   pub back : ℕ
@@ -30,17 +30,24 @@ pub record Build : Type 0 where
 abbrev pub start_level : Build → ℕ → ℕ
 start_level b t = level_of b.config (cond (declaration b.config t).non (highest b.config) (declaration b.config t).priority)
 
+-- a byte of code or data
+abbrev pub IsElsewhere : Build → ℕ → Type 0
+IsElsewhere b i = (b.is_code i ≡ true) ⊎ (b.is_data i ≡ true)
+
 -- The places are apart and large enough. Of two tasks' parts of the stacks nothing is said here: those of tasks that are
 -- never alive together may be the same.
 pub record Fits (b : Build) : Type 0 where
   pub few_tasks : length b.config.tasks ≤ 30
-  pub ordered : (1024 ≤ b.data_from) × (b.data_from ≤ b.stacks_from) × (b.stacks_from ≤ 0x20_0000)
+  -- code and data are apart, and stand behind the service words and outside each task's part of the stacks
+  pub elsewhere : (i : ℕ) → IsElsewhere b i → 1024 ≤ i
+  pub outside : (t i : ℕ) → t < length b.config.tasks → IsElsewhere b i → (i < b.low t) ⊎ (b.top t ≤ i)
+  pub apart : (i : ℕ) → b.is_code i ≡ true → b.is_data i ≡ false
   pub idle_address : (b.idle < 4294967296) × (b.idle % 4 ≡ 0)
   -- instructions stand at multiples of 4
   pub items : (func index : ℕ) → item_address b.places func index % 4 ≡ 0
   pub blocks : (s : Service) (object : ℕ) → block_address b.places s object % 4 ≡ 0
   pub back_address : b.back % 4 ≡ 0
-  -- each task's part lies in the stacks, and has room for its first frame and a context
-  pub from : (t : ℕ) → t < length b.config.tasks → b.stacks_from ≤ b.low t
+  -- each task's part lies behind the service words in RAM, and has room for its first frame and a context
+  pub from : (t : ℕ) → t < length b.config.tasks → 1024 ≤ b.low t
   pub to : (t : ℕ) → t < length b.config.tasks → (b.top t ≤ 0x20_0000) × (b.top t % 4 ≡ 0)
   pub room : (t : ℕ) → t < length b.config.tasks → b.low t + 128 + 4 * (function b.app (body_of b.app.funcs t)).frame_words ≤ b.top t

@@ -1,12 +1,12 @@
 -- The bytes of the symbols.
-use Rattle.std.specs.Prelude.{ℕ, ◌+◌, ◌-◌, ◌<◌, ◌≤◌, ◌≡◌, List, [], length, slice_index, get_or}
+use Rattle.std.specs.Prelude.{ℕ, ◌+◌, ◌-◌, ◌<◌, ◌≤◌, ◌≡◌, List, [], length, slice_index, get_or, true}
 use Rattle.rv32_expand.specs.Expansion.{symbol_address}
 use Rattle.sim_base.specs.Build.{Build}
 
 -- a symbol's byte, given by its number
 pub record ByteStands (b : Build) (ram : List ℕ) (address value : ℕ) : Type 0 where
-  pub from : 0x8000_0000 + b.data_from ≤ address
-  pub to : address < 0x8000_0000 + b.stacks_from
+  pub from : 0x8000_0000 ≤ address
+  pub is_data : b.is_data (address - 0x8000_0000) ≡ true
   pub holds : slice_index ram (address - 0x8000_0000) ≡ value
 
 abbrev pub DataStands : Build → List ℕ → List (List ℕ) → Type 0

@@ -8,7 +8,7 @@ use Rattle.osek_machine.specs.State.{Task, System, task, with_task, declaration}
 use Rattle.osek_machine.specs.Priority.{is_active, current_priority}
 use Rattle.osek_machine.specs.Steps.{settled}
 use Rattle.sim_run.specs.Mirror.{level_of}
-use Rattle.sim_base.specs.Build.{Build}
+use Rattle.sim_base.specs.Build.{Build, IsElsewhere}
 use Rattle.sim_base.specs.Position.{thread_of}
 use Rattle.sim_base.specs.Context.{Context}
 use Rattle.sim_base.specs.ServiceWords.{ServiceWords}
@@ -43,7 +43,8 @@ pub record TaskMove (b : Build) (old now : State) (s : System) (t : ℕ) (own : 
   pub level : now.core.ilevel ≡ level_of b.config (current_priority b.config (declaration b.config t) own)
   pub current : word_at now.core.ram 0 ≡ word_at old.core.ram 0
   pub link : word_at now.core.ram 628 ≡ word_at old.core.ram 628
-  pub high : Agree old.core.ram now.core.ram 884 b.data_from
+  pub idle : Agree old.core.ram now.core.ram 884 896
+  pub code : (i : ℕ) → b.is_code i ≡ true → slice_index now.core.ram i ≡ slice_index old.core.ram i
   pub others : OthersKept b old.core.ram now.core.ram s t
   pub own_words : ServiceWords b now.core.ram t own
   pub other_words : (u : ℕ) → u < length b.config.tasks → u ≢ t → ServiceWords b now.core.ram u (task s u)
@@ -56,7 +57,8 @@ pub record TaskMove (b : Build) (old now : State) (s : System) (t : ℕ) (own : 
 pub record TaskStep (b : Build) (old now : State) (s : System) (t : ℕ) (own : Task) (symbols : List (List ℕ)) : Type 0 where
   pub machine : SameMachine old now
   pub level : now.core.ilevel ≡ old.core.ilevel
-  pub low : Agree old.core.ram now.core.ram 0 b.data_from
+  pub low : Agree old.core.ram now.core.ram 0 1024
+  pub code : (i : ℕ) → b.is_code i ≡ true → slice_index now.core.ram i ≡ slice_index old.core.ram i
   pub others : OthersKept b old.core.ram now.core.ram s t
   pub active : own.state ≡ mode.Active
   pub events : own.events ≡ (task s t).events
@@ -85,7 +87,8 @@ pub record TaskLeave (b : Build) (old now : State) (s : System) (t : ℕ) (own :
   pub other_pending : (line : ℕ) → line ≢ t → slice_index now.core.pending line ≡ slice_index old.core.pending line
   pub other_enabled : (line : ℕ) → line ≢ t → slice_index now.core.enabled line ≡ slice_index old.core.enabled line
   -- RAM
-  pub high : Agree old.core.ram now.core.ram 884 b.stacks_from
+  pub idle : Agree old.core.ram now.core.ram 884 896
+  pub elsewhere : (i : ℕ) → IsElsewhere b i → slice_index now.core.ram i ≡ slice_index old.core.ram i
   pub others : OthersKept b old.core.ram now.core.ram s t
   pub named : (p : ℕ) → p + 4 ≤ 884 → p % 4 ≡ 0 → p ≢ 0 → p ≢ 628 → p ≢ active t → p ≢ events t → p ≢ wait t → p ≢ resume t
       → word_at now.core.ram p ≡ word_at old.core.ram p

@@ -79,7 +79,7 @@ pub record Fixed (b : Build) (core : Core) : Type 0 where
   pub enabled : length core.enabled ≡ 32
   pub levels : length core.levels ≡ 32
   pub ram : length core.ram ≡ 0x20_0000
-  pub code : (i : ℕ) → 1024 ≤ i → i < b.data_from → slice_index core.ram i ≡ slice_index b.memory i
+  pub code : (i : ℕ) → b.is_code i ≡ true → slice_index core.ram i ≡ slice_index b.memory i
 
 pub record Stands (b : Build) (state : State) (s : System) : Type 0 where
   -- the Active tasks, the running one first
