@@ -19,19 +19,21 @@ use Rattle.osek_machine.specs.State.{Task, System, task, with_task, declaration,
 use Rattle.osek_machine.specs.Priority.{is_active}
 use Rattle.osek_machine.specs.Services.{starts, entered}
 use Rattle.osek_machine.specs.Steps.{OsekStep, settled}
-use Rattle.sim_base.specs.Build.{Build, Fits, start_level}
+use Rattle.sim_base.specs.Build.{Build, Fits}
 use Rattle.sim_base.specs.Position.{AreWords, thread_of}
 use Rattle.sim_base.specs.Context.{Context}
 use Rattle.sim_base.specs.Stands.{Stands}
+use Rattle.sim_base.specs.Entry.{EntryRam, EntryMachine, TaskEntry}
 use Rattle.sim_base.proofs.Framing.{scratch_first}
 use Rattle.sim_base.proofs.Parts.{rests}
 use Rattle.sim_base.proofs.Tops.{falling_active}
+use Rattle.sim_base.proofs.Spot.{Spot, spot}
+use Rattle.sim_base.proofs.Entering.{entry_stands}
 use Rattle.sim_base.proofs.Choice.{taken_declared, taken_ready, taken_top}
 use Rattle.sim_entries.specs.Range.{Sane}
-use Rattle.sim_entries.specs.Entries.{HasEntered, EndsEntry, EntersAnew, StandsAlone, context_words, first_words}
-use Rattle.sim_entries.proofs.Spot.{registers_small, zeros_small, zero_at, words_small, Spot, spot, first_in}
+use Rattle.sim_entries.specs.Entries.{EntersAnew, StandsAlone, first_words}
+use Rattle.sim_entries.proofs.Spot.{registers_at, registers_small, zeros_small, zero_at, context_words, words_small, stored_apart}
 use Rattle.sim_entries.proofs.EntryRam as ram
-use Rattle.sim_entries.proofs.Entry.{entry_stands}
 
 one_more : (code : List InstrKind) (last : InstrKind) → 0 < length (code ++ last ∷ [])
 one_more [] last = omega arith
@@ -111,8 +113,9 @@ module _ (b : Build) (state end : State) (s : System) (t place : ℕ) (fits : Fi
   apart_frame =
       let g = frame_room in
       ⊎_elim (λ (a : b.top t ≤ place). inr (omega arith)) (λ (a : place + 128 ≤ b.low t). inl (omega arith))
-      (sp.alone t declared (λ v h.
-      let c = falling_active b s k.stack k.active.falling v (first_in k.stack v h) in
+      (stored_apart b state s k.stack place t fits x2 k.running (fits.from t declared) (let v = fits.ordered in omega arith)
+      (λ v h.
+      let c = falling_active b s k.stack k.active.falling v h in
       alone v c.declared (λ z. let r = ready in let d : (task s t).state ≡ mode.Active = subst (λ x. (task s x).state ≡ mode.Active) z c.active in cc) (inl c.active)))
 
   small_four : (j : ℕ) → slice_index four j < 4294967296
@@ -130,16 +133,27 @@ module _ (b : Build) (state end : State) (s : System) (t place : ℕ) (fits : Fi
   ram_is : end.core.ram ≡ new
   ram_is = effect.ram
 
-  entered_new : HasEntered b old new four rest place t
-  entered_new =
+  word_is : (j : ℕ) → j < 4 → word_at new (place + 4 * j) ≡ slice_index four j
+  word_is = ram.word_is old four rest zeros place t frame k.fixed.ram refl refl few30 sp.behind sp.aligned sp.inside frame_room.3 frame_inside apart_frame small_four small_rest (zeros_small words)
+
+  entry_ram : EntryRam b state new t place
+  entry_ram =
       let g = frame_room in
       let d = few30 in
       record {
-        size = ram.long_new old four rest zeros place t frame k.fixed.ram refl refl few30 sp.behind sp.aligned sp.inside frame_room.3 frame_inside apart_frame small_four small_rest (zeros_small words);
+        long = ram.long_new old four rest zeros place t frame k.fixed.ram refl refl few30 sp.behind sp.aligned sp.inside frame_room.3 frame_inside apart_frame small_four small_rest (zeros_small words);
         outside = λ i h x y. ram.outside old four rest zeros place t frame k.fixed.ram refl refl few30 sp.behind sp.aligned sp.inside frame_room.3 frame_inside apart_frame small_four small_rest (zeros_small words) i h x
             (⊎_elim (λ (z : i < b.low t). inl (omega arith)) (λ (z : b.top t ≤ i). inr (omega arith)) y);
-        word = ram.word_is old four rest zeros place t frame k.fixed.ram refl refl few30 sp.behind sp.aligned sp.inside frame_room.3 frame_inside apart_frame small_four small_rest (zeros_small words);
-        register = ram.register_is old four rest zeros place t frame k.fixed.ram refl refl few30 sp.behind sp.aligned sp.inside frame_room.3 frame_inside apart_frame small_four small_rest (zeros_small words);
+        pc_word = let p : place + 4 * 0 ≡ place = omega arith in ap (word_at new) (sym p) ∙ word_is 0 (omega arith);
+        level_word = word_is 1 (omega arith);
+        current_word = word_is 2 (omega arith);
+        link_word = word_is 3 (omega arith);
+        register_words = λ i x y.
+            let p : place + 20 + 4 * (i - 5) ≡ place + 4 * i = omega arith in
+            let v : 5 + (i - 5) ≡ i = omega arith in
+            ap (word_at new) (sym p)
+            ∙ ram.register_is old four rest zeros place t frame k.fixed.ram refl refl few30 sp.behind sp.aligned sp.inside frame_room.3 frame_inside apart_frame small_four small_rest (zeros_small words) (i - 5) (omega arith)
+            ∙ registers_at 27 5 (i - 5) state.core.registers (omega arith) ∙ ap (λ j. slice_index state.core.registers j) v;
         named = λ p h a n0 n1 n2 n3. ram.named old four rest zeros place t frame k.fixed.ram refl refl few30 sp.behind sp.aligned sp.inside frame_room.3 frame_inside apart_frame small_four small_rest (zeros_small words) p h a n0 n1 n2;
         current = ram.current_is old four rest zeros place t frame k.fixed.ram refl refl few30 sp.behind sp.aligned sp.inside frame_room.3 frame_inside apart_frame small_four small_rest (zeros_small words);
         link = ram.link_is old four rest zeros place t frame k.fixed.ram refl refl few30 sp.behind sp.aligned sp.inside frame_room.3 frame_inside apart_frame small_four small_rest (zeros_small words);
@@ -150,17 +164,17 @@ module _ (b : Build) (state end : State) (s : System) (t place : ℕ) (fits : Fi
             ∙ rests b old t (task s t) (is_active (task s t).state) (task s t).frames fresh (k.words t declared).resumption;
       }
 
-  ends : EndsEntry t (start_level b t) state end
-  ends = record {
-    registers = effect.registers;
-    zero = effect.zero;
-    runs_at = effect.running;
-    open_to_lines = effect.opened;
-    previous = effect.previous;
+  machine : EntryMachine b state end t
+  machine = record {
+    registers = effect.registers ∙ sym k.fixed.registers;
+    zero = effect.zero ∙ sym k.fixed.zero;
+    level = effect.running;
     pending = effect.pending;
     enabled = effect.enabled;
     levels = effect.levels;
     controller = effect.controller;
+    open_to_lines = effect.opened;
+    previous = effect.previous;
   }
 
   context : Context b end.core.ram t own (thread_of end) frame
@@ -192,10 +206,23 @@ module _ (b : Build) (state end : State) (s : System) (t place : ℕ) (fits : Fi
     aligned = frame_room.4;
   }
 
+  entry : TaskEntry b state end s t own place
+  entry = record {
+    ram = subst (λ x. EntryRam b state x t place) (sym ram_is) entry_ram;
+    machine = machine;
+    state = refl;
+    events = refl;
+    held = refl;
+    raised = refl;
+    registers = refl;
+    x2 = x2;
+    apart = alone;
+    frame = frame;
+    context = context;
+  }
+
   stands : Stands b end (settled (with_task s t own))
-  stands =
-      entry_stands b state s k fits t e alone place x2 end own refl refl refl refl refl ends
-      (subst (λ x. HasEntered b old x four rest place t) (sym ram_is) entered_new) frame context
+  stands = entry_stands b state end s k fits t e own place entry
 
   -- The entry is a step of the abstract machine, and the states stand.
   pub enter_law : OsekStep b.config b.app (event.Enter t) s (settled (entered b.config b.app t s)) × Stands b end (settled (entered b.config b.app t s))

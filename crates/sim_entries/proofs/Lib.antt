@@ -1,4 +1,3 @@
 pub mod EntryRam
 pub mod Spot
-pub mod Entry
 pub mod Enter
