@@ -105,7 +105,7 @@ module _ (b : Build) (state end : State) (s : System) (t place : ℕ) (fits : Fi
 
   frame_room : (b.low t + 128 ≤ frame) × (frame + 4 * length zeros ≡ b.top t) × (b.top t ≤ 2097152) × (1024 ≤ frame) × (frame % 4 ≡ 0)
   frame_room =
-      let g = fits.room t declared in let y = fits.from t declared in let z = fits.to t declared in let v = fits.ordered in let n = zeros_long in
+      let g = fits.room t declared in let y = fits.from t declared in let z = fits.to t declared in let n = zeros_long in
       (omega arith, omega arith, omega arith, omega arith, omega arith)
 
   -- the context is stored apart from the frame
@@ -113,7 +113,7 @@ module _ (b : Build) (state end : State) (s : System) (t place : ℕ) (fits : Fi
   apart_frame =
       let g = frame_room in
       ⊎_elim (λ (a : b.top t ≤ place). inr (omega arith)) (λ (a : place + 128 ≤ b.low t). inl (omega arith))
-      (stored_apart b state s k.stack place t fits x2 k.running (fits.from t declared) (let v = fits.ordered in omega arith)
+      (stored_apart b state s k.stack place t fits x2 k.running (fits.from t declared)
       (λ v h.
       let c = falling_active b s k.stack k.active.falling v h in
       alone v c.declared (λ z. let r = ready in let d : (task s t).state ≡ mode.Active = subst (λ x. (task s x).state ≡ mode.Active) z c.active in cc) (inl c.active)))

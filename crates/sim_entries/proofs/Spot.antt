@@ -50,10 +50,10 @@ words_small x y z w p q r s (suc (suc (suc (suc j)))) = omega arith
 
 -- apart from the part of a task that is apart from those of the Active tasks
 pub stored_apart : (b : Build) (state : State) (s : System) (stack : List ℕ) (place u : ℕ) → Fits b
-    → slice_index state.core.registers 2 ≡ 0x8000_0000 + (place + 128) → Running b state s stack → b.stacks_from ≤ b.low u → 1024 ≤ b.stacks_from
+    → slice_index state.core.registers 2 ≡ 0x8000_0000 + (place + 128) → Running b state s stack → 1024 ≤ b.low u
     → ((v : ℕ) → is_in v stack ≡ true → AreApart b u v) → (b.top u ≤ place) ⊎ (place + 128 ≤ b.low u)
-stored_apart b state s [] place u fits x k low from apart = let y = k.x2 in inr (omega arith)
-stored_apart b state s (a ∷ stack) place u fits x k low from apart =
+stored_apart b state s [] place u fits x k low apart = let y = k.x2 in inr (omega arith)
+stored_apart b state s (a ∷ stack) place u fits x k low apart =
     let p = k.context.x2 in
     let l = k.context.room in
     let top = context_below b state.core.ram a (task s a) (thread_of state) k.place k.context in
