@@ -22,7 +22,7 @@ position_aligned b ram t own th place fits p =
     position_elim b ram t own p.frame p.outer th place (th.pc % 4 ≡ 0)
     (λ h. ⊎_elim
     (λ (x : InExpansion b own p.frame th). let e = x.pc in omega arith)
-    (λ (x : AtBlock b p.frame th). let e = x.pc in let a = fits.blocks x.call.service x.call.object in omega arith)
+    (λ (x : AtBlock b p.frame th). let e = x.pc in let a = fits.blocks p.frame.func p.frame.item x.call x.is in omega arith)
     h.here)
     (λ h. let e = h.pc in let a = fits.back_address in omega arith)
     (λ h. let e = h.pc in omega arith)

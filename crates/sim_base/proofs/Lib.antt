@@ -17,3 +17,4 @@ pub mod Entering
 pub mod Leaving
 pub mod First
 pub mod Starting
+pub mod AtItem

@@ -3,8 +3,9 @@ use Rattle.std.specs.Prelude.{ℕ, ◌+◌, ◌*◌, ◌%◌, ◌<◌, ◌≤◌
 use Rattle.sloth_base.specs.declared.config.Config.{Config}
 use Rattle.sloth_base.specs.declared.app.App.{App}
 use Rattle.sloth_base.specs.declared.places.Places.{Places}
-use Rattle.sloth_base.specs.declared.service.Service.{Service}
-use Rattle.rv32_expand.specs.Expansion.{item_address, block_address}
+use Rattle.sloth_base.specs.declared.app.Call.{Call}
+use Rattle.sloth_base.specs.declared.app.Op.TheVariants as op
+use Rattle.rv32_expand.specs.Expansion.{item_address, block_address, operation}
 use Rattle.osek_machine.specs.State.{declaration, function, body_of}
 use Rattle.osek_machine.specs.Priority.{highest}
 use Rattle.sim_run.specs.Mirror.{level_of}
@@ -42,10 +43,10 @@ pub record Fits (b : Build) : Type 0 where
   pub elsewhere : (i : ℕ) → IsElsewhere b i → 1024 ≤ i
   pub outside : (t i : ℕ) → t < length b.config.tasks → IsElsewhere b i → (i < b.low t) ⊎ (b.top t ≤ i)
   pub apart : (i : ℕ) → b.is_code i ≡ true → b.is_data i ≡ false
-  pub idle_address : (b.idle < 4294967296) × (b.idle % 4 ≡ 0)
   -- instructions stand at multiples of 4
   pub items : (func index : ℕ) → item_address b.places func index % 4 ≡ 0
-  pub blocks : (s : Service) (object : ℕ) → block_address b.places s object % 4 ≡ 0
+  pub blocks : (func index : ℕ) (call : Call) → operation b.app func index ≡ op.Serve call → block_address b.places call.service call.object % 4 ≡ 0
+  pub idle_address : b.idle % 4 ≡ 0
   pub back_address : b.back % 4 ≡ 0
   -- each task's part lies behind the service words in RAM, and has room for its first frame and a context
   pub from : (t : ℕ) → t < length b.config.tasks → 1024 ≤ b.low t
