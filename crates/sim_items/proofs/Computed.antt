@@ -46,10 +46,8 @@ first_of b state s t (u ∷ below) run h = let a = run.current in let e : u ≡ 
 pub code_here : (b : Build) (state : State) (s : System) (address : ℕ) (kind : InstrKind) → Fits b → Stands b state s
     → (i : HasInstruction b address kind) → Here state.core.ram i.offset kind
 code_here b state s address kind fits k i =
-    let f = fits.ordered in
-    let t = i.to in
-    let w = i.from in (
-      ap Decode (word_at-agree state.core.ram b.memory i.offset (λ j x y. k.fixed.code j (omega arith) (omega arith)) ∙ i.word) ∙ decode_encode kind i.in_range,
+    let w = i.inside in (
+      ap Decode (word_at-agree state.core.ram b.memory i.offset (λ j x y. k.fixed.code j (i.code j x y)) ∙ i.word) ∙ decode_encode kind i.in_range,
       omega arith,
     )
 
@@ -225,6 +223,7 @@ module _ (b : Build) (state : State) (s : System) (t : ℕ) (fits : Fits b) (k :
       machine = same_machine;
       level = core_kept (λ c. c.ilevel ≡ state.core.ilevel) (λ rs. refl);
       low = λ i x y. ap (λ r. slice_index r i) ram_is;
+      code = λ i x. ap (λ r. slice_index r i) ram_is;
       others = λ u h n a i x y. ap (λ r. slice_index r i) ram_is;
       active = active_is;
       events = refl;

@@ -1,5 +1,5 @@
 -- Where a task stands at an item, and the code of the items.
-use Rattle.std.specs.Prelude.{ℕ, ◌+◌, ◌<◌, ◌≤◌, ◌≡◌, ◌⊎◌, ◌^◌, ℤ, pos, false, List, ◌∷◌, length}
+use Rattle.std.specs.Prelude.{ℕ, ◌+◌, ◌<◌, ◌≤◌, ◌≡◌, ◌⊎◌, ◌^◌, ℤ, pos, true, false, List, ◌∷◌, length}
 use Rattle.sloth_base.specs.declared.app.Op.{Op}
 use Rattle.sloth_base.specs.declared.app.Op.TheVariants as op
 use Rattle.sloth_base.specs.declared.app.ImmKind.{ImmKind}
@@ -33,8 +33,8 @@ pub record AtItem (b : Build) (state : State) (s : System) (t : ℕ) : Type 0 wh
 pub record HasInstruction (b : Build) (address : ℕ) (kind : InstrKind) : Type 0 where
   pub offset : ℕ
   pub is : address ≡ 0x8000_0000 + offset
-  pub from : 1024 ≤ offset
-  pub to : offset + 4 ≤ b.data_from
+  pub inside : offset + 4 ≤ 0x20_0000
+  pub code : (i : ℕ) → offset ≤ i → i < offset + 4 → b.is_code i ≡ true
   pub word : word_at b.memory offset ≡ Encode kind
   pub in_range : InRange kind
 

@@ -1,5 +1,5 @@
 -- TerminateTask is a step, and the relation stands behind it.
-use Rattle.std.proofs.Common.{◌≡◌, ℕ, ◌+◌, ◌<◌, List, [], ◌∷◌, length, set, refl, sym, ap, ◌∙◌, subst, arith, inl, true, false}
+use Rattle.std.proofs.Common.{◌≡◌, ℕ, ◌+◌, ◌<◌, List, [], ◌∷◌, length, set, refl, sym, ap, ◌∙◌, subst, arith, inl, inr, true, false}
 use Rattle.std.specs.Prelude.{◌≢◌, slice_index}
 use Rattle.std.proofs.lemmas.List.{get_or-set_same, get_or-set_other, length-set}
 use Rattle.sloth_base.specs.declared.event.Event.TheVariants as event
@@ -80,7 +80,7 @@ module _ (b : Build) (state : State) (s : System) (t place : ℕ) (touched : Lis
     same u h = other_task s t u own (not_t u h)
 
     part : (u : ℕ) → u < length b.config.tasks → Agree old new (b.low u) (b.top u)
-    part u l i x y = let v = fits.from u l in let w = fits.ordered in mem.high i (omega arith)
+    part u l i x y = let v = fits.from u l in mem.high i (omega arith)
 
     chain : Chain b old s below place
     chain = let a = run.link in let c = may.below in let e : run.next ≡ place = omega arith in subst (λ p. Chain b old s below p) e run.chain
@@ -132,7 +132,7 @@ module _ (b : Build) (state : State) (s : System) (t place : ℕ) (touched : Lis
         (mem.named (wait u) (omega arith) (omega arith) (λ a. omega arith) (λ a. omega arith) (λ a. omega arith))
         (mem.named (resume u) (omega arith) (omega arith) (λ a. omega arith) (λ a. omega arith) (λ a. omega arith))
         (λ r a. let q = (k.tidy.each u h).few r a in mem.named (saved r) (omega arith) (omega arith) (λ a. omega arith) (λ a. omega arith) (λ a. omega arith))
-        (λ a. part u h)
+        (λ a f. part u h)
         (k.words u h))
 
     -- who is alive was so before
@@ -143,7 +143,6 @@ module _ (b : Build) (state : State) (s : System) (t place : ℕ) (touched : Lis
     stands_behind =
         let v = k.tidy in
         let f = k.fixed in
-        let w = fits.ordered in
         record {
           stack = below;
           active = stack_tail b s next t below stack same active_in;
@@ -154,7 +153,7 @@ module _ (b : Build) (state : State) (s : System) (t place : ℕ) (touched : Lis
           };
           running = runs;
           words = words;
-          data_stands = data_kept b old new s.symbols (λ i x y. mem.high i (omega arith)) k.data_stands;
+          data_stands = data_kept b old new s.symbols (λ i x. mem.high i (let g = fits.elsewhere i (inr x) in omega arith)) k.data_stands;
           apart = λ x y h i n p q. k.apart x y h i n (alive x p) (alive y q);
           tidy = record {
             booted = v.booted;
@@ -178,7 +177,7 @@ module _ (b : Build) (state : State) (s : System) (t place : ℕ) (touched : Lis
             enabled = ap length eff.enabled ∙ f.enabled;
             levels = ap length eff.levels ∙ f.levels;
             ram = mem.long;
-            code = λ i x y. mem.high i (omega arith) ∙ f.code i x y;
+            code = λ i x. mem.high i (let g = fits.elsewhere i (inl x) in omega arith) ∙ f.code i x;
           };
         }
 
