@@ -3,21 +3,9 @@ use Rattle.std.proofs.Common.{◌≡◌, ◌≤◌, ◌∙◌, ℕ, ℤ, pos, ne
 use Rattle.std.specs.Prelude.{decimal, codes}
 use Rattle.std.specs.Fmt.{signed_decimal}
 use Rattle.sloth_base.specs.ImageRange.{IsName}
-use Rattle.sloth_build.specs.Form.{oil_text, source_text}
+use Rattle.sloth_build.specs.Form.{source_text}
 use Rattle.sloth_build.specs.RegisterNames.{IsRegister}
 use Rattle.sloth_build.proofs.Cutting.{until, until-is, after-is, name-without, decimal-without, signed-without, register-without}
-
-pub oil-parts : (text a word b d digits name : List ℕ) (priority : ℕ) → IsName name → priority ≤ 65535 → text ≡ oil_text name priority
-    → a ≡ drop 63 text → word ≡ until 32 a → b ≡ drop (length word) a → d ≡ drop 14 b → digits ≡ until 59 d
-    → (word ≡ name) × (digits ≡ decimal priority)
-unfolding oil_text
-oil-parts text a word b d digits name priority is_name small e ea ew eb ed ei =
-    let tail : List ℕ = codes "; SCHEDULE = FULL; ACTIVATION = 1; AUTOSTART = TRUE { APPMODE = OSDEFAULTAPPMODE; }; };\n};\n" in
-    let behind : a ≡ name ++ (codes " { PRIORITY = " ++ (decimal priority ++ tail)) = ea ∙ ap (drop 63) e in
-    let is_word : word ≡ name = ew ∙ ap (until 32) behind ∙ until-is 32 name _ (name-without name is_name) in
-    let rest : b ≡ codes " { PRIORITY = " ++ (decimal priority ++ tail) = eb ∙ ap (λ w. drop (length w) a) is_word ∙ after-is name _ a behind in
-    let number : d ≡ decimal priority ++ tail = ed ∙ ap (drop 14) rest in
-    (is_word, ei ∙ ap (until 59) number ∙ until-is 59 (decimal priority) _ (decimal-without 59 priority (λ q. omega arith) (omega arith)))
 
 pub source-parts : (text name t1 t2 r0 result r1 r2 operand r3 r4 number : List ℕ) (result_name operand_name : List ℕ) (a b : ℕ) (n : ℤ)
     → IsRegister result_name a → IsRegister operand_name b → negsuc 2047 ≤ℤ n → n ≤ℤ pos 2047 → text ≡ source_text name result_name operand_name (signed_decimal n)

@@ -1,4 +1,4 @@
--- The form of input that is built: a configuration of one autostarted task, and task code of one `addi` before TerminateTask.
+-- The form of input that is built: a configuration of one basic task, and task code of one `addi` before TerminateTask.
 use Rattle.std.specs.Prelude.{ℕ, ℤ, pos, negsuc, ◌≡◌, ◌≤◌, ◌≤ℤ◌, false, true, List, [], ◌∷◌, ◌++◌, Some, codes, decimal, ◌⊎◌}
 use Rattle.std.specs.Fmt.{signed_decimal}
 use Rattle.sloth_base.specs.declared.config.Config.{Config}
@@ -13,32 +13,8 @@ use Rattle.sloth_base.specs.declared.refusal.Part.TheVariants as part
 use Rattle.sloth_base.specs.declared.refusal.Code.TheVariants as code
 use Rattle.sloth_base.specs.declared.refusal.BuildError.{BuildError}
 use Rattle.sloth_base.specs.declared.refusal.BuildError.TheVariants as error
-use Rattle.sloth_base.specs.ImageRange.{IsName}
+use Rattle.sloth_build.specs.OilText.{OilText, OilRefusal, IsOneTask}
 use Rattle.sloth_build.specs.RegisterNames.{IsRegister}
-
--- the five lines of OIL
-unfoldable pub oil_text : List ℕ → ℕ → List ℕ
-oil_text name priority =
-    codes "OIL_VERSION = \"2.5\";\nCPU c {\nOS o { STATUS = EXTENDED; };\nTASK " ++ (name ++ (codes " { PRIORITY = " ++ (decimal priority
-    ++ codes "; SCHEDULE = FULL; ACTIVATION = 1; AUTOSTART = TRUE { APPMODE = OSDEFAULTAPPMODE; }; };\n};\n")))
-
--- one basic task, activated as the system starts
-abbrev pub one_task : List ℕ → ℕ → Config
-one_task name priority = record {
-  tasks = (record { name = name; priority = priority; extended = false; non = false; autostart = true; resources = []; events = 0 }) ∷ [];
-  resources = [];
-  events = [];
-  res_scheduler = true;
-}
-
--- an OIL text of the form, and the configuration that it spells
-pub record OilText (text : List ℕ) (config : Config) : Type 0 where
-  pub name : List ℕ
-  pub priority : ℕ
-  pub is_name : IsName name
-  pub in_range : priority ≤ 65535
-  pub spelled : text ≡ oil_text name priority
-  pub means : config ≡ one_task name priority
 
 -- the four lines of task code
 unfoldable pub source_text : List ℕ → List ℕ → List ℕ → List ℕ → List ℕ
@@ -82,26 +58,29 @@ pub record SourceText (text name : List ℕ) (app : App) : Type 0 where
   pub addition : IsAddition text name result operand number
   pub means : app ≡ one_body name result operand number
 
--- the texts are of the form, and mean this
+-- the configuration has one basic task, and the code is of the form for this task
 pub record Accepted (oil src : List ℕ) (config : Config) (app : App) : Type 0 where
   pub configuration : OilText oil config
-  pub code : SourceText src configuration.name app
+  pub one : IsOneTask config
+  pub code : SourceText src one.task.name app
 
--- no configuration is spelled so
-abbrev pub NoConfiguration : List ℕ → Type 0
-NoConfiguration oil = (config : Config) → OilText oil config → ⊥
+-- the text declares a configuration of another form
+abbrev pub IsOtherForm : List ℕ → Type 0
+IsOtherForm oil = (config : Config) × OilText oil config × (IsOneTask config → ⊥)
 
--- a configuration is spelled so, and no code for its task
+-- the text declares a configuration of one task, and the code is none of that task
 abbrev pub NoCode : List ℕ → List ℕ → Type 0
-NoCode oil src = ((config : Config) × OilText oil config) × ((config : Config) (app : App) → Accepted oil src config app → ⊥)
+NoCode oil src = ((config : Config) × OilText oil config × IsOneTask config) × ((config : Config) (app : App) → Accepted oil src config app → ⊥)
 
 -- the first line of a text is of a form that is not built
 abbrev pub not_built : Part → Refusal
 not_built part = record { part = part; line = 1; code = code.N1 }
 
--- the texts are refused so: the configuration for its form, or else the task code for its own
+-- The texts are refused so: the configuration for a fault, or else for its form, or else the task code for its own.
 abbrev pub FirstRefusal : List ℕ → List ℕ → Refusal → Type 0
-FirstRefusal oil src refusal = ((refusal ≡ not_built part.Oil) × NoConfiguration oil) ⊎ ((refusal ≡ not_built part.Src) × NoCode oil src)
+FirstRefusal oil src refusal =
+    OilRefusal oil refusal
+    ⊎ (((refusal ≡ not_built part.Oil) × IsOtherForm oil) ⊎ ((refusal ≡ not_built part.Src) × NoCode oil src))
 
 -- why nothing was built: want of memory, or the refusal
 abbrev pub ErrorIs : List ℕ → List ℕ → BuildError → Type 0

@@ -1,3 +1,4 @@
 pub mod RegisterNames
+pub mod OilText
 pub mod Form
 pub mod Kernel

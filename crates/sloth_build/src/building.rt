@@ -1,12 +1,14 @@
 //! The builder.
-ghost use Rattle.std.specs.Prelude.{◌≡◌, ◌<◌, IfOk, IfErr, OnOk, ◌∷◌, [], map};
+ghost use Rattle.std.specs.Prelude.{◌≡◌, ◌<◌, false, IfOk, IfErr, IfSome, IfNone, ◌∷◌, [], length, map};
+ghost use Rattle.sloth_base.specs.ConfigRange.{InRange};
 ghost use Rattle.sloth_base.specs.ImageRange.{IsName, InFormat};
 ghost use Rattle.rv32_instr.specs.Range.{Signed};
-ghost use Rattle.sloth_build.specs.Form.{Accepted, ErrorIs, one_task, one_body, one_items, not_built};
+ghost use Rattle.sloth_build.specs.OilText.{IsOneTask};
+ghost use Rattle.sloth_build.specs.Form.{Accepted, ErrorIs, one_body, one_items, not_built};
 
 use crate::image::image;
 use crate::list::one;
-use crate::oil::{Task, read_oil};
+use crate::reading::read_config;
 use crate::source::{Addition, read_source};
 use sloth_base::app::{App, Call, Func, ImmKind, Item, Op};
 use sloth_base::config::{Config, TaskDecl};
@@ -27,25 +29,28 @@ pub struct Built {
     pub image: Image,
 }
 
-// The configuration of one task.
-fn config(alloc: Global, task: &Task) -> Result<Config, NoMemory>
-    ensures { IfOk result (λ config. config ≡ one_task task.now.name.now task.now.priority) }
+/// What is generated for the task.
+#[derive(Drop)]
+struct Generated {
+    app: App,
+    image: Image,
+}
+
+// The one task of the configuration, where it is basic and can be preempted.
+fn one_task(config: &Config) -> Option<&TaskDecl>
+    ensures some { IfSome result (λ task. (config.now.tasks ≡ task.now ∷ []) × (task.now.extended ≡ false) × (task.now.non ≡ false)) }
+    ensures none { IfNone result (IsOneTask config.now → ⊥) }
 {
-    let task = TaskDecl {
-        name: Name::new(alloc, task.name)?,
-        priority: task.priority,
-        extended: false,
-        non: false,
-        autostart: true,
-        resources: List::from_vec(Vec::new(alloc)),
-        events: 0,
+    let [task] = config.tasks.items() else {
+        return None;
     };
-    Ok(Config {
-        tasks: one(alloc, task)?,
-        resources: List::from_vec(Vec::new(alloc)),
-        events: List::from_vec(Vec::new(alloc)),
-        res_scheduler: true,
-    })
+    if task.extended {
+        return None;
+    }
+    if task.non {
+        return None;
+    }
+    Some(task)
 }
 
 // The items of a body: the addition, and TerminateTask.
@@ -102,43 +107,45 @@ fn not_built(part: Part) -> BuildError
     })
 }
 
-// The configuration, the task code and the image of this task.
-fn assemble(alloc: Global, task: &Task, add: Addition) -> Result<Built, NoMemory>
-    requires name { IsName task.now.name.now }
+// The task code and the image of a task with this addition.
+fn generate(alloc: Global, task: &TaskDecl, add: Addition) -> Result<Generated, NoMemory>
+    requires name { IsName task.now.name }
     requires range { (add.rd < 32) × (add.rs1 < 32) × Signed 12 add.imm }
-    ensures config { IfOk result (λ built. built.config ≡ one_task task.now.name.now task.now.priority) }
-    ensures app { IfOk result (λ built. built.app ≡ one_body task.now.name.now add.rd add.rs1 add.imm) }
-    ensures format { IfOk result (λ built. InFormat built.image) }
-    ensures tasks { IfOk result (λ built. built.image.tasks ≡ task.now.name.now ∷ []) }
-    ensures functions { IfOk result (λ built. built.image.funcs ≡ task.now.name.now ∷ []) }
+    ensures app { IfOk result (λ generated. generated.app ≡ one_body task.now.name add.rd add.rs1 add.imm) }
+    ensures format { IfOk result (λ generated. InFormat generated.image) }
+    ensures tasks { IfOk result (λ generated. generated.image.tasks ≡ task.now.name ∷ []) }
+    ensures functions { IfOk result (λ generated. generated.image.funcs ≡ task.now.name ∷ []) }
 {
-    Ok(Built {
-        config: config(alloc, task)?,
-        app: app(alloc, task.name, add)?,
-        image: image(alloc, task.name, add)?,
+    Ok(Generated {
+        app: app(alloc, task.name.bytes(), add)?,
+        image: image(alloc, task.name.bytes(), task.autostart, add)?,
     })
 }
 
-/// Builds the image of a configuration and its task code.
+/// Builds the image of a configuration and its task code, each of at most 4,294,967,294 bytes.
 pub fn build(alloc: Global, oil: &[u8], src: &[u8]) -> Result<Built, BuildError>
+    requires { length oil.now < 4294967295 }
     ensures accepted { IfOk result (λ built. Accepted oil.now src.now built.config built.app) }
+    ensures in_range { IfOk result (λ built. InRange built.config) }
     ensures format { IfOk result (λ built. InFormat built.image) }
     ensures tasks { IfOk result (λ built. built.image.tasks ≡ map (λ t. t.name) built.config.tasks) }
     ensures functions { IfOk result (λ built. built.image.funcs ≡ map (λ f. f.name) built.app.funcs) }
     ensures refused { IfErr result (ErrorIs oil.now src.now) }
 {
-    let task = match read_oil(alloc, oil) {
-        Ok(Some(task)) => task,
-        Ok(None) => return Err(not_built(Part::Oil)),
-        Err(_) => return Err(BuildError::Memory),
+    let config = match read_config(alloc, oil) {
+        Ok(config) => config,
+        Err(error) => return Err(error),
     };
-    let add = match read_source(alloc, src, task.name) {
+    let Some(task) = one_task(&config) else {
+        return Err(not_built(Part::Oil));
+    };
+    let add = match read_source(alloc, src, task.name.bytes()) {
         Ok(Some(add)) => add,
         Ok(None) => return Err(not_built(Part::Src)),
         Err(_) => return Err(BuildError::Memory),
     };
-    match assemble(alloc, &task, add) {
-        Ok(built) => Ok(built),
+    match generate(alloc, task, add) {
+        Ok(Generated { app, image }) => Ok(Built { config, app, image }),
         Err(_) => Err(BuildError::Memory),
     }
 }

@@ -18,13 +18,13 @@ use std::alloc::Global;
 const TERMINATE_TASK: u8 = 1;
 
 // The service words, which are all zero, and the code behind them.
-fn memory(alloc: Global, add: Addition) -> Result<Vec<u8>, NoMemory>
+fn memory(alloc: Global, autostart: bool, add: Addition) -> Result<Vec<u8>, NoMemory>
     requires { (add.rd < 32) × (add.rs1 < 32) × Signed 12 add.imm }
     ensures { IfOk result (λ memory. length memory.items ≡ 1716) }
 {
     let mut memory = vec![in alloc; 0; 1024]?;
     emit(&mut memory, &kernel::vectors())?;
-    emit(&mut memory, &kernel::boot())?;
+    emit(&mut memory, &kernel::boot(autostart))?;
     emit(&mut memory, &kernel::idle())?;
     kernel::prologue(&mut memory)?;
     kernel::terminate_task(&mut memory)?;
@@ -64,8 +64,14 @@ fn names(alloc: Global, name: &[u8]) -> Result<List<Name>, NoMemory>
     one(alloc, Name::new(alloc, name)?)
 }
 
-/// The image of a kernel whose one task, of this name, does the addition and ends.
-pub fn image(alloc: Global, name: &[u8], add: Addition) -> Result<Image, NoMemory>
+/// The image of a kernel whose one task, of this name, does the addition and ends. It is activated as the system starts where it
+/// is autostarted.
+pub fn image(
+    alloc: Global,
+    name: &[u8],
+    autostart: bool,
+    add: Addition,
+) -> Result<Image, NoMemory>
     requires name { IsName name.now }
     requires range { (add.rd < 32) × (add.rs1 < 32) × Signed 12 add.imm }
     ensures format { IfOk result InFormat }
@@ -75,7 +81,7 @@ pub fn image(alloc: Global, name: &[u8], add: Addition) -> Result<Image, NoMemor
     Ok(Image {
         tasks: names(alloc, name)?,
         funcs: names(alloc, name)?,
-        memory: List::from_vec(memory(alloc, add)?),
+        memory: List::from_vec(memory(alloc, autostart, add)?),
         marks: List::from_vec(Vec::from_slice(alloc, &marks(add.rd))?),
     })
 }

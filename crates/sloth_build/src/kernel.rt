@@ -69,14 +69,19 @@ pub fn vectors() -> [Instr; 32] {
 
 /// Boot: the level, enable and pending bytes of the task's line, the idle loop's stack, and the way into the idle loop with
 /// interrupts enabled, where the line is taken.
-pub fn boot() -> [Instr; 14] {
+pub fn boot(autostart: bool) -> [Instr; 14] {
+    let activate = if autostart {
+        sb(4, 0, 1)
+    } else {
+        addi(0, 0, 0)
+    };
     [
         lui(1, 0x10000),
         addi(4, 0, 1),
         addi(3, 0, 1),
         sb(3, 64, 1),
         sb(4, 32, 1),
-        sb(4, 0, 1),
+        activate,
         lui(2, 0x80000),
         addi(2, 2, IDLE_CONTEXT_END),
         addi(3, 0, 128),

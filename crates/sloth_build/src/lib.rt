@@ -9,7 +9,7 @@ pub mod kernel;
 pub mod laws;
 pub mod list;
 pub mod number;
-pub mod oil;
+pub mod reading;
 pub mod register;
 pub mod source;
 

@@ -1,13 +1,14 @@
-use Rattle.std.proofs.Common.{refl, inr}
-use Rattle.sloth_build.proofs.Readings.{accepts, no-code}
+use Rattle.std.proofs.Common.{refl, inl, inr}
+use Rattle.sloth_build.proofs.Readings.{accepts, no_code, oil_refused}
 use Rattle.sloth_build.proofs.building.build.Goals as goal
 
-pub returns-in-Ok-None-read_source-clause-refused : goal.returns-in-Ok-None-read_source-clause-refused
-returns-in-Ok-None-read_source-clause-refused c =
-    let read = rw c.in-Ok-Some.field-0-is at c.in-Ok-Some.ensures.some in
-    rw c.not_built-in-Ok-None-read_source.ensures (inr (refl, no-code c.args.oil.now c.args.src.now c.in-Ok-Some.task.name.now c.in-Ok-Some.task.priority read.0 read.1 read.2 (rw c.in-Ok-None-read_source.field-0-is at c.in-Ok-None-read_source.ensures.none)))
+pub returns-in-Ok-None-clause-refused : goal.returns-in-Ok-None-clause-refused
+returns-in-Ok-None-clause-refused c =
+    let task = c.in-Some.ensures.some in
+    rw c.not_built-in-Ok-None.ensures (inr (inr (refl, no_code c.args.oil.now c.args.src.now c.in-Ok.config c.in-Some.task.now c.in-Ok.ensures.config task.0 task.1 task.2 (rw (c.bytes.ensures, c.in-Ok-None.field-0-is) at c.in-Ok-None.ensures.none))))
 
-pub returns-in-Ok-clause-accepted : goal.returns-in-Ok-clause-accepted
-returns-in-Ok-clause-accepted c =
-    let read = rw c.in-Ok-Some.field-0-is at c.in-Ok-Some.ensures.some in
-    accepts c.args.oil.now c.args.src.now c.in-Ok.built.config c.in-Ok.built.app c.in-Ok-Some.task.name.now c.in-Ok-Some.task.priority _ _ _ read.0 read.1 read.2 (rw c.in-Ok-Some-read_source.field-0-is at c.in-Ok-Some-read_source.ensures.some) c.in-Ok.ensures.config c.in-Ok.ensures.app
+pub returns-in-Ok-generate-clause-accepted : goal.returns-in-Ok-generate-clause-accepted
+returns-in-Ok-generate-clause-accepted c =
+    let task = c.in-Some.ensures.some in
+    accepts c.args.oil.now c.args.src.now c.in-Ok.config c.in-Ok-generate.field-0.app c.in-Some.task.now _ _ _ c.in-Ok.ensures.config task.0 task.1 task.2
+    (rw (c.bytes.ensures, c.in-Ok-Some.field-0-is) at c.in-Ok-Some.ensures.some) c.in-Ok-generate.ensures.app
