@@ -1,11 +1,10 @@
 -- What stands in a text of the form.
-use Rattle.std.proofs.Common.{◌≡◌, ◌≤◌, ◌∙◌, ℕ, ℤ, pos, negsuc, ◌≤ℤ◌, List, ◌++◌, ap, arith, drop, length}
-use Rattle.std.specs.Prelude.{decimal, codes}
+use Rattle.std.proofs.Common.{◌≡◌, ◌∙◌, ℕ, ℤ, pos, negsuc, ◌≤ℤ◌, List, ◌++◌, ap, drop, length}
+use Rattle.std.specs.Prelude.{codes}
 use Rattle.std.specs.Fmt.{signed_decimal}
-use Rattle.sloth_base.specs.ImageRange.{IsName}
 use Rattle.sloth_build.specs.Form.{source_text}
 use Rattle.sloth_build.specs.RegisterNames.{IsRegister}
-use Rattle.sloth_build.proofs.Cutting.{until, until-is, after-is, name-without, decimal-without, signed-without, register-without}
+use Rattle.sloth_build.proofs.Cutting.{until, until-is, after-is, signed-without, register-without}
 
 pub source-parts : (text name t1 t2 r0 result r1 r2 operand r3 r4 number : List ℕ) (result_name operand_name : List ℕ) (a b : ℕ) (n : ℤ)
     → IsRegister result_name a → IsRegister operand_name b → negsuc 2047 ≤ℤ n → n ≤ℤ pos 2047 → text ≡ source_text name result_name operand_name (signed_decimal n)

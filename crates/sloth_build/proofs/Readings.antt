@@ -1,11 +1,10 @@
 -- What the texts mean.
-use Rattle.std.proofs.Common.{◌≡◌, ◌≢◌, ◌∙◌, ◌<◌, ℕ, ℤ, List, [], ◌∷◌, Bool, true, false, refl, sym, subst, ap, map, All, inl, inr}
+use Rattle.std.proofs.Common.{◌≡◌, ◌∙◌, ℕ, ℤ, List, [], ◌∷◌, false, sym, subst, ap, map, All, inl, inr}
 use Rattle.sloth_base.specs.declared.config.Config.{Config}
 use Rattle.sloth_base.specs.declared.config.TaskDecl.{TaskDecl}
 use Rattle.sloth_base.specs.declared.app.App.{App}
 use Rattle.sloth_base.specs.ImageRange.{IsName}
 use Rattle.sloth_base.specs.ConfigRange.{InRange}
-use Rattle.oil_parse.specs.declared.tree.OilTree.{OilTree}
 use Rattle.oil_lex.specs.Tokens.{Lexeme, AreTokens, TextFault}
 use Rattle.oil_parse.specs.Faults.{GrammarFault}
 use Rattle.oil_parse.proofs.Texts.{one_tree, grammar_of}
@@ -46,7 +45,8 @@ pub grammar_refused : (text : List ℕ) (tokens : List Lexeme) (error : BuildErr
     → ErrorIs (GrammarFault tokens) error → OilErrorIs text error
 grammar_refused text tokens (error.Refused r) are none h = inr (inl (record {
   is_fault = (grammar_of text tokens are none r).1 h.is_fault;
-  is_least = λ s fault. h.is_least s ((grammar_of text tokens are none s).0 fault) }))
+  is_least = λ s fault. h.is_least s ((grammar_of text tokens are none s).0 fault);
+}))
 grammar_refused text tokens error.Memory are none h = tt
 
 -- the first refusal of the configuration is that of both texts
@@ -63,11 +63,11 @@ pub no_code : (oil src : List ℕ) (config : Config) (task : TaskDecl)
     → OilText oil config → config.tasks ≡ task ∷ [] → task.extended ≡ false → task.non ≡ false
     → ((a b : ℕ) (n : ℤ) → IsAddition src task.name a b n → ⊥) → NoCode oil src
 no_code oil src config task text is basic full none = (
-      (config, text, one_of config task is basic full),
-      λ other app accepted.
-          (let code = accepted.code in
-          let same : accepted.one.task.name ≡ task.name =
-              ap first_name (sym accepted.one.is ∙ (ap (λ c. c.tasks) (one_configuration oil other config accepted.configuration text) ∙ is)) in
-          let P : List ℕ → Type 0 = λ w. IsAddition src w code.result code.operand code.number in
-          none code.result code.operand code.number (subst P same code.addition)),
-    )
+  (config, text, one_of config task is basic full),
+  λ other app accepted.
+      (let code = accepted.code in
+      let same : accepted.one.task.name ≡ task.name =
+      ap first_name (sym accepted.one.is ∙ (ap (λ c. c.tasks) (one_configuration oil other config accepted.configuration text) ∙ is)) in
+      let P : List ℕ → Type 0 = λ w. IsAddition src w code.result code.operand code.number in
+      none code.result code.operand code.number (subst P same code.addition)),
+)

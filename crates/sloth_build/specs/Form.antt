@@ -1,5 +1,5 @@
 -- The form of input that is built: a configuration of one basic task, and task code of one `addi` before TerminateTask.
-use Rattle.std.specs.Prelude.{ℕ, ℤ, pos, negsuc, ◌≡◌, ◌≤◌, ◌≤ℤ◌, false, true, List, [], ◌∷◌, ◌++◌, Some, codes, decimal, ◌⊎◌}
+use Rattle.std.specs.Prelude.{ℕ, ℤ, pos, negsuc, ◌≡◌, ◌≤ℤ◌, List, [], ◌∷◌, ◌++◌, Some, codes, ◌⊎◌}
 use Rattle.std.specs.Fmt.{signed_decimal}
 use Rattle.sloth_base.specs.declared.config.Config.{Config}
 use Rattle.sloth_base.specs.declared.app.App.{App}

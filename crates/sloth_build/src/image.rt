@@ -66,12 +66,7 @@ fn names(alloc: Global, name: &[u8]) -> Result<List<Name>, NoMemory>
 
 /// The image of a kernel whose one task, of this name, does the addition and ends. It is activated as the system starts where it
 /// is autostarted.
-pub fn image(
-    alloc: Global,
-    name: &[u8],
-    autostart: bool,
-    add: Addition,
-) -> Result<Image, NoMemory>
+pub fn image(alloc: Global, name: &[u8], autostart: bool, add: Addition) -> Result<Image, NoMemory>
     requires name { IsName name.now }
     requires range { (add.rd < 32) × (add.rs1 < 32) × Signed 12 add.imm }
     ensures format { IfOk result InFormat }

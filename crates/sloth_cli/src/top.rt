@@ -72,6 +72,7 @@ fn failed_by(fault: StoreFault) -> Failure
 // The bytes of a file.
 fn fetch<F: Store>(alloc: Global, files: &mut F, name: &str) -> Result<Vec<u8>, StoreFault>
     ensures ok { IfOk result (λ bytes. IsTrue (F.seen files.old).tells → (F.seen files.old).holds name.now ≡ Some bytes.items) }
+    ensures short { IfOk result (λ bytes. length bytes.items ≤ 4194304) }
     ensures failed { result ≡ Err StoreFault.Failed → IsMissing (F.seen files.old) (F.seen files.new) name.now }
     ensures too_long { result ≡ Err StoreFault.TooLong → IsTooLong (F.seen files.old) (F.seen files.new) name.now 4194304 }
     ensures keeps { KeepsFiles (F.seen files.old) (F.seen files.new) }
@@ -86,6 +87,7 @@ fn fetch<F: Store>(alloc: Global, files: &mut F, name: &str) -> Result<Vec<u8>, 
 // Reads the inputs, in the order of the words.
 fn read_inputs<F: Store>(alloc: Global, files: &mut F, c: &Run) -> Result<Inputs, Failure>
     ensures ok { IfOk result (λ i. AreInputs (F.seen files.old) (command_of c.now) i.oil.items i.src.items i.arr.items) }
+    ensures short { IfOk result (λ i. length i.oil.items ≤ 4194304) }
     ensures failed { result ≡ Err Failure.ReadFault → IsFailedRead (F.seen files.old) (F.seen files.new) (command_of c.now) }
     ensures too_long { result ≡ Err Failure.TooLong → IsLongRead (F.seen files.old) (F.seen files.new) (command_of c.now) }
     ensures only { IfErr result IsOfReads }
@@ -108,6 +110,7 @@ fn read_inputs<F: Store>(alloc: Global, files: &mut F, c: &Run) -> Result<Inputs
 
 // Judges the inputs, and builds the image.
 fn judge(alloc: Global, inputs: &Inputs) -> Result<Built, Failure>
+    requires { length inputs.now.oil.items ≤ 4194304 }
     ensures accepted { IfOk result (λ built. Accepted inputs.now.oil.items inputs.now.src.items built.config built.app) }
     ensures format { IfOk result (λ built. InFormat built.image) }
     ensures none { OnOk result (inputs.now.arr.items ≡ []) }

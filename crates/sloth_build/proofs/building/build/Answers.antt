@@ -1,5 +1,5 @@
-use Rattle.std.proofs.Common.{refl, inl, inr}
-use Rattle.sloth_build.proofs.Readings.{accepts, no_code, oil_refused}
+use Rattle.std.proofs.Common.{refl, inr}
+use Rattle.sloth_build.proofs.Readings.{accepts, no_code}
 use Rattle.sloth_build.proofs.building.build.Goals as goal
 
 pub returns-in-Ok-None-clause-refused : goal.returns-in-Ok-None-clause-refused
