@@ -55,7 +55,7 @@ oil_refused oil src (error.Refused r) h = inl h
 oil_refused oil src error.Memory h = tt
 
 -- the name of the first of these tasks
-abbrev first_name : List TaskDecl → List ℕ
+abbrev pub first_name : List TaskDecl → List ℕ
 first_name [] = []
 first_name (t ∷ ts) = t.name
 

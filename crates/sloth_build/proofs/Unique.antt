@@ -1,15 +1,16 @@
 -- Texts of the form have one meaning.
 use Rattle.std.proofs.Common.{◌≡◌, ◌≤◌, ◌∙◌, ℕ, ℤ, List, ◌∷◌, Some, None, sym, ap, subst, arith, inl, inr, drop, length, refl}
 use Rattle.std.specs.Prelude.{decimal, codes}
-use Rattle.std.proofs.lemmas.Fmt.{decimal_injective, signed_decimal_injective}
+use Rattle.std.proofs.lemmas.Fmt.{signed_decimal_injective}
 use Rattle.sloth_base.specs.declared.config.Config.{Config}
 use Rattle.sloth_base.specs.declared.app.App.{App}
-use Rattle.sloth_build.specs.Form.{OilText, one_task, IsAddition, one_body, Accepted}
+use Rattle.sloth_build.specs.Form.{IsAddition, one_body, Accepted}
 use Rattle.sloth_build.specs.RegisterNames.{numbered, IsNumbered, IsRegister}
 use Rattle.sloth_build.proofs.Numerals.{small-magnitude}
 use Rattle.sloth_build.proofs.Registers.{reads}
 use Rattle.sloth_build.proofs.Cutting.{until}
-use Rattle.sloth_build.proofs.Guessing.{oil-parts, source-parts}
+use Rattle.sloth_build.proofs.Guessing.{source-parts}
+use Rattle.sloth_build.proofs.Readings.{one_configuration, first_name}
 
 not-numbered : (text : List ℕ) (b n r : ℕ) (rest : List ℕ) → text ≡ b ∷ rest → ((m : ℕ) → numbered b m ≡ None) → IsNumbered text r → ⊥
 not-numbered text b n r rest e none h =
@@ -43,22 +44,7 @@ register-one text r s (inl p) i = p.1 ∙ zero-one text s p.0 i
 register-one text r s (inr (inl p)) i = p.1 ∙ frame-one text s p.0 i
 register-one text r s (inr (inr w)) i = numbered-first text r s w i
 
--- a text is one configuration
-pub oil-one : (text : List ℕ) (c d : Config) → (h : OilText text c) → (i : OilText text d) → (h.name ≡ i.name) × (c ≡ d)
-oil-one text c d h i =
-    let a : List ℕ = drop 63 text in
-    let word : List ℕ = until 32 a in
-    let b : List ℕ = drop (length word) a in
-    let e : List ℕ = drop 14 b in
-    let first = oil-parts text a word b e (until 59 e) h.name h.priority h.is_name h.in_range h.spelled refl refl refl refl refl in
-    let second = oil-parts text a word b e (until 59 e) i.name i.priority i.is_name i.in_range i.spelled refl refl refl refl refl in
-    let name : h.name ≡ i.name = sym first.0 ∙ second.0 in
-    let p = h.in_range in
-    let q = i.in_range in
-    let priority : h.priority ≡ i.priority = decimal_injective h.priority i.priority (omega arith) (omega arith) (sym first.1 ∙ second.1) in
-    (name, h.means ∙ ap (λ x. one_task x h.priority) name ∙ ap (one_task i.name) priority ∙ sym i.means)
-
--- and one addition
+-- a text has one addition
 pub source-one : (text name : List ℕ) (a b c d : ℕ) (n m : ℤ) → IsAddition text name a b n → IsAddition text name c d m → one_body name a b n ≡ one_body name c d m
 source-one text name a b c d n m h i =
     let t1 : List ℕ = drop 5 text in
@@ -81,9 +67,9 @@ source-one text name a b c d n m h i =
 
 pub one-meaning : (oil src : List ℕ) (c d : Config) (a b : App) → Accepted oil src c a → Accepted oil src d b → (c ≡ d) × (a ≡ b)
 one-meaning oil src c d a b h i =
-    let one = oil-one oil c d h.configuration i.configuration in
+    let one = one_configuration oil c d h.configuration i.configuration in
     let x = h.code in
     let y = i.code in
-    let name : h.configuration.name ≡ i.configuration.name = one.0 in
+    let name : h.one.task.name ≡ i.one.task.name = ap first_name (sym h.one.is ∙ (ap (λ k. k.tasks) one ∙ i.one.is)) in
     let P : List ℕ → Type 0 = λ w. IsAddition src w x.result x.operand x.number in
-    (one.1, x.means ∙ ap (λ w. one_body w x.result x.operand x.number) name ∙ source-one src i.configuration.name x.result x.operand y.result y.operand x.number y.number (subst P name x.addition) y.addition ∙ sym y.means)
+    (one, x.means ∙ ap (λ w. one_body w x.result x.operand x.number) name ∙ source-one src i.one.task.name x.result x.operand y.result y.operand x.number y.number (subst P name x.addition) y.addition ∙ sym y.means)
