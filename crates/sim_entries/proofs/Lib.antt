@@ -1,3 +1,4 @@
 pub mod EntryRam
 pub mod Spot
 pub mod Enter
+pub mod Boot

@@ -1,16 +1,21 @@
 -- The laws of boot and of entries.
-use Rattle.std.specs.Prelude.{ℕ, ◌+◌, ◌<◌, ◌≡◌, [], length, Some, slice_index}
+use Rattle.std.specs.Prelude.{ℕ, ◌+◌, ◌<◌, ◌≡◌, List, [], length, Some, slice_index}
+use Rattle.sloth_base.specs.declared.image.Image.{Image}
 use Rattle.sloth_base.specs.declared.event.Event.TheVariants as event
 use Rattle.sloth_base.specs.Machine.{State}
 use Rattle.sloth_base.specs.Choose.{choose}
 use Rattle.sloth_region.specs.Layout.{context_bytes}
-use Rattle.osek_machine.specs.State.{System, task, function, body_of}
+use Rattle.rv32_machine.specs.Start.{start}
+use Rattle.osek_machine.specs.State.{System, task, function, body_of, opening}
 use Rattle.osek_machine.specs.Services.{entered}
 use Rattle.osek_machine.specs.Steps.{OsekStep, settled}
 use Rattle.sim_base.specs.Build.{Build, Fits}
 use Rattle.sim_base.specs.Stands.{Stands}
+use Rattle.sim_base.specs.Start.{started}
+use Rattle.vector_gen.specs.Boot.{Booted}
 use Rattle.sim_entries.specs.Range.{Sane}
 use Rattle.sim_entries.specs.Entries.{EntersAnew, StandsAlone}
+use Rattle.sim_entries.specs.Boot.{IsImage, AreLevelsOf}
 
 -- Where a task's line is the one taken and the task is to start anew, its prologue is the event Enter, whatever ran.
 abbrev pub EnterLaw : Type 0
@@ -18,3 +23,9 @@ EnterLaw = (b : Build) (state end : State) (s : System) (t place : ℕ) → Fits
     → choose state.core ≡ Some t → (task s t).frames ≡ [] → 0 < length (function b.app (body_of b.app.funcs t)).items → StandsAlone b s t
     → slice_index state.core.registers 2 ≡ 0x8000_0000 + (place + context_bytes) → EntersAnew b t place state end
     → OsekStep b.config b.app (event.Enter t) s (settled (entered b.config b.app t s)) × Stands b end (settled (entered b.config b.app t s))
+
+-- From the start of the machine, boot is the event Boot.
+abbrev pub BootsLaw : Type 0
+BootsLaw = (b : Build) (image : Image) (levels : List ℕ) (end : State) → Fits b → IsImage b image → AreLevelsOf b levels
+    → Booted b.config.tasks levels b.idle [] (start image) end
+    → OsekStep b.config b.app event.Boot (opening b.config b.app) (started b) × Stands b end (started b)

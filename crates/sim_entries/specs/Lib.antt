@@ -1,3 +1,4 @@
 pub mod Range
 pub mod Entries
+pub mod Boot
 pub mod Laws

@@ -1,0 +1,18 @@
+-- What boot starts from.
+use Rattle.std.specs.Prelude.{ℕ, ◌<◌, ◌≤◌, ◌≡◌, List, length, slice_index}
+use Rattle.sloth_base.specs.declared.image.Image.{Image}
+use Rattle.osek_machine.specs.State.{declaration, opening}
+use Rattle.sim_run.specs.Mirror.{level_of}
+use Rattle.sim_base.specs.Build.{Build}
+use Rattle.sim_base.specs.DataStands.{DataStands}
+
+-- The image of what is built: its service words are zero, and its data are those that the task code declares.
+pub record IsImage (b : Build) (image : Image) : Type 0 where
+  pub memory : image.memory ≡ b.memory
+  pub size : length b.memory ≤ 0x20_0000
+  pub service_words : (i : ℕ) → i < 884 → slice_index b.memory i ≡ 0
+  pub data_stands : DataStands b b.memory (opening b.config b.app).symbols
+
+-- the level of each task is that of its priority
+abbrev pub AreLevelsOf : Build → List ℕ → Type 0
+AreLevelsOf b levels = (t : ℕ) → t < length b.config.tasks → slice_index levels t ≡ level_of b.config (declaration b.config t).priority
