@@ -1,5 +1,5 @@
 -- An item that computes on registers and numbers.
-use Rattle.std.proofs.Common.{◌≡◌, ℕ, zero, suc, ◌+◌, ◌-◌, ◌*◌, ◌<◌, List, [], ◌∷◌, length, set, refl, sym, ap, ◌∙◌, subst, arith, ⊎_elim, inl, inr, None}
+use Rattle.std.proofs.Common.{◌≡◌, ℕ, zero, suc, ◌+◌, ◌-◌, ◌<◌, List, [], ◌∷◌, length, set, refl, sym, ap, ◌∙◌, subst, arith, ⊎_elim, inl, inr, None}
 use Rattle.std.specs.Prelude.{slice_index}
 use Rattle.std.proofs.lemmas.Bool.{cases_eq}
 use Rattle.std.proofs.lemmas.List.{get_or-set_same, get_or-set_other, length-set}
@@ -28,13 +28,12 @@ use Rattle.sim_base.specs.Context.{Context, Running}
 use Rattle.sim_base.specs.Stands.{Stands, AreActive}
 use Rattle.sim_base.specs.DataStands.{DataStands}
 use Rattle.sim_base.specs.Moves.{moved_to, TaskStep, SameMachine}
-use Rattle.sim_base.proofs.Framing.{scratch_first}
+use Rattle.sim_base.proofs.AtItem.{position_first}
 use Rattle.sim_base.proofs.Tops.{falling_head}
 use Rattle.sim_base.proofs.TaskSteps.{task_steps}
 use Rattle.sim_items.specs.Place.{AtItem, HasInstruction, IsOwn, IsComputed}
 use Rattle.sim_items.specs.Laws.{IsOneInstruction, RunsItem}
 use Rattle.sim_items.proofs.Values.{Computed, computed}
-use Rattle.sim_items.proofs.Expansions.{expands_some}
 
 -- the task of the word at 0x80000000 is the first of the stack
 pub first_of : (b : Build) (state : State) (s : System) (t : ℕ) (stack : List ℕ) → Running b state s stack → word_at state.core.ram 0 ≡ t + 1
@@ -43,13 +42,12 @@ first_of b state s t [] run h = let a = run.current in absurd (omega arith)
 first_of b state s t (u ∷ below) run h = let a = run.current in let e : u ≡ t = omega arith in (below, ap (λ v. v ∷ below) e)
 
 -- what the image has stands in RAM
-pub code_here : (b : Build) (state : State) (s : System) (address : ℕ) (kind : InstrKind) → Fits b → Stands b state s
+pub code_here : (b : Build) (state : State) (s : System) (address : ℕ) (kind : InstrKind) → Stands b state s
     → (i : HasInstruction b address kind) → Here state.core.ram i.offset kind
-code_here b state s address kind fits k i =
-    let w = i.inside in (
-      ap Decode (word_at-agree state.core.ram b.memory i.offset (λ j x y. k.fixed.code j (i.code j x y)) ∙ i.word) ∙ decode_encode kind i.in_range,
-      omega arith,
-    )
+code_here b state s address kind k i = (
+  ap Decode (word_at-agree state.core.ram b.memory i.offset (λ j x y. k.fixed.code j (i.is_code j x y)) ∙ i.word) ∙ decode_encode kind i.in_range,
+  i.to,
+)
 
 written : (core : Core) (rd value : ℕ) → 0 < rd → with_register core rd value ≡ record core { registers = set core.registers rd value }
 written core zero value h = absurd (omega arith)
@@ -135,7 +133,7 @@ module _ (b : Build) (state : State) (s : System) (t : ℕ) (fits : Fits b) (k :
     instruction = one.code v.kind v.expands
 
     code : Here state.core.ram instruction.offset v.kind
-    code = code_here b state s address v.kind fits k instruction
+    code = code_here b state s address v.kind k instruction
 
     abbrev next : State
     next = at (instruction.offset + 4) (with_register state.core v.rd v.value)
@@ -187,7 +185,7 @@ module _ (b : Build) (state : State) (s : System) (t : ℕ) (fits : Fits b) (k :
       previous = core_kept (λ c. c.mpie ≡ state.core.mpie) (λ rs. refl) ∙ k.fixed.previous;
     }
 
-    next_pc : next.pc ≡ item_address b.places frame.func (frame.item + 1) + 4 * 0
+    next_pc : next.pc ≡ item_address b.places frame.func (frame.item + 1)
     next_pc = let a = instruction.is in let c = one.adjacent in omega arith
 
     context_now : Context b next.core.ram t own_now (thread_of next) here.place
@@ -195,22 +193,7 @@ module _ (b : Build) (state : State) (s : System) (t : ℕ) (fits : Fits b) (k :
         (record {
           x2 = w.x2 ∙ here.context.x2;
           registers = w.same;
-          position = record {
-            frame = moved;
-            outer = here.outer;
-            frames = refl;
-            inside = one.more;
-            here = inl (record {
-              free = here.free;
-              frames = here.stood;
-              here = inl (record {
-                done = 0;
-                within = expands_some b.app b.places frame.func (item_address b.places frame.func (frame.item + 1)) (operation b.app frame.func (frame.item + 1));
-                pc = next_pc;
-                scratch = scratch_first b own_now.registers moved (operation b.app frame.func (frame.item + 1)) (thread_of next);
-              });
-            });
-          };
+          position = position_first b state.core.ram t own_now (thread_of next) here.place moved here.outer refl here.free one.more next_pc here.stood;
           room = here.context.room;
           aligned = here.context.aligned;
         })
@@ -223,7 +206,7 @@ module _ (b : Build) (state : State) (s : System) (t : ℕ) (fits : Fits b) (k :
       machine = same_machine;
       level = core_kept (λ c. c.ilevel ≡ state.core.ilevel) (λ rs. refl);
       low = λ i x y. ap (λ r. slice_index r i) ram_is;
-      code = λ i x. ap (λ r. slice_index r i) ram_is;
+      code = λ i h. ap (λ r. slice_index r i) ram_is;
       others = λ u h n a i x y. ap (λ r. slice_index r i) ram_is;
       active = active_is;
       events = refl;

@@ -33,8 +33,8 @@ pub record AtItem (b : Build) (state : State) (s : System) (t : ℕ) : Type 0 wh
 pub record HasInstruction (b : Build) (address : ℕ) (kind : InstrKind) : Type 0 where
   pub offset : ℕ
   pub is : address ≡ 0x8000_0000 + offset
-  pub inside : offset + 4 ≤ 0x20_0000
-  pub code : (i : ℕ) → offset ≤ i → i < offset + 4 → b.is_code i ≡ true
+  pub to : offset + 4 ≤ 0x20_0000
+  pub is_code : (i : ℕ) → offset ≤ i → i < offset + 4 → b.is_code i ≡ true
   pub word : word_at b.memory offset ≡ Encode kind
   pub in_range : InRange kind
 

@@ -1,2 +1,3 @@
 pub mod EndRam
 pub mod Terminate
+pub mod TerminateStretch

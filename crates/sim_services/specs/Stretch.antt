@@ -1,0 +1,58 @@
+-- The services as stretches of a run, whatever lines arrive.
+use Rattle.std.specs.Prelude.{ℕ, ◌+◌, ◌*◌, ◌%◌, ◌<◌, ◌≤◌, ◌≡◌, List, [], length, true, false, Some, None, slice_get}
+use Rattle.sloth_base.specs.declared.image.Mark.{Mark}
+use Rattle.sloth_base.specs.declared.image.MarkKind.TheVariants as kind
+use Rattle.sloth_base.specs.declared.event.Arrival.{Arrival}
+use Rattle.sloth_base.specs.declared.service.Service.TheVariants as service
+use Rattle.sloth_base.specs.Choose.{choose}
+use Rattle.sloth_base.specs.Machine.{State}
+use Rattle.rv32_instr.specs.declared.InstrKind.{InstrKind}
+use Rattle.rv32_machine.specs.Run.{arrived}
+use Rattle.rv32_routine.specs.Place.{InPlace}
+use Rattle.rv32_routine.specs.Trace.{Trace}
+use Rattle.rv32_expand.specs.Expansion.{block_address}
+use Rattle.observe.specs.Observe.{View, mark_at, services}
+use Rattle.service_gen.specs.TerminateTask.{Terminates}
+use Rattle.osek_machine.specs.State.{System, task}
+use Rattle.osek_machine.specs.Priority.{is_in}
+use Rattle.sim_run.specs.Admits.{Setting, IsSetting, lines_at, with_admits}
+use Rattle.sim_run.specs.Laws.{StretchLaw}
+use Rattle.sim_base.specs.Build.{Build, Fits}
+use Rattle.sim_base.specs.Stands.{Stands}
+use Rattle.sim_services.specs.Opening.{AtOpening, AreBytes}
+
+-- a run of what is built
+abbrev pub setting_of : Build → View → List Arrival → Setting
+setting_of b view arrivals = record { config = b.config; app = b.app; view = view; arrivals = arrivals }
+
+-- the block of TerminateTask stands in the image, with code that does it, and its mark
+pub record HasTerminateTask (b : Build) (view : View) (object : ℕ) : Type 0 where
+  pub code : List InstrKind
+  pub terminates : Terminates code
+  pub offset : ℕ
+  pub is : block_address b.places service.TerminateTask object ≡ 0x8000_0000 + offset
+  pub aligned : offset % 4 ≡ 0
+  pub from : 1024 ≤ offset
+  pub to : offset + 4 * length code ≤ 0x20_0000
+  pub is_code : (i : ℕ) → offset ≤ i → i < offset + 4 * length code → b.is_code i ≡ true
+  pub placed : InPlace b.memory offset code
+  pub mark : Mark
+  pub marked : mark_at view (0x8000_0000 + offset) ≡ Some mark
+  pub opens : mark.kind ≡ kind.Opening
+  pub calls : slice_get services mark.a ≡ Some service.TerminateTask
+
+-- what holds at the opening mark of TerminateTask, with the arrivals of the count: no line is taken, and the running task holds nothing
+pub record OpensTerminateTask (b : Build) (view : View) (state : State) (s : System) (t : ℕ) : Type 0 where
+  pub none : choose state.core ≡ None
+  pub opening : AtOpening b state s t service.TerminateTask
+  pub in_place : HasTerminateTask b view opening.block.call.object
+  pub holds_nothing : (task s t).held ≡ []
+  pub not_fresh : is_in t s.fresh ≡ false
+  pub bytes : AreBytes state.core.ram
+
+-- The stretch that begins there is the event Left of TerminateTask.
+abbrev pub TerminateTaskStretches : Type 0
+TerminateTaskStretches = (b : Build) (view : View) (arrivals : List Arrival) (count : ℕ) (state : State) (s : System) (t : ℕ)
+    → Fits b → IsSetting (setting_of b view arrivals) → 0 < count → Stands b state s
+    → OpensTerminateTask b view (arrived arrivals count state) (with_admits (lines_at arrivals count) s) t
+    → (next : State) × (trace : Trace) × (end : State) × StretchLaw (setting_of b view arrivals) (Stands b) count state s next trace end
