@@ -1,2 +1,4 @@
 pub mod Values
 pub mod Computed
+pub mod Outside
+pub mod Jump

@@ -1,2 +1,3 @@
 pub mod Place
 pub mod Laws
+pub mod Outside

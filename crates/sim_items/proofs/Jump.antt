@@ -1,0 +1,169 @@
+-- The jump to a service that has no mask.
+use Rattle.std.proofs.Common.{◌≡◌, ℕ, ◌+◌, ◌*◌, ◌%◌, ◌<◌, List, [], ◌∷◌, ◌++◌, length, set, refl, sym, ap, ◌∙◌, subst, arith, inl, inr, None}
+use Rattle.std.proofs.lemmas.Bool.Decides.{nat_tests}
+use Rattle.std.proofs.lemmas.Int.{ints}
+use Rattle.std.proofs.lemmas.List.{get_or-set_same, get_or-set_other, length-set, set-get_or}
+use Rattle.sloth_base.specs.declared.event.Arrival.{Arrival}
+use Rattle.sloth_base.specs.Machine.{State}
+use Rattle.rv32_instr.specs.declared.InstrKind.{InstrKind}
+use Rattle.rv32_instr.specs.declared.InstrKind.TheVariants.{Jal}
+use Rattle.rv32_instr.specs.Effect.{plus}
+use Rattle.rv32_instr.specs.Execute.{Going, step, touched, touched_by, perform, jumps}
+use Rattle.rv32_routine.specs.Place.{at}
+use Rattle.rv32_routine.proofs.Machine.{Here, step_at, touched_at, jump_at}
+use Rattle.rv32_expand.specs.Expansion.{item_address, block_address, mask_of, distance, expanded, expansion}
+use Rattle.observe.specs.Observe.{View, mark_at, events_of_kind}
+use Rattle.osek_machine.specs.State.{Task, System, task, sleeping}
+use Rattle.sim_run.specs.Laws.{seen_at}
+use Rattle.sim_base.specs.Build.{Build}
+use Rattle.sim_base.specs.Stands.{Stands, AreActive}
+use Rattle.sim_base.specs.Moves.{moved_to, TaskStep}
+use Rattle.sim_base.proofs.Arrive.{stands_fresh}
+use Rattle.sim_base.proofs.TaskSteps.{task_steps}
+use Rattle.sim_base.proofs.Tops.{falling_head}
+use Rattle.sim_items.specs.Place.{AtItem}
+use Rattle.sim_items.specs.Outside.{At, GoesOutside, JumpsToService}
+use Rattle.sim_items.proofs.Computed.{first_of, code_here}
+use Rattle.sim_items.proofs.Outside as outside
+
+-- a jump by the distance arrives
+arrives : (from to : ℕ) → from < 4294967296 → to < 4294967296 → plus from (distance from to) ≡ to
+arrives from to l h = grind (arith, nat_tests, ints)
+
+module _ (b : Build) (view : View) (arrivals : List Arrival) (progress : State → System → ℕ) (count : ℕ) (state : State) (s : System) (here : At b view arrivals count state s)
+    (t : ℕ) (item : AtItem b (outside.n b view arrivals progress count state s here) (outside.s1 b view arrivals progress count state s here) t)
+    (jump : JumpsToService b view item.frame.func item.frame.item)
+    (rises : (next : State) → next.pc ≡ block_address b.places jump.call.service jump.call.object
+    → progress state s < progress next (outside.s1 b view arrivals progress count state s here)) where
+  abbrev n : State
+  n = outside.n b view arrivals progress count state s here
+
+  abbrev s1 : System
+  s1 = outside.s1 b view arrivals progress count state s here
+
+  now : Stands b n s1
+  now = outside.now b view arrivals progress count state s here
+
+  abbrev address : ℕ
+  address = item_address b.places item.frame.func item.frame.item
+
+  abbrev target : ℕ
+  target = block_address b.places jump.call.service jump.call.object
+
+  abbrev offset : ℕ
+  offset = jump.code.offset
+
+  abbrev link : ℕ
+  link = (0x8000_0000 + offset + 4) % 4294967296
+
+  abbrev next : State
+  next = at jump.block (record n.core { registers = set n.core.registers 31 link })
+
+  code : Here n.core.ram offset (Jal 31 (distance address target))
+  code = code_here b n s1 address (Jal 31 (distance address target)) now jump.code
+
+  n_is : n ≡ at offset n.core
+  n_is = ap (λ p. record { pc = p; core = n.core }) (item.pc ∙ jump.code.is)
+
+  arrives_there : plus (0x8000_0000 + offset) (distance address target) ≡ 0x8000_0000 + jump.block
+  arrives_there =
+      let l = code.1 in
+      let i = jump.in_ram in
+      let e = jump.block_is in
+      ap (λ p. plus p (distance address target)) (sym jump.code.is)
+      ∙ arrives address target (let a = jump.code.is in omega arith) (omega arith) ∙ e
+
+  aligned : jump.block % 4 ≡ 0
+  aligned = let f = here.fits.blocks item.frame.func item.frame.item jump.call jump.is in let e = jump.block_is in omega arith
+
+  stepped : step n ≡ Going next
+  unfolding perform
+  stepped =
+      ap step n_is ∙ step_at offset n.core (Jal 31 (distance address target)) code
+      ∙ ap (λ p. jumps p (record n.core { registers = set n.core.registers 31 link })) arrives_there
+      ∙ jump_at jump.block (record n.core { registers = set n.core.registers 31 link }) aligned
+
+  untouched : touched n ≡ None
+  unfolding touched_by
+  untouched = ap touched n_is ∙ touched_at offset n.core (Jal 31 (distance address target)) code.0
+
+  found : (below : List ℕ) × (now.stack ≡ t ∷ below)
+  found = first_of b n s1 t now.stack now.running item.current
+
+  -- the jump is all of the item
+  one : length (expansion b.app b.places item.frame.func item.frame.item) ≡ 1
+  one = ap (λ o. length (expanded b.app b.places item.frame.func address o)) jump.is
+      ∙ ap (λ (m : List InstrKind). length (m ++ (Jal 31 (distance (address + 4 * length m) target) ∷ []))) jump.no_mask
+
+  linked : link ≡ address + 4 * length (expansion b.app b.places item.frame.func item.frame.item)
+  linked = let a = jump.code.is in let c = one in let l = code.1 in omega arith
+
+  no_words : length (mask_of jump.call.service jump.call.mask) ≡ 0
+  no_words = ap length jump.no_mask
+
+  step_of : TaskStep b n next s1 t (task s1 t) s1.symbols
+  step_of =
+      let f = now.fixed in
+      let r = n.core.registers in
+      record {
+        machine = record {
+          ram = refl;
+          registers = length-set r 31 link;
+          zero = get_or-set_other r 31 0 link 0 (λ e. omega arith);
+          pending = refl;
+          enabled = refl;
+          levels = refl;
+          controller = refl;
+          open_to_lines = f.open_to_lines;
+          previous = f.previous;
+        };
+        level = refl;
+        low = λ i x y. refl;
+        code = λ i h. refl;
+        others = λ u h m a i x y. refl;
+        active = (falling_head b s1 t found.0 (subst (AreActive b s1) found.1 now.active).falling).active;
+        events = refl;
+        held = refl;
+        raised = refl;
+        registers = (now.tidy.each t (falling_head b s1 t found.0 (subst (AreActive b s1) found.1 now.active).falling).declared).registers;
+        place = item.place;
+        context = record {
+          x2 = get_or-set_other r 31 2 link 0 (λ e. omega arith) ∙ item.context.x2;
+          registers = λ i l. item.context.registers i l ∙ sym (get_or-set_other r 31 (i + 5) link 0 (λ e. omega arith));
+          position = record {
+            frame = item.frame;
+            outer = item.outer;
+            frames = item.frames;
+            inside = item.inside;
+            here = inl (record {
+              free = item.free;
+              frames = item.stood;
+              here = inr (record {
+                call = jump.call;
+                is = jump.is;
+                pc = sym jump.block_is;
+                returns = get_or-set_same r 31 link 0 (omega arith) ∙ linked;
+                mask = λ e. let z = no_words in absurd (omega arith);
+              });
+            });
+          };
+          room = item.context.room;
+          aligned = item.context.aligned;
+        };
+        data_stands = now.data_stands;
+      }
+
+  stands_next : Stands b next s1
+  stands_next =
+      subst (Stands b next) (ap (λ (v : List Task). record s1 { tasks = v }) (set-get_or s1.tasks t sleeping))
+      (stands_fresh b next (moved_to s1 t (task s1 t) s1.symbols) s1.fresh
+      (task_steps b n next s1 now here.fits t found.0 found.1 (task s1 t) s1.symbols step_of))
+
+  pub jump_outside : GoesOutside b view arrivals progress count state s
+  jump_outside = (
+    next,
+    outside.one_instruction b view arrivals progress count state s here next jump.mark [] s1 stepped untouched
+        (ap (mark_at view) item.pc ∙ jump.marked)
+        (ap (λ k. events_of_kind k view jump.mark (seen_at (outside.given b view arrivals progress count state s here) count state next)) jump.jumps)
+        refl (λ e. rises next (sym jump.block_is)) stands_next,
+  )

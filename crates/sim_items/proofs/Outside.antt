@@ -1,0 +1,169 @@
+-- Instructions outside the stretches.
+use Rattle.std.proofs.Common.{◌≡◌, ℕ, ◌+◌, ◌-◌, ◌<◌, ◌≤◌, List, [], ◌∷◌, length, refl, sym, ap, ◌∙◌, subst, arith, Some, None, cond, nat_le}
+use Rattle.std.specs.Prelude.{◌&&◌, slice_index, IfSome}
+use Rattle.std.proofs.lemmas.Bool.{lt-ltb, le-leb}
+use Rattle.sloth_base.specs.declared.app.Op.{Op}
+use Rattle.sloth_base.specs.declared.app.Op.TheVariants as op
+use Rattle.sloth_base.specs.declared.image.Mark.{Mark}
+use Rattle.sloth_base.specs.declared.image.MarkKind.TheVariants as kind
+use Rattle.sloth_base.specs.declared.event.Event.{Event}
+use Rattle.sloth_base.specs.declared.event.Event.TheVariants as event
+use Rattle.sloth_base.specs.declared.event.Arrival.{Arrival}
+use Rattle.sloth_base.specs.Choose.{choose}
+use Rattle.sloth_base.specs.Machine.{State}
+use Rattle.sloth_base.specs.Take.{line_to_take, enter}
+use Rattle.rv32_instr.specs.declared.InstrKind.{InstrKind}
+use Rattle.rv32_instr.specs.Table.{Decode}
+use Rattle.rv32_instr.specs.Ram.{word_at}
+use Rattle.rv32_instr.specs.Execute.{Going, step, touched}
+use Rattle.rv32_machine.specs.Run.{arrived}
+use Rattle.rv32_routine.specs.Place.{at, InPlace}
+use Rattle.rv32_routine.proofs.Words.{word_at-agree}
+use Rattle.rv32_expand.specs.Expansion.{item_address, operation}
+use Rattle.rv32_expand.specs.InPlace.{result_register, mark_of, item_mark}
+use Rattle.observe.specs.Observe.{View, mark_at, task_of, outside_events, events_of_kind}
+use Rattle.osek_machine.specs.State.{System}
+use Rattle.osek_machine.specs.Priority.{IsTop}
+use Rattle.osek_machine.specs.Steps.{settled}
+use Rattle.sim_run.specs.Short.{IsOneOf}
+use Rattle.sim_run.specs.Admits.{Setting, lines_at, with_admits}
+use Rattle.sim_run.specs.Laws.{OutsideLaw, Shows, seen_at}
+use Rattle.sim_run.proofs.Routes.{begins_none}
+use Rattle.sim_run.proofs.Schedule.{below_moments}
+use Rattle.sim_base.specs.Build.{Build}
+use Rattle.sim_base.specs.Context.{Running, RunsIdle}
+use Rattle.sim_base.specs.Stands.{Stands}
+use Rattle.sim_base.proofs.Arrive.{stands_arrived, stands_fresh}
+use Rattle.sim_base.proofs.Choice.{running_top, none_due}
+use Rattle.sim_items.specs.Place.{AtItem, IsComputed}
+use Rattle.sim_items.specs.Laws.{IsOneInstruction, RunsItem}
+use Rattle.sim_items.specs.Outside.{setting_of, At, GoesOutside, HasIdle}
+use Rattle.sim_items.proofs.Computed.{first_of, computed_run}
+
+task_is : (tasks t : ℕ) → t < tasks → task_of tasks (t + 1) ≡ t
+task_is tasks t l =
+    let one : t + 1 - 1 ≡ t = omega arith in
+    ap (λ b. cond (b && nat_le (t + 1) tasks) (t + 1 - 1) 4294967295) (lt-ltb 0 (t + 1) (omega arith))
+    ∙ ap (λ b. cond b (t + 1 - 1) 4294967295) (le-leb (t + 1) tasks (omega arith)) ∙ one
+
+-- the mark of such an item shows its Run event
+mark_shows : (o : Op) (address func index : ℕ) → IsComputed o → mark_of o address func index ≡ record { address = address; kind = kind.Item; a = result_register o; b = func; c = index }
+mark_shows (op.Alu kind rd rs1 rs2) address func index h = refl
+mark_shows (op.AluImm kind rd rs1 number) address func index h = refl
+mark_shows (op.Lui rd number) address func index h = refl
+mark_shows (op.Li rd value) address func index h = absurd h
+mark_shows (op.FrameLoad rd word) address func index h = absurd h
+mark_shows (op.FrameStore rs word) address func index h = absurd h
+mark_shows (op.Load width rd symbol offset) address func index h = absurd h
+mark_shows (op.Store width rs symbol offset) address func index h = absurd h
+mark_shows (op.LoadAt width rd symbol index mask) address func i h = absurd h
+mark_shows (op.StoreAt width rs symbol index mask) address func i h = absurd h
+mark_shows (op.Branch kind rs1 rs2 label) address func index h = absurd h
+mark_shows (op.Jump label) address func index h = absurd h
+mark_shows (op.Invoke callee) address func index h = absurd h
+mark_shows op.Return address func index h = absurd h
+mark_shows (op.Serve call) address func index h = absurd h
+
+module _ (b : Build) (view : View) (arrivals : List Arrival) (progress : State → System → ℕ) (count : ℕ) (state : State) (s : System) (here : At b view arrivals count state s) where
+  abbrev pub n : State
+  n = arrived arrivals count state
+
+  abbrev pub s1 : System
+  s1 = with_admits (lines_at arrivals count) s
+
+  abbrev pub given : Setting
+  given = setting_of b view arrivals
+
+  pub few : length b.config.tasks ≤ 32
+  few = let f = here.fits.few_tasks in omega arith
+
+  pub now : Stands b n s1
+  now = stands_arrived b (lines_at arrivals count) state s few (below_moments (length b.config.tasks) count (count + 1) arrivals here.setting.lines) here.stands
+
+  pub none : line_to_take n ≡ None
+  none = ap (λ m. cond m (choose n.core) None) here.stands.fixed.open_to_lines ∙ here.none
+
+  -- any instruction after which the relation stands
+  pub one_instruction : (next : State) (mark : Mark) (whats : List Event) (after : System) → step n ≡ Going next → touched n ≡ None → mark_at view n.pc ≡ Some mark
+      → events_of_kind mark.kind view mark (seen_at given count state next) ≡ whats → Shows given whats s1 after
+      → (whats ≡ [] → progress state s < progress next after) → Stands b next after → OutsideLaw given (Stands b) progress count state s next
+  one_instruction next mark whats after goes quiet marked shown shows rises related = record {
+    goes = ap (λ o. step (enter o n)) none ∙ goes;
+    outside = begins_none count n next here.after_boot none related.fixed.open_to_lines;
+    untouched = subst (λ o. IfSome o (IsOneOf [])) (sym (ap (λ o. touched (enter o n)) none ∙ quiet)) tt;
+    whats = whats;
+    whats_are = ap (λ o. outside_events (mark_at view (enter o n).pc) view (seen_at given count state next)) none
+        ∙ ap (λ m. outside_events m view (seen_at given count state next)) marked ∙ shown;
+    after = after;
+    shows = shows;
+    progresses = rises;
+    related = related;
+  }
+
+  -- an item that computes
+  module _ (t : ℕ) (item : AtItem b n s1 t) (is : IsComputed (operation b.app item.frame.func item.frame.item)) (one : IsOneInstruction b item.frame.func item.frame.item)
+      (marked : mark_at view (item_address b.places item.frame.func item.frame.item) ≡ Some (item_mark b.app b.places item.frame.func item.frame.item)) where
+    top : IsTop b.config s1 [] t
+    top = let f = first_of b n s1 t now.stack now.running item.current in running_top b n s1 now few here.none t f.0 f.1
+
+    runs : RunsItem b n s1 t item.frame.func item.frame.item
+    runs = computed_run b n s1 t here.fits now item top is one
+
+    abbrev shown_as : Mark → Event
+    shown_as m = event.Run (task_of view.tasks (word_at n.core.ram 0)) m.b m.c (slice_index runs.next.core.registers m.a)
+
+    shown : events_of_kind (item_mark b.app b.places item.frame.func item.frame.item).kind view (item_mark b.app b.places item.frame.func item.frame.item) (seen_at given count state runs.next)
+        ≡ event.Run t item.frame.func item.frame.item (slice_index runs.next.core.registers (result_register (operation b.app item.frame.func item.frame.item))) ∷ []
+    shown =
+        let l : t < view.tasks = let v = here.setting.tasks in let h = top.declared in omega arith in
+        ap (λ m. events_of_kind m.kind view m (seen_at given count state runs.next))
+        (mark_shows (operation b.app item.frame.func item.frame.item) _ item.frame.func item.frame.item is)
+        ∙ ap (λ u. event.Run u item.frame.func item.frame.item (slice_index runs.next.core.registers (result_register (operation b.app item.frame.func item.frame.item))) ∷ [])
+        (ap (task_of view.tasks) item.current ∙ task_is view.tasks t l)
+
+    pub item_outside : GoesOutside b view arrivals progress count state s
+    item_outside = (
+      runs.next,
+      one_instruction runs.next (item_mark b.app b.places item.frame.func item.frame.item) _ runs.after runs.goes runs.untouched
+          (ap (mark_at view) item.pc ∙ marked) shown runs.step_is (λ e. cc) runs.stands,
+    )
+
+  -- the idle loop
+  module _ (idle_word : word_at state.core.ram 0 ≡ 0) (idle : HasIdle b view) where
+    empty : now.stack ≡ []
+    empty = by now.stack refl
+      where
+        by : (stack : List ℕ) → now.stack ≡ stack → now.stack ≡ []
+        by [] e = e
+        by (t ∷ below) e = let r = (subst (Running b n s1) e now.running).current in absurd (omega arith)
+
+    runs_idle : RunsIdle b n
+    runs_idle = subst (Running b n s1) empty now.running
+
+    pc_is : n.pc ≡ 0x8000_0000 + idle.offset
+    pc_is = runs_idle.pc ∙ idle.is
+
+    n_is : n ≡ at idle.offset n.core
+    n_is = ap (λ p. record { pc = p; core = n.core }) pc_is
+
+    placed : InPlace n.core.ram idle.offset idle.code
+    placed = kept idle.code idle.idles.word idle.placed
+      where
+        kept : (code : List InstrKind) → length code ≡ 1 → InPlace b.memory idle.offset code → InPlace n.core.ram idle.offset code
+        kept [] e p = tt
+        kept (i ∷ []) e p = (ap Decode (word_at-agree n.core.ram b.memory idle.offset (λ j x y. now.fixed.code j (idle.is_code j x y))) ∙ p.0, tt)
+        kept (i ∷ j ∷ code) e p = absurd (omega arith)
+
+    stays : step n ≡ Going n
+    stays =
+        let a = here.fits.idle_address in
+        let e = idle.is in
+        ap step n_is ∙ idle.idles.stays idle.offset n.core (omega arith) idle.to placed ∙ ap Going (sym n_is)
+
+    pub idle_outside : GoesOutside b view arrivals progress count state s
+    idle_outside = (
+      n,
+      one_instruction n idle.mark (event.Idle ∷ []) (settled s1) stays (ap touched n_is ∙ idle.idles.untouched idle.offset n.core placed)
+          (ap (mark_at view) runs_idle.pc ∙ idle.marked) (ap (λ k. events_of_kind k view idle.mark (seen_at given count state n)) idle.shows)
+          (now.tidy.booted, none_due b n s1 now few here.none empty, refl) (λ e. cc) (stands_fresh b n s1 [] now),
+    )

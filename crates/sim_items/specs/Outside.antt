@@ -1,0 +1,95 @@
+-- Items and the idle loop as instructions of a run outside the stretches.
+use Rattle.std.specs.Prelude.{ℕ, ◌+◌, ◌<◌, ◌≤◌, ◌≡◌, List, [], true, Some, None}
+use Rattle.sloth_base.specs.declared.app.Call.{Call}
+use Rattle.sloth_base.specs.declared.app.Op.TheVariants as op
+use Rattle.sloth_base.specs.declared.event.Arrival.{Arrival}
+use Rattle.sloth_base.specs.declared.image.Mark.{Mark}
+use Rattle.sloth_base.specs.declared.image.MarkKind.TheVariants as kind
+use Rattle.sloth_base.specs.Choose.{choose}
+use Rattle.sloth_base.specs.Machine.{State}
+use Rattle.sloth_region.specs.Layout.{cur}
+use Rattle.rv32_instr.specs.declared.InstrKind.{InstrKind}
+use Rattle.rv32_instr.specs.declared.InstrKind.TheVariants.{Jal}
+use Rattle.rv32_instr.specs.Ram.{word_at}
+use Rattle.rv32_machine.specs.Run.{arrived}
+use Rattle.rv32_routine.specs.Place.{InPlace}
+use Rattle.rv32_expand.specs.Expansion.{item_address, block_address, mask_of, distance, operation}
+use Rattle.rv32_expand.specs.InPlace.{item_mark}
+use Rattle.observe.specs.Observe.{View, mark_at}
+use Rattle.vector_gen.specs.Idle.{Idles}
+use Rattle.osek_machine.specs.State.{System}
+use Rattle.sim_run.specs.Admits.{Setting, IsSetting, lines_at, with_admits}
+use Rattle.sim_run.specs.Laws.{OutsideLaw}
+use Rattle.sim_base.specs.Build.{Build, Fits}
+use Rattle.sim_base.specs.Stands.{Stands}
+use Rattle.sim_items.specs.Place.{AtItem, HasInstruction, IsComputed}
+use Rattle.sim_items.specs.Laws.{IsOneInstruction}
+
+-- a run of what is built
+abbrev pub setting_of : Build → View → List Arrival → Setting
+setting_of b view arrivals = record { config = b.config; app = b.app; view = view; arrivals = arrivals }
+
+-- a state at a count from 1 on, which stands
+pub record At (b : Build) (view : View) (arrivals : List Arrival) (count : ℕ) (state : State) (s : System) : Type 0 where
+  pub fits : Fits b
+  pub setting : IsSetting (setting_of b view arrivals)
+  pub after_boot : 0 < count
+  pub stands : Stands b state s
+  -- with the arrivals of the count no line is taken
+  pub none : choose (arrived arrivals count state).core ≡ None
+
+-- the law of one instruction there
+abbrev pub GoesOutside : Build → View → List Arrival → (State → System → ℕ) → ℕ → State → System → Type 0
+GoesOutside b view arrivals progress count state s = (next : State) × OutsideLaw (setting_of b view arrivals) (Stands b) progress count state s next
+
+-- ---- an item that computes on registers and numbers
+
+abbrev pub ComputedItemsGoOn : Type 0
+ComputedItemsGoOn = (b : Build) (view : View) (arrivals : List Arrival) (progress : State → System → ℕ) (count : ℕ) (state : State) (s : System) (t : ℕ)
+    → At b view arrivals count state s → (here : AtItem b (arrived arrivals count state) (with_admits (lines_at arrivals count) s) t)
+    → IsComputed (operation b.app here.frame.func here.frame.item) → IsOneInstruction b here.frame.func here.frame.item
+    → mark_at view (item_address b.places here.frame.func here.frame.item) ≡ Some (item_mark b.app b.places here.frame.func here.frame.item)
+    → GoesOutside b view arrivals progress count state s
+
+-- ---- the jump to a service that has no mask
+
+-- the item is a call without a mask, whose jump stands in the image and shows nothing; the block's address is one of RAM
+pub record JumpsToService (b : Build) (view : View) (func item : ℕ) : Type 0 where
+  pub call : Call
+  pub is : operation b.app func item ≡ op.Serve call
+  pub no_mask : mask_of call.service call.mask ≡ []
+  pub code : HasInstruction b (item_address b.places func item)
+      (Jal 31 (distance (item_address b.places func item) (block_address b.places call.service call.object)))
+  pub block : ℕ
+  pub block_is : block_address b.places call.service call.object ≡ 0x8000_0000 + block
+  pub in_ram : block < 0x20_0000
+  pub mark : Mark
+  pub marked : mark_at view (item_address b.places func item) ≡ Some mark
+  pub jumps : mark.kind ≡ kind.Jump
+
+-- It leads to the opening mark of the block, and makes progress where the measure rises from the one to the other.
+abbrev pub ServiceJumpsGoOn : Type 0
+ServiceJumpsGoOn = (b : Build) (view : View) (arrivals : List Arrival) (progress : State → System → ℕ) (count : ℕ) (state : State) (s : System) (t : ℕ)
+    → At b view arrivals count state s → (here : AtItem b (arrived arrivals count state) (with_admits (lines_at arrivals count) s) t)
+    → (jump : JumpsToService b view here.frame.func here.frame.item)
+    → ((next : State) → next.pc ≡ block_address b.places jump.call.service jump.call.object → progress state s < progress next (with_admits (lines_at arrivals count) s))
+    → GoesOutside b view arrivals progress count state s
+
+-- ---- the idle loop
+
+-- it stands in the image, with its mark
+pub record HasIdle (b : Build) (view : View) : Type 0 where
+  pub code : List InstrKind
+  pub idles : Idles code
+  pub offset : ℕ
+  pub is : b.idle ≡ 0x8000_0000 + offset
+  pub to : offset + 4 ≤ 0x20_0000
+  pub is_code : (i : ℕ) → offset ≤ i → i < offset + 4 → b.is_code i ≡ true
+  pub placed : InPlace b.memory offset code
+  pub mark : Mark
+  pub marked : mark_at view b.idle ≡ Some mark
+  pub shows : mark.kind ≡ kind.Idle
+
+abbrev pub IdleGoesOn : Type 0
+IdleGoesOn = (b : Build) (view : View) (arrivals : List Arrival) (progress : State → System → ℕ) (count : ℕ) (state : State) (s : System)
+    → At b view arrivals count state s → word_at state.core.ram cur ≡ 0 → HasIdle b view → GoesOutside b view arrivals progress count state s
