@@ -23,7 +23,7 @@ padded [] n i = zero_at n i
 padded (byte ∷ bytes) n zero = refl
 padded (byte ∷ bytes) n (suc i) = padded bytes n i
 
-ram_at : (bytes : List ℕ) (i : ℕ) → slice_index (ram_of bytes) i ≡ slice_index bytes i
+pub ram_at : (bytes : List ℕ) (i : ℕ) → slice_index (ram_of bytes) i ≡ slice_index bytes i
 unfolding ram_of
 ram_at bytes i = padded bytes (2097152 - length bytes) i
 

@@ -1,19 +1,13 @@
 -- The law of the entry of a task that starts anew.
-use Rattle.std.proofs.Common.{◌≡◌, ℕ, ◌+◌, ◌-◌, ◌*◌, ◌%◌, ◌<◌, ◌≤◌, List, [], ◌∷◌, ◌++◌, length, refl, sym, ap, ◌∙◌, subst, arith, ⊎_elim, inl, inr, Some}
+use Rattle.std.proofs.Common.{◌≡◌, ℕ, ◌+◌, ◌-◌, ◌*◌, ◌%◌, ◌<◌, ◌≤◌, List, [], ◌∷◌, length, refl, sym, ap, ◌∙◌, subst, arith, ⊎_elim, inl, inr, Some}
 use Rattle.std.specs.Prelude.{◌⊎◌, slice_index, replicate}
 use Rattle.std.proofs.lemmas.List.{length-replicate}
-use Rattle.sloth_base.specs.declared.app.App.{App}
-use Rattle.sloth_base.specs.declared.app.Op.{Op}
-use Rattle.sloth_base.specs.declared.app.Op.TheVariants as op
 use Rattle.sloth_base.specs.declared.event.Event.TheVariants as event
-use Rattle.sloth_base.specs.declared.places.Places.{Places}
 use Rattle.sloth_base.specs.Machine.{State}
 use Rattle.sloth_base.specs.Choose.{choose}
-use Rattle.rv32_instr.specs.declared.InstrKind.{InstrKind}
 use Rattle.rv32_instr.specs.Ram.{word_at}
 use Rattle.rv32_routine.specs.Pieces.{registers_from}
 use Rattle.rv32_routine.proofs.Words.{word_below}
-use Rattle.rv32_expand.specs.Expansion.{mask_of, expanded, operation}
 use Rattle.osek_machine.specs.declared.state.TaskState.TheVariants as mode
 use Rattle.osek_machine.specs.State.{Task, System, task, with_task, declaration, function, body_of, entry_frame, zero_registers}
 use Rattle.osek_machine.specs.Priority.{is_active}
@@ -24,7 +18,7 @@ use Rattle.sim_base.specs.Position.{AreWords, thread_of}
 use Rattle.sim_base.specs.Context.{Context}
 use Rattle.sim_base.specs.Stands.{Stands}
 use Rattle.sim_base.specs.Entry.{EntryRam, EntryMachine, TaskEntry}
-use Rattle.sim_base.proofs.Framing.{scratch_first}
+use Rattle.sim_base.proofs.AtItem.{position_first}
 use Rattle.sim_base.proofs.Parts.{rests}
 use Rattle.sim_base.proofs.Tops.{falling_active}
 use Rattle.sim_base.proofs.Spot.{Spot, spot}
@@ -34,28 +28,6 @@ use Rattle.sim_entries.specs.Range.{Sane}
 use Rattle.sim_entries.specs.Entries.{EntersAnew, StandsAlone, first_words}
 use Rattle.sim_entries.proofs.Spot.{registers_at, registers_small, zeros_small, zero_at, context_words, words_small, stored_apart}
 use Rattle.sim_entries.proofs.EntryRam as ram
-
-one_more : (code : List InstrKind) (last : InstrKind) → 0 < length (code ++ last ∷ [])
-one_more [] last = omega arith
-one_more (kind ∷ code) last = omega arith
-
--- each item has an instruction
-pub expanded_some : (app : App) (places : Places) (func address : ℕ) (i : Op) → 0 < length (expanded app places func address i)
-expanded_some app places func address (op.Alu kind rd rs1 rs2) = omega arith
-expanded_some app places func address (op.AluImm kind rd rs1 number) = omega arith
-expanded_some app places func address (op.Lui rd number) = omega arith
-expanded_some app places func address (op.Li rd value) = omega arith
-expanded_some app places func address (op.FrameLoad rd word) = omega arith
-expanded_some app places func address (op.FrameStore rs word) = omega arith
-expanded_some app places func address (op.Load w rd symbol offset) = omega arith
-expanded_some app places func address (op.Store w rs symbol offset) = omega arith
-expanded_some app places func address (op.LoadAt w rd symbol index mask) = omega arith
-expanded_some app places func address (op.StoreAt w rs symbol index mask) = omega arith
-expanded_some app places func address (op.Branch kind rs1 rs2 label) = omega arith
-expanded_some app places func address (op.Jump label) = omega arith
-expanded_some app places func address (op.Invoke callee) = omega arith
-expanded_some app places func address op.Return = omega arith
-expanded_some app places func address (op.Serve call) = one_more (mask_of call.service call.mask) _
 
 module _ (b : Build) (state end : State) (s : System) (t place : ℕ) (fits : Fits b) (k : Stands b state s) (sane : Sane state)
     (e : choose state.core ≡ Some t) (fresh : (task s t).frames ≡ []) (has_item : 0 < length (function b.app (body_of b.app.funcs t)).items) (alone : StandsAlone b s t)
@@ -181,27 +153,10 @@ module _ (b : Build) (state end : State) (s : System) (t place : ℕ) (fits : Fi
   context = record {
     x2 = effect.x2;
     registers = λ i l. zero_at 25 i ∙ sym (effect.zeros (i + 5) (omega arith) (omega arith));
-    position = record {
-      frame = entry_frame b.app (body_of b.app.funcs t);
-      outer = [];
-      frames = refl;
-      inside = has_item;
-      here = inl (record {
-        free = ((k.tidy.each t declared).at_rest (ap is_active ready)).1;
-        frames = (
-          zeros_long,
-          subst (λ x. AreWords x frame zeros) (sym ram_is)
-              (ram.frame_words old four rest zeros place t frame k.fixed.ram refl refl few30 sp.behind sp.aligned sp.inside frame_room.3 frame_inside apart_frame small_four small_rest (zeros_small words)),
-          frame_room.1,
-        );
-        here = inl (record {
-          done = 0;
-          within = expanded_some b.app b.places _ _ _;
-          pc = let p = effect.pc in omega arith;
-          scratch = scratch_first b zero_registers (entry_frame b.app (body_of b.app.funcs t)) (operation b.app (body_of b.app.funcs t) 0) (thread_of end);
-        });
-      });
-    };
+    position =
+        position_first b end.core.ram t own (thread_of end) frame (entry_frame b.app (body_of b.app.funcs t)) [] refl
+        ((k.tidy.each t declared).at_rest (ap is_active ready)).1 has_item effect.pc
+        (zeros_long, subst (λ x. AreWords x frame zeros) (sym ram_is) (ram.frame_words old four rest zeros place t frame k.fixed.ram refl refl few30 sp.behind sp.aligned sp.inside frame_room.3 frame_inside apart_frame small_four small_rest (zeros_small words)), frame_room.1);
     room = frame_room.0;
     aligned = frame_room.4;
   }

@@ -2,3 +2,6 @@ pub mod EntryRam
 pub mod Spot
 pub mod Enter
 pub mod Boot
+pub mod Codes
+pub mod BootRoute
+pub mod EnterRoute

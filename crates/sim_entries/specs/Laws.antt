@@ -1,14 +1,20 @@
--- The laws of boot and of entries.
+-- The laws of boot and of entries, without arrivals and in a run.
 use Rattle.std.specs.Prelude.{ℕ, ◌+◌, ◌<◌, ◌≡◌, List, [], length, Some, slice_index}
+use Rattle.sloth_base.specs.declared.event.Arrival.{Arrival}
 use Rattle.sloth_base.specs.declared.image.Image.{Image}
 use Rattle.sloth_base.specs.declared.event.Event.TheVariants as event
 use Rattle.sloth_base.specs.Machine.{State}
 use Rattle.sloth_base.specs.Choose.{choose}
 use Rattle.sloth_region.specs.Layout.{context_bytes}
+use Rattle.rv32_machine.specs.Run.{arrived}
 use Rattle.rv32_machine.specs.Start.{start}
+use Rattle.rv32_routine.specs.Trace.{Trace}
+use Rattle.observe.specs.Observe.{View}
 use Rattle.osek_machine.specs.State.{System, task, function, body_of, opening}
 use Rattle.osek_machine.specs.Services.{entered}
 use Rattle.osek_machine.specs.Steps.{OsekStep, settled}
+use Rattle.sim_run.specs.Admits.{IsSetting, lines_at, with_admits}
+use Rattle.sim_run.specs.Laws.{BootLaw, StretchLaw}
 use Rattle.sim_base.specs.Build.{Build, Fits}
 use Rattle.sim_base.specs.Stands.{Stands}
 use Rattle.sim_base.specs.Start.{started}
@@ -16,6 +22,7 @@ use Rattle.vector_gen.specs.Boot.{Booted}
 use Rattle.sim_entries.specs.Range.{Sane}
 use Rattle.sim_entries.specs.Entries.{EntersAnew, StandsAlone}
 use Rattle.sim_entries.specs.Boot.{IsImage, AreLevelsOf}
+use Rattle.sim_entries.specs.Codes.{BootStands, PrologueStands, setting_of}
 
 -- Where a task's line is the one taken and the task is to start anew, its prologue is the event Enter, whatever ran.
 abbrev pub EnterLaw : Type 0
@@ -29,3 +36,17 @@ abbrev pub BootsLaw : Type 0
 BootsLaw = (b : Build) (image : Image) (levels : List ℕ) (end : State) → Fits b → IsImage b image → AreLevelsOf b levels
     → Booted b.config.tasks levels b.idle [] (start image) end
     → OsekStep b.config b.app event.Boot (opening b.config b.app) (started b) × Stands b end (started b)
+
+-- ---- in a run, whatever lines arrive
+
+-- The code of boot is the first stretch.
+abbrev pub BootStretch : Type 0
+BootStretch = (b : Build) (view : View) (arrivals : List Arrival) (image : Image) → IsSetting (setting_of b view arrivals) → Fits b → IsImage b image
+    → BootStands b → BootLaw (setting_of b view arrivals) (Stands b) (start image)
+
+-- Where the line that is taken at a count is that of a task that is to start anew, its prologue is a stretch.
+abbrev pub EnterStretch : Type 0
+EnterStretch = (b : Build) (view : View) (arrivals : List Arrival) (count t : ℕ) (state : State) (s : System) → IsSetting (setting_of b view arrivals)
+    → Fits b → 0 < count → Stands b state s → Sane (arrived arrivals count state) → choose (arrived arrivals count state).core ≡ Some t
+    → (task (with_admits (lines_at arrivals count) s) t).frames ≡ [] → StandsAlone b (with_admits (lines_at arrivals count) s) t → PrologueStands b t
+    → (next : State) × (trace : Trace) × (end : State) × StretchLaw (setting_of b view arrivals) (Stands b) count state s next trace end

@@ -1,4 +1,5 @@
 pub mod Range
 pub mod Entries
 pub mod Boot
+pub mod Codes
 pub mod Laws

@@ -1,7 +1,7 @@
 //! The laws of the simulation for boot and for the entries of tasks.
 #![tactic(auto)]
 
-ghost use Rattle.sim_entries.specs.Laws.{EnterLaw, BootsLaw};
+ghost use Rattle.sim_entries.specs.Laws.{BootsLaw, BootStretch, EnterLaw, EnterStretch};
 
 /// Where a task's line is the one taken and the task is to start anew, its prologue is the event Enter of the abstract
 /// scheduler, whatever ran.
@@ -12,4 +12,14 @@ pub fn enter_law()
 /// From the start of the machine, boot is the event Boot of the abstract scheduler.
 pub fn boots_law()
     ensures { BootsLaw }
+{}
+
+/// The code of boot is the first stretch of a run, whatever lines arrive.
+pub fn boot_stretch()
+    ensures { BootStretch }
+{}
+
+/// Where the line that is taken is that of a task that is to start anew, its prologue is a stretch, whatever lines arrive.
+pub fn enter_stretch()
+    ensures { EnterStretch }
 {}

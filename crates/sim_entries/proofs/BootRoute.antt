@@ -1,0 +1,84 @@
+-- From the contract of the code of boot to the first stretch of a run.
+use Rattle.std.proofs.Common.{◌≡◌, ℕ, suc, ◌+◌, ◌≤◌, List, [], length, refl, sym, ap, ◌∙◌, subst, arith}
+use Rattle.std.specs.Prelude.{map, slice_index}
+use Rattle.sloth_base.specs.declared.event.Arrival.{Arrival}
+use Rattle.sloth_base.specs.declared.image.Image.{Image}
+use Rattle.sloth_base.specs.Machine.{State}
+use Rattle.sloth_base.specs.Arrive.{state_arrive}
+use Rattle.rv32_machine.specs.Start.{start}
+use Rattle.rv32_routine.specs.Trace.{Trace, touched_lines, early, late}
+use Rattle.observe.specs.Observe.{View}
+use Rattle.vector_gen.specs.Boot.{Booted}
+use Rattle.sim_run.specs.Admits.{Setting, IsSetting, AllBelow, lines_at, with_admits}
+use Rattle.sim_run.specs.Laws.{BootLaw}
+use Rattle.sim_run.proofs.Boot.{nothing_before}
+use Rattle.sim_run.proofs.Routes.{Booting, booting}
+use Rattle.sim_run.proofs.Schedule.{below_moments}
+use Rattle.sim_run.proofs.Traces.{lines_before, below_trace}
+use Rattle.sim_base.specs.Build.{Build, Fits}
+use Rattle.sim_base.specs.Stands.{Stands}
+use Rattle.sim_base.specs.Start.{started}
+use Rattle.sim_base.proofs.Arrive.{stands_arrived}
+use Rattle.sim_entries.specs.Boot.{IsImage}
+use Rattle.sim_entries.specs.Codes.{BootStands, setting_of}
+use Rattle.sim_entries.proofs.Codes.{in_place-agree}
+use Rattle.sim_entries.proofs.Boot.{boots_law, ram_at}
+
+-- a stretch that touches no line has no early arrivals
+pub none_early : (trace : Trace) → touched_lines trace ≡ [] → early trace ≡ []
+none_early trace h = sym (lines_before 0 trace) ∙ ap (map (λ (a : Arrival). a.line)) (nothing_before 0 trace h)
+
+pub lines_below : (given : Setting) → IsSetting given → (k : ℕ) → AllBelow (length given.config.tasks) (lines_at given.arrivals k)
+lines_below given setting k = below_moments (length given.config.tasks) k (k + 1) given.arrivals setting.lines
+
+module _ (b : Build) (view : View) (arrivals : List Arrival) (setting : IsSetting (setting_of b view arrivals)) (image : Image) (fits : Fits b) (is : IsImage b image)
+    (boot : BootStands b) where
+  abbrev first : State
+  first = start image
+
+  in_ram : (i : ℕ) → slice_index first.core.ram i ≡ slice_index b.memory i
+  in_ram i = ram_at image.memory i ∙ ap (λ m. slice_index m i) is.memory
+
+  route : Booting arrivals 130 first (Booted b.config.tasks boot.levels b.idle)
+  route =
+      booting arrivals 130 first (Booted b.config.tasks boot.levels b.idle) (λ touched from last e. e.opened) refl
+      (boot.boots.runs 0x480 first.core fits.idle_address
+      (record {
+        masked = refl;
+        enabled = refl;
+        levels = refl;
+        can_run = record {
+          controller = refl;
+          registers = refl;
+          zero = refl;
+          lines = refl;
+          aligned = boot.placed.aligned;
+          behind = omega arith;
+          inside = boot.placed.inside;
+          placed = in_place-agree b.memory first.core.ram boot.code 0x480 (λ i x y. in_ram i) boot.placed.placed;
+        };
+      }))
+
+  -- The stretch of boot is the event Boot, and the states at its end are related.
+  pub boot_stretch : BootLaw (setting_of b view arrivals) (Stands b) (start image)
+  boot_stretch =
+      let untouched : touched_lines route.trace ≡ [] = route.effect.touches in
+      let effect : Booted b.config.tasks boot.levels b.idle [] first route.last =
+      subst (λ x. Booted b.config.tasks boot.levels b.idle x first route.last) untouched
+      (subst (λ x. Booted b.config.tasks boot.levels b.idle (touched_lines route.trace) (state_arrive x first) route.last) (none_early route.trace untouched) route.effect) in
+      let law = boots_law b image boot.levels route.last fits is boot.ranks effect in
+      let in_range = below_trace (length b.config.tasks) (suc route.more) 0 (lines_at arrivals) first route.trace route.end (lines_below (setting_of b view arrivals) setting) route.steps in
+      let few : length b.config.tasks ≤ 32 = let f = fits.few_tasks in omega arith in
+      record {
+        more = route.more;
+        few = let f = route.few in omega arith;
+        trace = route.trace;
+        end = route.end;
+        steps = route.steps;
+        ends = route.ends;
+        untouched = untouched;
+        after = started b;
+        step_is = law.0;
+        related = subst (λ x. Stands b x (with_admits (late route.trace) (started b))) (sym route.late_behind)
+            (stands_arrived b (late route.trace) route.last (started b) few in_range.1 law.1);
+      }
