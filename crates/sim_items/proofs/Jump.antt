@@ -1,5 +1,7 @@
 -- The jump to a service that has no mask.
-use Rattle.std.proofs.Common.{◌≡◌, ℕ, ◌+◌, ◌*◌, ◌%◌, ◌<◌, List, [], ◌∷◌, ◌++◌, length, set, refl, sym, ap, ◌∙◌, subst, arith, inl, inr, None}
+use Rattle.std.proofs.Common.{◌≡◌, ℕ, ◌+◌, ◌*◌, ◌%◌, ◌<◌, List, [], ◌∷◌, ◌++◌, length, set, refl, sym, ap, ◌∙◌, subst, arith, inl, inr, None, ⊎_elim, cond, ◌-◌, ◌≤◌}
+use Rattle.std.specs.Prelude.{◌⊎◌, ◌/◌}
+use Rattle.std.proofs.lemmas.Bool.{le-leb, lt-ltb, lt-leb, le-ltb, and_from, and_left, and_right}
 use Rattle.std.proofs.lemmas.Bool.Decides.{nat_tests}
 use Rattle.std.proofs.lemmas.Int.{ints}
 use Rattle.std.proofs.lemmas.List.{get_or-set_same, get_or-set_other, length-set, set-get_or}
@@ -7,14 +9,19 @@ use Rattle.sloth_base.specs.declared.event.Arrival.{Arrival}
 use Rattle.sloth_base.specs.Machine.{State}
 use Rattle.rv32_instr.specs.declared.InstrKind.{InstrKind}
 use Rattle.rv32_instr.specs.declared.InstrKind.TheVariants.{Jal}
+use Rattle.rv32_instr.specs.Ram.{word_at}
 use Rattle.rv32_instr.specs.Effect.{plus}
 use Rattle.rv32_instr.specs.Execute.{Going, step, touched, touched_by, perform, jumps}
 use Rattle.rv32_routine.specs.Place.{at}
 use Rattle.rv32_routine.proofs.Machine.{Here, step_at, touched_at, jump_at}
 use Rattle.rv32_expand.specs.Expansion.{item_address, block_address, mask_of, distance, expanded, expansion}
 use Rattle.observe.specs.Observe.{View, mark_at, events_of_kind}
+use Rattle.osek_machine.specs.declared.state.TaskState.{TaskState}
+use Rattle.osek_machine.specs.declared.state.TaskState.TheVariants as mode
 use Rattle.osek_machine.specs.State.{Task, System, task, sleeping}
+use Rattle.sim_run.specs.Admits.{lines_at}
 use Rattle.sim_run.specs.Laws.{seen_at}
+use Rattle.sim_run.proofs.Passing.{kept_admits}
 use Rattle.sim_base.specs.Build.{Build}
 use Rattle.sim_base.specs.Stands.{Stands, AreActive}
 use Rattle.sim_base.specs.Moves.{moved_to, TaskStep}
@@ -23,26 +30,37 @@ use Rattle.sim_base.proofs.TaskSteps.{task_steps}
 use Rattle.sim_base.proofs.Tops.{falling_head}
 use Rattle.sim_items.specs.Place.{AtItem}
 use Rattle.sim_items.specs.Outside.{At, GoesOutside, JumpsToService}
+use Rattle.sim_items.specs.Progress.{passed_at, passed_in, progress_in}
 use Rattle.sim_items.proofs.Computed.{first_of, code_here}
 use Rattle.sim_items.proofs.Outside as outside
+
+at_start : (address count : ℕ) → 0 < count → passed_at address count address ≡ 0
+at_start address count h =
+    let z : (address - address) / 4 ≡ 0 = omega arith in
+    ap (λ b. cond b ((address - address) / 4) 40) (and_from _ _ (le-leb address address (omega arith)) (lt-ltb address (address + 4 * count) (omega arith))) ∙ z
+
+at_none : (address count pc : ℕ) → (pc < address) ⊎ (address + 4 * count ≤ pc) → passed_at address count pc ≡ 40
+at_none address count pc (inl h) = ap (λ b. cond b ((pc - address) / 4) 40) (and_left _ _ (lt-leb address pc h))
+at_none address count pc (inr h) = ap (λ b. cond b ((pc - address) / 4) 40) (and_right _ _ (le-ltb pc (address + 4 * count) h))
+
+not_suspended : (x : TaskState) → x ≡ mode.Active → x ≡ mode.Suspended → ⊥
+not_suspended x a e = cc
 
 -- a jump by the distance arrives
 arrives : (from to : ℕ) → from < 4294967296 → to < 4294967296 → plus from (distance from to) ≡ to
 arrives from to l h = grind (arith, nat_tests, ints)
 
-module _ (b : Build) (view : View) (arrivals : List Arrival) (progress : State → System → ℕ) (count : ℕ) (state : State) (s : System) (here : At b view arrivals count state s)
-    (t : ℕ) (item : AtItem b (outside.n b view arrivals progress count state s here) (outside.s1 b view arrivals progress count state s here) t)
-    (jump : JumpsToService b view item.frame.func item.frame.item)
-    (rises : (next : State) → next.pc ≡ block_address b.places jump.call.service jump.call.object
-    → progress state s < progress next (outside.s1 b view arrivals progress count state s here)) where
+module _ (b : Build) (view : View) (arrivals : List Arrival) (count : ℕ) (state : State) (s : System) (here : At b view arrivals count state s)
+    (t : ℕ) (item : AtItem b (outside.n b view arrivals (progress_in b) count state s here) (outside.s1 b view arrivals (progress_in b) count state s here) t)
+    (jump : JumpsToService b view item.frame.func item.frame.item) where
   abbrev n : State
-  n = outside.n b view arrivals progress count state s here
+  n = outside.n b view arrivals (progress_in b) count state s here
 
   abbrev s1 : System
-  s1 = outside.s1 b view arrivals progress count state s here
+  s1 = outside.s1 b view arrivals (progress_in b) count state s here
 
   now : Stands b n s1
-  now = outside.now b view arrivals progress count state s here
+  now = outside.now b view arrivals (progress_in b) count state s here
 
   abbrev address : ℕ
   address = item_address b.places item.frame.func item.frame.item
@@ -159,11 +177,37 @@ module _ (b : Build) (view : View) (arrivals : List Arrival) (progress : State �
       (stands_fresh b next (moved_to s1 t (task s1 t) s1.symbols) s1.fresh
       (task_steps b n next s1 now here.fits t found.0 found.1 (task s1 t) s1.symbols step_of))
 
-  pub jump_outside : GoesOutside b view arrivals progress count state s
+  -- the task's frames, found by the word at 0x80000000, before and behind the arrivals of the count
+  frames_of : (task s (word_at state.core.ram 0 - 1)).frames ≡ item.frame ∷ item.outer
+  frames_of =
+      let e : word_at state.core.ram 0 - 1 ≡ t = let c = item.current in omega arith in
+      let f = first_of b state s t here.stands.stack here.stands.running item.current in
+      let a = (falling_head b s t f.0 (subst (AreActive b s) f.1 here.stands.active).falling).active in
+      ap (λ v. (task s v).frames) e ∙ sym (ap (λ v. v.frames) (kept_admits (lines_at arrivals count) t s (not_suspended (task s t).state a))) ∙ item.frames
+
+  frames_next : (task s1 (word_at n.core.ram 0 - 1)).frames ≡ item.frame ∷ item.outer
+  frames_next =
+      let e : word_at n.core.ram 0 - 1 ≡ t = let c = item.current in omega arith in
+      ap (λ v. (task s1 v).frames) e ∙ item.frames
+
+  abbrev size : ℕ
+  size = length (expansion b.app b.places item.frame.func item.frame.item)
+
+  rises : progress_in b state s < progress_in b next s1
+  rises =
+      let first : progress_in b state s ≡ 0 =
+      ap (passed_in b state.pc) frames_of ∙ ap (passed_at address size) item.pc ∙ at_start address size (let c = one in omega arith) in
+      let last : progress_in b next s1 ≡ 40 =
+      ap (passed_in b next.pc) frames_next
+      ∙ at_none address size (0x8000_0000 + jump.block)
+      (⊎_elim (λ (l : 0x8000_0000 + jump.block < address). inl l) (λ (l : address + 4 ≤ 0x8000_0000 + jump.block). inr (let c = one in omega arith)) jump.apart) in
+      omega arith
+
+  pub jump_outside : GoesOutside b view arrivals (progress_in b) count state s
   jump_outside = (
     next,
-    outside.one_instruction b view arrivals progress count state s here next jump.mark [] s1 stepped untouched
+    outside.one_instruction b view arrivals (progress_in b) count state s here next jump.mark [] s1 stepped untouched
         (ap (mark_at view) item.pc ∙ jump.marked)
-        (ap (λ k. events_of_kind k view jump.mark (seen_at (outside.given b view arrivals progress count state s here) count state next)) jump.jumps)
-        refl (λ e. rises next (sym jump.block_is)) stands_next,
+        (ap (λ k. events_of_kind k view jump.mark (seen_at (outside.given b view arrivals (progress_in b) count state s here) count state next)) jump.jumps)
+        refl (λ e. rises) stands_next,
   )

@@ -1,3 +1,4 @@
 pub mod Place
 pub mod Laws
+pub mod Progress
 pub mod Outside

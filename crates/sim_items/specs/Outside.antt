@@ -1,5 +1,5 @@
 -- Items and the idle loop as instructions of a run outside the stretches.
-use Rattle.std.specs.Prelude.{ℕ, ◌+◌, ◌<◌, ◌≤◌, ◌≡◌, List, [], true, Some, None}
+use Rattle.std.specs.Prelude.{ℕ, ◌+◌, ◌<◌, ◌≤◌, ◌≡◌, ◌⊎◌, List, [], true, Some, None}
 use Rattle.sloth_base.specs.declared.app.Call.{Call}
 use Rattle.sloth_base.specs.declared.app.Op.TheVariants as op
 use Rattle.sloth_base.specs.declared.event.Arrival.{Arrival}
@@ -24,6 +24,7 @@ use Rattle.sim_base.specs.Build.{Build, Fits}
 use Rattle.sim_base.specs.Stands.{Stands}
 use Rattle.sim_items.specs.Place.{AtItem, HasInstruction, IsComputed}
 use Rattle.sim_items.specs.Laws.{IsOneInstruction}
+use Rattle.sim_items.specs.Progress.{progress_in}
 
 -- a run of what is built
 abbrev pub setting_of : Build → View → List Arrival → Setting
@@ -53,7 +54,7 @@ ComputedItemsGoOn = (b : Build) (view : View) (arrivals : List Arrival) (progres
 
 -- ---- the jump to a service that has no mask
 
--- the item is a call without a mask, whose jump stands in the image and shows nothing; the block's address is one of RAM
+-- the item is a call without a mask, whose jump stands in the image and shows nothing; the block is in RAM, apart from the jump
 pub record JumpsToService (b : Build) (view : View) (func item : ℕ) : Type 0 where
   pub call : Call
   pub is : operation b.app func item ≡ op.Serve call
@@ -63,17 +64,16 @@ pub record JumpsToService (b : Build) (view : View) (func item : ℕ) : Type 0 w
   pub block : ℕ
   pub block_is : block_address b.places call.service call.object ≡ 0x8000_0000 + block
   pub in_ram : block < 0x20_0000
+  pub apart : (0x8000_0000 + block < item_address b.places func item) ⊎ (item_address b.places func item + 4 ≤ 0x8000_0000 + block)
   pub mark : Mark
   pub marked : mark_at view (item_address b.places func item) ≡ Some mark
   pub jumps : mark.kind ≡ kind.Jump
 
--- It leads to the opening mark of the block, and makes progress where the measure rises from the one to the other.
+-- It leads to the opening mark of the block, and makes progress.
 abbrev pub ServiceJumpsGoOn : Type 0
-ServiceJumpsGoOn = (b : Build) (view : View) (arrivals : List Arrival) (progress : State → System → ℕ) (count : ℕ) (state : State) (s : System) (t : ℕ)
+ServiceJumpsGoOn = (b : Build) (view : View) (arrivals : List Arrival) (count : ℕ) (state : State) (s : System) (t : ℕ)
     → At b view arrivals count state s → (here : AtItem b (arrived arrivals count state) (with_admits (lines_at arrivals count) s) t)
-    → (jump : JumpsToService b view here.frame.func here.frame.item)
-    → ((next : State) → next.pc ≡ block_address b.places jump.call.service jump.call.object → progress state s < progress next (with_admits (lines_at arrivals count) s))
-    → GoesOutside b view arrivals progress count state s
+    → JumpsToService b view here.frame.func here.frame.item → GoesOutside b view arrivals (progress_in b) count state s
 
 -- ---- the idle loop
 
