@@ -12,7 +12,6 @@ use Rattle.sloth_io.specs.declared.store.StoreFault.{StoreFault}
 use Rattle.sloth_io.specs.declared.store.StoreFault.TheVariants as fault
 use Rattle.image_file.specs.ImageText.{ImageText}
 use Rattle.sloth_build.specs.Form.{Accepted, FirstRefusal, not_built}
-use Rattle.trace_text.specs.declared.print.Form.TheVariants as form
 use Rattle.sloth_cli.specs.Command.{Command}
 use Rattle.sloth_cli.specs.LastLine.{refusal_line}
 use Rattle.sloth_cli.specs.Runner.{run_text}
@@ -23,7 +22,7 @@ use Rattle.sloth_cli.specs.declared.top.Failure.{Failure}
 use Rattle.sloth_cli.specs.declared.top.Failure.TheVariants as failure
 
 abbrev pub command_of : Run → Command
-command_of c = record { oil = c.oil.now; src = c.src.now; arr = c.arr.now; img = c.img.now; n = c.n }
+command_of c = record { form = c.form; oil = c.oil.now; src = c.src.now; arr = c.arr.now; img = c.img.now; n = c.n }
 
 -- ---- the inputs
 
@@ -126,7 +125,7 @@ pub record IsDone (old new : Files) (t u : Option (List ℕ)) (c : Command) : Ty
   pub written : ImageText bytes image
   pub held : IsTrue new.tells → new.holds c.img ≡ Some bytes
   pub others : (name : List ℕ) → name ≢ c.img → new.holds name ≡ old.holds name
-  pub text : u ≡ gains t (run_text image [] form.Counted c.n)
+  pub text : u ≡ gains t (run_text image [] c.form c.n)
 
 -- the inputs are refused so, and the last line says it
 pub record IsRefused (old new : Files) (t u : Option (List ℕ)) (c : Command) : Type 0 where

@@ -6,7 +6,6 @@ ghost use Rattle.sloth_io.specs.Sink.{gains, GainsPart};
 ghost use Rattle.sloth_io.specs.Store.{IsMissing, IsTooLong, KeepsFiles};
 ghost use Rattle.image_file.specs.ImageText.{ImageText, image_bytes};
 ghost use Rattle.sloth_build.specs.Form.{Accepted};
-ghost use Rattle.trace_text.specs.declared.print.Form.TheVariants as form;
 ghost use Rattle.sloth_cli.specs.Command.{Command, IsCommand, NoCommand, words_of};
 ghost use Rattle.sloth_cli.specs.Runner.{run_text};
 ghost use Rattle.sloth_cli.specs.Top.{command_of, AreInputs, IsFailedRead, IsLongRead, IsOfReads, IsOfJudgement, IsLate, failed_by, Said, Finished, Told, IsDone, IsRefused, IsBuilt};
@@ -21,7 +20,6 @@ use sloth_build::{Built, build};
 use sloth_io::sink::Sink;
 use sloth_io::store::{Store, StoreFault};
 use std::alloc::Global;
-use trace_text::print::Form;
 
 /// The greatest number of bytes of an input.
 const LIMIT: usize = 4_194_304;
@@ -143,9 +141,9 @@ fn perform<F: Store, S: Sink>(
     requires few { c.now.n ≤ 1000000 }
     ensures held { OnOk result (IsTrue (F.seen files.new).tells → (F.seen files.new).holds c.now.img.now ≡ Some (image_bytes image.now)) }
     ensures others { (name : List ℕ) → name ≢ c.now.img.now → (F.seen files.new).holds name ≡ (F.seen files.old).holds name }
-    ensures text { OnOk result (S.taken out.new ≡ gains (S.taken out.old) (run_text image.now [] form.Counted c.now.n)) }
+    ensures text { OnOk result (S.taken out.new ≡ gains (S.taken out.old) (run_text image.now [] c.now.form c.now.n)) }
     ensures write { result ≡ Err Failure.WriteFile → Rose (F.seen files.old).failed_writes (F.seen files.new).failed_writes }
-    ensures put { result ≡ Err Failure.Put → Rose (S.faults out.old) (S.faults out.new) × GainsPart (S.taken out.old) (S.taken out.new) (run_text image.now [] form.Counted c.now.n) }
+    ensures put { result ≡ Err Failure.Put → Rose (S.faults out.old) (S.faults out.new) × GainsPart (S.taken out.old) (S.taken out.new) (run_text image.now [] c.now.form c.now.n) }
     ensures memory { result ≡ Err Failure.NoMemory → (name : List ℕ) → (F.seen files.new).holds name ≡ (F.seen files.old).holds name }
     ensures quiet { IfErr result (λ e. e ≢ Failure.Put → S.taken out.new ≡ S.taken out.old) }
     ensures only { IfErr result IsLate }
@@ -161,7 +159,7 @@ fn perform<F: Store, S: Sink>(
     if files.write(c.img, bytes.as_slice()).is_err() {
         return Err(Failure::WriteFile);
     }
-    match runner.run(c.n, Form::Counted, out) {
+    match runner.run(c.n, c.form, out) {
         Ok(_) => Ok(()),
         Err(_) => Err(Failure::Put),
     }
