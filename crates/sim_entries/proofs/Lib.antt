@@ -5,3 +5,4 @@ pub mod Boot
 pub mod Codes
 pub mod BootRoute
 pub mod EnterRoute
+pub mod Generated

@@ -1,18 +1,17 @@
 -- The code of boot and of prologues in place.
-use Rattle.std.specs.Prelude.{ℕ, ℤ, ◌+◌, ◌-◌, ◌*◌, ◌%◌, ◌<◌, ◌≤◌, ◌≡◌, true, List, [], ◌∷◌, length}
+use Rattle.std.specs.Prelude.{ℕ, ℤ, ◌+◌, ◌*◌, ◌%◌, ◌<◌, ◌≤◌, ◌≡◌, true, List, [], ◌∷◌, length}
 use Rattle.sloth_base.specs.declared.event.Arrival.{Arrival}
 use Rattle.rv32_instr.specs.declared.InstrKind.{InstrKind}
 use Rattle.rv32_instr.specs.declared.InstrKind.TheVariants.{Jal}
 use Rattle.rv32_instr.specs.Effect.{plus}
 use Rattle.rv32_routine.specs.Place.{InPlace}
-use Rattle.rv32_expand.specs.Expansion.{item_address}
 use Rattle.observe.specs.Observe.{View}
 use Rattle.osek_machine.specs.State.{body_of, function}
 use Rattle.vector_gen.specs.Boot.{Boots}
-use Rattle.prologue_gen.specs.Fresh.{vector, Enters}
+use Rattle.prologue_gen.specs.Fresh.{vector}
 use Rattle.sim_run.specs.Admits.{Setting}
-use Rattle.sim_base.specs.Build.{Build, start_level}
-use Rattle.sim_entries.specs.Entries.{first_words}
+use Rattle.sim_base.specs.Build.{Build}
+use Rattle.sim_entries.specs.Entries.{EntersBuilt, first_words}
 use Rattle.sim_entries.specs.Boot.{AreLevelsOf}
 
 -- a run of what is built
@@ -38,7 +37,7 @@ pub record BootStands (b : Build) : Type 0 where
 pub record PrologueStands (b : Build) (t : ℕ) : Type 0 where
   pub offset : ℕ
   pub code : List InstrKind
-  pub enters : Enters t (start_level b t) (item_address b.places (body_of b.app.funcs t) 0) (b.top t - 4 * first_words b t) (first_words b t) code
+  pub enters : EntersBuilt b t code
   pub placed : IsPlaced b offset code
   pub jump : ℤ
   pub vector_word : IsPlaced b (vector t) (Jal 0 jump ∷ [])

@@ -1,10 +1,11 @@
 -- The entry of a task that starts anew.
-use Rattle.std.specs.Prelude.{ℕ, ◌-◌, ◌*◌, ◌<◌, ◌≢◌, [], length}
+use Rattle.std.specs.Prelude.{ℕ, ◌-◌, ◌*◌, ◌<◌, ◌≢◌, List, [], length}
 use Rattle.sloth_base.specs.Machine.{State}
 use Rattle.sloth_base.specs.Take.{take}
+use Rattle.rv32_instr.specs.declared.InstrKind.{InstrKind}
 use Rattle.rv32_expand.specs.Expansion.{item_address}
 use Rattle.osek_machine.specs.State.{System, task, function, body_of}
-use Rattle.prologue_gen.specs.Fresh.{Entered}
+use Rattle.prologue_gen.specs.Fresh.{Entered, Enters}
 use Rattle.sim_base.specs.Build.{Build, start_level}
 use Rattle.sim_base.specs.Stands.{IsAlive, AreApart}
 
@@ -18,6 +19,11 @@ abbrev pub EntersAnew : Build → ℕ → ℕ → State → State → Type 0
 EntersAnew b t place state end =
     Entered t (start_level b t) (item_address b.places (body_of b.app.funcs t) 0) place (b.top t - 4 * first_words b t) (first_words b t) []
     (take t state) end
+
+-- the code of its prologue
+abbrev pub EntersBuilt : Build → ℕ → List InstrKind → Type 0
+EntersBuilt b t code =
+    Enters t (start_level b t) (item_address b.places (body_of b.app.funcs t) 0) (b.top t - 4 * first_words b t) (first_words b t) code
 
 -- its part of the stacks is apart from those of the tasks that have something on theirs
 abbrev pub StandsAlone : Build → System → ℕ → Type 0

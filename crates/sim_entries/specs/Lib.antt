@@ -2,4 +2,5 @@ pub mod Range
 pub mod Entries
 pub mod Boot
 pub mod Codes
+pub mod Generated
 pub mod Laws

@@ -1,6 +1,7 @@
 //! The laws of the simulation for boot and for the entries of tasks.
 #![tactic(auto)]
 
+ghost use Rattle.sim_entries.specs.Generated.{GeneratedEnters};
 ghost use Rattle.sim_entries.specs.Laws.{BootsLaw, BootStretch, EnterLaw, EnterStretch};
 
 /// Where a task's line is the one taken and the task is to start anew, its prologue is the event Enter of the abstract
@@ -22,4 +23,9 @@ pub fn boot_stretch()
 /// Where the line that is taken is that of a task that is to start anew, its prologue is a stretch, whatever lines arrive.
 pub fn enter_stretch()
     ensures { EnterStretch }
+{}
+
+/// Code that enters a task by the levels and the map does so in what is built.
+pub fn generated_enters()
+    ensures { GeneratedEnters }
 {}
