@@ -1,0 +1,424 @@
+-- Each instruction of a run leaves numbers that have room.
+use Rattle.std.proofs.Common.{◌≡◌, ℕ, zero, suc, ◌+◌, ◌-◌, ◌*◌, ◌/◌, ◌%◌, ◌^◌, ◌<◌, ◌≤◌, ℤ, pos, negsuc, List, [], ◌∷◌, refl, sym, ap, subst, arith, Bool, true, false, Option, Some, None, ⊎_elim, set}
+use Rattle.std.specs.Prelude.{◌==◌, IfSome, if◌then◌else◌, slice_index, bit_and, bit_or}
+use Rattle.std.proofs.Math.Nat.{div-le_self}
+use Rattle.std.proofs.lemmas.Nat.{xor_lt, or_lt, and_le_l}
+use Rattle.std.proofs.lemmas.Bool.{cases_lt}
+use Rattle.std.proofs.lemmas.Int.{ints}
+use Rattle.sloth_base.specs.declared.app.Width.{Width}
+use Rattle.sloth_base.specs.declared.app.Width.TheVariants as width
+use Rattle.sloth_base.specs.declared.event.Arrival.{Arrival}
+use Rattle.sloth_base.specs.declared.step.Step.{Step}
+use Rattle.sloth_base.specs.Machine.{Core, State}
+use Rattle.sloth_base.specs.Lines.{Lines, controller_byte, with_controller_byte, flag_of}
+use Rattle.sloth_base.specs.Arrive.{state_arrive}
+use Rattle.sloth_base.specs.Take.{line_to_take, enter, entered}
+use Rattle.rv32_instr.specs.declared.stop.Bad.{Bad}
+use Rattle.rv32_instr.specs.declared.stop.Bad.TheVariants as bad
+use Rattle.rv32_instr.specs.declared.stop.Stop.TheVariants as stop
+use Rattle.rv32_instr.specs.declared.effect.Change.{Change}
+use Rattle.rv32_instr.specs.declared.effect.Change.TheVariants.{Keep, Replace, Set, Clear}
+use Rattle.rv32_instr.specs.declared.effect.Effect.{Effect}
+use Rattle.rv32_instr.specs.declared.effect.Effect.TheVariants.{Nothing, Write, Branch, Jump, Load, Store, Csr, Environment, Return}
+use Rattle.rv32_instr.specs.declared.InstrKind.{InstrKind}
+use Rattle.rv32_instr.specs.declared.InstrKind.TheVariants.{Lui, Auipc, Jal, Jalr, Beq, Bne, Blt, Bge, Bltu, Bgeu, Lb, Lh, Lw, Lbu, Lhu, Sb, Sh, Sw, Addi, Slti, Sltiu, Xori, Ori, Andi, Slli, Srli, Srai, Add, Sub, Sll, Slt, Sltu, Xor, Srl, Sra, Or, And, Fence, Csrrw, Csrrs, Csrrc, Csrrwi, Csrrsi, Csrrci, Ecall, Ebreak, Mret}
+use Rattle.rv32_instr.specs.Encode.{Encode}
+use Rattle.rv32_instr.specs.Fields.{signed, complement}
+use Rattle.rv32_instr.specs.Range.{Signed, InRange}
+use Rattle.rv32_instr.specs.Table.{Decode}
+use Rattle.rv32_instr.specs.Effect.{effect, number_of, halved}
+use Rattle.rv32_instr.specs.Ram.{half_at, word_at, with_byte, with_half, with_word}
+use Rattle.rv32_instr.specs.Memory.{Memory, memory_of, with_memory, in_ram, refusal, loaded_byte, loaded, stored_byte, stored}
+use Rattle.rv32_instr.specs.Execute.{Next, Going, Stopped, with_register, mstatus_of, csr_value, with_csr, changed, goes_on, jumps, unless_refused, csr_access, perform, execute, execute_word, word_of, step}
+use Rattle.rv32_instr.proofs.Table.{decode_is}
+use Rattle.rv32_instr.proofs.Words.{signed_pos, signed_neg}
+use Rattle.rv32_routine.proofs.Words.{word_below}
+use Rattle.rv32_machine.specs.Advance.{Outcome, Goes, Halts, advance, outcome}
+use Rattle.rv32_machine.specs.Run.{moment, arrived}
+use Rattle.sim_laws.specs.Bounded.{AreBelow, CoreBounded, IsBounded}
+
+set_below : (bound : ℕ) (xs : List ℕ) (k v : ℕ) → AreBelow bound xs → v < bound → AreBelow bound (set xs k v)
+set_below bound [] k v h l i = h i
+set_below bound (x ∷ xs) zero v h l zero = l
+set_below bound (x ∷ xs) zero v h l (suc i) = h (suc i)
+set_below bound (x ∷ xs) (suc k) v h l zero = h zero
+set_below bound (x ∷ xs) (suc k) v h l (suc i) = set_below bound xs k v (λ j. h (suc j)) l i
+
+-- ---- the values that instructions compute
+
+mod_fits : (x : ℕ) → x % 4294967296 < 4294967296
+mod_fits x = omega arith
+
+bit_fits : (b : Bool) → number_of b < 4294967296
+bit_fits true = omega arith
+bit_fits false = omega arith
+
+negative_fits : (n : ℕ) → complement (negsuc n) < 4294967296
+negative_fits n = omega arith
+
+signed_fits : (n v : ℕ) → v < 2 ^ n → v < 4294967296 → complement (signed n v) < 4294967296
+signed_fits n v h l =
+    ⊎_elim (λ (a : v < 2 ^ (n - 1)). subst (λ z. complement z < 4294967296) (sym (signed_pos n v v refl a)) l)
+    (λ (a : 2 ^ (n - 1) ≤ v). subst (λ z. complement z < 4294967296) (sym (signed_neg n v (2 ^ n - 1 - v) a (omega arith))) (negative_fits (2 ^ n - 1 - v)))
+    (cases_lt v (2 ^ (n - 1)))
+
+number_fits : (z : ℤ) → Signed 12 z → complement z < 4294967296
+number_fits (pos n) h = omega (arith, ints)
+number_fits (negsuc n) h = negative_fits n
+
+div_fits : (a d : ℕ) → a < 4294967296 → a / d < 4294967296
+div_fits a d h = let g = div-le_self a d in omega arith
+
+and_fits : (a b : ℕ) → a < 4294967296 → bit_and a b < 4294967296
+and_fits a b h = let g = and_le_l a b in omega arith
+
+halved_fits : (z : ℤ) (count : ℕ) → complement z < 4294967296 → complement (halved z count) < 4294967296
+halved_fits (pos a) count h = div_fits a (2 ^ count) h
+halved_fits (negsuc a) count h = negative_fits (a / 2 ^ count)
+
+abbrev ChangeFits : Change → Type 0
+ChangeFits Keep = Unit {0}
+ChangeFits (Replace value) = value < 4294967296
+ChangeFits (Set value) = value < 4294967296
+ChangeFits (Clear value) = Unit {0}
+
+abbrev EffectFits : Effect → Type 0
+EffectFits Nothing = Unit {0}
+EffectFits (Write rd value) = value < 4294967296
+EffectFits (Branch taken target) = target < 4294967296
+EffectFits (Jump rd target) = target < 4294967296
+EffectFits (Load w rd address) = Unit {0}
+EffectFits (Store w address value) = Unit {0}
+EffectFits (Csr rd csr change) = ChangeFits change
+EffectFits Environment = Unit {0}
+EffectFits Return = Unit {0}
+
+kept_or : (b : Bool) (x : Change) → ChangeFits x → ChangeFits (if b then Keep else x)
+kept_or true x h = tt
+kept_or false x h = h
+
+effect_fits : (kind : InstrKind) (pc : ℕ) (x : List ℕ) → InRange kind → AreBelow 4294967296 x → EffectFits (effect kind pc x)
+effect_fits (Lui rd imm) pc x r h = let a = r.1 in omega arith
+effect_fits (Auipc rd imm) pc x r h = mod_fits _
+effect_fits (Jal rd imm) pc x r h = mod_fits _
+effect_fits (Jalr rd rs1 imm) pc x r h = let a = mod_fits (slice_index x rs1 + complement imm) in omega arith
+effect_fits (Beq rs1 rs2 imm) pc x r h = mod_fits _
+effect_fits (Bne rs1 rs2 imm) pc x r h = mod_fits _
+effect_fits (Blt rs1 rs2 imm) pc x r h = mod_fits _
+effect_fits (Bge rs1 rs2 imm) pc x r h = mod_fits _
+effect_fits (Bltu rs1 rs2 imm) pc x r h = mod_fits _
+effect_fits (Bgeu rs1 rs2 imm) pc x r h = mod_fits _
+effect_fits (Lb rd rs1 imm) pc x r h = tt
+effect_fits (Lh rd rs1 imm) pc x r h = tt
+effect_fits (Lw rd rs1 imm) pc x r h = tt
+effect_fits (Lbu rd rs1 imm) pc x r h = tt
+effect_fits (Lhu rd rs1 imm) pc x r h = tt
+effect_fits (Sb rs1 rs2 imm) pc x r h = tt
+effect_fits (Sh rs1 rs2 imm) pc x r h = tt
+effect_fits (Sw rs1 rs2 imm) pc x r h = tt
+effect_fits (Addi rd rs1 imm) pc x r h = mod_fits _
+effect_fits (Slti rd rs1 imm) pc x r h = bit_fits _
+effect_fits (Sltiu rd rs1 imm) pc x r h = bit_fits _
+effect_fits (Xori rd rs1 imm) pc x r h = xor_lt 32 (slice_index x rs1) (complement imm) (h rs1) (number_fits imm r.2)
+effect_fits (Ori rd rs1 imm) pc x r h = or_lt 32 (slice_index x rs1) (complement imm) (h rs1) (number_fits imm r.2)
+effect_fits (Andi rd rs1 imm) pc x r h = and_fits (slice_index x rs1) (complement imm) (h rs1)
+effect_fits (Slli rd rs1 amount) pc x r h = mod_fits _
+effect_fits (Srli rd rs1 amount) pc x r h = div_fits (slice_index x rs1) (2 ^ amount) (h rs1)
+effect_fits (Srai rd rs1 amount) pc x r h = halved_fits (signed 32 (slice_index x rs1)) amount (signed_fits 32 (slice_index x rs1) (h rs1) (h rs1))
+effect_fits (Add rd rs1 rs2) pc x r h = mod_fits _
+effect_fits (Sub rd rs1 rs2) pc x r h = mod_fits _
+effect_fits (Sll rd rs1 rs2) pc x r h = mod_fits _
+effect_fits (Slt rd rs1 rs2) pc x r h = bit_fits _
+effect_fits (Sltu rd rs1 rs2) pc x r h = bit_fits _
+effect_fits (Xor rd rs1 rs2) pc x r h = xor_lt 32 (slice_index x rs1) (slice_index x rs2) (h rs1) (h rs2)
+effect_fits (Srl rd rs1 rs2) pc x r h = div_fits (slice_index x rs1) (2 ^ (slice_index x rs2 % 32)) (h rs1)
+effect_fits (Sra rd rs1 rs2) pc x r h = halved_fits (signed 32 (slice_index x rs1)) (slice_index x rs2 % 32) (signed_fits 32 (slice_index x rs1) (h rs1) (h rs1))
+effect_fits (Or rd rs1 rs2) pc x r h = or_lt 32 (slice_index x rs1) (slice_index x rs2) (h rs1) (h rs2)
+effect_fits (And rd rs1 rs2) pc x r h = and_fits (slice_index x rs1) (slice_index x rs2) (h rs1)
+effect_fits (Fence bits) pc x r h = tt
+effect_fits (Csrrw rd rs1 csr) pc x r h = h rs1
+effect_fits (Csrrs rd rs1 csr) pc x r h = kept_or (rs1 == 0) (Set (slice_index x rs1)) (h rs1)
+effect_fits (Csrrc rd rs1 csr) pc x r h = kept_or (rs1 == 0) (Clear (slice_index x rs1)) tt
+effect_fits (Csrrwi rd number csr) pc x r h = let a = r.1 in omega arith
+effect_fits (Csrrsi rd number csr) pc x r h = let a = r.1 in kept_or (number == 0) (Set number) (omega arith)
+effect_fits (Csrrci rd number csr) pc x r h = kept_or (number == 0) (Clear number) tt
+effect_fits Ecall pc x r h = tt
+effect_fits Ebreak pc x r h = tt
+effect_fits Mret pc x r h = tt
+
+-- ---- registers and memory
+
+register_fits : (core : Core) (rd value : ℕ) → CoreBounded core → value < 4294967296 → CoreBounded (with_register core rd value)
+register_fits core zero value h l = h
+register_fits core (suc rd) value h l = record {
+  registers = set_below 4294967296 core.registers (suc rd) value h.registers l;
+  scratch = h.scratch;
+  return_address = h.return_address;
+  level = h.level;
+  previous_level = h.previous_level;
+  bytes = h.bytes;
+  pending = h.pending;
+  enabled = h.enabled;
+  levels = h.levels;
+}
+
+record MemoryBounded (memory : Memory) : Type 0 where
+  bytes : AreBelow 256 memory.ram
+  pending : AreBelow 256 memory.lines.pending
+  enabled : AreBelow 256 memory.lines.enabled
+  levels : AreBelow 256 memory.lines.levels
+
+pick_below : (bound : ℕ) (b : Bool) (x y : ℕ) → x < bound → y < bound → (if b then x else y) < bound
+pick_below bound true x y h l = h
+pick_below bound false x y h l = l
+
+controller_fits : (m : Memory) (offset : ℕ) → MemoryBounded m → controller_byte m.lines offset < 256
+unfolding controller_byte
+controller_fits m offset h = pick_below 256 _ _ _ (h.pending offset) (pick_below 256 _ _ _ (h.enabled (offset - 32)) (h.levels (offset - 64)))
+
+byte_fits : (m : Memory) (address : ℕ) → MemoryBounded m → loaded_byte m address < 256
+byte_fits m address h = pick_below 256 _ _ _ (h.bytes (address - 0x8000_0000)) (controller_fits m (address - 0x1000_0000) h)
+
+half_fits : (ram : List ℕ) (offset : ℕ) → AreBelow 256 ram → half_at ram offset < 65536
+unfolding half_at
+half_fits ram offset h = let a = h offset in let b = h (offset + 1) in omega arith
+
+loaded_fits : (m : Memory) (address : ℕ) (w : Width) → MemoryBounded m → loaded m address w < 4294967296
+unfolding loaded
+loaded_fits m address width.Byte h = let a = byte_fits m address h in signed_fits 8 (loaded_byte m address) a (omega arith)
+loaded_fits m address width.Half h = let a = half_fits m.ram (address - 0x8000_0000) h.bytes in signed_fits 16 (half_at m.ram (address - 0x8000_0000)) a (omega arith)
+loaded_fits m address width.Word h = word_below m.ram (address - 0x8000_0000) h.bytes
+loaded_fits m address width.ByteU h = let a = byte_fits m address h in omega arith
+loaded_fits m address width.HalfU h = let a = half_fits m.ram (address - 0x8000_0000) h.bytes in omega arith
+
+written_below : (ram : List ℕ) (offset value : ℕ) → AreBelow 256 ram → AreBelow 256 (with_byte ram offset value)
+written_below ram offset value h = set_below 256 ram offset (value % 256) h (omega arith)
+
+half_below : (ram : List ℕ) (offset value : ℕ) → AreBelow 256 ram → AreBelow 256 (with_half ram offset value)
+unfolding with_half
+half_below ram offset value h = written_below _ _ _ (written_below _ _ _ h)
+
+whole_below : (ram : List ℕ) (offset value : ℕ) → AreBelow 256 ram → AreBelow 256 (with_word ram offset value)
+unfolding with_word
+whole_below ram offset value h = written_below _ _ _ (written_below _ _ _ (written_below _ _ _ (written_below _ _ _ h)))
+
+ram_fits : (m : Memory) (ram : List ℕ) → MemoryBounded m → AreBelow 256 ram → MemoryBounded (record m { ram = ram })
+ram_fits m ram h l = record { bytes = l; pending = h.pending; enabled = h.enabled; levels = h.levels }
+
+pick_memory : (b : Bool) (x y : Memory) → MemoryBounded x → MemoryBounded y → MemoryBounded (if b then x else y)
+pick_memory true x y h l = h
+pick_memory false x y h l = l
+
+pick_lines : (m : Memory) (b : Bool) (x y : Lines) → MemoryBounded (record m { lines = x }) → MemoryBounded (record m { lines = y }) → MemoryBounded (record m { lines = if b then x else y })
+pick_lines m true x y h l = h
+pick_lines m false x y h l = l
+
+flag_fits : (value : ℕ) → flag_of value < 256
+flag_fits value = pick_below 256 _ 0 1 (omega arith) (omega arith)
+
+line_fits : (m : Memory) (offset value : ℕ) → MemoryBounded m → value < 256 → MemoryBounded (record m { lines = with_controller_byte m.lines offset value })
+unfolding with_controller_byte
+line_fits m offset value h l =
+    pick_lines m _ _ _
+    (record { bytes = h.bytes; pending = set_below 256 m.lines.pending offset (flag_of value) h.pending (flag_fits value); enabled = h.enabled; levels = h.levels })
+    (pick_lines m _ _ _
+    (record { bytes = h.bytes; pending = h.pending; enabled = set_below 256 m.lines.enabled (offset - 32) (flag_of value) h.enabled (flag_fits value); levels = h.levels })
+    (record { bytes = h.bytes; pending = h.pending; enabled = h.enabled; levels = set_below 256 m.lines.levels (offset - 64) value h.levels l }))
+
+stored_byte_fits : (m : Memory) (address value : ℕ) → MemoryBounded m → MemoryBounded (stored_byte m address value)
+stored_byte_fits m address value h =
+    pick_memory _ _ _ (ram_fits m _ h (written_below m.ram (address - 0x8000_0000) value h.bytes)) (line_fits m (address - 0x1000_0000) (value % 256) h (omega arith))
+
+stored_fits : (m : Memory) (address : ℕ) (w : Width) (value : ℕ) → MemoryBounded m → MemoryBounded (stored m address w value)
+unfolding stored
+stored_fits m address width.Byte value h = stored_byte_fits m address value h
+stored_fits m address width.Half value h = ram_fits m _ h (half_below m.ram (address - 0x8000_0000) value h.bytes)
+stored_fits m address width.Word value h = ram_fits m _ h (whole_below m.ram (address - 0x8000_0000) value h.bytes)
+stored_fits m address width.ByteU value h = stored_byte_fits m address value h
+stored_fits m address width.HalfU value h = ram_fits m _ h (half_below m.ram (address - 0x8000_0000) value h.bytes)
+
+memory_fits : (core : Core) → CoreBounded core → MemoryBounded (memory_of core)
+memory_fits core h = record { bytes = h.bytes; pending = h.pending; enabled = h.enabled; levels = h.levels }
+
+core_fits : (core : Core) (m : Memory) → CoreBounded core → MemoryBounded m → CoreBounded (with_memory core m)
+core_fits core m h l = record {
+  registers = h.registers;
+  scratch = h.scratch;
+  return_address = h.return_address;
+  level = h.level;
+  previous_level = h.previous_level;
+  bytes = l.bytes;
+  pending = l.pending;
+  enabled = l.enabled;
+  levels = l.levels;
+}
+
+-- ---- CSRs
+
+status_fits : (core : Core) → mstatus_of core < 4294967296
+status_fits core = by core.mie core.mpie
+  where
+    by : (a b : Bool) → (if a then 8 else 0) + (if b then 128 else 0) < 4294967296
+    by true true = omega arith
+    by true false = omega arith
+    by false true = omega arith
+    by false false = omega arith
+
+byte_word : (v : ℕ) → v < 256 → v < 4294967296
+byte_word v h = omega arith
+
+csr_fits : (core : Core) (csr : ℕ) → CoreBounded core → IfSome (csr_value core csr) (λ v. v < 4294967296)
+csr_fits core csr h = by (csr == 0x300) (csr == 0x340) (csr == 0x341) (csr == 0x7C0) (csr == 0x7C1)
+  where
+    by : (a b c d e : Bool) → IfSome (if a then Some (mstatus_of core) else if b then Some core.mscratch else if c then Some core.mepc else if d then Some core.ilevel else if e then Some core.plevel else None) (λ v. v < 4294967296)
+    by true b c d e = status_fits core
+    by false true c d e = h.scratch
+    by false false true d e = h.return_address
+    by false false false true e = byte_word core.ilevel h.level
+    by false false false false true = byte_word core.plevel h.previous_level
+    by false false false false false = tt
+
+pick_core : (b : Bool) (x y : Core) → CoreBounded x → CoreBounded y → CoreBounded (if b then x else y)
+pick_core true x y h l = h
+pick_core false x y h l = l
+
+aligned_fits : (v : ℕ) → v < 4294967296 → v - v % 4 < 4294967296
+aligned_fits v h = omega arith
+
+low_fits : (v : ℕ) → v % 256 < 256
+low_fits v = omega arith
+
+with_csr_fits : (core : Core) (csr value : ℕ) → CoreBounded core → value < 4294967296 → CoreBounded (with_csr core csr value)
+with_csr_fits core csr value h l =
+    pick_core _ _ _
+    (record { registers = h.registers; scratch = h.scratch; return_address = h.return_address; level = h.level; previous_level = h.previous_level; bytes = h.bytes; pending = h.pending; enabled = h.enabled; levels = h.levels })
+    (pick_core _ _ _
+    (record { registers = h.registers; scratch = l; return_address = h.return_address; level = h.level; previous_level = h.previous_level; bytes = h.bytes; pending = h.pending; enabled = h.enabled; levels = h.levels })
+    (pick_core _ _ _
+    (record { registers = h.registers; scratch = h.scratch; return_address = aligned_fits value l; level = h.level; previous_level = h.previous_level; bytes = h.bytes; pending = h.pending; enabled = h.enabled; levels = h.levels })
+    (pick_core _ _ _
+    (record { registers = h.registers; scratch = h.scratch; return_address = h.return_address; level = low_fits value; previous_level = h.previous_level; bytes = h.bytes; pending = h.pending; enabled = h.enabled; levels = h.levels })
+    (pick_core _ _ _
+    (record { registers = h.registers; scratch = h.scratch; return_address = h.return_address; level = h.level; previous_level = low_fits value; bytes = h.bytes; pending = h.pending; enabled = h.enabled; levels = h.levels })
+    h))))
+
+changed_fits : (change : Change) (csr old : ℕ) (core : Core) → ChangeFits change → old < 4294967296 → CoreBounded core → CoreBounded (changed change csr old core)
+changed_fits Keep csr old core c l h = h
+changed_fits (Replace value) csr old core c l h = with_csr_fits core csr value h c
+changed_fits (Set bits) csr old core c l h = with_csr_fits core csr (bit_or old bits) h (or_lt 32 old bits l c)
+changed_fits (Clear bits) csr old core c l h = with_csr_fits core csr (bit_and old (2 ^ 32 - 1 - bits)) h (and_fits old (2 ^ 32 - 1 - bits) l)
+
+-- ---- one instruction
+
+abbrev NextBounded : Next → Type 0
+NextBounded (Going next) = IsBounded next
+NextBounded (Stopped why) = Unit {0}
+
+on_fits : (pc : ℕ) (core : Core) → CoreBounded core → NextBounded (goes_on pc core)
+on_fits pc core h = record { pc = mod_fits (pc + 4); core = h }
+
+pick_next : (b : Bool) (x y : Next) → NextBounded x → NextBounded y → NextBounded (if b then x else y)
+pick_next true x y h l = h
+pick_next false x y h l = l
+
+jump_fits : (target : ℕ) (core : Core) → target < 4294967296 → CoreBounded core → NextBounded (jumps target core)
+jump_fits target core l h = pick_next (target % 4 == 0) (Going (record { pc = target; core = core })) (Stopped (stop.Misaligned target)) (record { pc = l; core = h }) tt
+
+unless_fits : (o : Option Bad) (address : ℕ) (next : Next) → NextBounded next → NextBounded (unless_refused o address next)
+unless_fits None address next h = h
+unless_fits (Some bad.Misaligned) address next h = tt
+unless_fits (Some bad.Access) address next h = tt
+
+access_fits : (o : Option ℕ) (rd : ℕ) (change : Change) (csr word pc : ℕ) (core : Core) → IfSome o (λ v. v < 4294967296) → ChangeFits change → CoreBounded core
+    → NextBounded (csr_access o rd change csr word pc core)
+access_fits None rd change csr word pc core o c h = tt
+access_fits (Some old) rd change csr word pc core o c h = on_fits pc _ (register_fits _ rd old (changed_fits change csr old core c o h) o)
+
+perform_fits : (e : Effect) (word pc : ℕ) (core : Core) → EffectFits e → CoreBounded core → NextBounded (perform e word pc core)
+unfolding perform
+perform_fits Nothing word pc core e h = on_fits pc core h
+perform_fits (Write rd value) word pc core e h = on_fits pc _ (register_fits core rd value h e)
+perform_fits (Branch taken target) word pc core e h = pick_next taken _ _ (jump_fits target core e h) (on_fits pc core h)
+perform_fits (Jump rd target) word pc core e h = jump_fits target _ e (register_fits core rd _ h (mod_fits (pc + 4)))
+perform_fits (Load w rd address) word pc core e h =
+    unless_fits (refusal (memory_of core) address w) address _
+    (on_fits pc _ (register_fits core rd _ h (loaded_fits (memory_of core) address w (memory_fits core h))))
+perform_fits (Store w address value) word pc core e h =
+    unless_fits (refusal (memory_of core) address w) address _
+    (on_fits pc _ (core_fits core _ h (stored_fits (memory_of core) address w value (memory_fits core h))))
+perform_fits (Csr rd csr change) word pc core e h = access_fits (csr_value core csr) rd change csr word pc core (csr_fits core csr h) e h
+perform_fits Environment word pc core e h = tt
+perform_fits Return word pc core e h = record {
+  pc = h.return_address;
+  core = record {
+    registers = h.registers;
+    scratch = h.scratch;
+    return_address = h.return_address;
+    level = h.previous_level;
+    previous_level = h.previous_level;
+    bytes = h.bytes;
+    pending = h.pending;
+    enabled = h.enabled;
+    levels = h.levels;
+  };
+}
+
+executed_fits : (o : Option InstrKind) (w : ℕ) (state : State) → w < 4294967296 → Decode w ≡ o → CoreBounded state.core → NextBounded (execute_word o w state)
+unfolding execute
+executed_fits None w state l d h = tt
+executed_fits (Some kind) w state l d h =
+    perform_fits (effect kind state.pc state.core.registers) (Encode kind) state.pc state.core
+    (effect_fits kind state.pc state.core.registers (decode_is w kind l d).0 h.registers) h
+
+step_fits : (state : State) → CoreBounded state.core → NextBounded (step state)
+unfolding step
+step_fits state h =
+    pick_next (in_ram state.pc 4) _ _
+    (executed_fits (Decode (word_of state)) (word_of state) state (word_below state.core.ram (state.pc - 0x8000_0000) h.bytes) refl h) tt
+
+-- ---- arrivals, and lines that are taken
+
+pub arrive_fits : (lines : List ℕ) (state : State) → IsBounded state → IsBounded (state_arrive lines state)
+arrive_fits [] state h = h
+arrive_fits (line ∷ lines) state h =
+    let c = h.core in
+    arrive_fits lines (state_arrive (line ∷ []) state) (record {
+      pc = h.pc;
+      core = record {
+        registers = c.registers;
+        scratch = c.scratch;
+        return_address = c.return_address;
+        level = c.level;
+        previous_level = c.previous_level;
+        bytes = c.bytes;
+        pending = set_below 256 state.core.pending line 1 c.pending (omega arith);
+        enabled = c.enabled;
+        levels = c.levels;
+      };
+    })
+
+enter_fits : (o : Option ℕ) (state : State) → IsBounded state → CoreBounded (enter o state).core
+enter_fits None state h = h.core
+enter_fits (Some line) state h =
+    let c = h.core in
+    record {
+      registers = c.registers;
+      scratch = c.scratch;
+      return_address = h.pc;
+      level = c.levels line;
+      previous_level = c.level;
+      bytes = c.bytes;
+      pending = set_below 256 state.core.pending line 0 c.pending (omega arith);
+      enabled = c.enabled;
+      levels = c.levels;
+    }
+
+goes_fits : (o : Next) (count : ℕ) (before next : State) (seen : Step) → outcome count before o ≡ Goes seen next → NextBounded o → IsBounded next
+goes_fits (Going after) count before next seen e h = let g : after ≡ next = cc in subst IsBounded g h
+goes_fits (Stopped why) count before next seen e h = cc
+
+pub bounds_stay : (arrivals : List Arrival) (count : ℕ) (state next : State) (seen : Step) → moment arrivals count state ≡ Goes seen next → IsBounded state → IsBounded next
+unfolding advance
+bounds_stay arrivals count state next seen e h =
+    let n = arrived arrivals count state in
+    goes_fits (step (entered n)) count n next seen e (step_fits (entered n) (enter_fits (line_to_take n) n (arrive_fits _ state h)))
