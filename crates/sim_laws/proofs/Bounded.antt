@@ -35,6 +35,7 @@ use Rattle.rv32_instr.proofs.Words.{signed_pos, signed_neg}
 use Rattle.rv32_routine.proofs.Words.{word_below}
 use Rattle.rv32_machine.specs.Advance.{Outcome, Goes, Halts, advance, outcome}
 use Rattle.rv32_machine.specs.Run.{moment, arrived}
+use Rattle.sim_run.specs.Admits.{lines_at}
 use Rattle.sim_laws.specs.Bounded.{AreBelow, CoreBounded, IsBounded}
 
 set_below : (bound : ℕ) (xs : List ℕ) (k v : ℕ) → AreBelow bound xs → v < bound → AreBelow bound (set xs k v)
@@ -278,10 +279,6 @@ csr_fits core csr h = by (csr == 0x300) (csr == 0x340) (csr == 0x341) (csr == 0x
     by false false false false true = byte_word core.plevel h.previous_level
     by false false false false false = tt
 
-pick_core : (b : Bool) (x y : Core) → CoreBounded x → CoreBounded y → CoreBounded (if b then x else y)
-pick_core true x y h l = h
-pick_core false x y h l = l
-
 aligned_fits : (v : ℕ) → v < 4294967296 → v - v % 4 < 4294967296
 aligned_fits v h = omega arith
 
@@ -289,18 +286,21 @@ low_fits : (v : ℕ) → v % 256 < 256
 low_fits v = omega arith
 
 with_csr_fits : (core : Core) (csr value : ℕ) → CoreBounded core → value < 4294967296 → CoreBounded (with_csr core csr value)
-with_csr_fits core csr value h l =
-    pick_core _ _ _
-    (record { registers = h.registers; scratch = h.scratch; return_address = h.return_address; level = h.level; previous_level = h.previous_level; bytes = h.bytes; pending = h.pending; enabled = h.enabled; levels = h.levels })
-    (pick_core _ _ _
-    (record { registers = h.registers; scratch = l; return_address = h.return_address; level = h.level; previous_level = h.previous_level; bytes = h.bytes; pending = h.pending; enabled = h.enabled; levels = h.levels })
-    (pick_core _ _ _
-    (record { registers = h.registers; scratch = h.scratch; return_address = aligned_fits value l; level = h.level; previous_level = h.previous_level; bytes = h.bytes; pending = h.pending; enabled = h.enabled; levels = h.levels })
-    (pick_core _ _ _
-    (record { registers = h.registers; scratch = h.scratch; return_address = h.return_address; level = low_fits value; previous_level = h.previous_level; bytes = h.bytes; pending = h.pending; enabled = h.enabled; levels = h.levels })
-    (pick_core _ _ _
-    (record { registers = h.registers; scratch = h.scratch; return_address = h.return_address; level = h.level; previous_level = low_fits value; bytes = h.bytes; pending = h.pending; enabled = h.enabled; levels = h.levels })
-    h))))
+with_csr_fits core csr value h l = by (csr == 0x300) (csr == 0x340) (csr == 0x341) (csr == 0x7C0) (csr == 0x7C1)
+  where
+    by : (a b c d e : Bool) → CoreBounded (
+        if a then record core { mie = value / 8 % 2 == 1; mpie = value / 128 % 2 == 1 }
+        else if b then record core { mscratch = value }
+        else if c then record core { mepc = value - value % 4 }
+        else if d then record core { ilevel = value % 256 }
+        else if e then record core { plevel = value % 256 }
+        else core)
+    by true b c d e = record { registers = h.registers; scratch = h.scratch; return_address = h.return_address; level = h.level; previous_level = h.previous_level; bytes = h.bytes; pending = h.pending; enabled = h.enabled; levels = h.levels }
+    by false true c d e = record { registers = h.registers; scratch = l; return_address = h.return_address; level = h.level; previous_level = h.previous_level; bytes = h.bytes; pending = h.pending; enabled = h.enabled; levels = h.levels }
+    by false false true d e = record { registers = h.registers; scratch = h.scratch; return_address = aligned_fits value l; level = h.level; previous_level = h.previous_level; bytes = h.bytes; pending = h.pending; enabled = h.enabled; levels = h.levels }
+    by false false false true e = record { registers = h.registers; scratch = h.scratch; return_address = h.return_address; level = low_fits value; previous_level = h.previous_level; bytes = h.bytes; pending = h.pending; enabled = h.enabled; levels = h.levels }
+    by false false false false true = record { registers = h.registers; scratch = h.scratch; return_address = h.return_address; level = h.level; previous_level = low_fits value; bytes = h.bytes; pending = h.pending; enabled = h.enabled; levels = h.levels }
+    by false false false false false = h
 
 changed_fits : (change : Change) (csr old : ℕ) (core : Core) → ChangeFits change → old < 4294967296 → CoreBounded core → CoreBounded (changed change csr old core)
 changed_fits Keep csr old core c l h = h
@@ -421,4 +421,4 @@ pub bounds_stay : (arrivals : List Arrival) (count : ℕ) (state next : State) (
 unfolding advance
 bounds_stay arrivals count state next seen e h =
     let n = arrived arrivals count state in
-    goes_fits (step (entered n)) count n next seen e (step_fits (entered n) (enter_fits (line_to_take n) n (arrive_fits _ state h)))
+    goes_fits (step (entered n)) count n next seen e (step_fits (entered n) (enter_fits (line_to_take n) n (arrive_fits (lines_at arrivals count) state h)))
