@@ -1,5 +1,5 @@
 -- From the contract of the code of boot to the first stretch of a run.
-use Rattle.std.proofs.Common.{◌≡◌, ℕ, suc, ◌+◌, ◌≤◌, List, [], length, refl, sym, ap, ◌∙◌, subst, arith}
+use Rattle.std.proofs.Common.{true, ◌≡◌, ℕ, suc, ◌+◌, ◌≤◌, List, [], length, refl, sym, ap, ◌∙◌, subst, arith}
 use Rattle.std.specs.Prelude.{map, slice_index}
 use Rattle.sloth_base.specs.declared.event.Arrival.{Arrival}
 use Rattle.sloth_base.specs.declared.image.Image.{Image}
@@ -82,3 +82,7 @@ module _ (b : Build) (view : View) (arrivals : List Arrival) (setting : IsSettin
         related = subst (λ x. Stands b x (with_admits (late route.trace) (started b))) (sym route.late_behind)
             (stands_arrived b (late route.trace) route.last (started b) few in_range.1 law.1);
       }
+
+  pub booted_behind : boot_stretch.after.booted ≡ true
+  unfolding boot_stretch
+  booted_behind = refl

@@ -6,3 +6,4 @@ pub mod Codes
 pub mod BootRoute
 pub mod EnterRoute
 pub mod Generated
+pub mod Kept
