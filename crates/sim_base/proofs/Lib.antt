@@ -18,3 +18,4 @@ pub mod Leaving
 pub mod First
 pub mod Starting
 pub mod AtItem
+pub mod Placed

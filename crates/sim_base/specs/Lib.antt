@@ -9,3 +9,4 @@ pub mod Moves
 pub mod Entry
 pub mod Start
 pub mod Laws
+pub mod Placed

@@ -8,7 +8,6 @@ use Rattle.sloth_base.specs.Machine.{Core, State}
 use Rattle.rv32_instr.specs.declared.InstrKind.{InstrKind}
 use Rattle.rv32_instr.specs.Encode.{Encode}
 use Rattle.rv32_instr.specs.Table.{Decode}
-use Rattle.rv32_instr.specs.Ram.{word_at}
 use Rattle.rv32_instr.specs.Execute.{Going, step, touched, touched_by, perform, with_register}
 use Rattle.rv32_instr.proofs.Table.{decode_encode}
 use Rattle.rv32_routine.specs.Place.{at}
@@ -24,22 +23,17 @@ use Rattle.osek_machine.specs.Meaning as meaning
 use Rattle.osek_machine.specs.Steps.{IsAt, Executes}
 use Rattle.sim_base.specs.Build.{Build, Fits}
 use Rattle.sim_base.specs.Position.{thread_of}
-use Rattle.sim_base.specs.Context.{Context, Running}
+use Rattle.sim_base.specs.Context.{Context}
 use Rattle.sim_base.specs.Stands.{Stands, AreActive}
 use Rattle.sim_base.specs.DataStands.{DataStands}
 use Rattle.sim_base.specs.Moves.{moved_to, TaskStep, SameMachine}
 use Rattle.sim_base.proofs.AtItem.{position_first}
+use Rattle.sim_base.proofs.Placed.{first_by_word}
 use Rattle.sim_base.proofs.Tops.{falling_head}
 use Rattle.sim_base.proofs.TaskSteps.{task_steps}
 use Rattle.sim_items.specs.Place.{AtItem, HasInstruction, IsOwn, IsComputed}
 use Rattle.sim_items.specs.Laws.{IsOneInstruction, RunsItem}
 use Rattle.sim_items.proofs.Values.{Computed, computed}
-
--- the task of the word at 0x80000000 is the first of the stack
-pub first_of : (b : Build) (state : State) (s : System) (t : ℕ) (stack : List ℕ) → Running b state s stack → word_at state.core.ram 0 ≡ t + 1
-    → (below : List ℕ) × (stack ≡ t ∷ below)
-first_of b state s t [] run h = let a = run.current in absurd (omega arith)
-first_of b state s t (u ∷ below) run h = let a = run.current in let e : u ≡ t = omega arith in (below, ap (λ v. v ∷ below) e)
 
 -- what the image has stands in RAM
 pub code_here : (b : Build) (state : State) (s : System) (address : ℕ) (kind : InstrKind) → Stands b state s
@@ -199,7 +193,7 @@ module _ (b : Build) (state : State) (s : System) (t : ℕ) (fits : Fits b) (k :
         })
 
     active_is : (task s t).state ≡ mode.Active
-    active_is = let f = first_of b state s t k.stack k.running here.current in (falling_head b s t f.0 (subst (AreActive b s) f.1 k.active).falling).active
+    active_is = let f = first_by_word b state s t k.stack k.running here.current in (falling_head b s t f.0 (subst (AreActive b s) f.1 k.active).falling).active
 
     task_step : TaskStep b state next s t own_now s.symbols
     task_step = record {
@@ -219,7 +213,7 @@ module _ (b : Build) (state : State) (s : System) (t : ℕ) (fits : Fits b) (k :
     }
 
     stands_now : Stands b next (moved_to s t own_now s.symbols)
-    stands_now = let f = first_of b state s t k.stack k.running here.current in task_steps b state next s k fits t f.0 f.1 own_now s.symbols task_step
+    stands_now = let f = first_by_word b state s t k.stack k.running here.current in task_steps b state next s k fits t f.0 f.1 own_now s.symbols task_step
 
     abbrev meant : Meant
     meant = record {

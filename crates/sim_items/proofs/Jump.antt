@@ -27,11 +27,12 @@ use Rattle.sim_base.specs.Stands.{Stands, AreActive}
 use Rattle.sim_base.specs.Moves.{moved_to, TaskStep}
 use Rattle.sim_base.proofs.Arrive.{stands_fresh}
 use Rattle.sim_base.proofs.TaskSteps.{task_steps}
+use Rattle.sim_base.proofs.Placed.{first_by_word}
 use Rattle.sim_base.proofs.Tops.{falling_head}
 use Rattle.sim_items.specs.Place.{AtItem}
 use Rattle.sim_items.specs.Outside.{At, GoesOutside, JumpsToService}
 use Rattle.sim_items.specs.Progress.{passed_at, passed_in, progress_in}
-use Rattle.sim_items.proofs.Computed.{first_of, code_here}
+use Rattle.sim_items.proofs.Computed.{code_here}
 use Rattle.sim_items.proofs.Outside as outside
 
 at_start : (address count : ℕ) → 0 < count → passed_at address count address ≡ 0
@@ -106,7 +107,7 @@ module _ (b : Build) (view : View) (arrivals : List Arrival) (count : ℕ) (stat
   untouched = ap touched n_is ∙ touched_at offset n.core (Jal 31 (distance address target)) code.0
 
   found : (below : List ℕ) × (now.stack ≡ t ∷ below)
-  found = first_of b n s1 t now.stack now.running item.current
+  found = first_by_word b n s1 t now.stack now.running item.current
 
   -- the jump is all of the item
   one : length (expansion b.app b.places item.frame.func item.frame.item) ≡ 1
@@ -181,7 +182,7 @@ module _ (b : Build) (view : View) (arrivals : List Arrival) (count : ℕ) (stat
   frames_of : (task s (word_at state.core.ram 0 - 1)).frames ≡ item.frame ∷ item.outer
   frames_of =
       let e : word_at state.core.ram 0 - 1 ≡ t = let c = item.current in omega arith in
-      let f = first_of b state s t here.stands.stack here.stands.running item.current in
+      let f = first_by_word b state s t here.stands.stack here.stands.running item.current in
       let a = (falling_head b s t f.0 (subst (AreActive b s) f.1 here.stands.active).falling).active in
       ap (λ v. (task s v).frames) e ∙ sym (ap (λ v. v.frames) (kept_admits (lines_at arrivals count) t s (not_suspended (task s t).state a))) ∙ item.frames
 

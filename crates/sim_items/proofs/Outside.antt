@@ -12,13 +12,10 @@ use Rattle.sloth_base.specs.declared.event.Arrival.{Arrival}
 use Rattle.sloth_base.specs.Choose.{choose}
 use Rattle.sloth_base.specs.Machine.{State}
 use Rattle.sloth_base.specs.Take.{line_to_take, enter}
-use Rattle.rv32_instr.specs.declared.InstrKind.{InstrKind}
-use Rattle.rv32_instr.specs.Table.{Decode}
 use Rattle.rv32_instr.specs.Ram.{word_at}
 use Rattle.rv32_instr.specs.Execute.{Going, step, touched}
 use Rattle.rv32_machine.specs.Run.{arrived}
 use Rattle.rv32_routine.specs.Place.{at, InPlace}
-use Rattle.rv32_routine.proofs.Words.{word_at-agree}
 use Rattle.rv32_expand.specs.Expansion.{item_address, operation}
 use Rattle.rv32_expand.specs.InPlace.{result_register, mark_of, item_mark}
 use Rattle.observe.specs.Observe.{View, mark_at, task_of, outside_events, events_of_kind}
@@ -34,11 +31,13 @@ use Rattle.sim_base.specs.Build.{Build}
 use Rattle.sim_base.specs.Context.{Running, RunsIdle}
 use Rattle.sim_base.specs.Stands.{Stands}
 use Rattle.sim_base.proofs.Arrive.{stands_arrived, stands_fresh}
+use Rattle.sim_base.proofs.Placed.{placed_in, first_by_word}
 use Rattle.sim_base.proofs.Choice.{running_top, none_due}
 use Rattle.sim_items.specs.Place.{AtItem, IsComputed}
 use Rattle.sim_items.specs.Laws.{IsOneInstruction, RunsItem}
-use Rattle.sim_items.specs.Outside.{setting_of, At, GoesOutside, HasIdle}
-use Rattle.sim_items.proofs.Computed.{first_of, computed_run}
+use Rattle.sim_base.specs.Placed.{setting_of}
+use Rattle.sim_items.specs.Outside.{At, GoesOutside, HasIdle}
+use Rattle.sim_items.proofs.Computed.{computed_run}
 
 task_is : (tasks t : ℕ) → t < tasks → task_of tasks (t + 1) ≡ t
 task_is tasks t l =
@@ -104,7 +103,7 @@ module _ (b : Build) (view : View) (arrivals : List Arrival) (progress : State �
   module _ (t : ℕ) (item : AtItem b n s1 t) (is : IsComputed (operation b.app item.frame.func item.frame.item)) (one : IsOneInstruction b item.frame.func item.frame.item)
       (marked : mark_at view (item_address b.places item.frame.func item.frame.item) ≡ Some (item_mark b.app b.places item.frame.func item.frame.item)) where
     top : IsTop b.config s1 [] t
-    top = let f = first_of b n s1 t now.stack now.running item.current in running_top b n s1 now few here.none t f.0 f.1
+    top = let f = first_by_word b n s1 t now.stack now.running item.current in running_top b n s1 now few here.none t f.0 f.1
 
     runs : RunsItem b n s1 t item.frame.func item.frame.item
     runs = computed_run b n s1 t here.fits now item top is one
@@ -147,18 +146,13 @@ module _ (b : Build) (view : View) (arrivals : List Arrival) (progress : State �
     n_is = ap (λ p. record { pc = p; core = n.core }) pc_is
 
     placed : InPlace n.core.ram idle.offset idle.code
-    placed = kept idle.code idle.idles.word idle.placed
-      where
-        kept : (code : List InstrKind) → length code ≡ 1 → InPlace b.memory idle.offset code → InPlace n.core.ram idle.offset code
-        kept [] e p = tt
-        kept (i ∷ []) e p = (ap Decode (word_at-agree n.core.ram b.memory idle.offset (λ j x y. now.fixed.code j (idle.is_code j x y))) ∙ p.0, tt)
-        kept (i ∷ j ∷ code) e p = absurd (omega arith)
+    placed = placed_in b n.core.ram idle.offset idle.code now.fixed.code idle.placed
+
+    inside : idle.offset + 4 ≤ 0x20_0000
+    inside = let l = idle.placed.inside in let w = idle.idles.word in omega arith
 
     stays : step n ≡ Going n
-    stays =
-        let a = here.fits.idle_address in
-        let e = idle.is in
-        ap step n_is ∙ idle.idles.stays idle.offset n.core (omega arith) idle.to placed ∙ ap Going (sym n_is)
+    stays = ap step n_is ∙ idle.idles.stays idle.offset n.core idle.placed.aligned inside placed ∙ ap Going (sym n_is)
 
     pub idle_outside : GoesOutside b view arrivals progress count state s
     idle_outside = (

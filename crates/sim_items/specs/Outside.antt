@@ -1,5 +1,5 @@
 -- Items and the idle loop as instructions of a run outside the stretches.
-use Rattle.std.specs.Prelude.{ℕ, ◌+◌, ◌<◌, ◌≤◌, ◌≡◌, ◌⊎◌, List, [], true, Some, None}
+use Rattle.std.specs.Prelude.{ℕ, ◌+◌, ◌<◌, ◌≤◌, ◌≡◌, ◌⊎◌, List, [], Some, None}
 use Rattle.sloth_base.specs.declared.app.Call.{Call}
 use Rattle.sloth_base.specs.declared.app.Op.TheVariants as op
 use Rattle.sloth_base.specs.declared.event.Arrival.{Arrival}
@@ -12,23 +12,19 @@ use Rattle.rv32_instr.specs.declared.InstrKind.{InstrKind}
 use Rattle.rv32_instr.specs.declared.InstrKind.TheVariants.{Jal}
 use Rattle.rv32_instr.specs.Ram.{word_at}
 use Rattle.rv32_machine.specs.Run.{arrived}
-use Rattle.rv32_routine.specs.Place.{InPlace}
 use Rattle.rv32_expand.specs.Expansion.{item_address, block_address, mask_of, distance, operation}
 use Rattle.rv32_expand.specs.InPlace.{item_mark}
 use Rattle.observe.specs.Observe.{View, mark_at}
 use Rattle.vector_gen.specs.Idle.{Idles}
 use Rattle.osek_machine.specs.State.{System}
-use Rattle.sim_run.specs.Admits.{Setting, IsSetting, lines_at, with_admits}
+use Rattle.sim_run.specs.Admits.{IsSetting, lines_at, with_admits}
 use Rattle.sim_run.specs.Laws.{OutsideLaw}
 use Rattle.sim_base.specs.Build.{Build, Fits}
 use Rattle.sim_base.specs.Stands.{Stands}
+use Rattle.sim_base.specs.Placed.{setting_of, IsPlaced}
 use Rattle.sim_items.specs.Place.{AtItem, HasInstruction, IsComputed}
 use Rattle.sim_items.specs.Laws.{IsOneInstruction}
 use Rattle.sim_items.specs.Progress.{progress_in}
-
--- a run of what is built
-abbrev pub setting_of : Build → View → List Arrival → Setting
-setting_of b view arrivals = record { config = b.config; app = b.app; view = view; arrivals = arrivals }
 
 -- a state at a count from 1 on, which stands
 pub record At (b : Build) (view : View) (arrivals : List Arrival) (count : ℕ) (state : State) (s : System) : Type 0 where
@@ -83,9 +79,7 @@ pub record HasIdle (b : Build) (view : View) : Type 0 where
   pub idles : Idles code
   pub offset : ℕ
   pub is : b.idle ≡ 0x8000_0000 + offset
-  pub to : offset + 4 ≤ 0x20_0000
-  pub is_code : (i : ℕ) → offset ≤ i → i < offset + 4 → b.is_code i ≡ true
-  pub placed : InPlace b.memory offset code
+  pub placed : IsPlaced b offset code
   pub mark : Mark
   pub marked : mark_at view b.idle ≡ Some mark
   pub shows : mark.kind ≡ kind.Idle

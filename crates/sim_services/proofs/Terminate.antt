@@ -20,18 +20,13 @@ use Rattle.sim_base.specs.Context.{RunsTask, Running}
 use Rattle.sim_base.specs.ServiceWords.{ServiceWords, HeldWords, base_priority}
 use Rattle.sim_base.specs.Stands.{Stands, IsActive, AreActive, IsLineOf}
 use Rattle.sim_base.specs.Moves.{TaskLeave}
+use Rattle.sim_base.proofs.Placed.{first_by_word}
 use Rattle.sim_base.proofs.Tops.{falling_head}
 use Rattle.sim_base.proofs.Leaving.{leave_stands}
 use Rattle.sim_base.proofs.TaskSteps.{active_resumes}
 use Rattle.sim_base.proofs.TaskMoves.{line_active}
 use Rattle.sim_services.specs.Laws.{MayEnd}
 use Rattle.sim_services.proofs.EndRam.{EndRam, end_ram}
-
--- the task of the word at 0x80000000 is the first of the stack
-pub first_of : (b : Build) (state : State) (s : System) (t : ℕ) (stack : List ℕ) → Running b state s stack → word_at state.core.ram 0 ≡ t + 1
-    → (below : List ℕ) × (stack ≡ t ∷ below)
-first_of b state s t [] run h = let a = run.current in absurd (omega arith)
-first_of b state s t (u ∷ below) run h = let a = run.current in let e : u ≡ t = omega arith in (below, ap (λ v. v ∷ below) e)
 
 module _ (b : Build) (state : State) (s : System) (t place : ℕ) (touched : List ℕ) (end : State) (fits : Fits b)
     (may : MayEnd b state s t place) (eff : Terminated t place touched state end) where
@@ -152,4 +147,4 @@ module _ (b : Build) (state : State) (s : System) (t place : ℕ) (touched : Lis
     both = (step_is, stands_behind)
 
   pub terminate_ends : OsekStep b.config b.app (event.Left t service.TerminateTask) s next × Stands b end next
-  terminate_ends = let f = first_of b state s t k.stack k.running may.opening.current in both f.0 f.1
+  terminate_ends = let f = first_by_word b state s t k.stack k.running may.opening.current in both f.0 f.1

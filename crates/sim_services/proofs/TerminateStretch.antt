@@ -1,6 +1,5 @@
 -- The stretch of TerminateTask, whatever lines arrive.
-use Rattle.std.proofs.Common.{◌≡◌, ℕ, ◌+◌, ◌*◌, ◌<◌, ◌≤◌, List, [], ◌∷◌, length, refl, sym, ap, ◌∙◌, subst, arith, inl, None, false, cond}
-use Rattle.std.specs.Prelude.{slice_index}
+use Rattle.std.proofs.Common.{◌≡◌, ℕ, ◌+◌, ◌<◌, ◌≤◌, List, [], ◌∷◌, length, refl, sym, ap, ◌∙◌, subst, arith, inl, None, false, cond}
 use Rattle.sloth_base.specs.declared.event.Arrival.{Arrival}
 use Rattle.sloth_base.specs.declared.event.Event.TheVariants as event
 use Rattle.sloth_base.specs.declared.service.Service.TheVariants as service
@@ -10,7 +9,6 @@ use Rattle.sloth_base.specs.Arrive.{state_arrive}
 use Rattle.sloth_base.specs.Take.{line_to_take, enter, entered}
 use Rattle.rv32_instr.specs.declared.InstrKind.{InstrKind}
 use Rattle.rv32_instr.specs.declared.InstrKind.TheVariants.{Csrrci}
-use Rattle.rv32_instr.specs.Table.{Decode}
 use Rattle.rv32_instr.specs.Ram.{word_at}
 use Rattle.rv32_instr.specs.Execute.{touched, touched_by}
 use Rattle.rv32_machine.specs.Run.{arrived}
@@ -18,7 +16,6 @@ use Rattle.rv32_routine.specs.Masked.{FromOpening}
 use Rattle.rv32_routine.specs.Place.{at, InPlace}
 use Rattle.rv32_routine.specs.Kernel.{IsBelow}
 use Rattle.rv32_routine.specs.Trace.{Trace, touched_lines, early, late}
-use Rattle.rv32_routine.proofs.Words.{word_at-agree}
 use Rattle.rv32_routine.proofs.Machine.{touched_at}
 use Rattle.rv32_expand.specs.Expansion.{block_address}
 use Rattle.observe.specs.Observe.{View, mark_at}
@@ -42,21 +39,14 @@ use Rattle.sim_base.specs.Stands.{Stands, IsActive, AreActive}
 use Rattle.sim_base.proofs.Arrive.{stands_arrived}
 use Rattle.sim_base.proofs.Below.{is_below}
 use Rattle.sim_base.proofs.Choice.{running_top}
+use Rattle.sim_base.proofs.Placed.{placed_in, code_behind, first_by_word}
 use Rattle.sim_base.proofs.Parts.{this_task}
 use Rattle.sim_base.proofs.Tops.{falling_head}
 use Rattle.sim_services.specs.Opening.{AtOpening}
 use Rattle.sim_services.specs.Laws.{MayEnd}
-use Rattle.sim_services.specs.Stretch.{setting_of, OpensTerminateTask}
-use Rattle.sim_services.proofs.Terminate.{first_of, terminate_ends}
-
--- code of the image stands in RAM
-in_place_kept : (old new : List ℕ) (code : List InstrKind) (offset : ℕ) → ((i : ℕ) → offset ≤ i → i < offset + 4 * length code → slice_index new i ≡ slice_index old i)
-    → InPlace old offset code → InPlace new offset code
-in_place_kept old new [] offset same p = tt
-in_place_kept old new (kind ∷ code) offset same p = (
-  ap Decode (word_at-agree new old offset (λ i x y. same i (omega arith) (omega arith))) ∙ p.0,
-  in_place_kept old new code (offset + 4) (λ i x y. same i (omega arith) (omega arith)) p.1,
-)
+use Rattle.sim_base.specs.Placed.{setting_of}
+use Rattle.sim_services.specs.Stretch.{OpensTerminateTask}
+use Rattle.sim_services.proofs.Terminate.{terminate_ends}
 
 not_suspended : (x : TaskState) → x ≡ mode.Active → x ≡ mode.Suspended → ⊥
 not_suspended x a e = cc
@@ -99,7 +89,10 @@ module _ (b : Build) (view : View) (arrivals : List Arrival) (count : ℕ) (stat
   n_is = ap (λ p. record { pc = p; core = n.core }) pc_is
 
   placed : InPlace n.core.ram offset code
-  placed = in_place_kept b.memory n.core.ram code offset (λ i x y. k.fixed.code i (opens.in_place.is_code i x y)) opens.in_place.placed
+  placed = placed_in b n.core.ram offset code k.fixed.code opens.in_place.placed
+
+  some : 0 < length code
+  some = let m = opens.in_place.terminates.masks in subst (λ (c : List InstrKind). 0 < length c) (sym m.1) (omega arith)
 
   module _ (below : List ℕ) (stack_is : k.stack ≡ t ∷ below) where
     active : AreActive b s1 (t ∷ below)
@@ -128,9 +121,9 @@ module _ (b : Build) (view : View) (arrivals : List Arrival) (count : ℕ) (stat
             registers = f.registers;
             zero = f.zero;
             lines = f.pending;
-            aligned = opens.in_place.aligned;
-            behind = opens.in_place.from;
-            inside = opens.in_place.to;
+            aligned = opens.in_place.placed.aligned;
+            behind = code_behind b offset code fits some opens.in_place.placed;
+            inside = opens.in_place.placed.inside;
             placed = placed;
           };
           previous = f.previous;
@@ -191,7 +184,7 @@ module _ (b : Build) (view : View) (arrivals : List Arrival) (count : ℕ) (stat
       other : word_at state.core.ram 0 ≡ word_at e.end.core.ram 0 → ⊥
       other same_word =
           let now : word_at e.last.core.ram 0 ≡ t + 1 = ap (λ (x : State). word_at x.core.ram 0) (sym e.late_behind) ∙ sym same_word ∙ op.current in
-          let f = first_of b e.last after t law.1.stack law.1.running now in
+          let f = first_by_word b e.last after t law.1.stack law.1.running now in
           not_suspended (task after t).state (falling_head b after t f.0 (subst (AreActive b after) f.1 law.1.active).falling).active sleeps
 
       untouched : touched (entered n) ≡ None
@@ -233,4 +226,4 @@ module _ (b : Build) (view : View) (arrivals : List Arrival) (count : ℕ) (stat
     found_stretch = (more.next, more.trace, more.end, stretch more)
 
   pub terminate_stretches : (next : State) × (trace : Trace) × (end : State) × StretchLaw (setting_of b view arrivals) (Stands b) count state s next trace end
-  terminate_stretches = let f = first_of b n s1 t k.stack k.running op.current in found_stretch f.0 f.1
+  terminate_stretches = let f = first_by_word b n s1 t k.stack k.running op.current in found_stretch f.0 f.1

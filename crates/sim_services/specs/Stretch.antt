@@ -1,5 +1,5 @@
 -- The services as stretches of a run, whatever lines arrive.
-use Rattle.std.specs.Prelude.{ℕ, ◌+◌, ◌*◌, ◌%◌, ◌<◌, ◌≤◌, ◌≡◌, List, [], length, true, false, Some, None, slice_get}
+use Rattle.std.specs.Prelude.{ℕ, ◌+◌, ◌<◌, ◌≡◌, List, [], false, Some, None, slice_get}
 use Rattle.sloth_base.specs.declared.image.Mark.{Mark}
 use Rattle.sloth_base.specs.declared.image.MarkKind.TheVariants as kind
 use Rattle.sloth_base.specs.declared.event.Arrival.{Arrival}
@@ -8,22 +8,18 @@ use Rattle.sloth_base.specs.Choose.{choose}
 use Rattle.sloth_base.specs.Machine.{State}
 use Rattle.rv32_instr.specs.declared.InstrKind.{InstrKind}
 use Rattle.rv32_machine.specs.Run.{arrived}
-use Rattle.rv32_routine.specs.Place.{InPlace}
 use Rattle.rv32_routine.specs.Trace.{Trace}
 use Rattle.rv32_expand.specs.Expansion.{block_address}
 use Rattle.observe.specs.Observe.{View, mark_at, services}
 use Rattle.service_gen.specs.TerminateTask.{Terminates}
 use Rattle.osek_machine.specs.State.{System, task}
 use Rattle.osek_machine.specs.Priority.{is_in}
-use Rattle.sim_run.specs.Admits.{Setting, IsSetting, lines_at, with_admits}
+use Rattle.sim_run.specs.Admits.{IsSetting, lines_at, with_admits}
 use Rattle.sim_run.specs.Laws.{StretchLaw}
 use Rattle.sim_base.specs.Build.{Build, Fits}
 use Rattle.sim_base.specs.Stands.{Stands}
+use Rattle.sim_base.specs.Placed.{setting_of, IsPlaced}
 use Rattle.sim_services.specs.Opening.{AtOpening, AreBytes}
-
--- a run of what is built
-abbrev pub setting_of : Build → View → List Arrival → Setting
-setting_of b view arrivals = record { config = b.config; app = b.app; view = view; arrivals = arrivals }
 
 -- the block of TerminateTask stands in the image, with code that does it, and its mark
 pub record HasTerminateTask (b : Build) (view : View) (object : ℕ) : Type 0 where
@@ -31,11 +27,7 @@ pub record HasTerminateTask (b : Build) (view : View) (object : ℕ) : Type 0 wh
   pub terminates : Terminates code
   pub offset : ℕ
   pub is : block_address b.places service.TerminateTask object ≡ 0x8000_0000 + offset
-  pub aligned : offset % 4 ≡ 0
-  pub from : 1024 ≤ offset
-  pub to : offset + 4 * length code ≤ 0x20_0000
-  pub is_code : (i : ℕ) → offset ≤ i → i < offset + 4 * length code → b.is_code i ≡ true
-  pub placed : InPlace b.memory offset code
+  pub placed : IsPlaced b offset code
   pub mark : Mark
   pub marked : mark_at view (0x8000_0000 + offset) ≡ Some mark
   pub opens : mark.kind ≡ kind.Opening
