@@ -21,7 +21,8 @@ use Rattle.sim_run.specs.Admits.{IsSetting, lines_at, with_admits}
 use Rattle.sim_run.specs.Laws.{OutsideLaw}
 use Rattle.sim_base.specs.Build.{Build, Fits}
 use Rattle.sim_base.specs.Stands.{Stands}
-use Rattle.sim_base.specs.Placed.{setting_of, IsPlaced}
+pub use Rattle.sim_base.specs.Placed.{setting_of}
+use Rattle.sim_base.specs.Placed.{IsPlaced}
 use Rattle.sim_items.specs.Place.{AtItem, HasInstruction, IsComputed}
 use Rattle.sim_items.specs.Laws.{IsOneInstruction}
 use Rattle.sim_items.specs.Progress.{progress_in}
