@@ -1,1 +1,4 @@
 pub mod Bounded
+pub mod Plain
+pub mod Dispatch
+pub mod Whole

@@ -1,0 +1,146 @@
+-- Every run of a kernel in place is one of the abstract scheduler.
+use Rattle.std.proofs.Common.{◌≡◌, ℕ, zero, suc, ◌+◌, ◌-◌, ◌*◌, ◌/◌, ◌<◌, ◌≤◌, Bool, List, [], ◌∷◌, length, get_or, refl, sym, ap, ◌∙◌, subst, arith, true, false, ⊎_elim, inl, inr}
+use Rattle.std.specs.Prelude.{◌⊎◌, ◌&&◌, map, replicate, nat_le, nat_lt, if◌then◌else◌}
+use Rattle.std.proofs.lemmas.Bool.{cases_lt, le-ltb}
+use Rattle.sloth_base.specs.declared.event.Arrival.{Arrival}
+use Rattle.sloth_base.specs.declared.image.Image.{Image}
+use Rattle.sloth_base.specs.declared.app.Call.{Call}
+use Rattle.sloth_base.specs.declared.app.Item.{Item}
+use Rattle.sloth_base.specs.declared.app.Op.TheVariants as op
+use Rattle.sloth_base.specs.Arrivals.{AreArrivals, moments}
+use Rattle.sloth_base.specs.Machine.{State}
+use Rattle.rv32_instr.specs.Ram.{word_at}
+use Rattle.rv32_machine.specs.Run.{arrived}
+use Rattle.rv32_machine.specs.Start.{start}
+use Rattle.rv32_routine.specs.Trace.{late}
+use Rattle.rv32_expand.specs.Expansion.{item_address, operation, expansion, expanded}
+use Rattle.observe.specs.Observe.{View, view_of_image}
+use Rattle.osek_machine.specs.State.{Frame, System, task, function}
+use Rattle.sim_run.specs.Sound.{Sound}
+use Rattle.sim_run.specs.Admits.{IsSetting, lines_at, with_admits, admit_event}
+use Rattle.sim_run.specs.Laws.{BootLaw}
+use Rattle.sim_run.specs.Related.{IsSimulation}
+use Rattle.sim_run.proofs.Follow.{booted_admits, leads_admits}
+use Rattle.sim_run.proofs.Invariants.{With, along_events, simulation_with, boot_with}
+use Rattle.sim_run.proofs.Schedule.{below_moments}
+use Rattle.sim_run.proofs.Simulated.{sound, is_setting}
+use Rattle.sim_base.specs.Build.{Build}
+use Rattle.sim_base.specs.Stands.{Stands}
+use Rattle.sim_base.proofs.Arrive.{stands_arrived}
+use Rattle.sim_base.proofs.MirrorOf.{mirror_of}
+use Rattle.sim_entries.proofs.Boot.{ram_at}
+use Rattle.sim_entries.proofs.BootRoute.{boot_stretch}
+use Rattle.sim_entries.proofs.Spot.{zero_at}
+use Rattle.sim_items.specs.Outside.{setting_of}
+use Rattle.sim_items.specs.Place.{IsComputed}
+use Rattle.sim_items.specs.Progress.{passed_at, passed_in, progress_in}
+use Rattle.sim_laws.specs.Bounded.{AreBelow, CoreBounded, IsBounded}
+use Rattle.sim_laws.specs.Kernel.{Kernel, Computes, Ends}
+use Rattle.sim_laws.specs.Plain.{OnlyComputes, IsPlain}
+use Rattle.sim_laws.proofs.Bounded.{arrive_fits, bounds_stay}
+use Rattle.sim_laws.proofs.Plain.{plain_stays, opening_plain}
+use Rattle.sim_laws.proofs.Dispatch.{item_long, advance}
+
+-- ---- the measure is at most 40
+
+beyond : (xs : List Item) (i : ℕ) (d : Item) → length xs ≤ i → get_or xs i d ≡ d
+beyond [] i d h = refl
+beyond (x ∷ xs) zero d h = absurd (omega arith)
+beyond (x ∷ xs) (suc i) d h = beyond xs i d (omega arith)
+
+at_most : (x : Bool) (a b : ℕ) → a ≤ 40 → b ≤ 40 → (if x then a else b) ≤ 40
+at_most true a b h l = h
+at_most false a b h l = l
+
+other_at_most : (x : Bool) (a : ℕ) → (if x && false then a else 40) ≤ 40
+other_at_most true a = omega arith
+other_at_most false a = omega arith
+
+passed_small : (address count pc : ℕ) → count ≤ 40 → passed_at address count pc ≤ 40
+passed_small address count pc l =
+    ⊎_elim
+    (λ (h : pc < address + 4 * count). at_most (nat_le address pc && nat_lt pc (address + 4 * count)) ((pc - address) / 4) 40 (omega arith) (omega arith))
+    (λ (h : address + 4 * count ≤ pc). subst (λ v. (if nat_le address pc && v then (pc - address) / 4 else 40) ≤ 40) (sym (le-ltb pc (address + 4 * count) h)) (other_at_most (nat_le address pc) ((pc - address) / 4)))
+    (cases_lt pc (address + 4 * count))
+
+-- ---- the start
+
+zero_below : (bound n : ℕ) → 0 < bound → AreBelow bound (replicate n 0)
+zero_below bound n h i = let z = zero_at n i in omega arith
+
+start_bounded : (image : Image) → AreBelow 256 image.memory → IsBounded (start image)
+start_bounded image bytes = record {
+  pc = omega arith;
+  core = record {
+    registers = zero_below 4294967296 32 (omega arith);
+    scratch = omega arith;
+    return_address = omega arith;
+    level = omega arith;
+    previous_level = omega arith;
+    bytes = λ i. (let a = ram_at image.memory i in let c = bytes i in omega arith);
+    pending = zero_below 256 32 (omega arith);
+    enabled = zero_below 256 32 (omega arith);
+    levels = zero_below 256 32 (omega arith);
+  };
+}
+
+module _ (b : Build) (image : Image) (kernel : Kernel b image) where
+  abbrev view : View
+  view = view_of_image image
+
+  few : length b.config.tasks ≤ 32
+  few = let f = kernel.fits.few_tasks in omega arith
+
+  only : OnlyComputes b.app
+  only = record {
+    items = λ func item l.
+        ⊎_elim (λ (h : Computes b view func item). inl h.computed) (λ (h : Ends b view func item). inr (h.jumps.call, h.jumps.is, h.ends))
+        (kernel.items func item l);
+  }
+
+  few_instructions : (func item : ℕ) → length (expansion b.app b.places func item) ≤ 40
+  few_instructions func item =
+      ⊎_elim
+      (λ (l : item < length (function b.app func).items). let e = item_long b image kernel func item l in omega arith)
+      (λ (l : length (function b.app func).items ≤ item).
+      let none : operation b.app func item ≡ op.Return = ap (λ (x : Item). x.op) (beyond (function b.app func).items item (record { line = 0; op = op.Return }) l) in
+      let e : length (expansion b.app b.places func item) ≡ 3 = ap (λ o. length (expanded b.app b.places func (item_address b.places func item) o)) none in
+      omega arith)
+      (cases_lt item (length (function b.app func).items))
+
+  in_frames : (pc : ℕ) (frames : List Frame) → passed_in b pc frames ≤ 40
+  in_frames pc [] = omega arith
+  in_frames pc (frame ∷ outer) =
+      passed_small (item_address b.places frame.func frame.item) (length (expansion b.app b.places frame.func frame.item)) pc (few_instructions frame.func frame.item)
+
+  abbrev R : State → System → Type 0
+  R = With (Stands b) IsBounded (IsPlain b.config)
+
+  module _ (arrivals : List Arrival) (setting : IsSetting (setting_of b view arrivals)) where
+    plain_found : (count : ℕ) (s : System) → s.booted ≡ true → IsPlain b.config s → IsPlain b.config (with_admits (lines_at arrivals count) s)
+    plain_found count s booted h =
+        along_events b.config b.app (IsPlain b.config) (plain_stays b.config b.app only) (map admit_event (moments count (count + 1) arrivals)) s (with_admits (lines_at arrivals count) s)
+        (leads_admits b.config b.app (moments count (count + 1) arrivals) s booted (below_moments (length b.config.tasks) count (count + 1) arrivals setting.lines)) h
+
+    simulation : IsSimulation (setting_of b view arrivals) R (progress_in b)
+    simulation =
+        simulation_with (setting_of b view arrivals) setting (Stands b) IsBounded (IsPlain b.config) (progress_in b) (bounds_stay arrivals) (plain_stays b.config b.app only)
+        (λ count state s positive w.
+        advance b image kernel arrivals setting count positive state s w.base (arrive_fits (lines_at arrivals count) state w.machine) (plain_found count s w.base.tidy.booted w.system))
+        (λ count state s w. stands_arrived b (lines_at arrivals count) state s few (below_moments (length b.config.tasks) count (count + 1) arrivals setting.lines) w.base)
+        (λ count state h. arrive_fits (lines_at arrivals count) state h)
+        (λ state s w. w.base.tidy.booted)
+        (λ state s w. mirror_of b state s w.base)
+        (λ state s w. in_frames state.pc (task s (word_at state.core.ram 0 - 1)).frames)
+
+    booting : BootLaw (setting_of b view arrivals) R (start image)
+    booting =
+        let law = boot_stretch b view arrivals setting image kernel.fits kernel.is_image kernel.boot in
+        boot_with (setting_of b view arrivals) setting (Stands b) IsBounded (IsPlain b.config) (progress_in b) (bounds_stay arrivals) (plain_stays b.config b.app only)
+        (start image) law (sym (booted_admits (late law.trace) law.after) ∙ law.related.tidy.booted)
+        (start_bounded image kernel.bytes) (opening_plain b.config b.app)
+
+  pub sound_kernel : Sound b.config b.app image
+  sound_kernel =
+      sound b.config b.app image R (progress_in b) kernel.tasks
+      (λ arrivals are. let setting = is_setting b.config b.app image arrivals kernel.tasks are in (simulation arrivals setting, booting arrivals setting))
