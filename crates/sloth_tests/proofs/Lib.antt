@@ -1,1 +1,2 @@
+pub mod FourFiles
 pub mod Every

@@ -21,6 +21,8 @@ mod rv32_instr_tests;
 #[cfg(test)]
 mod rv32_machine_tests;
 #[cfg(test)]
+mod sloth_cli_tests;
+#[cfg(test)]
 mod sloth_io_tests;
 #[cfg(test)]
 mod sloth_refusal_tests;
