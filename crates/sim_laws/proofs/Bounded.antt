@@ -1,5 +1,5 @@
 -- Each instruction of a run leaves numbers that have room.
-use Rattle.std.proofs.Common.{◌≡◌, ℕ, zero, suc, ◌+◌, ◌-◌, ◌*◌, ◌/◌, ◌%◌, ◌^◌, ◌<◌, ◌≤◌, ℤ, pos, negsuc, List, [], ◌∷◌, refl, sym, ap, subst, arith, Bool, true, false, Option, Some, None, ⊎_elim, set}
+use Rattle.std.proofs.Common.{◌≡◌, ℕ, zero, suc, ◌+◌, ◌-◌, ◌/◌, ◌%◌, ◌^◌, ◌<◌, ◌≤◌, ℤ, pos, negsuc, List, [], ◌∷◌, refl, sym, subst, arith, Bool, true, false, Option, Some, None, ⊎_elim, set}
 use Rattle.std.specs.Prelude.{◌==◌, IfSome, if◌then◌else◌, slice_index, bit_and, bit_or}
 use Rattle.std.proofs.Math.Nat.{div-le_self}
 use Rattle.std.proofs.lemmas.Nat.{xor_lt, or_lt, and_le_l}
@@ -27,13 +27,13 @@ use Rattle.rv32_instr.specs.Fields.{signed, complement}
 use Rattle.rv32_instr.specs.Range.{Signed, InRange}
 use Rattle.rv32_instr.specs.Table.{Decode}
 use Rattle.rv32_instr.specs.Effect.{effect, number_of, halved}
-use Rattle.rv32_instr.specs.Ram.{half_at, word_at, with_byte, with_half, with_word}
+use Rattle.rv32_instr.specs.Ram.{half_at, with_byte, with_half, with_word}
 use Rattle.rv32_instr.specs.Memory.{Memory, memory_of, with_memory, in_ram, refusal, loaded_byte, loaded, stored_byte, stored}
 use Rattle.rv32_instr.specs.Execute.{Next, Going, Stopped, with_register, mstatus_of, csr_value, with_csr, changed, goes_on, jumps, unless_refused, csr_access, perform, execute, execute_word, word_of, step}
 use Rattle.rv32_instr.proofs.Table.{decode_is}
 use Rattle.rv32_instr.proofs.Words.{signed_pos, signed_neg}
 use Rattle.rv32_routine.proofs.Words.{word_below}
-use Rattle.rv32_machine.specs.Advance.{Outcome, Goes, Halts, advance, outcome}
+use Rattle.rv32_machine.specs.Advance.{Goes, advance, outcome}
 use Rattle.rv32_machine.specs.Run.{moment, arrived}
 use Rattle.sim_run.specs.Admits.{lines_at}
 use Rattle.sim_laws.specs.Bounded.{AreBelow, CoreBounded, IsBounded}

@@ -1,12 +1,10 @@
 -- From each count that finds MIE 1 the run goes on to the next, by what runs there.
-use Rattle.std.proofs.Common.{◌≡◌, ℕ, suc, ◌+◌, ◌<◌, ◌≤◌, Bool, List, [], ◌∷◌, ◌++◌, length, refl, sym, ap, ◌∙◌, subst, arith, true, false, Option, Some, None, ⊎_elim, inl, inr}
-use Rattle.std.specs.Prelude.{◌⊎◌}
+use Rattle.std.proofs.Common.{◌≡◌, ℕ, ◌+◌, ◌<◌, ◌≤◌, Bool, List, [], ◌∷◌, ◌++◌, length, refl, sym, ap, ◌∙◌, subst, arith, true, false, Option, Some, None, ⊎_elim}
 use Rattle.sloth_base.specs.declared.event.Arrival.{Arrival}
 use Rattle.sloth_base.specs.declared.image.Image.{Image}
 use Rattle.sloth_base.specs.declared.app.Call.{Call}
 use Rattle.sloth_base.specs.declared.app.Op.{Op}
 use Rattle.sloth_base.specs.declared.app.Op.TheVariants as op
-use Rattle.sloth_base.specs.declared.service.Service.TheVariants as service
 use Rattle.sloth_base.specs.declared.places.Places.{Places}
 use Rattle.sloth_base.specs.declared.app.App.{App}
 use Rattle.sloth_base.specs.Choose.{choose}
@@ -19,15 +17,15 @@ use Rattle.observe.specs.Observe.{View, view_of_image}
 use Rattle.osek_machine.specs.declared.state.TaskState.TheVariants as mode
 use Rattle.osek_machine.specs.State.{System, task, function}
 use Rattle.osek_machine.specs.Priority.{is_in, is_active}
-use Rattle.sim_run.specs.Admits.{IsSetting, lines_at, with_admits, AllBelow}
+use Rattle.sim_run.specs.Admits.{IsSetting, lines_at, with_admits}
 use Rattle.sim_run.specs.Advances.{Advances}
 use Rattle.sim_run.specs.Laws.{StretchLaw}
 use Rattle.sim_run.proofs.Follow.{booted_admits}
 use Rattle.sim_run.proofs.OutsidePiece.{outside_advances}
 use Rattle.sim_run.proofs.Schedule.{below_moments}
 use Rattle.sim_run.proofs.StretchPiece.{stretch_advances}
-use Rattle.sim_base.specs.Build.{Build, Fits}
-use Rattle.sim_base.specs.Position.{Position, Standing, Owing, Calling, Returning, InExpansion, AtBlock, thread_of}
+use Rattle.sim_base.specs.Build.{Build}
+use Rattle.sim_base.specs.Position.{Position, Standing, InExpansion, AtBlock, thread_of}
 use Rattle.sim_base.specs.Context.{Running, RunsIdle, RunsTask}
 use Rattle.sim_base.specs.Stands.{Stands, AreActive, IsActive}
 use Rattle.sim_base.proofs.Arrive.{stands_arrived}
@@ -37,16 +35,15 @@ use Rattle.sim_base.proofs.Tops.{falling_head}
 use Rattle.sim_entries.specs.Range.{Sane}
 use Rattle.sim_entries.proofs.EnterRoute.{enter_advances}
 use Rattle.sim_items.specs.Place.{AtItem, IsComputed}
-use Rattle.sim_items.specs.Outside.{setting_of, At, GoesOutside, JumpsToService}
+use Rattle.sim_items.specs.Outside.{setting_of, At, GoesOutside}
 use Rattle.sim_items.specs.Progress.{progress_in}
 use Rattle.sim_items.proofs.Outside.{item_outside, idle_outside}
 use Rattle.sim_items.proofs.Jump.{jump_outside}
-use Rattle.sim_services.specs.Opening.{AtOpening}
-use Rattle.sim_services.specs.Stretch.{OpensTerminateTask, HasTerminateTask}
+use Rattle.sim_services.specs.Stretch.{HasTerminateTask}
 use Rattle.sim_services.proofs.TerminateStretch.{terminate_stretches}
 use Rattle.sim_laws.specs.Bounded.{IsBounded}
 use Rattle.sim_laws.specs.Kernel.{Kernel, Computes, Ends}
-use Rattle.sim_laws.specs.Plain.{IsPlain, IsPlainTask}
+use Rattle.sim_laws.specs.Plain.{IsPlain}
 
 -- an item that computes has one instruction
 one_long : (app : App) (places : Places) (func address : ℕ) (o : Op) → IsComputed o → length (expanded app places func address o) ≡ 1

@@ -1,13 +1,12 @@
 -- Each event of a system whose tasks only compute and end leaves such a one.
 use Rattle.std.proofs.Common.{◌≡◌, ℕ, zero, suc, ◌<◌, List, [], ◌∷◌, length, refl, sym, ap, ◌∙◌, subst, arith, Bool, true, false, cond, ⊎_elim, inl, inr}
-use Rattle.std.specs.Prelude.{◌⊎◌, ◌||◌, ◌==◌, map, get_or}
+use Rattle.std.specs.Prelude.{◌⊎◌, ◌||◌, map, get_or}
 use Rattle.std.proofs.lemmas.Bool.{cases_eq, ne_eqb}
 use Rattle.std.proofs.lemmas.List.{length-set, length-map}
 use Rattle.sloth_base.specs.declared.config.Config.{Config}
 use Rattle.sloth_base.specs.declared.config.TaskDecl.{TaskDecl}
 use Rattle.sloth_base.specs.declared.app.App.{App}
 use Rattle.sloth_base.specs.declared.app.Call.{Call}
-use Rattle.sloth_base.specs.declared.app.Op.{Op}
 use Rattle.sloth_base.specs.declared.app.Op.TheVariants as op
 use Rattle.sloth_base.specs.declared.event.Event.{Event}
 use Rattle.sloth_base.specs.declared.event.Event.TheVariants as event
@@ -18,8 +17,8 @@ use Rattle.osek_machine.specs.declared.state.TaskState.{TaskState}
 use Rattle.osek_machine.specs.declared.state.TaskState.TheVariants as mode
 use Rattle.osek_machine.specs.State.{Frame, Task, System, task, with_task, sleeping, zero_registers, declaration, opening}
 use Rattle.osek_machine.specs.Priority.{is_in, is_active}
-use Rattle.osek_machine.specs.Services.{if_suspended, activated, Outcome, GoesOn, Leaves, outcome, ended, starts, entered}
-use Rattle.osek_machine.specs.Steps.{OsekStep, Executes, Serves, settled, autostarted, admitted}
+use Rattle.osek_machine.specs.Services.{if_suspended, activated, Outcome, GoesOn, Leaves, outcome, ended, starts}
+use Rattle.osek_machine.specs.Steps.{OsekStep, Serves, settled, autostarted, admitted}
 use Rattle.sim_base.proofs.Arrive.{is_suspended, not_suspended}
 use Rattle.sim_base.proofs.Parts.{this_task, other_task, by_task}
 use Rattle.sim_items.specs.Place.{IsComputed}

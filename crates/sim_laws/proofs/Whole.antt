@@ -1,16 +1,14 @@
 -- Every run of a kernel in place is one of the abstract scheduler.
 use Rattle.std.proofs.Common.{◌≡◌, ℕ, zero, suc, ◌+◌, ◌-◌, ◌*◌, ◌/◌, ◌<◌, ◌≤◌, Bool, List, [], ◌∷◌, length, get_or, refl, sym, ap, ◌∙◌, subst, arith, true, false, ⊎_elim, inl, inr}
-use Rattle.std.specs.Prelude.{◌⊎◌, ◌&&◌, map, replicate, nat_le, nat_lt, if◌then◌else◌}
+use Rattle.std.specs.Prelude.{◌&&◌, map, replicate, nat_le, nat_lt, if◌then◌else◌}
 use Rattle.std.proofs.lemmas.Bool.{cases_lt, le-ltb}
 use Rattle.sloth_base.specs.declared.event.Arrival.{Arrival}
 use Rattle.sloth_base.specs.declared.image.Image.{Image}
-use Rattle.sloth_base.specs.declared.app.Call.{Call}
 use Rattle.sloth_base.specs.declared.app.Item.{Item}
 use Rattle.sloth_base.specs.declared.app.Op.TheVariants as op
-use Rattle.sloth_base.specs.Arrivals.{AreArrivals, moments}
+use Rattle.sloth_base.specs.Arrivals.{moments}
 use Rattle.sloth_base.specs.Machine.{State}
 use Rattle.rv32_instr.specs.Ram.{word_at}
-use Rattle.rv32_machine.specs.Run.{arrived}
 use Rattle.rv32_machine.specs.Start.{start}
 use Rattle.rv32_routine.specs.Trace.{late}
 use Rattle.rv32_expand.specs.Expansion.{item_address, operation, expansion, expanded}
@@ -32,9 +30,8 @@ use Rattle.sim_entries.proofs.Boot.{ram_at}
 use Rattle.sim_entries.proofs.BootRoute.{boot_stretch}
 use Rattle.sim_entries.proofs.Spot.{zero_at}
 use Rattle.sim_items.specs.Outside.{setting_of}
-use Rattle.sim_items.specs.Place.{IsComputed}
 use Rattle.sim_items.specs.Progress.{passed_at, passed_in, progress_in}
-use Rattle.sim_laws.specs.Bounded.{AreBelow, CoreBounded, IsBounded}
+use Rattle.sim_laws.specs.Bounded.{AreBelow, IsBounded}
 use Rattle.sim_laws.specs.Kernel.{Kernel, Computes, Ends}
 use Rattle.sim_laws.specs.Plain.{OnlyComputes, IsPlain}
 use Rattle.sim_laws.proofs.Bounded.{arrive_fits, bounds_stay}
