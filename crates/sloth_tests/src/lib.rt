@@ -27,6 +27,8 @@ mod sloth_io_tests;
 #[cfg(test)]
 mod sloth_refusal_tests;
 #[cfg(test)]
+mod sloth_region_tests;
+#[cfg(test)]
 mod small_kernel;
 #[cfg(test)]
 mod trace_text_tests;
