@@ -2,3 +2,4 @@ pub mod Bounded
 pub mod Plain
 pub mod Dispatch
 pub mod Whole
+pub mod Generated

@@ -1,3 +1,4 @@
 pub mod Bounded
 pub mod Plain
 pub mod Kernel
+pub mod Generated

@@ -1,0 +1,61 @@
+-- A kernel in place, said by the contracts of what generates its code.
+use Rattle.std.specs.Prelude.{ℕ, ◌+◌, ◌<◌, ◌≤◌, ◌≡◌, ◌≢◌, ◌⊎◌, List, length, slice_index}
+use Rattle.sloth_base.specs.declared.image.Image.{Image}
+use Rattle.sloth_base.specs.declared.places.Levels.{Levels}
+use Rattle.sloth_region.specs.declared.extent.Extent.{Extent}
+use Rattle.sloth_region.specs.declared.map.Map.{Map}
+use Rattle.rv32_instr.specs.declared.InstrKind.{InstrKind}
+use Rattle.observe.specs.Observe.{view_of_image}
+use Rattle.osek_machine.specs.State.{body_of, function}
+use Rattle.prio_levels.specs.Levels.{AreLevels}
+use Rattle.vector_gen.specs.Boot.{Boots}
+use Rattle.vector_gen.specs.Vectors.{AreJumps}
+use Rattle.prologue_gen.specs.Places.{EntersTask}
+use Rattle.std.specs.Prelude.{Some}
+use Rattle.std.specs.List.{slice_get}
+use Rattle.sim_base.specs.Build.{Build, Fits}
+use Rattle.sim_base.specs.Placed.{IsPlaced}
+use Rattle.sim_base.specs.Stands.{AreApart}
+use Rattle.sim_entries.specs.Boot.{IsImage}
+use Rattle.sim_entries.specs.Entries.{first_words}
+use Rattle.sim_entries.specs.Generated.{HasOneBody}
+use Rattle.sim_items.specs.Outside.{HasIdle}
+use Rattle.sim_laws.specs.Bounded.{AreBelow}
+use Rattle.sim_laws.specs.Kernel.{Kernel, Computes, Ends}
+
+-- the prologue of a task stands where the map has the handler of its line
+pub record HasPrologue (b : Build) (levels : Levels) (map : Map) (t : ℕ) : Type 0 where
+  pub code : List InstrKind
+  pub enters : EntersTask t b.config b.app levels map code
+  pub offset : ℕ
+  pub is : slice_index map.handlers t ≡ 0x8000_0000 + offset
+  pub placed : IsPlaced b offset code
+  pub one_body : HasOneBody b t
+  pub few_words : first_words b t ≤ 85
+  pub has_item : 0 < length (function b.app (body_of b.app.funcs t)).items
+
+-- By the levels and the map: the vector words, boot, the idle loop, a prologue for each task, and the items with their services.
+pub record IsGenerated (b : Build) (image : Image) (levels : Levels) (map : Map) : Type 0 where
+  pub fits : Fits b
+  pub are_levels : AreLevels b.config levels
+  pub places : b.places ≡ map.places
+  pub idle_is : b.idle ≡ map.idle
+  pub tops : (t : ℕ) (stack : Extent) → slice_get map.stacks t ≡ Some stack → 0x8000_0000 + b.top t ≡ stack.base + stack.len
+  pub tasks : length image.tasks ≡ length b.config.tasks
+  pub is_image : IsImage b image
+  pub bytes : AreBelow 256 image.memory
+  pub vectors : List InstrKind
+  pub jumps : AreJumps 32 map.handlers vectors
+  pub vectors_placed : IsPlaced b 0x400 vectors
+  pub boot : List InstrKind
+  pub boots : Boots b.config.tasks levels.task map.idle boot
+  pub boot_placed : IsPlaced b 0x480 boot
+  pub idle : HasIdle b (view_of_image image)
+  pub prologues : (t : ℕ) → t < length b.config.tasks → HasPrologue b levels map t
+  pub stacks : (t u : ℕ) → t < length b.config.tasks → u < length b.config.tasks → u ≢ t → AreApart b t u
+  pub items : (func item : ℕ) → item < length (function b.app func).items
+      → Computes b (view_of_image image) func item ⊎ Ends b (view_of_image image) func item
+
+-- What is generated so is a kernel in place.
+abbrev pub GeneratedIsKernel : Type 0
+GeneratedIsKernel = (b : Build) (image : Image) (levels : Levels) (map : Map) → IsGenerated b image levels map → Kernel b image
