@@ -46,7 +46,7 @@ use Rattle.sim_laws.specs.Kernel.{Kernel, Computes, Ends}
 use Rattle.sim_laws.specs.Plain.{IsPlain}
 
 -- an item that computes has one instruction
-one_long : (app : App) (places : Places) (func address : ℕ) (o : Op) → IsComputed o → length (expanded app places func address o) ≡ 1
+pub one_long : (app : App) (places : Places) (func address : ℕ) (o : Op) → IsComputed o → length (expanded app places func address o) ≡ 1
 one_long app places func address (op.Alu kind rd rs1 rs2) h = refl
 one_long app places func address (op.AluImm kind rd rs1 number) h = refl
 one_long app places func address (op.Lui rd number) h = refl

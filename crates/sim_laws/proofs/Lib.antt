@@ -3,3 +3,4 @@ pub mod Plain
 pub mod Dispatch
 pub mod Whole
 pub mod Generated
+pub mod Items

@@ -2,3 +2,4 @@ pub mod Bounded
 pub mod Plain
 pub mod Kernel
 pub mod Generated
+pub mod Items

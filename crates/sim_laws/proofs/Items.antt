@@ -1,0 +1,177 @@
+-- Items of task code in an image are those of a kernel in place.
+use Rattle.std.proofs.Common.{◌≡◌, ℕ, zero, suc, ◌+◌, ◌-◌, ◌*◌, ◌<◌, ℤ, pos, List, [], ◌∷◌, length, refl, sym, ap, ◌∙◌, subst, arith, inl, inr, Some}
+use Rattle.std.specs.Prelude.{map, find, eqb, slice_index_or, Contains}
+use Rattle.std.proofs.lemmas.Bool.Decides.{nat_tests}
+use Rattle.std.proofs.lemmas.List.Kept.{AllPairs-from_increasing}
+use Rattle.std.proofs.Math.ListN.{get_or-map, length-map}
+use Rattle.sloth_base.specs.declared.app.App.{App}
+use Rattle.sloth_base.specs.declared.app.Op.{Op}
+use Rattle.sloth_base.specs.declared.app.Op.TheVariants as op
+use Rattle.sloth_base.specs.declared.app.AluKind.{AluKind}
+use Rattle.sloth_base.specs.declared.app.AluKind.TheVariants as alu
+use Rattle.sloth_base.specs.declared.app.ImmKind.{ImmKind}
+use Rattle.sloth_base.specs.declared.app.ImmKind.TheVariants as imm
+use Rattle.sloth_base.specs.declared.image.Image.{Image}
+use Rattle.sloth_base.specs.declared.image.Mark.{Mark}
+use Rattle.sloth_base.specs.declared.places.Places.{Places}
+use Rattle.rv32_instr.specs.declared.InstrKind.{InstrKind}
+use Rattle.rv32_instr.specs.declared.InstrKind.TheVariants.{Lui}
+use Rattle.rv32_instr.specs.Ram.{word_at}
+use Rattle.rv32_instr.specs.Range.{InRange}
+use Rattle.rv32_expand.specs.Expansion.{item_address, operation, expansion, expanded, register_operation, number_operation, amount}
+use Rattle.rv32_expand.specs.InPlace.{IsItem, CodeAt, item_mark, mark_of, last_address}
+use Rattle.observe.specs.Observe.{AreAscending, mark_at, view_of_image}
+use Rattle.osek_machine.specs.State.{function}
+use Rattle.sim_base.specs.Build.{Build}
+use Rattle.sim_items.specs.Place.{IsOwn, IsNumber, IsComputed}
+use Rattle.sim_laws.specs.Kernel.{Computes}
+use Rattle.sim_laws.specs.Items.{HasItems}
+use Rattle.sim_laws.proofs.Dispatch.{one_long}
+
+-- ---- marks
+
+find_first : (marks : List Mark) (mark : Mark) (k : ℕ) → k < length marks → slice_index_or marks k mark ≡ mark
+    → ((j : ℕ) (d : Mark) → j < k → (slice_index_or marks j d).address < mark.address) → find (λ (m : Mark). eqb m.address mark.address) marks ≡ Some mark
+find_first [] mark k l e h = absurd (omega arith)
+find_first (m ∷ marks) mark zero l e h = let a : m.address ≡ mark.address = ap (λ (x : Mark). x.address) e in grind (arith, nat_tests, a, e)
+find_first (m ∷ marks) mark (suc k) l e h =
+    let a : m.address < mark.address = h 0 mark (omega arith) in
+    grind (arith, nat_tests, a, find_first marks mark k (omega arith) e (λ j d i. h (suc j) d (omega arith)))
+
+rises : (marks : List Mark) → AreAscending marks → (i j : ℕ) (d : Mark) → i < j → j < length marks → (slice_index_or marks i d).address < (slice_index_or marks j d).address
+rises marks up i j d lt in_range =
+    let addresses : List ℕ = map (λ (mark : Mark). mark.address) marks in
+    let long : length addresses ≡ length marks = length-map marks (λ (mark : Mark). mark.address) in
+    let apart : slice_index_or addresses i d.address < slice_index_or addresses j d.address = AllPairs-from_increasing addresses up i j d.address lt (omega arith) in
+    let one : slice_index_or addresses i d.address ≡ (slice_index_or marks i d).address = get_or-map (λ (mark : Mark). mark.address) marks i d in
+    let other : slice_index_or addresses j d.address ≡ (slice_index_or marks j d).address = get_or-map (λ (mark : Mark). mark.address) marks j d in
+    omega arith
+
+same_default : (marks : List Mark) (j : ℕ) (d e : Mark) → j < length marks → slice_index_or marks j d ≡ slice_index_or marks j e
+same_default [] j d e l = absurd (omega arith)
+same_default (m ∷ marks) zero d e l = refl
+same_default (m ∷ marks) (suc j) d e l = same_default marks j d e (omega arith)
+
+pub marks_found : (image : Image) (mark : Mark) → AreAscending image.marks → Contains image.marks mark → mark_at (view_of_image image) mark.address ≡ Some mark
+marks_found image mark up h =
+    find_first image.marks mark h.0 h.1 h.2
+    (λ j d l.
+    let r = rises image.marks up j h.0 mark l h.1 in
+    let s = ap (λ (x : Mark). x.address) (same_default image.marks j d mark (omega arith)) in
+    let e = ap (λ (x : Mark). x.address) h.2 in
+    omega arith)
+
+-- ---- instructions
+
+own_small : (r : ℕ) → IsOwn r → r < 32
+own_small r (inl e) = omega arith
+own_small r (inr h) = let a = h.1 in omega arith
+
+register_fits : (k : AluKind) (rd rs1 rs2 : ℕ) → rd < 32 → rs1 < 32 → rs2 < 32 → InRange (register_operation k rd rs1 rs2)
+register_fits alu.Add rd rs1 rs2 a b c = (a, b, c)
+register_fits alu.Sub rd rs1 rs2 a b c = (a, b, c)
+register_fits alu.Sll rd rs1 rs2 a b c = (a, b, c)
+register_fits alu.Slt rd rs1 rs2 a b c = (a, b, c)
+register_fits alu.Sltu rd rs1 rs2 a b c = (a, b, c)
+register_fits alu.Xor rd rs1 rs2 a b c = (a, b, c)
+register_fits alu.Srl rd rs1 rs2 a b c = (a, b, c)
+register_fits alu.Sra rd rs1 rs2 a b c = (a, b, c)
+register_fits alu.Or rd rs1 rs2 a b c = (a, b, c)
+register_fits alu.And rd rs1 rs2 a b c = (a, b, c)
+
+amount_fits : (number : ℤ) (n : ℕ) → number ≡ pos n → n < 32 → amount number < 32
+amount_fits number n e l = subst (λ z. amount z < 32) (sym e) l
+
+number_fits : (k : ImmKind) (rd rs1 : ℕ) (number : ℤ) → rd < 32 → rs1 < 32 → IsNumber k number → InRange (number_operation k rd rs1 number)
+number_fits imm.Addi rd rs1 number a b h = (a, b, h)
+number_fits imm.Slti rd rs1 number a b h = (a, b, h)
+number_fits imm.Sltiu rd rs1 number a b h = (a, b, h)
+number_fits imm.Xori rd rs1 number a b h = (a, b, h)
+number_fits imm.Ori rd rs1 number a b h = (a, b, h)
+number_fits imm.Andi rd rs1 number a b h = (a, b, h)
+number_fits imm.Slli rd rs1 number a b h = (a, b, amount_fits number h.0 h.1 h.2)
+number_fits imm.Srli rd rs1 number a b h = (a, b, amount_fits number h.0 h.1 h.2)
+number_fits imm.Srai rd rs1 number a b h = (a, b, amount_fits number h.0 h.1 h.2)
+
+head_is : (x y : InstrKind) → x ∷ [] ≡ y ∷ [] → x ≡ y
+head_is x y e = cc
+
+code_fits : (app : App) (places : Places) (func address : ℕ) (o : Op) → IsComputed o → (kind : InstrKind) → expanded app places func address o ≡ kind ∷ [] → InRange kind
+code_fits app places func address (op.Alu k rd rs1 rs2) h kind e =
+    subst InRange (head_is (register_operation k rd rs1 rs2) kind e) (register_fits k rd rs1 rs2 (own_small rd h.0) (own_small rs1 h.1) (own_small rs2 h.2))
+code_fits app places func address (op.AluImm k rd rs1 number) h kind e =
+    subst InRange (head_is (number_operation k rd rs1 number) kind e) (number_fits k rd rs1 number (own_small rd h.0) (own_small rs1 h.1) h.2)
+code_fits app places func address (op.Lui rd number) h kind e = subst InRange (head_is (Lui rd number) kind e) (own_small rd h.0, h.1)
+code_fits app places func address (op.Li rd value) h kind e = absurd h
+code_fits app places func address (op.FrameLoad rd word) h kind e = absurd h
+code_fits app places func address (op.FrameStore rs word) h kind e = absurd h
+code_fits app places func address (op.Load width rd symbol offset) h kind e = absurd h
+code_fits app places func address (op.Store width rs symbol offset) h kind e = absurd h
+code_fits app places func address (op.LoadAt width rd symbol index mask) h kind e = absurd h
+code_fits app places func address (op.StoreAt width rs symbol index mask) h kind e = absurd h
+code_fits app places func address (op.Branch k rs1 rs2 label) h kind e = absurd h
+code_fits app places func address (op.Jump label) h kind e = absurd h
+code_fits app places func address (op.Invoke callee) h kind e = absurd h
+code_fits app places func address op.Return h kind e = absurd h
+code_fits app places func address (op.Serve call) h kind e = absurd h
+
+-- the mark of an item has the item's last address
+mark_address : (o : Op) (address func index : ℕ) → IsComputed o → (mark_of o address func index).address ≡ address
+mark_address (op.Alu k rd rs1 rs2) address func index h = refl
+mark_address (op.AluImm k rd rs1 number) address func index h = refl
+mark_address (op.Lui rd number) address func index h = refl
+mark_address (op.Li rd value) address func index h = absurd h
+mark_address (op.FrameLoad rd word) address func index h = absurd h
+mark_address (op.FrameStore rs word) address func index h = absurd h
+mark_address (op.Load width rd symbol offset) address func index h = absurd h
+mark_address (op.Store width rs symbol offset) address func index h = absurd h
+mark_address (op.LoadAt width rd symbol i mask) address func index h = absurd h
+mark_address (op.StoreAt width rs symbol i mask) address func index h = absurd h
+mark_address (op.Branch k rs1 rs2 label) address func index h = absurd h
+mark_address (op.Jump label) address func index h = absurd h
+mark_address (op.Invoke callee) address func index h = absurd h
+mark_address op.Return address func index h = absurd h
+mark_address (op.Serve call) address func index h = absurd h
+
+-- ---- an item that computes
+
+record ItemStands (b : Build) (image : Image) (places : Places) (func item : ℕ) : Type 0 where
+  code : CodeAt image.memory (item_address places func item) (expansion b.app places func item)
+  inside : (0x8000_0000 < item_address places func item + 1) × (last_address b.app places func item + 4 < 0x8000_0000 + length image.memory + 1)
+  adjacent : IsItem b.app func (item + 1) → item_address places func (item + 1) ≡ item_address places func item + 4 * length (expansion b.app places func item)
+  marked : Contains image.marks (item_mark b.app places func item)
+
+pub item_computes : (b : Build) (image : Image) (func item : ℕ) → HasItems b image → IsItem b.app func item → IsComputed (operation b.app func item)
+    → item + 1 < length (function b.app func).items → Computes b (view_of_image image) func item
+item_computes b image func item h is computed more =
+    let g = h.in_place in
+    let stands : ItemStands b image b.places func item =
+    subst (λ p. ItemStands b image p func item) h.places
+    (record { code = g.code func item is; inside = g.inside func item is; adjacent = λ next. g.adjacent func item is next; marked = g.marked func item is }) in
+    let one = one_long b.app b.places func (item_address b.places func item) (operation b.app func item) computed in
+    let low = stands.inside.0 in
+    let high = stands.inside.1 in
+    let size = h.size in
+    let same = ap (λ (m : List ℕ). length m) h.memory in
+    let address = item_address b.places func item in
+    let offset : ℕ = address - 0x8000_0000 in
+    let last : last_address b.app b.places func item ≡ address = omega arith in
+    let marked = marks_found image (item_mark b.app b.places func item) h.rising stands.marked in
+    record {
+      computed = computed;
+      one = record {
+        code = λ kind e.
+            let code : CodeAt image.memory address (kind ∷ []) = subst (CodeAt image.memory address) e stands.code in
+            record {
+              offset = offset;
+              is = omega arith;
+              to = omega arith;
+              is_code = λ i x y. h.is_code func item i is (omega arith) (omega arith);
+              word = ap (λ (m : List ℕ). word_at m offset) (sym h.memory) ∙ code.0;
+              in_range = code_fits b.app b.places func address (operation b.app func item) computed kind e;
+            };
+        more = more;
+        adjacent = let a = stands.adjacent (record { declared = is.declared; inside = more }) in omega arith;
+      };
+      marked = ap (mark_at (view_of_image image)) (sym (mark_address (operation b.app func item) (last_address b.app b.places func item) func item computed ∙ last)) ∙ marked;
+    }
