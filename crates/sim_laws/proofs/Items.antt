@@ -1,5 +1,5 @@
 -- Items of task code in an image are those of a kernel in place.
-use Rattle.std.proofs.Common.{◌≡◌, ℕ, zero, suc, ◌+◌, ◌-◌, ◌*◌, ◌<◌, ℤ, pos, List, [], ◌∷◌, length, refl, sym, ap, ◌∙◌, subst, arith, inl, inr, Some}
+use Rattle.std.proofs.Common.{◌≡◌, ℕ, zero, suc, ◌+◌, ◌-◌, ◌*◌, ◌<◌, ℤ, pos, List, [], ◌∷◌, ◌++◌, length, refl, sym, ap, ◌∙◌, subst, arith, inl, inr, Some}
 use Rattle.std.specs.Prelude.{map, find, eqb, slice_index_or, Contains}
 use Rattle.std.proofs.lemmas.Bool.Decides.{nat_tests}
 use Rattle.std.proofs.lemmas.List.Kept.{AllPairs-from_increasing}
@@ -11,21 +11,23 @@ use Rattle.sloth_base.specs.declared.app.AluKind.{AluKind}
 use Rattle.sloth_base.specs.declared.app.AluKind.TheVariants as alu
 use Rattle.sloth_base.specs.declared.app.ImmKind.{ImmKind}
 use Rattle.sloth_base.specs.declared.app.ImmKind.TheVariants as imm
+use Rattle.sloth_base.specs.declared.service.Service.{Service}
+use Rattle.sloth_base.specs.declared.service.Service.TheVariants as service
 use Rattle.sloth_base.specs.declared.image.Image.{Image}
 use Rattle.sloth_base.specs.declared.image.Mark.{Mark}
 use Rattle.sloth_base.specs.declared.places.Places.{Places}
 use Rattle.rv32_instr.specs.declared.InstrKind.{InstrKind}
-use Rattle.rv32_instr.specs.declared.InstrKind.TheVariants.{Lui}
+use Rattle.rv32_instr.specs.declared.InstrKind.TheVariants.{Lui, Jal}
 use Rattle.rv32_instr.specs.Ram.{word_at}
 use Rattle.rv32_instr.specs.Range.{InRange}
-use Rattle.rv32_expand.specs.Expansion.{item_address, operation, expansion, expanded, register_operation, number_operation, amount}
+use Rattle.rv32_expand.specs.Expansion.{item_address, block_address, distance, mask_of, operation, expansion, expanded, register_operation, number_operation, amount}
 use Rattle.rv32_expand.specs.InPlace.{IsItem, CodeAt, item_mark, mark_of, last_address}
 use Rattle.observe.specs.Observe.{AreAscending, mark_at, view_of_image}
 use Rattle.osek_machine.specs.State.{function}
 use Rattle.sim_base.specs.Build.{Build}
 use Rattle.sim_items.specs.Place.{IsOwn, IsNumber, IsComputed}
-use Rattle.sim_laws.specs.Kernel.{Computes}
-use Rattle.sim_laws.specs.Items.{HasItems}
+use Rattle.sim_laws.specs.Kernel.{Computes, Ends}
+use Rattle.sim_laws.specs.Items.{HasItems, CallsTerminateTask}
 use Rattle.sim_laws.proofs.Dispatch.{one_long}
 
 -- ---- marks
@@ -174,4 +176,60 @@ item_computes b image func item h is computed more =
         adjacent = let a = stands.adjacent (record { declared = is.declared; inside = more }) in omega arith;
       };
       marked = ap (mark_at (view_of_image image)) (sym (mark_address (operation b.app func item) (last_address b.app b.places func item) func item computed ∙ last)) ∙ marked;
+    }
+
+-- ---- the call of TerminateTask
+
+no_mask : (s : Service) (mask : ℕ) → s ≡ service.TerminateTask → mask_of s mask ≡ []
+no_mask s mask e = subst (λ v. mask_of v mask ≡ []) (sym e) refl
+
+pub item_ends : (b : Build) (image : Image) (func item : ℕ) → HasItems b image → IsItem b.app func item → CallsTerminateTask b image func item
+    → Ends b (view_of_image image) func item
+item_ends b image func item h is c =
+    let g = h.in_place in
+    let stands : ItemStands b image b.places func item =
+    subst (λ p. ItemStands b image p func item) h.places
+    (record { code = g.code func item is; inside = g.inside func item is; adjacent = λ next. g.adjacent func item is next; marked = g.marked func item is }) in
+    let address = item_address b.places func item in
+    let offset : ℕ = address - 0x8000_0000 in
+    let jump : InstrKind = Jal 31 (distance address (block_address b.places c.call.service c.call.object)) in
+    let plain = no_mask c.call.service c.call.mask c.ends in
+    let zero : address + 4 * 0 ≡ address = omega arith in
+    let expands : expansion b.app b.places func item ≡ jump ∷ [] =
+    ap (λ o. expanded b.app b.places func address o) c.is
+    ∙ ap (λ m. m ++ (Jal 31 (distance (address + 4 * length m) (block_address b.places c.call.service c.call.object)) ∷ [])) plain
+    ∙ ap (λ a. Jal 31 (distance a (block_address b.places c.call.service c.call.object)) ∷ []) zero in
+    let one : length (expansion b.app b.places func item) ≡ 1 = ap (λ (code : List InstrKind). length code) expands in
+    let low = stands.inside.0 in
+    let high = stands.inside.1 in
+    let size = h.size in
+    let same = ap (λ (m : List ℕ). length m) h.memory in
+    let last : last_address b.app b.places func item ≡ address = omega arith in
+    let code : CodeAt image.memory address (jump ∷ []) = subst (CodeAt image.memory address) expands stands.code in
+    let mark : Mark = item_mark b.app b.places func item in
+    let mark_is : mark ≡ mark_of (op.Serve c.call) (last_address b.app b.places func item) func item = ap (λ o. mark_of o (last_address b.app b.places func item) func item) c.is in
+    let at : mark.address ≡ address = ap (λ (m : Mark). m.address) mark_is ∙ last in
+    record {
+      jumps = record {
+        call = c.call;
+        is = c.is;
+        no_mask = plain;
+        code = record {
+          offset = offset;
+          is = omega arith;
+          to = omega arith;
+          is_code = λ i x y. h.is_code func item i is (omega arith) (omega arith);
+          word = ap (λ (m : List ℕ). word_at m offset) (sym h.memory) ∙ code.0;
+          in_range = (omega arith, c.reach);
+        };
+        block = c.block.offset;
+        block_is = ap (λ s. block_address b.places s c.call.object) c.ends ∙ c.block.is;
+        in_ram = c.in_ram;
+        apart = c.apart;
+        mark = mark;
+        marked = ap (mark_at (view_of_image image)) (sym at) ∙ marks_found image mark h.rising stands.marked;
+        jumps = ap (λ (m : Mark). m.kind) mark_is;
+      };
+      ends = c.ends;
+      block = c.block;
     }

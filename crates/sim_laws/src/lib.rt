@@ -5,7 +5,7 @@ ghost use Rattle.sim_laws.specs.Bounded.{BoundsStay};
 ghost use Rattle.sim_laws.specs.Plain.{PlainStays};
 ghost use Rattle.sim_laws.specs.Kernel.{KernelIsSound};
 ghost use Rattle.sim_laws.specs.Generated.{GeneratedIsKernel};
-ghost use Rattle.sim_laws.specs.Items.{MarksAreFound, ComputedItemsStand};
+ghost use Rattle.sim_laws.specs.Items.{ComputedItemsStand, EndingItemsStand, MarksAreFound};
 
 /// Each instruction of a run leaves numbers that have room in the machine's registers and bytes.
 pub fn bounds_stay()
@@ -35,4 +35,9 @@ pub fn marks_are_found()
 /// Items of task code that compute, in place in an image, are such items of a kernel.
 pub fn computed_items_stand()
     ensures { ComputedItemsStand }
+{}
+
+/// Calls of TerminateTask, in place in an image, are such items of a kernel.
+pub fn ending_items_stand()
+    ensures { EndingItemsStand }
 {}
