@@ -1,3 +1,4 @@
+pub mod Results
 pub mod Bounded
 pub mod Plain
 pub mod Dispatch
