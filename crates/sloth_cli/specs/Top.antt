@@ -5,6 +5,7 @@ use Rattle.sloth_base.specs.declared.app.App.{App}
 use Rattle.sloth_base.specs.declared.image.Image.{Image}
 use Rattle.sloth_base.specs.declared.refusal.Refusal.{Refusal}
 use Rattle.sloth_base.specs.declared.refusal.Part.TheVariants as part
+use Rattle.sim_run.specs.Sound.{Sound}
 use Rattle.sloth_io.specs.Counts.{Rose}
 use Rattle.sloth_io.specs.Sink.{gains, GainsPart}
 use Rattle.sloth_io.specs.Store.{Files}
@@ -121,6 +122,8 @@ pub record IsDone (old new : Files) (t u : Option (List ℕ)) (c : Command) : Ty
   pub image : Image
   pub inputs : AreInputs old c oil src []
   pub accepted : Accepted oil src config app
+  -- every run of the image, whatever lines arrive, is one of the abstract scheduler
+  pub sound : Sound config app image
   pub bytes : List ℕ
   pub written : ImageText bytes image
   pub held : IsTrue new.tells → new.holds c.img ≡ Some bytes

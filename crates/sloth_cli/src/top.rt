@@ -1,6 +1,7 @@
 //! The program, over a store of files and a sink of lines.
 ghost use Rattle.std.specs.Prelude.{◌≡◌, ◌≢◌, ◌≤◌, ◌⊎◌, ℕ, List, [], IsTrue, IfOk, IfErr, OnOk, Some, Err, codes, length};
 ghost use Rattle.sloth_base.specs.ImageRange.{InFormat};
+ghost use Rattle.sim_run.specs.Sound.{Sound};
 ghost use Rattle.sloth_io.specs.Counts.{Rose};
 ghost use Rattle.sloth_io.specs.Sink.{gains, GainsPart};
 ghost use Rattle.sloth_io.specs.Store.{IsMissing, IsTooLong, KeepsFiles};
@@ -110,6 +111,7 @@ fn read_inputs<F: Store>(alloc: Global, files: &mut F, c: &Run) -> Result<Inputs
 fn judge(alloc: Global, inputs: &Inputs) -> Result<Built, Failure>
     requires { length inputs.now.oil.items ≤ 4194304 }
     ensures accepted { IfOk result (λ built. Accepted inputs.now.oil.items inputs.now.src.items built.config built.app) }
+    ensures sound { IfOk result (λ built. Sound built.config built.app built.image) }
     ensures format { IfOk result (λ built. InFormat built.image) }
     ensures none { OnOk result (inputs.now.arr.items ≡ []) }
     ensures refused { IfErr result (IsOfJudgement inputs.now.oil.items inputs.now.src.items inputs.now.arr.items) }
