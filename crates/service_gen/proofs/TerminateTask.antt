@@ -1,5 +1,5 @@
 -- The code of TerminateTask has its effect.
-use Rattle.std.proofs.Common.{◌≡◌, ℕ, ◌+◌, ◌*◌, ◌%◌, ◌<◌, ◌≤◌, List, ◌∷◌, ◌++◌, get_or, refl, sym, ap, ◌∙◌, subst, arith, inl, inr}
+use Rattle.std.proofs.Common.{◌≡◌, ℕ, ◌+◌, ◌*◌, ◌%◌, ◌<◌, ◌≤◌, List, ◌∷◌, ◌++◌, length, get_or, refl, sym, ap, ◌∙◌, subst, arith, inl, inr}
 use Rattle.std.specs.Prelude.{set}
 use Rattle.sloth_base.specs.Machine.{Core}
 use Rattle.sloth_base.specs.Arrive.{arrive, state_arrive}
@@ -118,4 +118,4 @@ module _ (offset task place : ℕ) (c : Core) (h : MayTerminate offset task plac
       (subst (λ x. Owes offset (offset + 4 + 196) (offset + 4) body 0 (Terminated task place) (at offset x) (masked x)) (spread_is c can.registers can.zero) body_owes)
 
 pub terminates : Terminates (Csrrci 0 8 0x300 ∷ body)
-terminates = record { masks = (body, refl); runs = λ offset task place core h. runs_it offset task place core h }
+terminates = record { size = let n : length (Csrrci 0 8 0x300 ∷ body) ≡ 50 = refl in omega arith; masks = (body, refl); runs = λ offset task place core h. runs_it offset task place core h }

@@ -39,5 +39,6 @@ pub record Terminated (task place : ℕ) (touched : List ℕ) (start end : State
 
 -- Code of TerminateTask: its first instruction masks, and at most 49 more lead to the end of the task, whatever lines arrive.
 pub record Terminates (code : List InstrKind) : Type 0 where
+  pub size : length code ≤ 50
   pub masks : (rest : List InstrKind) × (code ≡ Csrrci 0 8 0x300 ∷ rest)
   pub runs : (offset task place : ℕ) (core : Core) → MayTerminate offset task place code core → FromOpening 49 (at offset core) (Terminated task place)

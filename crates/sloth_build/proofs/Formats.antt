@@ -6,7 +6,7 @@ use Rattle.std.proofs.lemmas.List.Elements.{All-cons, All-nil}
 use Rattle.sloth_base.specs.declared.image.Mark.{Mark}
 use Rattle.sloth_base.specs.declared.image.Image.{Image}
 use Rattle.sloth_base.specs.ImageRange.{IsName, AreNames, IsMark, InFormat}
-use Rattle.sloth_build.specs.Kernel.{mark_of, kernel_marks}
+use Rattle.sloth_build.specs.Marks.{mark_of, kernel_marks}
 use Rattle.sloth_base.specs.declared.image.MarkKind.TheVariants as kind
 
 pub one-name : (name : List ℕ) → IsName name → AreNames (name ∷ [])

@@ -5,3 +5,5 @@ mod Guessing
 mod Formats
 mod Readings
 mod Unique
+mod Kernels
+mod Memories

@@ -1,14 +1,60 @@
--- The marks of a kernel with one task and two items.
-use Rattle.std.specs.Prelude.{ℕ, List, [], ◌∷◌}
+-- The code of a kernel for one task, and the memory that holds it.
+use Rattle.std.specs.Prelude.{ℕ, ℤ, negsuc, ◌-◌, ◌≡◌, ◌≤◌, List, [], ◌∷◌, ◌++◌, length, slice_index}
+use Rattle.sloth_base.specs.declared.config.Config.{Config}
+use Rattle.sloth_base.specs.declared.app.App.{App}
 use Rattle.sloth_base.specs.declared.image.Mark.{Mark}
-use Rattle.sloth_base.specs.declared.image.MarkKind.{MarkKind}
-use Rattle.sloth_base.specs.declared.image.MarkKind.TheVariants as kind
+use Rattle.sloth_base.specs.declared.places.Levels.{Levels}
+use Rattle.rv32_instr.specs.declared.block.Block.{Block}
+use Rattle.rv32_instr.specs.declared.InstrKind.{InstrKind}
+use Rattle.rv32_instr.specs.declared.InstrKind.TheVariants.{Addi, Jal}
+use Rattle.prio_levels.specs.Levels.{AreLevels}
+use Rattle.vector_gen.specs.Boot.{Boots}
+use Rattle.vector_gen.specs.Idle.{Idles, idle_mark}
+use Rattle.vector_gen.specs.Vectors.{AreJumps, StepToHandlers}
+use Rattle.prologue_gen.specs.Places.{EntersTask}
+use Rattle.service_gen.specs.Block.{opening}
+use Rattle.service_gen.specs.TerminateTask.{Terminates}
+use Rattle.sloth_build.specs.declared.kernel.Kernel.{Kernel}
+use Rattle.sloth_build.specs.Marks.{item_marks}
+use Rattle.sloth_build.specs.Memory.{placed}
+use Rattle.sloth_build.specs.Where.{kernel_map}
 
--- a mark of the first function
-abbrev pub mark_of : ℕ → MarkKind → ℕ → ℕ → Mark
-mark_of address kind a item = record { address = address; kind = kind; a = a; b = 0; c = item }
+-- an addition, and behind it the jump back to the block of TerminateTask
+abbrev pub item_code : ℕ → ℕ → ℤ → List InstrKind
+item_code result operand number = Addi result operand number ∷ Jal 31 (negsuc 203) ∷ []
 
--- the idle loop, the opening of TerminateTask, the item with this register, and the jump to TerminateTask
-abbrev pub kernel_marks : ℕ → List Mark
-kernel_marks register =
-    mark_of 0x8000_04b8 kind.Idle 0 0 ∷ mark_of 0x8000_05e4 kind.Opening 1 0 ∷ mark_of 0x8000_06ac kind.Item register 0 ∷ mark_of 0x8000_06b0 kind.Jump 1 1 ∷ []
+abbrev pub items_block : ℕ → ℕ → ℤ → Block
+items_block result operand number = record { at = 0x8000_06ac; code = item_code result operand number; marks = item_marks result }
+
+-- each piece of code has its effect
+pub record IsKernel (config : Config) (app : App) (kernel : Kernel) : Type 0 where
+  pub levels : Levels
+  pub are_levels : AreLevels config levels
+  pub jumps : AreJumps 32 kernel_map.handlers kernel.vectors.code
+  pub steps : StepToHandlers kernel_map.handlers kernel.vectors.code
+  pub boots : Boots config.tasks levels.task kernel_map.idle kernel.boot.code
+  pub idles : Idles kernel.idle.code
+  pub enters : EntersTask 0 config app levels kernel_map kernel.prologue.code
+  pub terminates : Terminates kernel.terminate_task.code
+
+-- code of at most so many instructions stands at an address, under these marks
+pub record StandsAt (address most : ℕ) (under : List Mark) (block : Block) : Type 0 where
+  pub at : block.at ≡ address
+  pub size : length block.code ≤ most
+  pub marks : block.marks ≡ under
+
+-- where each piece stands
+pub record ArePlaced (kernel : Kernel) : Type 0 where
+  pub vectors : StandsAt 0x8000_0400 32 [] kernel.vectors
+  pub boot : StandsAt 0x8000_0480 14 [] kernel.boot
+  pub idle : StandsAt 0x8000_04b8 1 (idle_mark 0x8000_04b8 ∷ []) kernel.idle
+  pub prologue : StandsAt 0x8000_04bc 74 [] kernel.prologue
+  pub terminate_task : StandsAt 0x8000_05e4 50 (opening 0x8000_05e4 1 ∷ []) kernel.terminate_task
+
+-- memory with the code in the order of its addresses, and zeros where there is none
+abbrev pub kernel_memory : Kernel → List ℕ
+kernel_memory kernel =
+    placed
+    (placed
+    (placed (placed (placed (placed [] 0x400 kernel.vectors.code) 0x480 kernel.boot.code) 0x4b8 kernel.idle.code) 0x4bc kernel.prologue.code) 0x5e4
+    kernel.terminate_task.code) 0x6ac kernel.items.code

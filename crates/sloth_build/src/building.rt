@@ -108,18 +108,24 @@ fn not_built(part: Part) -> BuildError
 }
 
 // The task code and the image of a task with this addition.
-fn generate(alloc: Global, task: &TaskDecl, add: Addition) -> Result<Generated, NoMemory>
+fn generate(
+    alloc: Global,
+    config: &Config,
+    task: &TaskDecl,
+    add: Addition,
+) -> Result<Generated, NoMemory>
+    requires in_range { InRange config.now }
     requires name { IsName task.now.name }
+    requires one { (one : IsOneTask config.now) × (one.task ≡ task.now) }
     requires range { (add.rd < 32) × (add.rs1 < 32) × Signed 12 add.imm }
     ensures app { IfOk result (λ generated. generated.app ≡ one_body task.now.name add.rd add.rs1 add.imm) }
     ensures format { IfOk result (λ generated. InFormat generated.image) }
     ensures tasks { IfOk result (λ generated. generated.image.tasks ≡ task.now.name ∷ []) }
     ensures functions { IfOk result (λ generated. generated.image.funcs ≡ task.now.name ∷ []) }
 {
-    Ok(Generated {
-        app: app(alloc, task.name.bytes(), add)?,
-        image: image(alloc, task.name.bytes(), task.autostart, add)?,
-    })
+    let app = app(alloc, task.name.bytes(), add)?;
+    let image = image(alloc, config, task, &app, add)?;
+    Ok(Generated { app, image })
 }
 
 /// Builds the image of a configuration and its task code, each of at most 4,294,967,294 bytes.
@@ -144,7 +150,7 @@ pub fn build(alloc: Global, oil: &[u8], src: &[u8]) -> Result<Built, BuildError>
         Ok(None) => return Err(not_built(Part::Src)),
         Err(_) => return Err(BuildError::Memory),
     };
-    match generate(alloc, task, add) {
+    match generate(alloc, &config, task, add) {
         Ok(Generated { app, image }) => Ok(Built { config, app, image }),
         Err(_) => Err(BuildError::Memory),
     }

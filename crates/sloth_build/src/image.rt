@@ -1,60 +1,48 @@
 //! The image of a kernel with one task.
-ghost use Rattle.std.specs.Prelude.{◌≡◌, ◌<◌, ◌≤◌, IfOk, length, [], ◌∷◌};
+ghost use Rattle.std.specs.Prelude.{◌≡◌, ◌<◌, IfOk, [], ◌∷◌, ◌++◌};
+ghost use Rattle.sloth_base.specs.ConfigRange.{InRange};
 ghost use Rattle.sloth_base.specs.ImageRange.{IsName, InFormat};
-ghost use Rattle.sloth_build.specs.Kernel.{mark_of, kernel_marks};
 ghost use Rattle.rv32_instr.specs.Range.{Signed};
+ghost use Rattle.sloth_build.specs.OilText.{IsOneTask};
+ghost use Rattle.sloth_build.specs.Form.{one_body};
+ghost use Rattle.sloth_build.specs.Kernel.{ArePlaced, items_block, kernel_memory};
+ghost use Rattle.sloth_build.specs.Marks.{kernel_marks};
 
-use crate::kernel;
-use crate::kernel::emit;
+use crate::kernel::{Kernel, generate_kernel};
 use crate::list::one;
+use crate::placing::place;
 use crate::source::Addition;
-use sloth_base::image::{Image, Mark, MarkKind};
+use sloth_base::app::App;
+use sloth_base::config::{Config, TaskDecl};
+use sloth_base::image::{Image, Mark};
 use sloth_base::list::List;
 use sloth_base::memory::NoMemory;
 use sloth_base::name::Name;
-use std::alloc::Global;
-
-// The code of TerminateTask.
-const TERMINATE_TASK: u8 = 1;
+use std::alloc::{AllocError, Global};
 
 // The service words, which are all zero, and the code behind them.
-fn memory(alloc: Global, autostart: bool, add: Addition) -> Result<Vec<u8>, NoMemory>
-    requires { (add.rd < 32) × (add.rs1 < 32) × Signed 12 add.imm }
-    ensures { IfOk result (λ memory. length memory.items ≡ 1716) }
+fn memory(alloc: Global, kernel: &Kernel) -> Result<Vec<u8>, AllocError>
+    requires { ArePlaced kernel.now × (kernel.now.items.at ≡ 0x800006ac) }
+    ensures { IfOk result (λ memory. memory.items ≡ kernel_memory kernel.now) }
 {
-    let mut memory = vec![in alloc; 0; 1024]?;
-    emit(&mut memory, &kernel::vectors())?;
-    emit(&mut memory, &kernel::boot(autostart))?;
-    emit(&mut memory, &kernel::idle())?;
-    kernel::prologue(&mut memory)?;
-    kernel::terminate_task(&mut memory)?;
-    emit(&mut memory, &kernel::items(add.rd, add.rs1, add.imm))?;
+    let mut memory = Vec::new(alloc);
+    place(&mut memory, &kernel.vectors)?;
+    place(&mut memory, &kernel.boot)?;
+    place(&mut memory, &kernel.idle)?;
+    place(&mut memory, &kernel.prologue)?;
+    place(&mut memory, &kernel.terminate_task)?;
+    place(&mut memory, &kernel.items)?;
     Ok(memory)
 }
 
-// A mark of the first function.
-fn mark(address: u32, kind: MarkKind, a: u8, c: u32) -> Mark
-    ensures { result ≡ mark_of address kind a c }
-{
-    Mark {
-        address,
-        kind,
-        a,
-        b: 0,
-        c,
-    }
-}
-
 // The marks, in the order of their addresses.
-fn marks(rd: u8) -> [Mark; 4]
-    ensures { result ≡ kernel_marks rd }
+fn marks(alloc: Global, kernel: &Kernel) -> Result<Vec<Mark>, AllocError>
+    ensures { IfOk result (λ marks. marks.items ≡ kernel.now.idle.marks ++ (kernel.now.terminate_task.marks ++ kernel.now.items.marks)) }
 {
-    [
-        mark(kernel::IDLE, MarkKind::Idle, 0, 0),
-        mark(kernel::TERMINATE, MarkKind::Opening, TERMINATE_TASK, 0),
-        mark(kernel::ITEMS, MarkKind::Item, rd, 0),
-        mark(kernel::ITEMS + 4, MarkKind::Jump, TERMINATE_TASK, 1),
-    ]
+    let mut marks = Vec::from_slice(alloc, kernel.idle.marks.items())?;
+    marks.extend_from_slice(kernel.terminate_task.marks.items())?;
+    marks.extend_from_slice(kernel.items.marks.items())?;
+    Ok(marks)
 }
 
 // One name.
@@ -64,19 +52,27 @@ fn names(alloc: Global, name: &[u8]) -> Result<List<Name>, NoMemory>
     one(alloc, Name::new(alloc, name)?)
 }
 
-/// The image of a kernel whose one task, of this name, does the addition and ends. It is activated as the system starts where it
-/// is autostarted.
-pub fn image(alloc: Global, name: &[u8], autostart: bool, add: Addition) -> Result<Image, NoMemory>
-    requires name { IsName name.now }
+/// The image of a kernel whose one task does the addition and ends. It is activated as the system starts where it is autostarted.
+pub fn image(
+    alloc: Global,
+    config: &Config,
+    task: &TaskDecl,
+    app: &App,
+    add: Addition,
+) -> Result<Image, NoMemory>
+    requires in_range { InRange config.now }
+    requires name { IsName task.now.name }
+    requires one { (one : IsOneTask config.now) × (one.task ≡ task.now) × (app.now ≡ one_body task.now.name add.rd add.rs1 add.imm) }
     requires range { (add.rd < 32) × (add.rs1 < 32) × Signed 12 add.imm }
     ensures format { IfOk result InFormat }
-    ensures tasks { IfOk result (λ image. image.tasks ≡ name.now ∷ []) }
-    ensures functions { IfOk result (λ image. image.funcs ≡ name.now ∷ []) }
+    ensures tasks { IfOk result (λ image. image.tasks ≡ task.now.name ∷ []) }
+    ensures functions { IfOk result (λ image. image.funcs ≡ task.now.name ∷ []) }
 {
+    let kernel = generate_kernel(alloc, config, app, add)?;
     Ok(Image {
-        tasks: names(alloc, name)?,
-        funcs: names(alloc, name)?,
-        memory: List::from_vec(memory(alloc, autostart, add)?),
-        marks: List::from_vec(Vec::from_slice(alloc, &marks(add.rd))?),
+        tasks: names(alloc, task.name.bytes())?,
+        funcs: names(alloc, task.name.bytes())?,
+        memory: List::from_vec(memory(alloc, &kernel)?),
+        marks: List::from_vec(marks(alloc, &kernel)?),
     })
 }

@@ -12,3 +12,8 @@ returns-in-Ok-generate-clause-accepted c =
     let task = c.in-Some.ensures.some in
     accepts c.args.oil.now c.args.src.now c.in-Ok.config c.in-Ok-generate.field-0.app c.in-Some.task.now _ _ _ c.in-Ok.ensures.config task.0 task.1 task.2
     (rw (c.bytes.ensures, c.in-Ok-Some.field-0-is) at c.in-Ok-Some.ensures.some) c.in-Ok-generate.ensures.app
+
+pub generate-requires-clause-one : goal.generate-requires-clause-one
+generate-requires-clause-one c =
+    let task = c.in-Some.ensures.some in
+    (record { task = c.in-Some.task.now; is = task.0; basic = task.1; preemptable = task.2 }, refl)
