@@ -7,3 +7,4 @@ mod Readings
 mod Unique
 mod Kernels
 mod Memories
+mod Bytes
