@@ -91,8 +91,28 @@ zeros_at zero rest i l = absurd (omega arith)
 zeros_at (suc n) rest zero l = refl
 zeros_at (suc n) rest (suc i) l = zeros_at n rest i (omega arith)
 
-pub zeros_before : (n : ℕ) (memory rest : List ℕ) → memory ≡ replicate n 0 ++ rest → (i : ℕ) → i < n → slice_index memory i ≡ 0
-zeros_before n memory rest e i l = ap (λ m. slice_index m i) e ∙ zeros_at n rest i l
+-- memory that begins with so many zeros
+pub record Begins (memory : List ℕ) (n : ℕ) : Type 0 where
+  pub rest : List ℕ
+  pub is : memory ≡ replicate n 0 ++ rest
+
+pub begins_placed : (n : ℕ) (code : List InstrKind) → Begins (placed [] n code) n
+begins_placed n code =
+    let e : n - 0 ≡ n = omega arith in
+    record { rest = code_bytes code; is = ap (λ k. replicate k 0 ++ code_bytes code) e }
+
+pub begins_behind : (n : ℕ) (memory : List ℕ) (next : ℕ) (more : List InstrKind) → Begins memory n → Begins (placed memory next more) n
+begins_behind n memory next more h =
+    let zeros : List ℕ = replicate (next - length memory) 0 in
+    record {
+      rest = h.rest ++ (zeros ++ code_bytes more);
+      is =
+          append_assoc memory zeros (code_bytes more) ∙ ap (λ m. m ++ (zeros ++ code_bytes more)) h.is
+          ∙ append_assoc (replicate n 0) h.rest (zeros ++ code_bytes more);
+    }
+
+pub zeros_before : (n : ℕ) (memory : List ℕ) → Begins memory n → (i : ℕ) → i < n → slice_index memory i ≡ 0
+zeros_before n memory h i l = ap (λ m. slice_index m i) h.is ∙ zeros_at n h.rest i l
 
 -- ---- bytes
 

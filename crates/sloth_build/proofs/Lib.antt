@@ -8,3 +8,7 @@ mod Unique
 mod Kernels
 mod Memories
 mod Bytes
+mod Places
+mod Pieces
+mod Owns
+mod Whole
