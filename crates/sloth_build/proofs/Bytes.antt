@@ -42,8 +42,7 @@ written (kind ∷ code) memory offset r h =
     let rest : List ℕ = code_bytes (kind ∷ code) ++ h.after in
     let four : length (to_le_bytes w32 n) ≡ 4 = refl in
     let long = h.long in
-    let more = length-append {A = ℕ} h.before (to_le_bytes w32 n) in
-    (
+    let more = length-append {A = ℕ} h.before (to_le_bytes w32 n) in (
       word_of memory offset n (encode_fits kind (r 0 kind (omega arith))) (at memory h.before rest offset 0 h.is h.long) (at memory h.before rest offset 1 h.is h.long)
           (at memory h.before rest offset 2 h.is h.long) (at memory h.before rest offset 3 h.is h.long),
       written code memory (offset + 4) (λ k d below. r (suc k) d (omega arith)) (record {

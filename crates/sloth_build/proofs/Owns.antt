@@ -39,17 +39,17 @@ own_numbered letter n r =
     pick (letter == 120) _ _ r P (λ _. pick ((n == 0) || (nat_le 5 n && nat_le n 29)) (Some n) None r P (by_x r n) (λ _. none r P))
     (λ _.
     pick (letter == 116) _ _ r P
-        (λ _.
-        pick (nat_le n 2) (Some (5 + n)) _ r P (upward r n 5 2 (omega arith) (omega arith))
-            (λ _. pick (nat_le n 4) (Some (25 + n)) None r P (upward r n 25 4 (omega arith) (omega arith)) (λ _. none r P)))
-        (λ _.
-        pick (letter == 115) _ _ r P
-            (λ _.
-            pick (nat_le n 1) (Some (8 + n)) _ r P (upward r n 8 1 (omega arith) (omega arith))
-                (λ _. pick (nat_le n 11) (Some (16 + n)) None r P (upward r n 16 11 (omega arith) (omega arith)) (λ _. none r P)))
-            (λ _.
-            pick (letter == 97) _ None r P (λ _. pick (nat_le n 7) (Some (10 + n)) None r P (upward r n 10 7 (omega arith) (omega arith)) (λ _. none r P))
-                (λ _. none r P))))
+    (λ _.
+    pick (nat_le n 2) (Some (5 + n)) _ r P (upward r n 5 2 (omega arith) (omega arith))
+    (λ _. pick (nat_le n 4) (Some (25 + n)) None r P (upward r n 25 4 (omega arith) (omega arith)) (λ _. none r P)))
+    (λ _.
+    pick (letter == 115) _ _ r P
+    (λ _.
+    pick (nat_le n 1) (Some (8 + n)) _ r P (upward r n 8 1 (omega arith) (omega arith))
+    (λ _. pick (nat_le n 11) (Some (16 + n)) None r P (upward r n 16 11 (omega arith) (omega arith)) (λ _. none r P)))
+    (λ _.
+    pick (letter == 97) _ None r P (λ _. pick (nat_le n 7) (Some (10 + n)) None r P (upward r n 10 7 (omega arith) (omega arith)) (λ _. none r P))
+    (λ _. none r P))))
 
 pub own : (text : List ℕ) (r : ℕ) → IsRegister text r → IsOwn r
 own text r (inl p) = inl p.1

@@ -181,5 +181,12 @@ module _ (config : Config) (name : List ℕ) (rd rs1 : ℕ) (imm : ℤ) (one : l
     items = items;
   }
 
-  pub sound : Sound config app image
+  sound : Sound config app image
   sound = sound_kernel b image (generated_kernel b image is.levels kernel_map generated)
+
+pub sound_of : (config : Config) (code : App) (name : List ℕ) (rd rs1 : ℕ) (imm : ℤ) → code ≡ one_body name rd rs1 imm → length config.tasks ≡ 1 → IsOwn rd × IsOwn rs1 → Signed 12 imm
+    → (image : Image) (k : Kernel) → ArePlaced k → AreInRange k → k.items ≡ items_block rd rs1 imm → IsKernel config code k
+    → image.memory ≡ kernel_memory k → image.marks ≡ kernel_marks rd → length image.tasks ≡ 1 → Sound config code image
+sound_of config code name rd rs1 imm e one own small image k p r its is memory_is marks_are tasks_are =
+    subst (λ (a : App). Sound config a image) (sym e)
+    (sound config name rd rs1 imm one own small image k p r its (subst (λ (a : App). IsKernel config a k) e is) memory_is marks_are tasks_are)
