@@ -7,3 +7,8 @@ mod Readings
 mod Unique
 mod Kernels
 mod Memories
+mod Bytes
+mod Places
+mod Pieces
+mod Owns
+mod Whole

@@ -1,5 +1,5 @@
 -- Code that is placed in memory.
-use Rattle.std.proofs.Common.{◌≡◌, ◌≤◌, ◌+◌, ◌-◌, ◌*◌, ℕ, List, [], ◌∷◌, ◌++◌, length, refl, ap, ◌∙◌, arith}
+use Rattle.std.proofs.Common.{◌≡◌, ◌≤◌, ◌<◌, ◌+◌, ◌-◌, ◌*◌, ℕ, List, [], ◌∷◌, ◌++◌, length, refl, sym, ap, ◌∙◌, arith}
 use Rattle.std.specs.Prelude.{replicate}
 use Rattle.std.proofs.lemmas.List.{length-append, length-replicate}
 use Rattle.std.specs.Int.{to_le_bytes, w32}
@@ -35,34 +35,34 @@ placed_at old expected new block address offset at o e n =
     n ∙ ap (λ m. placed m (block.at - 0x8000_0000) block.code) e ∙ ap (λ a. placed expected (a - 0x8000_0000) block.code) at ∙ ap (λ i. placed expected i block.code) o
 
 module _ (k : Kernel) (p : ArePlaced k) (m0 : List ℕ) (e0 : m0 ≡ []) where
-  abbrev first : List ℕ
+  abbrev pub first : List ℕ
   first = placed [] 0x400 k.vectors.code
 
-  abbrev second : List ℕ
+  abbrev pub second : List ℕ
   second = placed first 0x480 k.boot.code
 
-  abbrev third : List ℕ
+  abbrev pub third : List ℕ
   third = placed second 0x4b8 k.idle.code
 
-  abbrev fourth : List ℕ
+  abbrev pub fourth : List ℕ
   fourth = placed third 0x4bc k.prologue.code
 
-  abbrev fifth : List ℕ
+  abbrev pub fifth : List ℕ
   fifth = placed fourth 0x5e4 k.terminate_task.code
 
-  fits_1 : length first ≤ 0x480
+  pub fits_1 : length first ≤ 0x480
   fits_1 = let n = placed_length [] 0x400 k.vectors.code (omega arith) in let s = p.vectors.size in omega (arith, n, s)
 
-  fits_2 : length second ≤ 0x4b8
+  pub fits_2 : length second ≤ 0x4b8
   fits_2 = let n = placed_length first 0x480 k.boot.code fits_1 in let s = p.boot.size in omega (arith, n, s)
 
-  fits_3 : length third ≤ 0x4bc
+  pub fits_3 : length third ≤ 0x4bc
   fits_3 = let n = placed_length second 0x4b8 k.idle.code fits_2 in let s = p.idle.size in omega (arith, n, s)
 
-  fits_4 : length fourth ≤ 0x5e4
+  pub fits_4 : length fourth ≤ 0x5e4
   fits_4 = let n = placed_length third 0x4bc k.prologue.code fits_3 in let s = p.prologue.size in omega (arith, n, s)
 
-  fits_5 : length fifth ≤ 0x6ac
+  pub fits_5 : length fifth ≤ 0x6ac
   fits_5 = let n = placed_length fourth 0x5e4 k.terminate_task.code fits_4 in let s = p.terminate_task.size in omega (arith, n, s)
 
   pub memory_length : length k.items.code ≡ 2 → length (kernel_memory k) ≡ 1716

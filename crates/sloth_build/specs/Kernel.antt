@@ -1,5 +1,5 @@
 -- The code of a kernel for one task, and the memory that holds it.
-use Rattle.std.specs.Prelude.{ℕ, ℤ, negsuc, ◌≡◌, ◌≤◌, List, [], ◌∷◌, length}
+use Rattle.std.specs.Prelude.{ℕ, ℤ, negsuc, ◌-◌, ◌≡◌, ◌≤◌, List, [], ◌∷◌, ◌++◌, length, slice_index, All}
 use Rattle.sloth_base.specs.declared.config.Config.{Config}
 use Rattle.sloth_base.specs.declared.app.App.{App}
 use Rattle.sloth_base.specs.declared.image.Mark.{Mark}
@@ -7,6 +7,7 @@ use Rattle.sloth_base.specs.declared.places.Levels.{Levels}
 use Rattle.rv32_instr.specs.declared.block.Block.{Block}
 use Rattle.rv32_instr.specs.declared.InstrKind.{InstrKind}
 use Rattle.rv32_instr.specs.declared.InstrKind.TheVariants.{Addi, Jal}
+use Rattle.rv32_instr.specs.Range.{InRange}
 use Rattle.prio_levels.specs.Levels.{AreLevels}
 use Rattle.vector_gen.specs.Boot.{Boots}
 use Rattle.vector_gen.specs.Idle.{Idles, idle_mark}
@@ -36,6 +37,15 @@ pub record IsKernel (config : Config) (app : App) (kernel : Kernel) : Type 0 whe
   pub idles : Idles kernel.idle.code
   pub enters : EntersTask 0 config app levels kernel_map kernel.prologue.code
   pub terminates : Terminates kernel.terminate_task.code
+
+-- each instruction has a word
+pub record AreInRange (kernel : Kernel) : Type 0 where
+  pub vectors : All InRange kernel.vectors.code
+  pub boot : All InRange kernel.boot.code
+  pub idle : All InRange kernel.idle.code
+  pub prologue : All InRange kernel.prologue.code
+  pub terminate_task : All InRange kernel.terminate_task.code
+  pub items : All InRange kernel.items.code
 
 -- code of at most so many instructions stands at an address, under these marks
 pub record StandsAt (address most : ℕ) (under : List Mark) (block : Block) : Type 0 where

@@ -3,6 +3,8 @@ ghost use Rattle.std.specs.Prelude.{◌≡◌, ◌<◌, false, IfOk, IfErr, IfSo
 ghost use Rattle.sloth_base.specs.ConfigRange.{InRange};
 ghost use Rattle.sloth_base.specs.ImageRange.{IsName, InFormat};
 ghost use Rattle.rv32_instr.specs.Range.{Signed};
+ghost use Rattle.sim_run.specs.Sound.{Sound};
+ghost use Rattle.sim_items.specs.Place.{IsOwn};
 ghost use Rattle.sloth_build.specs.OilText.{IsOneTask};
 ghost use Rattle.sloth_build.specs.Form.{Accepted, ErrorIs, one_body, one_items, not_built};
 
@@ -118,6 +120,8 @@ fn generate(
     requires name { IsName task.now.name }
     requires one { (one : IsOneTask config.now) × (one.task ≡ task.now) }
     requires range { (add.rd < 32) × (add.rs1 < 32) × Signed 12 add.imm }
+    requires own { IsOwn add.rd × IsOwn add.rs1 }
+    ensures sound { IfOk result (λ generated. Sound config.now generated.app generated.image) }
     ensures app { IfOk result (λ generated. generated.app ≡ one_body task.now.name add.rd add.rs1 add.imm) }
     ensures format { IfOk result (λ generated. InFormat generated.image) }
     ensures tasks { IfOk result (λ generated. generated.image.tasks ≡ task.now.name ∷ []) }
@@ -133,6 +137,7 @@ pub fn build(alloc: Global, oil: &[u8], src: &[u8]) -> Result<Built, BuildError>
     requires { length oil.now < 4294967295 }
     ensures accepted { IfOk result (λ built. Accepted oil.now src.now built.config built.app) }
     ensures in_range { IfOk result (λ built. InRange built.config) }
+    ensures sound { IfOk result (λ built. Sound built.config built.app built.image) }
     ensures format { IfOk result (λ built. InFormat built.image) }
     ensures tasks { IfOk result (λ built. built.image.tasks ≡ map (λ t. t.name) built.config.tasks) }
     ensures functions { IfOk result (λ built. built.image.funcs ≡ map (λ f. f.name) built.app.funcs) }

@@ -3,12 +3,14 @@ ghost use Rattle.std.specs.Prelude.{◌≡◌, ◌<◌, IfOk, [], ◌∷◌, ◌
 ghost use Rattle.sloth_base.specs.ConfigRange.{InRange};
 ghost use Rattle.sloth_base.specs.ImageRange.{IsName, InFormat};
 ghost use Rattle.rv32_instr.specs.Range.{Signed};
+ghost use Rattle.sim_run.specs.Sound.{Sound};
+ghost use Rattle.sim_items.specs.Place.{IsOwn};
 ghost use Rattle.sloth_build.specs.OilText.{IsOneTask};
 ghost use Rattle.sloth_build.specs.Form.{one_body};
 ghost use Rattle.sloth_build.specs.Kernel.{ArePlaced, items_block, kernel_memory};
 ghost use Rattle.sloth_build.specs.Marks.{kernel_marks};
 
-use crate::kernel::{Kernel, generate_kernel};
+use crate::kernel::{Kernel, are_in_range, generate_kernel};
 use crate::list::one;
 use crate::placing::place;
 use crate::source::Addition;
@@ -64,11 +66,14 @@ pub fn image(
     requires name { IsName task.now.name }
     requires one { (one : IsOneTask config.now) × (one.task ≡ task.now) × (app.now ≡ one_body task.now.name add.rd add.rs1 add.imm) }
     requires range { (add.rd < 32) × (add.rs1 < 32) × Signed 12 add.imm }
+    requires own { IsOwn add.rd × IsOwn add.rs1 }
+    ensures sound { IfOk result (λ image. Sound config.now app.now image) }
     ensures format { IfOk result InFormat }
     ensures tasks { IfOk result (λ image. image.tasks ≡ task.now.name ∷ []) }
     ensures functions { IfOk result (λ image. image.funcs ≡ task.now.name ∷ []) }
 {
     let kernel = generate_kernel(alloc, config, app, add)?;
+    are_in_range(&kernel);
     Ok(Image {
         tasks: names(alloc, task.name.bytes())?,
         funcs: names(alloc, task.name.bytes())?,

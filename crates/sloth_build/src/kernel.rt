@@ -7,12 +7,13 @@ ghost use Rattle.sloth_build.specs.OilText.{IsOneTask};
 ghost use Rattle.sloth_build.specs.Form.{one_body};
 ghost use Rattle.sloth_build.specs.Marks.{mark_of};
 ghost use Rattle.sloth_build.specs.Where.{kernel_map};
-ghost use Rattle.sloth_build.specs.Kernel.{items_block, IsKernel, ArePlaced};
+ghost use Rattle.sloth_build.specs.Kernel.{items_block, IsKernel, AreInRange, ArePlaced};
 
 use crate::source::Addition;
 use crate::where_all_stands::{ITEMS, TERMINATE_TASK, kernel_map};
 use prio_levels::assign;
 use prologue_gen::prologue;
+use rv32_instr::block::in_range;
 use rv32_instr::{Block, InstrKind};
 use rv32_routine::emit::emit;
 use service_gen::block;
@@ -88,6 +89,18 @@ fn mark(address: u32, kind: MarkKind, a: u8, c: u32) -> Mark
         b: 0,
         c,
     }
+}
+
+/// The law that each instruction of a kernel has a word.
+pub fn are_in_range(kernel: &Kernel)
+    ensures { AreInRange kernel.now }
+{
+    in_range(kernel.vectors.code.items());
+    in_range(kernel.boot.code.items());
+    in_range(kernel.idle.code.items());
+    in_range(kernel.prologue.code.items());
+    in_range(kernel.terminate_task.code.items());
+    in_range(kernel.items.code.items());
 }
 
 // The code, by the levels and the map.

@@ -1,5 +1,6 @@
 use Rattle.std.proofs.Common.{refl, inr}
 use Rattle.sloth_build.proofs.Readings.{accepts, no_code}
+use Rattle.sloth_build.proofs.Owns.{own}
 use Rattle.sloth_build.proofs.building.build.Goals as goal
 
 pub returns-in-Ok-None-clause-refused : goal.returns-in-Ok-None-clause-refused
@@ -17,3 +18,8 @@ pub generate-requires-clause-one : goal.generate-requires-clause-one
 generate-requires-clause-one c =
     let task = c.in-Some.ensures.some in
     (record { task = c.in-Some.task.now; is = task.0; basic = task.1; preemptable = task.2 }, refl)
+
+pub generate-requires-clause-own : goal.generate-requires-clause-own
+generate-requires-clause-own c =
+    let add = rw c.in-Ok-Some.field-0-is at c.in-Ok-Some.ensures.some in
+    (own add.result_name _ add.is_result, own add.operand_name _ add.is_operand)
