@@ -1,20 +1,18 @@
 -- The pieces of a kernel stand in its memory.
-use Rattle.std.proofs.Common.{◌≡◌, ◌≤◌, ◌<◌, ◌+◌, ◌-◌, ◌*◌, ◌%◌, ℕ, zero, suc, ℤ, List, [], ◌∷◌, ◌++◌, length, refl, sym, ap, ◌∙◌, subst, arith}
-use Rattle.std.specs.Prelude.{All, replicate, slice_index}
+use Rattle.std.proofs.Common.{◌≡◌, ◌≤◌, ◌<◌, ◌+◌, ◌*◌, ◌%◌, ℕ, List, [], length, refl, arith}
+use Rattle.std.specs.Prelude.{All, slice_index}
 use Rattle.sloth_base.specs.declared.app.App.{App}
 use Rattle.sloth_base.specs.declared.config.Config.{Config}
 use Rattle.rv32_instr.specs.declared.InstrKind.{InstrKind}
 use Rattle.rv32_instr.specs.Range.{InRange}
-use Rattle.rv32_routine.specs.Place.{InPlace, AreWritten}
+use Rattle.rv32_routine.specs.Place.{AreWritten}
 use Rattle.sim_base.specs.Placed.{IsPlaced}
 use Rattle.sim_laws.specs.Bounded.{AreBelow}
 use Rattle.sloth_build.specs.Kernel.{ArePlaced, AreInRange, kernel_memory}
-use Rattle.sloth_build.specs.Memory.{code_bytes}
 use Rattle.sloth_build.specs.declared.kernel.Kernel.{Kernel}
 use Rattle.sloth_build.proofs.Bytes.{Holds, holds_placed, holds_behind, written, stands, Begins, begins_placed, begins_behind, zeros_before, below_placed, below_nothing}
-use Rattle.sloth_build.proofs.Memories.{first, second, third, fourth, fifth, fits_1, fits_2, fits_3, fits_4, fits_5, memory_length}
+use Rattle.sloth_build.proofs.Memories.{first, second, third, fourth, fifth, fits_1, fits_2, fits_3, fits_4, fits_5}
 use Rattle.sloth_build.proofs.Places.{build_of, code_here}
-use Rattle.std.proofs.lemmas.List.{append_assoc}
 
 module _ (k : Kernel) (p : ArePlaced k) where
   abbrev m1 : List ℕ

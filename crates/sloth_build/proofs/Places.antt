@@ -1,19 +1,15 @@
 -- What is built of one task, and where the map has it.
-use Rattle.std.proofs.Common.{◌≡◌, ◌≢◌, ◌≤◌, ◌<◌, ◌+◌, ◌-◌, ◌*◌, ◌%◌, ℕ, zero, suc, ℤ, Bool, true, false, List, [], ◌∷◌, length, get_or, refl, sym, ap, ◌∙◌, subst, arith, inl, inr, Some, None}
-use Rattle.std.specs.Prelude.{◌⊎◌, negsuc, nat_lt, if◌then◌else◌, replicate, slice_set, slice_get, slice_index}
+use Rattle.std.proofs.Common.{◌≡◌, ◌≤◌, ◌<◌, ◌+◌, ◌*◌, ◌%◌, ℕ, zero, suc, ℤ, Bool, true, false, List, [], ◌∷◌, length, get_or, refl, sym, ap, subst, arith, inl, inr, Some}
+use Rattle.std.specs.Prelude.{nat_lt, if◌then◌else◌, replicate, slice_set, slice_get}
 use Rattle.std.proofs.lemmas.Bool.{ltb-true, ltb-false, lt-ltb, le-ltb}
 use Rattle.sloth_base.specs.declared.config.Config.{Config}
 use Rattle.sloth_base.specs.declared.app.App.{App}
-use Rattle.sloth_base.specs.declared.app.Call.{Call}
 use Rattle.sloth_base.specs.declared.app.Func.{Func}
-use Rattle.sloth_base.specs.declared.app.Op.TheVariants as op
 use Rattle.sloth_region.specs.declared.extent.Extent.{Extent}
-use Rattle.rv32_expand.specs.Expansion.{code, item_address, block_address, operation}
+use Rattle.rv32_expand.specs.Expansion.{code}
 use Rattle.osek_machine.specs.State.{body_of, function, opening}
 use Rattle.sim_base.specs.Build.{Build, Fits, IsElsewhere}
 use Rattle.sim_base.specs.DataStands.{DataStands}
-use Rattle.sim_entries.specs.Generated.{HasOneBody}
-use Rattle.sim_entries.specs.Entries.{first_words}
 use Rattle.sloth_build.specs.Form.{one_body}
 use Rattle.sloth_build.specs.Where.{kernel_map, idle, terminate_task}
 

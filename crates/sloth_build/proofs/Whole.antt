@@ -1,38 +1,33 @@
 -- The image of one task holds a kernel in place.
-use Rattle.std.proofs.Common.{◌≡◌, ◌≢◌, ◌≤◌, ◌<◌, ◌+◌, ◌-◌, ◌*◌, ◌%◌, ℕ, zero, suc, ℤ, Bool, true, false, List, [], ◌∷◌, length, get_or, refl, sym, ap, ◌∙◌, subst, arith, inl, inr, Some, None}
-use Rattle.std.specs.Prelude.{◌⊎◌, negsuc, All, slice_get, slice_index}
+use Rattle.std.proofs.Common.{◌≡◌, ◌<◌, ℕ, zero, suc, ℤ, List, [], length, refl, sym, ap, ◌∙◌, subst, arith, inl, inr, Some}
+use Rattle.std.specs.Prelude.{◌⊎◌, negsuc, All, slice_index}
 use Rattle.sloth_base.specs.declared.config.Config.{Config}
-use Rattle.sloth_base.specs.declared.config.TaskDecl.{TaskDecl}
 use Rattle.sloth_base.specs.declared.app.App.{App}
 use Rattle.sloth_base.specs.declared.image.Image.{Image}
 use Rattle.sloth_base.specs.declared.image.Mark.{Mark}
 use Rattle.sloth_base.specs.declared.image.MarkKind.TheVariants as kind
 use Rattle.sloth_base.specs.declared.service.Service.TheVariants as service
-use Rattle.rv32_instr.specs.declared.InstrKind.{InstrKind}
 use Rattle.rv32_instr.specs.declared.InstrKind.TheVariants.{Addi, Jal}
 use Rattle.rv32_instr.specs.declared.block.Block.{Block}
 use Rattle.rv32_instr.specs.Range.{InRange, Signed}
 use Rattle.rv32_routine.specs.Place.{AreWritten}
-use Rattle.rv32_expand.specs.Expansion.{item_address, operation, expansion}
 use Rattle.observe.specs.Observe.{View, view_from, view_of_image, mark_at}
-use Rattle.osek_machine.specs.State.{function, body_of}
+use Rattle.osek_machine.specs.State.{function}
 use Rattle.sim_run.specs.Sound.{Sound}
 use Rattle.sim_base.specs.Build.{Build}
 use Rattle.sim_items.specs.Place.{HasInstruction, IsOwn}
-use Rattle.sim_items.specs.Outside.{HasIdle, JumpsToService}
-use Rattle.sim_services.specs.Stretch.{HasTerminateTask}
+use Rattle.sim_items.specs.Outside.{HasIdle}
 use Rattle.sim_laws.specs.Kernel.{Computes, Ends}
 use Rattle.sim_laws.specs.Generated.{IsGenerated, HasPrologue}
 use Rattle.sim_laws.proofs.Generated.{generated_kernel}
 use Rattle.sim_laws.proofs.Whole.{sound_kernel}
-use Rattle.prologue_gen.specs.Places.{EntersTask}
 use Rattle.sloth_build.specs.Form.{one_body}
 use Rattle.sloth_build.specs.Where.{kernel_map}
 use Rattle.sloth_build.specs.Marks.{mark_of, kernel_marks}
 use Rattle.sloth_build.specs.Kernel.{IsKernel, ArePlaced, AreInRange, item_code, items_block, kernel_memory}
 use Rattle.sloth_build.specs.declared.kernel.Kernel.{Kernel}
 use Rattle.sloth_build.proofs.Memories.{memory_length}
-use Rattle.sloth_build.proofs.Places.{build_of, code_here, fits, data_stands, body, no_frame, tops}
+use Rattle.sloth_build.proofs.Places.{build_of, code_here, fits, data_stands, body, tops}
 use Rattle.sloth_build.proofs.Pieces.{bytes, service_words, items_written, vectors_placed, boot_placed, idle_placed, prologue_placed, terminate_task_placed}
 
 module _ (config : Config) (name : List ℕ) (rd rs1 : ℕ) (imm : ℤ) (one : length config.tasks ≡ 1) (own : IsOwn rd × IsOwn rs1) (small : Signed 12 imm) (image : Image) (k : Kernel)

@@ -1,5 +1,5 @@
 -- The code of a kernel for one task, and the memory that holds it.
-use Rattle.std.specs.Prelude.{ℕ, ℤ, negsuc, ◌-◌, ◌≡◌, ◌≤◌, List, [], ◌∷◌, ◌++◌, length, slice_index, All}
+use Rattle.std.specs.Prelude.{ℕ, ℤ, negsuc, ◌≡◌, ◌≤◌, List, [], ◌∷◌, length, All}
 use Rattle.sloth_base.specs.declared.config.Config.{Config}
 use Rattle.sloth_base.specs.declared.app.App.{App}
 use Rattle.sloth_base.specs.declared.image.Mark.{Mark}

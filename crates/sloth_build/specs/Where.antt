@@ -1,5 +1,5 @@
 -- Where the pieces of the kernel of one task stand: the code, behind it the task's stack.
-use Rattle.std.specs.Prelude.{ℕ, List, [], ◌∷◌, replicate, slice_set}
+use Rattle.std.specs.Prelude.{ℕ, [], ◌∷◌, replicate, slice_set}
 use Rattle.sloth_region.specs.declared.map.Map.{Map}
 
 abbrev pub idle : ℕ

@@ -27,7 +27,7 @@ returns-clause-done g c h =
         image = c.in-Ok-judge.built.image;
         inputs = rw none at ok;
         accepted = c.in-Ok-judge.ensures.accepted;
-      sound = c.in-Ok-judge.ensures.sound;
+        sound = c.in-Ok-judge.ensures.sound;
         bytes = image_bytes c.in-Ok-judge.built.image;
         written = record { in_format = c.in-Ok-judge.ensures.format; written = refl };
         held = c.in-Ok-perform.ensures.held;
