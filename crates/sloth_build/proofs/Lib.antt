@@ -4,7 +4,7 @@ mod Cutting
 mod Guessing
 mod Formats
 mod Readings
-mod Unique
+pub mod Unique
 mod Kernels
 mod Memories
 mod Bytes
@@ -12,3 +12,4 @@ mod Places
 mod Pieces
 mod Owns
 mod Whole
+mod ItemCode

@@ -1,10 +1,15 @@
--- Texts of the form have one meaning.
+-- Texts of the form have one meaning, and no refusal.
 use Rattle.std.proofs.Common.{◌≡◌, ◌≤◌, ◌∙◌, ℕ, ℤ, List, ◌∷◌, Some, None, sym, ap, subst, arith, inl, inr, drop, length, refl}
 use Rattle.std.specs.Prelude.{decimal, codes}
 use Rattle.std.proofs.lemmas.Fmt.{signed_decimal_injective}
 use Rattle.sloth_base.specs.declared.config.Config.{Config}
 use Rattle.sloth_base.specs.declared.app.App.{App}
-use Rattle.sloth_build.specs.Form.{IsAddition, one_body, Accepted}
+use Rattle.sloth_base.specs.declared.refusal.Refusal.{Refusal}
+use Rattle.oil_parse.specs.declared.tree.OilTree.{OilTree}
+use Rattle.oil_parse.proofs.Texts.{one_tree, not_both}
+use Rattle.oil_model.specs.ModelFaults.{ModelFault}
+use Rattle.sloth_build.specs.OilText.{OilText, OilRefusal, IsOneTask}
+use Rattle.sloth_build.specs.Form.{IsAddition, one_body, Accepted, FirstRefusal}
 use Rattle.sloth_build.specs.RegisterNames.{numbered, IsNumbered, IsRegister}
 use Rattle.sloth_build.proofs.Numerals.{small-magnitude}
 use Rattle.sloth_build.proofs.Registers.{reads}
@@ -73,3 +78,18 @@ one-meaning oil src c d a b h i =
     let name : h.one.task.name ≡ i.one.task.name = ap first_name (sym h.one.is ∙ (ap (λ k. k.tasks) one ∙ i.one.is)) in
     let P : List ℕ → Type 0 = λ w. IsAddition src w x.result x.operand x.number in
     (one, x.means ∙ ap (λ w. one_body w x.result x.operand x.number) name ∙ source-one src i.one.task.name x.result x.operand y.result y.operand x.number y.number (subst P name x.addition) y.addition ∙ sym y.means)
+
+declared : (text : List ℕ) (config : Config) (r : Refusal) → OilText text config → OilRefusal text r → ⊥
+declared text config r t (inl least) = t.has_tree.no_text_fault r least.is_fault
+declared text config r t (inr (inl least)) = not_both text t.tree r t.has_tree least.is_fault
+declared text config r t (inr (inr least)) =
+    let same : least.tree ≡ t.tree = one_tree text least.tree t.tree least.has_tree t.has_tree in
+    let P : OilTree → Type 0 = λ tree. ModelFault tree r in
+    t.no_fault r (subst P same least.least.is_fault)
+
+-- what is accepted is not refused
+pub never-both : (oil src : List ℕ) (config : Config) (app : App) (r : Refusal) → Accepted oil src config app → FirstRefusal oil src r → ⊥
+never-both oil src config app r h (inl refused) = declared oil config r h.configuration refused
+never-both oil src config app r h (inr (inl other)) =
+    other.1.2 (subst IsOneTask (one_configuration oil config other.1.0 h.configuration other.1.1) h.one)
+never-both oil src config app r h (inr (inr none)) = none.1.1 config app h

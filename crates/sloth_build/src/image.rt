@@ -3,6 +3,7 @@ ghost use Rattle.std.specs.Prelude.{◌≡◌, ◌<◌, IfOk, [], ◌∷◌, ◌
 ghost use Rattle.sloth_base.specs.ConfigRange.{InRange};
 ghost use Rattle.sloth_base.specs.ImageRange.{IsName, InFormat};
 ghost use Rattle.rv32_instr.specs.Range.{Signed};
+ghost use Rattle.rv32_expand.specs.InPlace.{ItemsInPlace};
 ghost use Rattle.sim_run.specs.Sound.{Sound};
 ghost use Rattle.sim_items.specs.Place.{IsOwn};
 ghost use Rattle.sloth_build.specs.OilText.{IsOneTask};
@@ -68,6 +69,7 @@ pub fn image(
     requires range { (add.rd < 32) × (add.rs1 < 32) × Signed 12 add.imm }
     requires own { IsOwn add.rd × IsOwn add.rs1 }
     ensures sound { IfOk result (λ image. Sound config.now app.now image) }
+    ensures items { IfOk result (λ image. ItemsInPlace image app.now) }
     ensures format { IfOk result InFormat }
     ensures tasks { IfOk result (λ image. image.tasks ≡ task.now.name ∷ []) }
     ensures functions { IfOk result (λ image. image.funcs ≡ task.now.name ∷ []) }

@@ -6,6 +6,7 @@ use Rattle.sloth_build.proofs.Formats.{in-format}
 use Rattle.sloth_build.proofs.Kernels.{are_marks}
 use Rattle.sloth_build.proofs.Memories.{memory_length}
 use Rattle.sloth_build.proofs.Whole.{sound_of}
+use Rattle.sloth_build.proofs.ItemCode.{items_of}
 use Rattle.sloth_build.proofs.image.image.Goals as goal
 
 pub generate_kernel-requires-clause-one : goal.generate_kernel-requires-clause-one
@@ -34,3 +35,13 @@ returns-clause-sound c =
     (c.from_vec.ensures ∙ c.in_ok-memory.ensures)
     (c.from_vec-2.ensures ∙ c.in_ok-marks.ensures ∙ are_marks kernel _ _ _ c.in_ok-kernel.ensures.places c.in_ok-kernel.ensures.items)
     (ap length c.in_ok-names.ensures)
+
+pub returns-clause-items : goal.returns-clause-items
+returns-clause-items c =
+    let kernel = c.in_ok-kernel.kernel in
+    items_of c.args.app.now c.args.task.now.name c.args.add.rd c.args.add.rs1 c.args.add.imm c.requires.one.2
+    (record { tasks = c.in_ok-names.field-0; funcs = c.in_ok-names-2.field-0; memory = c.from_vec.result; marks = c.from_vec-2.result }) kernel
+    c.in_ok-kernel.ensures.places c.are_in_range.ensures c.in_ok-kernel.ensures.items
+    (c.from_vec.ensures ∙ c.in_ok-memory.ensures)
+    (c.from_vec-2.ensures ∙ c.in_ok-marks.ensures ∙ are_marks kernel _ _ _ c.in_ok-kernel.ensures.places c.in_ok-kernel.ensures.items)
+    (c.in_ok-names.ensures ∙ ap (λ n. n ∷ []) c.bytes.ensures) (c.in_ok-names-2.ensures ∙ ap (λ n. n ∷ []) c.bytes-2.ensures)

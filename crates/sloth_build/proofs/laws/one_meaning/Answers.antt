@@ -1,5 +1,8 @@
-use Rattle.sloth_build.proofs.Unique.{one-meaning}
+use Rattle.sloth_build.proofs.Unique.{one-meaning, never-both}
 use Rattle.sloth_build.proofs.laws.one_meaning.Goals as goal
 
-pub returns : goal.returns
-returns c = one-meaning
+pub returns-clause-meaning : goal.returns-clause-meaning
+returns-clause-meaning c = one-meaning
+
+pub returns-clause-verdict : goal.returns-clause-verdict
+returns-clause-verdict c = never-both
