@@ -2,3 +2,5 @@ mod Draining
 mod Turning
 mod Running
 mod Causes
+mod Commands
+mod Complete

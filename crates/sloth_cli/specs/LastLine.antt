@@ -1,4 +1,4 @@
--- The last line that is printed where a command was not done.
+-- The lines that are printed of a command as a whole.
 use Rattle.std.specs.Prelude.{ℕ, List, ◌++◌, codes, decimal}
 use Rattle.sloth_base.specs.declared.refusal.Part.{Part}
 use Rattle.sloth_base.specs.declared.refusal.Part.TheVariants as part
@@ -55,3 +55,7 @@ code_text code.N1 = codes "N1"
 -- `refused`, the text that is at fault, the line and the rule
 abbrev pub refusal_line : Refusal → List ℕ
 refusal_line refusal = codes "refused " ++ part_text refusal.part ++ codes " " ++ decimal refusal.line ++ codes " " ++ code_text refusal.code ++ codes "\n"
+
+-- `built` and the length of the image's file, in bytes
+abbrev pub built_line : ℕ → List ℕ
+built_line length = codes "built " ++ decimal length ++ codes "\n"

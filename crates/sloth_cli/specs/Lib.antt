@@ -1,4 +1,5 @@
 pub mod Runner
 pub mod Command
+pub mod Words
 pub mod LastLine
 pub mod Top

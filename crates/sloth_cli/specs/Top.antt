@@ -1,42 +1,50 @@
 -- What the program does, and why it does not.
-use Rattle.std.specs.Prelude.{ℕ, ◌≡◌, ◌≢◌, ◌<◌, ◌⊎◌, List, [], Option, Some, None, IsTrue, codes, length}
+use Rattle.std.specs.Prelude.{ℕ, ◌≡◌, ◌≢◌, ◌≤◌, ◌<◌, ◌⊎◌, List, [], Option, Some, None, IsTrue, codes, length}
 use Rattle.sloth_base.specs.declared.config.Config.{Config}
 use Rattle.sloth_base.specs.declared.app.App.{App}
 use Rattle.sloth_base.specs.declared.image.Image.{Image}
 use Rattle.sloth_base.specs.declared.refusal.Refusal.{Refusal}
 use Rattle.sloth_base.specs.declared.refusal.Part.TheVariants as part
+use Rattle.rv32_expand.specs.InPlace.{ItemsInPlace}
 use Rattle.sim_run.specs.Sound.{Sound}
-use Rattle.sloth_io.specs.Counts.{Rose}
+use Rattle.sloth_io.specs.Counts.{Rose, Stays}
 use Rattle.sloth_io.specs.Sink.{gains, GainsPart}
-use Rattle.sloth_io.specs.Store.{Files}
-use Rattle.sloth_io.specs.declared.store.StoreFault.{StoreFault}
-use Rattle.sloth_io.specs.declared.store.StoreFault.TheVariants as fault
-use Rattle.image_file.specs.ImageText.{ImageText}
+use Rattle.sloth_io.specs.Store.{Files, Holds, KeepsOthers, IsMissing, IsTooLong}
+use Rattle.image_file.specs.ImageText.{ImageText, image_bytes}
 use Rattle.sloth_build.specs.Form.{Accepted, FirstRefusal, not_built}
-use Rattle.sloth_cli.specs.Command.{Command}
-use Rattle.sloth_cli.specs.LastLine.{refusal_line}
+use Rattle.sloth_cli.specs.Command.{Command, Run, IsCommand, NoCommand}
+use Rattle.sloth_cli.specs.LastLine.{refusal_line, built_line}
 use Rattle.sloth_cli.specs.Runner.{run_text}
-use Rattle.sloth_cli.specs.declared.command.Run.{Run}
 use Rattle.sloth_cli.specs.declared.top.Status.{Status}
 use Rattle.sloth_cli.specs.declared.top.Status.TheVariants as status
 use Rattle.sloth_cli.specs.declared.top.Failure.{Failure}
 use Rattle.sloth_cli.specs.declared.top.Failure.TheVariants as failure
 
-abbrev pub command_of : Run → Command
-command_of c = record { form = c.form; oil = c.oil.now; src = c.src.now; arr = c.arr.now; img = c.img.now; n = c.n }
-
 -- ---- the inputs
+
+-- the file that the arrivals are read from is so
+abbrev pub OfArrivals : (List ℕ → Type 0) → Option Run → Type 0
+OfArrivals P None = ⊥
+OfArrivals P (Some run) = P run.arr
+
+-- a file that the command reads is so
+abbrev pub OfInputs : (List ℕ → Type 0) → Command → Type 0
+OfInputs P c = P c.oil ⊎ (P c.src ⊎ OfArrivals P c.run)
+
+-- the arrivals are read from this text; a command that runs nothing has none
+abbrev pub HoldsArrivals : Files → Option Run → List ℕ → Type 0
+HoldsArrivals files None arr = arr ≡ []
+HoldsArrivals files (Some run) arr = Holds files run.arr arr
 
 -- these are the files that the words name, where the store tells its files
 pub record AreInputs (files : Files) (c : Command) (oil src arr : List ℕ) : Type 0 where
-  pub oil_read : IsTrue files.tells → files.holds c.oil ≡ Some oil
-  pub src_read : IsTrue files.tells → files.holds c.src ≡ Some src
-  pub arr_read : IsTrue files.tells → files.holds c.arr ≡ Some arr
+  pub oil_read : Holds files c.oil oil
+  pub src_read : Holds files c.src src
+  pub arr_read : HoldsArrivals files c.run arr
 
 -- a read failed, or the store tells that an input is not there
 abbrev pub IsFailedRead : Files → Files → Command → Type 0
-IsFailedRead old new c =
-    Rose old.failed_reads new.failed_reads ⊎ (IsTrue old.tells × ((old.holds c.oil ≡ None) ⊎ ((old.holds c.src ≡ None) ⊎ (old.holds c.arr ≡ None))))
+IsFailedRead old new c = Rose old.failed_reads new.failed_reads ⊎ (IsTrue old.tells × OfInputs (λ name. old.holds name ≡ None) c)
 
 -- the file is there and longer than 4 MiB
 abbrev pub IsLong : Files → List ℕ → Type 0
@@ -44,8 +52,7 @@ IsLong files name = (bytes : List ℕ) × (files.holds name ≡ Some bytes) × (
 
 -- an overlong read is counted; where the store tells its files, an input is that long
 abbrev pub IsLongRead : Files → Files → Command → Type 0
-IsLongRead old new c =
-    Rose old.overlong_reads new.overlong_reads × (IsTrue old.tells → IsLong old c.oil ⊎ (IsLong old c.src ⊎ IsLong old c.arr))
+IsLongRead old new c = Rose old.overlong_reads new.overlong_reads × (IsTrue old.tells → OfInputs (IsLong old) c)
 
 -- ---- the judgement
 
@@ -55,93 +62,186 @@ IsRefusal oil src arr refusal =
     FirstRefusal oil src refusal
     ⊎ ((refusal ≡ not_built part.Arr) × ((config : Config) × (app : App) × Accepted oil src config app) × (arr ≢ []))
 
--- ---- failures
-
-abbrev pub failed_by : StoreFault → Failure
-failed_by fault.Failed = failure.ReadFault
-failed_by fault.TooLong = failure.TooLong
-failed_by fault.Memory = failure.NoMemory
-
--- a failure of the reads
-abbrev pub IsOfReads : Failure → Type 0
-IsOfReads (failure.Refused refusal) = ⊥
-IsOfReads failure.ReadFault = Unit {0}
-IsOfReads failure.TooLong = Unit {0}
-IsOfReads failure.NoMemory = Unit {0}
-IsOfReads failure.WriteFile = ⊥
-IsOfReads failure.Put = ⊥
-
--- a failure of the judgement of these texts
-abbrev pub IsOfJudgement : List ℕ → List ℕ → List ℕ → Failure → Type 0
-IsOfJudgement oil src arr (failure.Refused refusal) = IsRefusal oil src arr refusal
-IsOfJudgement oil src arr failure.ReadFault = ⊥
-IsOfJudgement oil src arr failure.TooLong = ⊥
-IsOfJudgement oil src arr failure.NoMemory = Unit {0}
-IsOfJudgement oil src arr failure.WriteFile = ⊥
-IsOfJudgement oil src arr failure.Put = ⊥
-
--- a failure behind the judgement
-abbrev pub IsLate : Failure → Type 0
-IsLate (failure.Refused refusal) = ⊥
-IsLate failure.ReadFault = ⊥
-IsLate failure.TooLong = ⊥
-IsLate failure.NoMemory = Unit {0}
-IsLate failure.WriteFile = Unit {0}
-IsLate failure.Put = Unit {0}
-
--- ---- the last line
-
--- the last line was put, or broke off
-abbrev pub Said : List ℕ → Status → Status → Option (List ℕ) → Option (List ℕ) → ℕ → ℕ → Type 0
-Said line wanted answer t u a b = ((answer ≡ wanted) × (u ≡ gains t line)) ⊎ ((answer ≡ status.WriteFault) × Rose a b × GainsPart t u line)
-
-abbrev pub Finished : Failure → Status → Option (List ℕ) → Option (List ℕ) → ℕ → ℕ → Type 0
-Finished (failure.Refused refusal) answer t u a b = Said (refusal_line refusal) status.Refused answer t u a b
-Finished failure.ReadFault answer t u a b = Said (codes "read fault\n") status.ReadFault answer t u a b
-Finished failure.TooLong answer t u a b = Said (codes "too long\n") status.TooLong answer t u a b
-Finished failure.NoMemory answer t u a b = Said (codes "no memory\n") status.NoMemory answer t u a b
-Finished failure.WriteFile answer t u a b = Said (codes "write fault\n") status.WriteFault answer t u a b
-Finished failure.Put answer t u a b = (answer ≡ status.WriteFault) × (u ≡ t)
-
 -- ---- what stands after an answer
 
 -- no file has changed
 abbrev pub FilesStay : Files → Files → Type 0
 FilesStay old new = (name : List ℕ) → new.holds name ≡ old.holds name
 
--- the sink took this line in this call, and no file has changed
-abbrev pub Told : List ℕ → Option (List ℕ) → Option (List ℕ) → Files → Files → Type 0
-Told line t u old new = (u ≡ gains t line) × FilesStay old new
+-- the image's file holds these bytes, and no other file has changed
+abbrev pub IsWritten : Files → Files → List ℕ → List ℕ → Type 0
+IsWritten old new img bytes = Holds new img bytes × KeepsOthers old new img
 
--- The inputs are of the form, IMG holds the image's file, and the sink took the text of the image's run.
-pub record IsDone (old new : Files) (t u : Option (List ℕ)) (c : Command) : Type 0 where
+-- the text of a command that was done: that of the run, or the length of the image's file
+abbrev pub done_text : Image → Option Run → List ℕ
+done_text image None = built_line (length (image_bytes image))
+done_text image (Some run) = run_text image [] run.form run.n
+
+-- the inputs are accepted, with this meaning
+pub record IsAccepted (old : Files) (c : Command) (config : Config) (app : App) : Type 0 where
   pub oil : List ℕ
   pub src : List ℕ
+  pub inputs : AreInputs old c oil src []
+  pub accepted : Accepted oil src config app
+
+-- The inputs are of the form, IMG holds the image's file, and this is the text of the image's run, or of its file's length.
+pub record IsDone (old new : Files) (c : Command) (text : List ℕ) : Type 0 where
   pub config : Config
   pub app : App
   pub image : Image
-  pub inputs : AreInputs old c oil src []
-  pub accepted : Accepted oil src config app
+  pub accepted : IsAccepted old c config app
   -- every run of the image, whatever lines arrive, is one of the abstract scheduler
   pub sound : Sound config app image
+  -- the items of the task code stand in the image, each behind its mark
+  pub items : ItemsInPlace image app
   pub bytes : List ℕ
-  pub written : ImageText bytes image
-  pub held : IsTrue new.tells → new.holds c.img ≡ Some bytes
-  pub others : (name : List ℕ) → name ≢ c.img → new.holds name ≡ old.holds name
-  pub text : u ≡ gains t (run_text image [] c.form c.n)
+  pub is_image : ImageText bytes image
+  pub written : IsWritten old new c.img bytes
+  pub text_is : text ≡ done_text image c.run
 
--- the inputs are refused so, and the last line says it
-pub record IsRefused (old new : Files) (t u : Option (List ℕ)) (c : Command) : Type 0 where
+-- the inputs are refused so
+pub record IsRefused (old : Files) (c : Command) (refusal : Refusal) : Type 0 where
   pub oil : List ℕ
   pub src : List ℕ
   pub arr : List ℕ
-  pub refusal : Refusal
   pub inputs : AreInputs old c oil src arr
   pub is : IsRefusal oil src arr refusal
-  pub told : Told (refusal_line refusal) t u old new
 
--- no command that is built answers so
-abbrev pub IsBuilt : Status → Type 0
-IsBuilt status.Stopped = ⊥
-IsBuilt status.NotAnImage = ⊥
-IsBuilt _ = Unit {0}
+-- the inputs are accepted, a write failed, and no file but the image's has changed
+pub record IsFailedWrite (old new : Files) (c : Command) : Type 0 where
+  pub config : Config
+  pub app : App
+  pub accepted : IsAccepted old c config app
+  pub failed : Rose old.failed_writes new.failed_writes
+  pub others : KeepsOthers old new c.img
+
+-- the sink took the text in this call
+abbrev pub Took : Option (List ℕ) → Option (List ℕ) → List ℕ → Type 0
+Took t u text = u ≡ gains t text
+
+-- a put failed, and the sink took a part of the text
+abbrev pub BrokeOff : Option (List ℕ) → Option (List ℕ) → ℕ → ℕ → List ℕ → Type 0
+BrokeOff t u a b text = Rose a b × GainsPart t u text
+
+-- the text was put, with this answer; or it broke off, which is answered by WriteFault
+abbrev pub Puts : Status → Status → Option (List ℕ) → Option (List ℕ) → ℕ → ℕ → List ℕ → Type 0
+Puts wanted answer t u a b text = ((answer ≡ wanted) × Took t u text) ⊎ ((answer ≡ status.WriteFault) × BrokeOff t u a b text)
+
+-- What an answer requires: its cause, this text, and what the files hold. No command that is built answers Stopped or NotAnImage.
+abbrev pub Requires : Status → List (List ℕ) → Files → Files → List ℕ → Type 0
+Requires status.Done words old new text = (c : Command) × IsCommand words c × IsDone old new c text
+Requires status.Usage words old new text = NoCommand words × (text ≡ codes "usage\n") × FilesStay old new
+Requires status.Refused words old new text =
+    (c : Command) × IsCommand words c × (refusal : Refusal) × IsRefused old c refusal × (text ≡ refusal_line refusal) × FilesStay old new
+Requires status.ReadFault words old new text = (c : Command) × IsCommand words c × IsFailedRead old new c × (text ≡ codes "read fault\n") × FilesStay old new
+Requires status.WriteFault words old new text = (c : Command) × IsCommand words c × IsFailedWrite old new c × (text ≡ codes "write fault\n")
+Requires status.NoMemory words old new text = (c : Command) × IsCommand words c × (text ≡ codes "no memory\n") × FilesStay old new
+Requires status.TooLong words old new text = (c : Command) × IsCommand words c × IsLongRead old new c × (text ≡ codes "too long\n") × FilesStay old new
+Requires status.Stopped words old new text = ⊥
+Requires status.NotAnImage words old new text = ⊥
+
+-- The sink took the text that the answer requires, and the files hold what it requires; or a put failed, the answer is WriteFault, and
+-- this holds of another answer and a part of its text.
+pub record Answers (words : List (List ℕ)) (old new : Files) (t u : Option (List ℕ)) (a b : ℕ) (answer : Status) : Type 0 where
+  pub wanted : Status
+  pub text : List ℕ
+  pub required : Requires wanted words old new text
+  pub puts : Puts wanted answer t u a b text
+
+-- ---- why a command was not done
+
+-- the file of this name was not read for this reason
+abbrev pub FetchFailed : Failure → Files → Files → List ℕ → Type 0
+FetchFailed failure.ReadFault old new name = IsMissing old new name
+FetchFailed failure.TooLong old new name = IsTooLong old new name 4194304
+FetchFailed failure.NoMemory old new name = Unit {0}
+FetchFailed _ old new name = ⊥
+
+-- the arrivals were not read for this reason
+abbrev pub ArrivalsFailed : Failure → Files → Files → Option Run → Type 0
+ArrivalsFailed failure old new None = ⊥
+ArrivalsFailed failure old new (Some run) = FetchFailed failure old new run.arr
+
+-- the inputs were not read for this reason
+abbrev pub ReadFailed : Failure → Files → Files → Command → Type 0
+ReadFailed failure.ReadFault old new c = IsFailedRead old new c
+ReadFailed failure.TooLong old new c = IsLongRead old new c
+ReadFailed failure.NoMemory old new c = Unit {0}
+ReadFailed _ old new c = ⊥
+
+-- nothing was built of these texts for this reason
+abbrev pub JudgeFailed : Failure → List ℕ → List ℕ → List ℕ → Type 0
+JudgeFailed (failure.Refused refusal) oil src arr = IsRefusal oil src arr refusal
+JudgeFailed failure.NoMemory oil src arr = Unit {0}
+JudgeFailed _ oil src arr = ⊥
+
+-- The image was not run, or its lines were not put, for this reason. The image's file was to hold these bytes, and the sink to take this text.
+abbrev pub PerformFailed : Failure → Files → Files → List ℕ → List ℕ → List ℕ → Option (List ℕ) → Option (List ℕ) → ℕ → ℕ → Type 0
+PerformFailed failure.NoMemory old new img bytes text t u a b = FilesStay old new × (u ≡ t)
+PerformFailed failure.WriteFile old new img bytes text t u a b = Rose old.failed_writes new.failed_writes × KeepsOthers old new img × (u ≡ t)
+PerformFailed failure.Put old new img bytes text t u a b = IsWritten old new img bytes × BrokeOff t u a b text
+PerformFailed _ old new img bytes text t u a b = ⊥
+
+-- The command was not done for this reason; no last line is put yet.
+abbrev pub CommandFailed : Failure → Files → Files → Command → Option (List ℕ) → Option (List ℕ) → ℕ → ℕ → Type 0
+CommandFailed (failure.Refused refusal) old new c t u a b = IsRefused old c refusal × FilesStay old new × (u ≡ t)
+CommandFailed failure.ReadFault old new c t u a b = IsFailedRead old new c × FilesStay old new × (u ≡ t)
+CommandFailed failure.TooLong old new c t u a b = IsLongRead old new c × FilesStay old new × (u ≡ t)
+CommandFailed failure.NoMemory old new c t u a b = FilesStay old new × (u ≡ t)
+CommandFailed failure.WriteFile old new c t u a b = IsFailedWrite old new c × (u ≡ t)
+CommandFailed failure.Put old new c t u a b = (text : List ℕ) × IsDone old new c text × BrokeOff t u a b text
+
+-- the command was done
+abbrev pub IsPerformed : Files → Files → Command → Option (List ℕ) → Option (List ℕ) → Type 0
+IsPerformed old new c t u = (text : List ℕ) × IsDone old new c text × Took t u text
+
+-- the failure's last line was put, or broke off; where a put failed before, there is none
+abbrev pub Finished : Failure → Status → Option (List ℕ) → Option (List ℕ) → ℕ → ℕ → Type 0
+Finished (failure.Refused refusal) answer t u a b = Puts status.Refused answer t u a b (refusal_line refusal)
+Finished failure.ReadFault answer t u a b = Puts status.ReadFault answer t u a b (codes "read fault\n")
+Finished failure.TooLong answer t u a b = Puts status.TooLong answer t u a b (codes "too long\n")
+Finished failure.NoMemory answer t u a b = Puts status.NoMemory answer t u a b (codes "no memory\n")
+Finished failure.WriteFile answer t u a b = Puts status.WriteFault answer t u a b (codes "write fault\n")
+Finished failure.Put answer t u a b = (answer ≡ status.WriteFault) × (u ≡ t)
+
+-- ---- which answer comes
+
+-- the store tells its files, and these are the inputs, each of at most 4 MiB
+pub record AreThere (old : Files) (c : Command) (oil src arr : List ℕ) : Type 0 where
+  pub tells : IsTrue old.tells
+  pub inputs : AreInputs old c oil src arr
+  pub oil_short : length oil ≤ 4194304
+  pub src_short : length src ≤ 4194304
+  pub arr_short : length arr ≤ 4194304
+
+-- words of no command, unless the line could not be put
+abbrev pub AnswersUsage : ℕ → ℕ → Status → Type 0
+AnswersUsage a b answer = (answer ≡ status.Usage) ⊎ ((answer ≡ status.WriteFault) × Rose a b)
+
+-- a refusal, unless memory was wanting or the line could not be put
+abbrev pub AnswersRefused : ℕ → ℕ → Status → Type 0
+AnswersRefused a b answer = (answer ≡ status.Refused) ⊎ ((answer ≡ status.NoMemory) ⊎ ((answer ≡ status.WriteFault) × Rose a b))
+
+-- no read failed in this call
+abbrev pub ReadsStay : Files → Files → Type 0
+ReadsStay old new = Stays old.failed_reads new.failed_reads
+
+-- no read, no write and no put failed in this call
+abbrev pub CountsStay : Files → Files → ℕ → ℕ → Type 0
+CountsStay old new a b = ReadsStay old new × Stays old.failed_writes new.failed_writes × Stays a b
+
+-- The words are those of no command: Usage.
+abbrev pub TellsUsage : List (List ℕ) → ℕ → ℕ → Status → Type 0
+TellsUsage words a b answer = NoCommand words → AnswersUsage a b answer
+
+-- The inputs are there, of some length, and are refused: Refused.
+abbrev pub TellsRefused : List (List ℕ) → Files → Files → ℕ → ℕ → Status → Type 0
+TellsRefused words old new a b answer =
+    (c : Command) → IsCommand words c → (oil src arr : List ℕ) → AreThere old c oil src arr → ReadsStay old new
+    → (refusal : Refusal) → IsRefusal oil src arr refusal → AnswersRefused a b answer
+
+-- The inputs are there and accepted, and no read, write or put failed: Done, or want of memory.
+abbrev pub IsComplete : List (List ℕ) → Files → Files → ℕ → ℕ → Status → Type 0
+IsComplete words old new a b answer =
+    (c : Command) → IsCommand words c → (oil src : List ℕ) → AreThere old c oil src [] → CountsStay old new a b
+    → (config : Config) (app : App) → Accepted oil src config app → (answer ≡ status.Done) ⊎ (answer ≡ status.NoMemory)

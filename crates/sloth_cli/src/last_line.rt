@@ -1,7 +1,8 @@
-//! The last line that is printed where a command was not done.
+//! The lines that are printed of a command as a whole.
 ghost use Rattle.std.specs.Prelude.{◌≡◌, ◌≤◌, length};
-ghost use Rattle.sloth_cli.specs.LastLine.{part_text, code_text, refusal_line};
+ghost use Rattle.sloth_cli.specs.LastLine.{part_text, code_text, refusal_line, built_line};
 
+use itoa::Buffer;
 use sloth_base::refusal::{Code, Part, Refusal};
 use trace_text::line_text::LineText;
 
@@ -75,6 +76,18 @@ pub fn refusal_line(refusal: Refusal) -> LineText
     line.push_number(refusal.line);
     line.push(b" ");
     line.push(code_text(refusal.code));
+    line.push(b"\n");
+    line
+}
+
+/// The line of an image that was built: the length of its file, in bytes.
+pub fn built_line(length: usize) -> LineText
+    ensures { result ≡ built_line length }
+{
+    let mut buffer = Buffer::new();
+    let mut line = LineText::new();
+    line.push(b"built ");
+    line.push(buffer.format(length).as_bytes());
     line.push(b"\n");
     line
 }

@@ -1,18 +1,19 @@
 //! The program, over a store of files and a sink of lines.
-ghost use Rattle.std.specs.Prelude.{◌≡◌, ◌≢◌, ◌≤◌, ◌⊎◌, ℕ, List, [], IsTrue, IfOk, IfErr, OnOk, Some, Err, codes, length};
+ghost use Rattle.std.specs.Prelude.{◌≡◌, ◌≤◌, IfOk, IfErr, OnOk, [], length};
+ghost use Rattle.rv32_expand.specs.InPlace.{ItemsInPlace};
 ghost use Rattle.sloth_base.specs.ImageRange.{InFormat};
 ghost use Rattle.sim_run.specs.Sound.{Sound};
-ghost use Rattle.sloth_io.specs.Counts.{Rose};
-ghost use Rattle.sloth_io.specs.Sink.{gains, GainsPart};
-ghost use Rattle.sloth_io.specs.Store.{IsMissing, IsTooLong, KeepsFiles};
-ghost use Rattle.image_file.specs.ImageText.{ImageText, image_bytes};
+ghost use Rattle.sloth_io.specs.Store.{KeepsFiles, Holds};
+ghost use Rattle.image_file.specs.ImageText.{image_bytes};
 ghost use Rattle.sloth_build.specs.Form.{Accepted};
-ghost use Rattle.sloth_cli.specs.Command.{Command, IsCommand, NoCommand, words_of};
+ghost use Rattle.sloth_cli.specs.Command.{words_of, IsInLimit};
+ghost use Rattle.sloth_cli.specs.Words.{command_of, run_of};
+ghost use Rattle.sloth_cli.specs.LastLine.{built_line};
 ghost use Rattle.sloth_cli.specs.Runner.{run_text};
-ghost use Rattle.sloth_cli.specs.Top.{command_of, AreInputs, IsFailedRead, IsLongRead, IsOfReads, IsOfJudgement, IsLate, failed_by, Said, Finished, Told, IsDone, IsRefused, IsBuilt};
+ghost use Rattle.sloth_cli.specs.Top.{AreInputs, HoldsArrivals, ArrivalsFailed, IsWritten, done_text, Took, Puts, Answers, FetchFailed, ReadFailed, JudgeFailed, PerformFailed, CommandFailed, Finished, TellsUsage, TellsRefused, IsComplete, IsPerformed};
 
-use crate::command::{Run, command};
-use crate::last_line::refusal_line;
+use crate::command::{CommandWords, RunWords, command};
+use crate::last_line::{built_line, refusal_line};
 use crate::runner::Runner;
 use image_file::write::write_image;
 use sloth_base::image::Image;
@@ -50,7 +51,7 @@ pub enum Failure {
     Put,
 }
 
-// The texts that are built from.
+// The texts that are built from, and the arrivals.
 #[derive(Drop)]
 struct Inputs {
     oil: Vec<u8>,
@@ -58,51 +59,56 @@ struct Inputs {
     arr: Vec<u8>,
 }
 
-fn failed_by(fault: StoreFault) -> Failure
-    ensures { result ≡ failed_by fault }
-{
-    match fault {
-        StoreFault::Failed => Failure::ReadFault,
-        StoreFault::TooLong => Failure::TooLong,
-        StoreFault::Memory => Failure::NoMemory,
-    }
-}
-
 // The bytes of a file.
-fn fetch<F: Store>(alloc: Global, files: &mut F, name: &str) -> Result<Vec<u8>, StoreFault>
-    ensures ok { IfOk result (λ bytes. IsTrue (F.seen files.old).tells → (F.seen files.old).holds name.now ≡ Some bytes.items) }
+fn fetch<F: Store>(alloc: Global, files: &mut F, name: &str) -> Result<Vec<u8>, Failure>
+    ensures ok { IfOk result (λ bytes. Holds (F.seen files.old) name.now bytes.items) }
     ensures short { IfOk result (λ bytes. length bytes.items ≤ 4194304) }
-    ensures failed { result ≡ Err StoreFault.Failed → IsMissing (F.seen files.old) (F.seen files.new) name.now }
-    ensures too_long { result ≡ Err StoreFault.TooLong → IsTooLong (F.seen files.old) (F.seen files.new) name.now 4194304 }
+    ensures err { IfErr result (λ failure. FetchFailed failure (F.seen files.old) (F.seen files.new) name.now) }
     ensures keeps { KeepsFiles (F.seen files.old) (F.seen files.new) }
 {
     let mut bytes = Vec::new(alloc);
     match files.read(name, LIMIT, &mut bytes) {
         Ok(()) => Ok(bytes),
-        Err(fault) => Err(fault),
+        Err(StoreFault::Failed) => Err(Failure::ReadFault),
+        Err(StoreFault::TooLong) => Err(Failure::TooLong),
+        Err(StoreFault::Memory) => Err(Failure::NoMemory),
+    }
+}
+
+// The arrivals of a run; a command that runs nothing has none.
+fn fetch_arrivals<F: Store>(
+    alloc: Global,
+    files: &mut F,
+    run: &Option<RunWords>,
+) -> Result<Vec<u8>, Failure>
+    ensures ok { IfOk result (λ bytes. HoldsArrivals (F.seen files.old) (run_of run.now) bytes.items) }
+    ensures err { IfErr result (λ failure. ArrivalsFailed failure (F.seen files.old) (F.seen files.new) (run_of run.now)) }
+    ensures keeps { KeepsFiles (F.seen files.old) (F.seen files.new) }
+{
+    match run {
+        None => Ok(Vec::new(alloc)),
+        Some(run) => fetch(alloc, files, run.arr),
     }
 }
 
 // Reads the inputs, in the order of the words.
-fn read_inputs<F: Store>(alloc: Global, files: &mut F, c: &Run) -> Result<Inputs, Failure>
+fn read_inputs<F: Store>(alloc: Global, files: &mut F, c: &CommandWords) -> Result<Inputs, Failure>
     ensures ok { IfOk result (λ i. AreInputs (F.seen files.old) (command_of c.now) i.oil.items i.src.items i.arr.items) }
     ensures short { IfOk result (λ i. length i.oil.items ≤ 4194304) }
-    ensures failed { result ≡ Err Failure.ReadFault → IsFailedRead (F.seen files.old) (F.seen files.new) (command_of c.now) }
-    ensures too_long { result ≡ Err Failure.TooLong → IsLongRead (F.seen files.old) (F.seen files.new) (command_of c.now) }
-    ensures only { IfErr result IsOfReads }
+    ensures err { IfErr result (λ failure. ReadFailed failure (F.seen files.old) (F.seen files.new) (command_of c.now)) }
     ensures keeps { KeepsFiles (F.seen files.old) (F.seen files.new) }
 {
     let oil = match fetch(alloc, files, c.oil) {
         Ok(bytes) => bytes,
-        Err(fault) => return Err(failed_by(fault)),
+        Err(failure) => return Err(failure),
     };
     let src = match fetch(alloc, files, c.src) {
         Ok(bytes) => bytes,
-        Err(fault) => return Err(failed_by(fault)),
+        Err(failure) => return Err(failure),
     };
-    let arr = match fetch(alloc, files, c.arr) {
+    let arr = match fetch_arrivals(alloc, files, &c.run) {
         Ok(bytes) => bytes,
-        Err(fault) => return Err(failed_by(fault)),
+        Err(failure) => return Err(failure),
     };
     Ok(Inputs { oil, src, arr })
 }
@@ -112,9 +118,10 @@ fn judge(alloc: Global, inputs: &Inputs) -> Result<Built, Failure>
     requires { length inputs.now.oil.items ≤ 4194304 }
     ensures accepted { IfOk result (λ built. Accepted inputs.now.oil.items inputs.now.src.items built.config built.app) }
     ensures sound { IfOk result (λ built. Sound built.config built.app built.image) }
+    ensures items { IfOk result (λ built. ItemsInPlace built.image built.app) }
     ensures format { IfOk result (λ built. InFormat built.image) }
     ensures none { OnOk result (inputs.now.arr.items ≡ []) }
-    ensures refused { IfErr result (IsOfJudgement inputs.now.oil.items inputs.now.src.items inputs.now.arr.items) }
+    ensures err { IfErr result (λ failure. JudgeFailed failure inputs.now.oil.items inputs.now.src.items inputs.now.arr.items) }
 {
     let built = match build(alloc, inputs.oil.as_slice(), inputs.src.as_slice()) {
         Ok(built) => built,
@@ -131,46 +138,110 @@ fn judge(alloc: Global, inputs: &Inputs) -> Result<Built, Failure>
     Ok(built)
 }
 
-// Takes all memory of the run, writes the image, runs it, and puts its lines.
+// Writes the image's file, and puts its length.
+fn perform_build<F: Store, S: Sink>(
+    files: &mut F,
+    out: &mut S,
+    img: &str,
+    bytes: &[u8],
+) -> Result<(), Failure>
+    ensures written { OnOk result (IsWritten (F.seen files.old) (F.seen files.new) img.now bytes.now) }
+    ensures text { OnOk result (Took (S.taken out.old) (S.taken out.new) (built_line (length bytes.now))) }
+    ensures err { IfErr result (λ failure. PerformFailed failure (F.seen files.old) (F.seen files.new) img.now bytes.now (built_line (length bytes.now)) (S.taken out.old) (S.taken out.new) (S.faults out.old) (S.faults out.new)) }
+    ensures never_falls { S.faults out.old ≤ S.faults out.new }
+{
+    if files.write(img, bytes).is_err() {
+        return Err(Failure::WriteFile);
+    }
+    match out.put(built_line(bytes.len()).bytes()) {
+        Ok(()) => Ok(()),
+        Err(_) => Err(Failure::Put),
+    }
+}
+
+// Takes all memory of the run, writes the image's file, runs the image, and puts its lines.
+fn perform_run<F: Store, S: Sink>(
+    alloc: Global,
+    files: &mut F,
+    out: &mut S,
+    img: &str,
+    run: &RunWords,
+    image: &Image,
+    bytes: &[u8],
+) -> Result<(), Failure>
+    requires format { InFormat image.now }
+    requires few { run.now.n ≤ 1000000 }
+    ensures written { OnOk result (IsWritten (F.seen files.old) (F.seen files.new) img.now bytes.now) }
+    ensures text { OnOk result (Took (S.taken out.old) (S.taken out.new) (run_text image.now [] run.now.form run.now.n)) }
+    ensures err { IfErr result (λ failure. PerformFailed failure (F.seen files.old) (F.seen files.new) img.now bytes.now (run_text image.now [] run.now.form run.now.n) (S.taken out.old) (S.taken out.new) (S.faults out.old) (S.faults out.new)) }
+    ensures never_falls { S.faults out.old ≤ S.faults out.new }
+{
+    let Ok(mut runner) = Runner::new(alloc, image, &[]) else {
+        return Err(Failure::NoMemory);
+    };
+    if files.write(img, bytes).is_err() {
+        return Err(Failure::WriteFile);
+    }
+    match runner.run(run.n, run.form, out) {
+        Ok(_) => Ok(()),
+        Err(_) => Err(Failure::Put),
+    }
+}
+
+// Writes the image's file, runs the image where the words say so, and puts the lines.
 fn perform<F: Store, S: Sink>(
     alloc: Global,
     files: &mut F,
     out: &mut S,
-    c: &Run,
+    c: &CommandWords,
     image: &Image,
 ) -> Result<(), Failure>
     requires format { InFormat image.now }
-    requires few { c.now.n ≤ 1000000 }
-    ensures held { OnOk result (IsTrue (F.seen files.new).tells → (F.seen files.new).holds c.now.img.now ≡ Some (image_bytes image.now)) }
-    ensures others { (name : List ℕ) → name ≢ c.now.img.now → (F.seen files.new).holds name ≡ (F.seen files.old).holds name }
-    ensures text { OnOk result (S.taken out.new ≡ gains (S.taken out.old) (run_text image.now [] c.now.form c.now.n)) }
-    ensures write { result ≡ Err Failure.WriteFile → Rose (F.seen files.old).failed_writes (F.seen files.new).failed_writes }
-    ensures put { result ≡ Err Failure.Put → Rose (S.faults out.old) (S.faults out.new) × GainsPart (S.taken out.old) (S.taken out.new) (run_text image.now [] c.now.form c.now.n) }
-    ensures memory { result ≡ Err Failure.NoMemory → (name : List ℕ) → (F.seen files.new).holds name ≡ (F.seen files.old).holds name }
-    ensures quiet { IfErr result (λ e. e ≢ Failure.Put → S.taken out.new ≡ S.taken out.old) }
-    ensures only { IfErr result IsLate }
+    requires few { IsInLimit (run_of c.now.run) }
+    ensures written { OnOk result (IsWritten (F.seen files.old) (F.seen files.new) c.now.img.now (image_bytes image.now)) }
+    ensures text { OnOk result (Took (S.taken out.old) (S.taken out.new) (done_text image.now (run_of c.now.run))) }
+    ensures err { IfErr result (λ failure. PerformFailed failure (F.seen files.old) (F.seen files.new) c.now.img.now (image_bytes image.now) (done_text image.now (run_of c.now.run)) (S.taken out.old) (S.taken out.new) (S.faults out.old) (S.faults out.new)) }
     ensures never_falls { S.faults out.old ≤ S.faults out.new }
-    ensures writes { (F.seen files.old).failed_writes ≤ (F.seen files.new).failed_writes }
 {
     let Ok(bytes) = write_image(alloc, image) else {
         return Err(Failure::NoMemory);
     };
-    let Ok(mut runner) = Runner::new(alloc, image, &[]) else {
-        return Err(Failure::NoMemory);
-    };
-    if files.write(c.img, bytes.as_slice()).is_err() {
-        return Err(Failure::WriteFile);
+    match &c.run {
+        None => perform_build(files, out, c.img, bytes.as_slice()),
+        Some(run) => perform_run(alloc, files, out, c.img, run, image, bytes.as_slice()),
     }
-    match runner.run(c.n, c.form, out) {
-        Ok(_) => Ok(()),
-        Err(_) => Err(Failure::Put),
+}
+
+// Does what the command says, but for the last line of a failure.
+fn attempt<F: Store, S: Sink>(
+    alloc: Global,
+    files: &mut F,
+    out: &mut S,
+    c: &CommandWords,
+) -> Result<(), Failure>
+    requires { IsInLimit (run_of c.now.run) }
+    ensures done { OnOk result (IsPerformed (F.seen files.old) (F.seen files.new) (command_of c.now) (S.taken out.old) (S.taken out.new)) }
+    ensures err { IfErr result (λ failure. CommandFailed failure (F.seen files.old) (F.seen files.new) (command_of c.now) (S.taken out.old) (S.taken out.new) (S.faults out.old) (S.faults out.new)) }
+    ensures never_falls { S.faults out.old ≤ S.faults out.new }
+{
+    let inputs = match read_inputs(alloc, files, c) {
+        Err(failure) => return Err(failure),
+        Ok(inputs) => inputs,
+    };
+    let built = match judge(alloc, &inputs) {
+        Err(failure) => return Err(failure),
+        Ok(built) => built,
+    };
+    match perform(alloc, files, out, c, &built.image) {
+        Err(failure) => Err(failure),
+        Ok(()) => Ok(()),
     }
 }
 
 // Puts a last line. Where it can't be put, the status is WriteFault.
 fn say<S: Sink>(out: &mut S, line: &[u8], status: Status) -> Status
     ensures never_falls { S.faults out.old ≤ S.faults out.new }
-    ensures said { Said line.now status result (S.taken out.old) (S.taken out.new) (S.faults out.old) (S.faults out.new) }
+    ensures puts { Puts status result (S.taken out.old) (S.taken out.new) (S.faults out.old) (S.faults out.new) line.now }
 {
     match out.put(line) {
         Ok(()) => status,
@@ -193,6 +264,20 @@ fn finish<S: Sink>(out: &mut S, failure: Failure) -> Status
     }
 }
 
+// Does what the words say, and puts the last line of a failure.
+fn answer<F: Store, S: Sink>(alloc: Global, words: &[String], files: &mut F, out: &mut S) -> Status
+    ensures { Answers (words_of words.now) (F.seen files.old) (F.seen files.new) (S.taken out.old) (S.taken out.new) (S.faults out.old) (S.faults out.new) result }
+{
+    let c = match command(words) {
+        None => return say(out, b"usage\n", Status::Usage),
+        Some(c) => c,
+    };
+    match attempt(alloc, files, out, &c) {
+        Err(failure) => finish(out, failure),
+        Ok(()) => Status::Done,
+    }
+}
+
 /// Does what its words say, and tells how it ended.
 pub fn sloth_top<F: Store, S: Sink>(
     alloc: Global,
@@ -200,29 +285,10 @@ pub fn sloth_top<F: Store, S: Sink>(
     files: &mut F,
     out: &mut S,
 ) -> Status
-    ensures done { result ≡ Status.Done → (c : Command) × IsCommand (words_of words.now) c × IsDone (F.seen files.old) (F.seen files.new) (S.taken out.old) (S.taken out.new) c }
-    ensures usage { result ≡ Status.Usage → NoCommand (words_of words.now) × Told (codes "usage\n") (S.taken out.old) (S.taken out.new) (F.seen files.old) (F.seen files.new) }
-    ensures refused { result ≡ Status.Refused → (c : Command) × IsCommand (words_of words.now) c × IsRefused (F.seen files.old) (F.seen files.new) (S.taken out.old) (S.taken out.new) c }
-    ensures read_fault { result ≡ Status.ReadFault → (c : Command) × IsCommand (words_of words.now) c × IsFailedRead (F.seen files.old) (F.seen files.new) c × Told (codes "read fault\n") (S.taken out.old) (S.taken out.new) (F.seen files.old) (F.seen files.new) }
-    ensures too_long { result ≡ Status.TooLong → (c : Command) × IsCommand (words_of words.now) c × IsLongRead (F.seen files.old) (F.seen files.new) c × Told (codes "too long\n") (S.taken out.old) (S.taken out.new) (F.seen files.old) (F.seen files.new) }
-    ensures no_memory { result ≡ Status.NoMemory → Told (codes "no memory\n") (S.taken out.old) (S.taken out.new) (F.seen files.old) (F.seen files.new) }
-    ensures write_fault { result ≡ Status.WriteFault → Rose (F.seen files.old).failed_writes (F.seen files.new).failed_writes ⊎ Rose (S.faults out.old) (S.faults out.new) }
-    ensures built { IsBuilt result }
+    ensures answers { Answers (words_of words.now) (F.seen files.old) (F.seen files.new) (S.taken out.old) (S.taken out.new) (S.faults out.old) (S.faults out.new) result }
+    ensures usage { TellsUsage (words_of words.now) (S.faults out.old) (S.faults out.new) result }
+    ensures refused { TellsRefused (words_of words.now) (F.seen files.old) (F.seen files.new) (S.faults out.old) (S.faults out.new) result }
+    ensures complete { IsComplete (words_of words.now) (F.seen files.old) (F.seen files.new) (S.faults out.old) (S.faults out.new) result }
 {
-    let c = match command(words) {
-        None => return say(out, b"usage\n", Status::Usage),
-        Some(c) => c,
-    };
-    let inputs = match read_inputs(alloc, files, &c) {
-        Err(failure) => return finish(out, failure),
-        Ok(inputs) => inputs,
-    };
-    let built = match judge(alloc, &inputs) {
-        Err(failure) => return finish(out, failure),
-        Ok(built) => built,
-    };
-    match perform(alloc, files, out, &c, &built.image) {
-        Err(failure) => finish(out, failure),
-        Ok(()) => Status::Done,
-    }
+    answer(alloc, words, files, out)
 }

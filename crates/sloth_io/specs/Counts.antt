@@ -1,6 +1,10 @@
 -- Counts of faults, which never fall and end at 2^64 - 1.
-use Rattle.std.specs.Prelude.{ℕ, ◌+◌, ◌≤◌, min}
+use Rattle.std.specs.Prelude.{ℕ, ◌≡◌, ◌+◌, ◌≤◌, ◌<◌, min}
 
 -- the count has risen, or stands at its last value
 abbrev pub Rose : ℕ → ℕ → Type 0
 Rose old new = min (old + 1) 18446744073709551615 ≤ new
+
+-- the count is as it was; of one that stands at its last value nothing is known
+abbrev pub Stays : ℕ → ℕ → Type 0
+Stays old new = (new ≡ old) × (old < 18446744073709551615)

@@ -24,6 +24,9 @@ const MAIN: &[u8] =
 const WAITING_MAIN: &[u8] =
     b"TASK Main { PRIORITY = 1; SCHEDULE = FULL; ACTIVATION = 1; AUTOSTART = FALSE; };\n";
 
+const ACTIVATED_TWICE: &[u8] =
+    b"TASK Main { PRIORITY = 1; SCHEDULE = FULL; ACTIVATION = 2; AUTOSTART = FALSE; };\n";
+
 const TWO_TASKS: &[u8] =
     b"TASK Main { PRIORITY = 1; SCHEDULE = FULL; ACTIVATION = 1; AUTOSTART = FALSE; };\nTASK High { PRIORITY = 2; SCHEDULE = FULL; ACTIVATION = 1; AUTOSTART = FALSE; };\n";
 
@@ -44,18 +47,19 @@ fn oil(alloc: Global, tasks: &[u8]) -> Result<Vec<u8>, AllocError> {
     [HEAD, tasks, END].concat(alloc)
 }
 
-// A file with space for 10000 bytes.
+// A file with space for 10000 bytes, or for its own where they are more.
 fn file(alloc: Global, name: &[u8], bytes: &[u8]) -> Result<MemFile, NoMemory>
     ensures name { IfOk result (λ file. file.name ≡ name.now) }
     ensures within { IfOk result (λ file. length file.bytes ≤ file.space) }
 {
-    if bytes.len() > 10_000 {
+    if bytes.len() > 5_000_000 {
         return Err(NoMemory);
     }
+    let size = bytes.len() as u32;
     Ok(MemFile {
         name: Name::new(alloc, name)?,
         bytes: List::from_vec(Vec::from_slice(alloc, bytes)?),
-        space: 10_000,
+        space: size.max(10_000),
     })
 }
 
@@ -68,12 +72,19 @@ fn store(alloc: Global, oil: &[u8], arr: &[u8], fails: &[u32]) -> Result<MemStor
     MemStore::new(alloc, &[arr, img, oil, src], fails)
 }
 
-fn words(alloc: Global, command: &str, n: &str) -> Result<Vec<String>, Fail> {
+fn words_of(alloc: Global, texts: &[&str]) -> Result<Vec<String>, Fail> {
     let mut words = Vec::new(alloc);
-    for word in [command, "p.oil", "p.src", "p.arr", "p.img", n] {
-        words.push(String::from_str(alloc, word)?)?;
+    for text in texts {
+        words.push(String::from_str(alloc, text)?)?;
     }
     Ok(words)
+}
+
+fn words(alloc: Global, command: &str, n: &str) -> Result<Vec<String>, Fail> {
+    if command == "build" {
+        return words_of(alloc, &["build", "p.oil", "p.src", "p.img"]);
+    }
+    words_of(alloc, &[command, "p.oil", "p.src", "p.arr", "p.img", n])
 }
 
 fn is_image_written(files: &MemStore) -> bool {
@@ -100,6 +111,40 @@ fn run(
     Ok((status, is_image_written(&files)))
 }
 
+// Texts that declare nothing, and one that is too long to be read.
+#[test]
+fn texts_refused_as_a_whole(rt: HostRuntime) -> Result<(), Fail> {
+    let long = b"\n".repeat(rt.alloc(), 4_194_305)?;
+    let rows = [
+        (
+            b"".as_slice(),
+            Status::Refused,
+            b"refused oil 1 O6\n".as_slice(),
+        ),
+        (
+            b"#".as_slice(),
+            Status::Refused,
+            b"refused oil 1 O1\n".as_slice(),
+        ),
+        (long.as_slice(), Status::TooLong, b"too long\n".as_slice()),
+        (
+            &long.as_slice()[1..],
+            Status::Refused,
+            b"refused oil 1 O6\n".as_slice(),
+        ),
+    ];
+    for (oil, status, text) in rows {
+        let words = words(rt.alloc(), "order", "9")?;
+        let mut files = store(rt.alloc(), oil, b"", &[])?;
+        let mut out = MemSink::new(rt.alloc(), 200, &[])?;
+        let ended = sloth_top(rt.alloc(), words.as_slice(), &mut files, &mut out);
+        assert_eq!(rt; ended, status);
+        assert_eq!(rt; out.taken(), text);
+        assert!(rt; !is_image_written(&files));
+    }
+    Ok(())
+}
+
 #[test]
 fn runs_and_refusals(rt: HostRuntime) -> Result<(), Fail> {
     let none = b"".as_slice();
@@ -116,12 +161,28 @@ fn runs_and_refusals(rt: HostRuntime) -> Result<(), Fail> {
             b"boot\nidle\n".as_slice(),
         ),
         (
+            "build",
+            MAIN,
+            b"5 Main\n".as_slice(),
+            "9",
+            Status::Done,
+            b"built 1798\n".as_slice(),
+        ),
+        (
             "run",
             MAIN,
             b"5 Main\n".as_slice(),
             "9",
             Status::Refused,
             b"refused arr 1 N1\n".as_slice(),
+        ),
+        (
+            "build",
+            ACTIVATED_TWICE,
+            none,
+            "9",
+            Status::Refused,
+            b"refused oil 4 O12\n".as_slice(),
         ),
         (
             "run",
@@ -169,21 +230,22 @@ fn runs_and_refusals(rt: HostRuntime) -> Result<(), Fail> {
 // The call of the store that fails, the put that fails and takes no byte.
 #[test]
 fn faults_of_the_store_and_the_sink(rt: HostRuntime) -> Result<(), Fail> {
+    let none = b"".as_slice();
+    let read = b"read fault\n".as_slice();
+    let write = b"write fault\n".as_slice();
+    let two_lines = b"boot\nenter Main\n".as_slice();
     let rows = [
-        (1, 0, Status::ReadFault, b"read fault\n".as_slice(), false),
-        (3, 0, Status::ReadFault, b"read fault\n".as_slice(), false),
-        (4, 0, Status::WriteFault, b"write fault\n".as_slice(), false),
-        (
-            0,
-            3,
-            Status::WriteFault,
-            b"0 13 boot\n14 88 enter Main\n".as_slice(),
-            true,
-        ),
+        ("order", 1, 0, Status::ReadFault, read, false),
+        ("order", 3, 0, Status::ReadFault, read, false),
+        ("order", 4, 0, Status::WriteFault, write, false),
+        ("order", 0, 3, Status::WriteFault, two_lines, true),
+        ("order", 1, 1, Status::WriteFault, none, false),
+        ("build", 3, 0, Status::WriteFault, write, false),
+        ("build", 0, 1, Status::WriteFault, none, true),
     ];
-    for (call, put, status, text, is_written) in rows {
+    for (command, call, put, status, text, is_written) in rows {
         let mut out = MemSink::new(rt.alloc(), 200, &[(put, 0)])?;
-        let (ended, written) = run(rt.alloc(), "run", MAIN, b"", "142", &[call], &mut out)?;
+        let (ended, written) = run(rt.alloc(), command, MAIN, b"", "1000", &[call], &mut out)?;
         assert_eq!(rt; ended, status);
         assert_eq!(rt; out.taken(), text);
         assert_eq!(rt; written, is_written);
