@@ -13,3 +13,4 @@ mod Pieces
 mod Owns
 mod Whole
 mod ItemCode
+pub mod Refusals

@@ -79,7 +79,7 @@ one-meaning oil src c d a b h i =
     let P : List ℕ → Type 0 = λ w. IsAddition src w x.result x.operand x.number in
     (one, x.means ∙ ap (λ w. one_body w x.result x.operand x.number) name ∙ source-one src i.one.task.name x.result x.operand y.result y.operand x.number y.number (subst P name x.addition) y.addition ∙ sym y.means)
 
-declared : (text : List ℕ) (config : Config) (r : Refusal) → OilText text config → OilRefusal text r → ⊥
+pub declared : (text : List ℕ) (config : Config) (r : Refusal) → OilText text config → OilRefusal text r → ⊥
 declared text config r t (inl least) = t.has_tree.no_text_fault r least.is_fault
 declared text config r t (inr (inl least)) = not_both text t.tree r t.has_tree least.is_fault
 declared text config r t (inr (inr least)) =

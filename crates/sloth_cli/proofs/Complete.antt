@@ -1,5 +1,5 @@
 -- Which answer comes, where the inputs are told.
-use Rattle.std.proofs.Common.{◌≡◌, ◌≤◌, ◌<◌, ◌+◌, ◌∙◌, inl, inr, ℕ, List, [], Option, None, Some, refl, sym, subst, arith, min, length}
+use Rattle.std.proofs.Common.{◌≡◌, ◌≤◌, ◌<◌, ◌+◌, ◌∙◌, inl, inr, ℕ, List, [], Option, None, Some, refl, sym, ap, subst, arith, min, length}
 use Rattle.std.specs.Prelude.{IsTrue, ◌⊎◌}
 use Rattle.std.proofs.Math.Nat.{min-eq_left}
 use Rattle.sloth_base.specs.declared.config.Config.{Config}
@@ -9,10 +9,12 @@ use Rattle.sloth_io.specs.Counts.{Rose, Stays}
 use Rattle.sloth_io.specs.Store.{Files, Holds}
 use Rattle.sloth_build.specs.Form.{Accepted}
 use Rattle.sloth_build.proofs.Unique.{never-both}
+use Rattle.sloth_build.proofs.Refusals.{one_refusal}
+use Rattle.sloth_cli.specs.LastLine.{refusal_line}
 use Rattle.sloth_cli.specs.Command.{Command, Run, IsCommand, NoCommand}
 use Rattle.sloth_cli.specs.declared.top.Status.{Status}
 use Rattle.sloth_cli.specs.declared.top.Status.TheVariants as status
-use Rattle.sloth_cli.specs.Top.{OfArrivals, OfInputs, HoldsArrivals, AreThere, IsFailedRead, IsLong, IsLongRead, IsRefusal, IsRefused, IsAccepted, IsDone, IsFailedWrite, Requires, Puts, Answers, AnswersUsage, AnswersRefused, ReadsStay, CountsStay, TellsUsage, TellsRefused, IsComplete}
+use Rattle.sloth_cli.specs.Top.{OfArrivals, OfInputs, HoldsArrivals, AreThere, IsFailedRead, IsLong, IsLongRead, IsRefusal, IsRefused, IsAccepted, IsDone, IsFailedWrite, Requires, Puts, Took, Answers, AnswersUsage, AnswersRefused, ReadsStay, CountsStay, TellsUsage, TellsRefused, IsComplete}
 use Rattle.sloth_cli.proofs.Commands.{one-command}
 
 stays : (a b : ℕ) → Stays a b → Rose a b → ⊥
@@ -75,6 +77,23 @@ one-verdict old c config app oil src arr r there h refusal =
     let by_src : IsRefusal oil h.src [] r = subst (λ x. IsRefusal oil x [] r) src_is by_arr in
     not-refused h.oil h.src config app r h.accepted (subst (λ x. IsRefusal x h.src [] r) oil_is by_src)
 
+-- the inputs that are told are refused in one way
+one-way : (oil src arr : List ℕ) (r s : Refusal) → IsRefusal oil src arr r → IsRefusal oil src arr s → r ≡ s
+one-way oil src arr r s (inl a) (inl b) = one_refusal oil src r s a b
+one-way oil src arr r s (inl a) (inr b) = absurd (never-both oil src b.1.0 b.1.1 r b.1.2 a)
+one-way oil src arr r s (inr a) (inl b) = absurd (never-both oil src a.1.0 a.1.1 s a.1.2 b)
+one-way oil src arr r s (inr a) (inr b) = a.0 ∙ sym b.0
+
+told-refusal : (old : Files) (c : Command) (oil src arr : List ℕ) (r s : Refusal) → AreThere old c oil src arr → IsRefused old c r → IsRefusal oil src arr s → r ≡ s
+told-refusal old c oil src arr r s there refused refusal =
+    let i = refused.inputs in
+    let oil_is : oil ≡ refused.oil = told old c.oil oil refused.oil there.tells there.inputs.oil_read i.oil_read in
+    let src_is : src ≡ refused.src = told old c.src src refused.src there.tells there.inputs.src_read i.src_read in
+    let arr_is : arr ≡ refused.arr = told-arrivals old c.run arr refused.arr there.tells there.inputs.arr_read i.arr_read in
+    let by_arr : IsRefusal oil src refused.arr s = subst (λ x. IsRefusal oil src x s) arr_is refusal in
+    let by_src : IsRefusal oil refused.src refused.arr s = subst (λ x. IsRefusal oil x refused.arr s) src_is by_arr in
+    one-way refused.oil refused.src refused.arr r s refused.is (subst (λ x. IsRefusal x refused.src refused.arr s) oil_is by_src)
+
 refused-verdict : (old : Files) (c : Command) (config : Config) (app : App) (oil src : List ℕ) (r : Refusal)
     → AreThere old c oil src [] → Accepted oil src config app → IsRefused old c r → ⊥
 refused-verdict old c config app oil src r there h refused =
@@ -109,8 +128,10 @@ tells-usage words old new t u a b answer h none = usage-by h.wanted answer words
 
 refused-by : (wanted answer : Status) (words : List (List ℕ)) (old new : Files) (t u : Option (List ℕ)) (a b : ℕ) (text : List ℕ) (c : Command) (oil src arr : List ℕ) (r : Refusal)
     → Requires wanted words old new text → Puts wanted answer t u a b text
-    → IsCommand words c → AreThere old c oil src arr → ReadsStay old new → IsRefusal oil src arr r → AnswersRefused a b answer
-refused-by status.Refused answer words old new t u a b text c oil src arr r q (inl p) is there stay refusal = inl p.0
+    → IsCommand words c → AreThere old c oil src arr → ReadsStay old new → IsRefusal oil src arr r → AnswersRefused t u a b r answer
+refused-by status.Refused answer words old new t u a b text c oil src arr r q (inl p) is there stay refusal =
+    let same : q.2 ≡ r = told-refusal old c oil src arr q.2 r there (subst (λ x. IsRefused old x q.2) (one-command words q.0 c q.1 is) q.3) refusal in
+    inl (p.0, subst (λ x. Took t u x) (q.4 ∙ ap refusal_line same) p.1)
 refused-by status.Refused answer words old new t u a b text c oil src arr r q (inr p) is there stay refusal = inr (inr (p.0, p.1.0))
 refused-by status.NoMemory answer words old new t u a b text c oil src arr r q (inl p) is there stay refusal = inr (inl p.0)
 refused-by status.NoMemory answer words old new t u a b text c oil src arr r q (inr p) is there stay refusal = inr (inr (p.0, p.1.0))
@@ -129,7 +150,7 @@ refused-by status.Stopped answer words old new t u a b text c oil src arr r q p 
 refused-by status.NotAnImage answer words old new t u a b text c oil src arr r q p is there stay refusal = absurd q
 
 pub tells-refused : (words : List (List ℕ)) (old new : Files) (t u : Option (List ℕ)) (a b : ℕ) (answer : Status)
-    → Answers words old new t u a b answer → TellsRefused words old new a b answer
+    → Answers words old new t u a b answer → TellsRefused words old new t u a b answer
 tells-refused words old new t u a b answer h c is oil src arr there stay r refusal =
     refused-by h.wanted answer words old new t u a b h.text c oil src arr r h.required h.puts is there stay refusal
 

@@ -218,9 +218,10 @@ pub record AreThere (old : Files) (c : Command) (oil src arr : List ℕ) : Type 
 abbrev pub AnswersUsage : ℕ → ℕ → Status → Type 0
 AnswersUsage a b answer = (answer ≡ status.Usage) ⊎ ((answer ≡ status.WriteFault) × Rose a b)
 
--- a refusal, unless memory was wanting or the line could not be put
-abbrev pub AnswersRefused : ℕ → ℕ → Status → Type 0
-AnswersRefused a b answer = (answer ≡ status.Refused) ⊎ ((answer ≡ status.NoMemory) ⊎ ((answer ≡ status.WriteFault) × Rose a b))
+-- this refusal, unless memory was wanting or the line could not be put
+abbrev pub AnswersRefused : Option (List ℕ) → Option (List ℕ) → ℕ → ℕ → Refusal → Status → Type 0
+AnswersRefused t u a b refusal answer =
+    ((answer ≡ status.Refused) × Took t u (refusal_line refusal)) ⊎ ((answer ≡ status.NoMemory) ⊎ ((answer ≡ status.WriteFault) × Rose a b))
 
 -- no read failed in this call
 abbrev pub ReadsStay : Files → Files → Type 0
@@ -234,11 +235,11 @@ CountsStay old new a b = ReadsStay old new × Stays old.failed_writes new.failed
 abbrev pub TellsUsage : List (List ℕ) → ℕ → ℕ → Status → Type 0
 TellsUsage words a b answer = NoCommand words → AnswersUsage a b answer
 
--- The inputs are there, of some length, and are refused: Refused.
-abbrev pub TellsRefused : List (List ℕ) → Files → Files → ℕ → ℕ → Status → Type 0
-TellsRefused words old new a b answer =
+-- The inputs are there and are refused so: Refused, with the line that says it.
+abbrev pub TellsRefused : List (List ℕ) → Files → Files → Option (List ℕ) → Option (List ℕ) → ℕ → ℕ → Status → Type 0
+TellsRefused words old new t u a b answer =
     (c : Command) → IsCommand words c → (oil src arr : List ℕ) → AreThere old c oil src arr → ReadsStay old new
-    → (refusal : Refusal) → IsRefusal oil src arr refusal → AnswersRefused a b answer
+    → (refusal : Refusal) → IsRefusal oil src arr refusal → AnswersRefused t u a b refusal answer
 
 -- The inputs are there and accepted, and no read, write or put failed: Done, or want of memory.
 abbrev pub IsComplete : List (List ℕ) → Files → Files → ℕ → ℕ → Status → Type 0
