@@ -1,5 +1,5 @@
 -- Why a command was not done, from its first read to its last line.
-use Rattle.std.proofs.Common.{◌≡◌, ◌≤◌, ◌+◌, ◌∙◌, inl, inr, ℕ, List, Option, None, refl, sym, subst, arith, min}
+use Rattle.std.proofs.Common.{◌≡◌, ◌≤◌, ◌+◌, ◌∙◌, inl, inr, ℕ, List, [], Option, None, refl, sym, subst, arith, min}
 use Rattle.std.specs.Prelude.{codes, IsTrue}
 use Rattle.std.proofs.Math.Nat.{min-le_left, min-le_right, le-min}
 use Rattle.rv32_expand.specs.InPlace.{ItemsInPlace}
@@ -10,7 +10,9 @@ use Rattle.sim_run.specs.Sound.{Sound}
 use Rattle.sloth_io.specs.Counts.{Rose}
 use Rattle.sloth_io.specs.Sink.{GainsPart}
 use Rattle.sloth_io.specs.Store.{Files, KeepsFiles}
-use Rattle.image_file.specs.ImageText.{ImageText}
+use Rattle.sloth_base.specs.ImageRange.{InFormat}
+use Rattle.image_file.specs.ImageText.{ImageText, image_bytes}
+use Rattle.sloth_build.specs.Form.{Accepted}
 use Rattle.sloth_cli.specs.Command.{Command, IsCommand}
 use Rattle.sloth_cli.specs.LastLine.{refusal_line}
 use Rattle.sloth_cli.specs.declared.top.Status.{Status}
@@ -85,6 +87,22 @@ pub record IsBuilt (old mid : Files) (c : Command) (bytes text : List ℕ) : Typ
   pub is_image : ImageText bytes image
   pub text_is : text ≡ done_text image c.run
   pub kept : KeepsFiles old mid
+
+-- the image of accepted texts was built of the inputs
+pub built_of : (old mid : Files) (c : Command) (config : Config) (app : App) (image : Image) (oil src arr : List ℕ)
+    → AreInputs old c oil src arr → arr ≡ [] → Accepted oil src config app → Sound config app image → ItemsInPlace image app → InFormat image → KeepsFiles old mid
+    → IsBuilt old mid c (image_bytes image) (done_text image c.run)
+built_of old mid c config app image oil src arr inputs none accepted sound items format kept = record {
+  config = config;
+  app = app;
+  image = image;
+  accepted = record { oil = oil; src = src; inputs = subst (AreInputs old c oil src) none inputs; accepted = accepted };
+  sound = sound;
+  items = items;
+  is_image = record { in_format = format; written = refl };
+  text_is = refl;
+  kept = kept;
+}
 
 pub done : (old mid new : Files) (c : Command) (bytes text : List ℕ) → IsBuilt old mid c bytes text → IsWritten mid new c.img bytes → IsDone old new c text
 done old mid new c bytes text b w = record {
