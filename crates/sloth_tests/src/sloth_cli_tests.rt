@@ -111,26 +111,28 @@ fn run(
     Ok((status, is_image_written(&files)))
 }
 
-// Texts that declare nothing, and one that is too long to be read.
+fn line_feeds(alloc: Global, count: usize) -> Result<Vec<u8>, AllocError> {
+    b"\n".repeat(alloc, count)
+}
+
+// Texts that declare nothing, the greatest that is read, and one that is too long.
 #[test]
 fn texts_refused_as_a_whole(rt: HostRuntime) -> Result<(), Fail> {
-    let long = b"\n".repeat(rt.alloc(), 4_194_305)?;
+    let greatest = line_feeds(rt.alloc(), 4_194_304)?;
+    let too_long = line_feeds(rt.alloc(), 4_194_305)?;
+    let nothing = b"refused oil 1 O6\n".as_slice();
     let rows = [
-        (
-            b"".as_slice(),
-            Status::Refused,
-            b"refused oil 1 O6\n".as_slice(),
-        ),
+        (b"".as_slice(), Status::Refused, nothing),
         (
             b"#".as_slice(),
             Status::Refused,
             b"refused oil 1 O1\n".as_slice(),
         ),
-        (long.as_slice(), Status::TooLong, b"too long\n".as_slice()),
+        (greatest.as_slice(), Status::Refused, nothing),
         (
-            &long.as_slice()[1..],
-            Status::Refused,
-            b"refused oil 1 O6\n".as_slice(),
+            too_long.as_slice(),
+            Status::TooLong,
+            b"too long\n".as_slice(),
         ),
     ];
     for (oil, status, text) in rows {
