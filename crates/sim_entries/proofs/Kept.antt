@@ -12,10 +12,11 @@ use Rattle.sim_run.specs.Admits.{IsSetting}
 use Rattle.sim_run.specs.Laws.{BootLaw}
 use Rattle.sim_run.proofs.Invariants.{IsKeptByRuns, IsKeptByEvents, With, boot_with}
 use Rattle.sim_base.specs.Build.{Build, Fits}
+use Rattle.sim_base.specs.Placed.{setting_of}
 use Rattle.sim_base.specs.Stands.{Stands}
 use Rattle.sim_entries.specs.Range.{Sane}
 use Rattle.sim_entries.specs.Boot.{IsImage}
-use Rattle.sim_entries.specs.Codes.{BootStands, setting_of}
+use Rattle.sim_entries.specs.Codes.{BootStands}
 use Rattle.sim_entries.proofs.Boot.{ram_at}
 use Rattle.sim_entries.proofs.BootRoute.{boot_stretch, booted_behind}
 use Rattle.sim_entries.proofs.Spot.{zero_at}
