@@ -30,15 +30,15 @@ module _ (offset resource ceiling : ℕ) (small : ceiling < 256) (c : Core) (h :
       let aligned = h.goes_back.back in
       let x31 = get_or c.registers 31 0 in
       let tail = spread_from 27 5 c.registers in (
-        c.plevel,
-        refl,
+        0,
         refl,
         (
-          c.mepc,
+          c.plevel,
           refl,
           refl,
           (
-            0,
+            c.mepc,
+            refl,
             refl,
             record {
               touches = refl;
