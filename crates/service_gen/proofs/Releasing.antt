@@ -1,5 +1,5 @@
 -- The code of ReleaseResource has its effect.
-use Rattle.std.proofs.Common.{ℕ, ◌+◌, ◌*◌, List, ◌∷◌, get_or, refl, ◌∙◌, subst, arith}
+use Rattle.std.proofs.Common.{ℕ, ◌+◌, ◌*◌, List, ◌∷◌, get_or, refl, ◌∙◌, arith}
 use Rattle.std.proofs.lemmas.List.{get_or-set_other}
 use Rattle.sloth_base.specs.Machine.{Core}
 use Rattle.rv32_instr.specs.declared.InstrKind.{InstrKind}
@@ -8,9 +8,10 @@ use Rattle.rv32_instr.specs.Ram.{word_at}
 use Rattle.rv32_routine.specs.Place.{at}
 use Rattle.rv32_routine.specs.Masked.{FromOpening}
 use Rattle.rv32_routine.specs.Owes.{Owes}
-use Rattle.rv32_routine.proofs.Spread.{spread, spread_is, spread_from}
-use Rattle.rv32_routine.proofs.Whole.{serves, masked}
+use Rattle.rv32_routine.proofs.Spread.{spread, spread_from}
+use Rattle.rv32_routine.proofs.Whole.{masked}
 use Rattle.service_gen.proofs.Others.{others}
+use Rattle.service_gen.proofs.Serving.{opens}
 use Rattle.service_gen.specs.Pieces as piece
 use Rattle.service_gen.specs.ReleaseResource.{MayRelease, Released, Releases}
 
@@ -61,13 +62,7 @@ module _ (offset resource : ℕ) (c : Core) (h : MayRelease offset resource (Csr
       )
 
   runs_it : FromOpening 6 (at offset c) (Released resource)
-  runs_it =
-      let can = h.goes_back.can_run in
-      let fits = can.inside in
-      serves offset 6 (body resource) c (Released resource)
-      (record { there = can.controller; lines = can.lines; aligned = can.aligned; fits = omega arith; placed = can.placed })
-      (omega arith)
-      (subst (λ x. Owes offset (offset + 4 + 24) (offset + 4) (body resource) 0 (Released resource) (at offset x) (masked x)) (spread_is c can.registers can.zero) body_owes)
+  runs_it = opens offset 6 (body resource) c (Released resource) h.goes_back.can_run (omega arith) body_owes
 
 pub releases : (resource : ℕ) → Releases resource (Csrrci 0 8 0x300 ∷ body resource)
 releases resource = record { masks = (body resource, refl); runs = λ offset core h. runs_it offset resource core h }
