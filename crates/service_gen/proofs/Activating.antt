@@ -1,7 +1,6 @@
 -- The code of ActivateTask has its effect.
-use Rattle.std.proofs.Common.{◌≡◌, ℕ, zero, suc, ◌+◌, ◌*◌, ◌<◌, ◌⊎◌, List, ◌∷◌, ◌++◌, length, get_or, refl, ap, ◌∙◌, subst, arith, inl, inr, ⊎_elim}
-use Rattle.std.specs.Prelude.{bit_or, bit_xor, cond}
-use Rattle.std.proofs.lemmas.Bool.{cases_Bool}
+use Rattle.std.proofs.Common.{◌≡◌, ℕ, ◌+◌, ◌*◌, ◌<◌, ◌⊎◌, List, ◌∷◌, ◌++◌, get_or, refl, ap, ◌∙◌, arith, inl, inr, ⊎_elim}
+use Rattle.std.specs.Prelude.{bit_or, bit_xor}
 use Rattle.std.proofs.lemmas.List.{get_or-set_other}
 use Rattle.sloth_base.specs.Machine.{Core}
 use Rattle.sloth_base.specs.Arrive.{arrive}
@@ -12,41 +11,24 @@ use Rattle.rv32_instr.specs.Effect.{shifted_left}
 use Rattle.rv32_routine.specs.Place.{at}
 use Rattle.rv32_routine.specs.Masked.{FromOpening}
 use Rattle.rv32_routine.specs.Owes.{Owes, Pending, Enabled}
-use Rattle.rv32_routine.proofs.Arrivals.{has, byte_after}
-use Rattle.rv32_routine.proofs.Spread.{spread, spread_is, spread_from}
-use Rattle.rv32_routine.proofs.Whole.{serves, masked}
+use Rattle.rv32_routine.proofs.Spread.{spread, spread_from}
+use Rattle.rv32_routine.proofs.Whole.{masked}
+use Rattle.service_gen.proofs.Busy.{bit_arrives, busy_of, busies}
 use Rattle.service_gen.proofs.Others.{others}
+use Rattle.service_gen.proofs.Serving.{opens}
 use Rattle.service_gen.specs.Pieces.{busy, raises, back}
 use Rattle.service_gen.specs.ActivateTask.{MayActivate, Activated, Activates}
 
 abbrev pub body : ℕ → List InstrKind
 body task = Lui 4 0x8_0000 ∷ (busy task 10 1 ++ (Slli 10 10 2 ∷ (raises task ++ back)))
 
--- a pending byte stays a bit under arrivals
-pub bit_arrives : (lines bytes : List ℕ) (k : ℕ) → k < length bytes → get_or bytes k 0 < 2 → get_or (arrive lines bytes) k 0 < 2
-bit_arrives lines bytes k h small =
-    let e = byte_after lines bytes k h in
-    ⊎_elim
-    (λ b. let f : get_or (arrive lines bytes) k 0 ≡ 1 = e ∙ ap (λ x. cond x 1 (get_or bytes k 0)) b in omega arith)
-    (λ b. let f : get_or (arrive lines bytes) k 0 ≡ get_or bytes k 0 = e ∙ ap (λ x. cond x 1 (get_or bytes k 0)) b in omega arith)
-    (cases_Bool (has lines k))
-
--- what the code computes of three bits
+-- the status that the code computes of three bits
 abbrev answer : ℕ → ℕ → ℕ → ℕ
-answer e p a = shifted_left (bit_or (bit_or (bit_xor e 1) p) a) 2
+answer e p a = shifted_left (busy_of e p a) 2
 
 answers : (e p a : ℕ) → e < 2 → p < 2 → a < 2 → (((a ≡ 0) × (p ≡ 0) × (e ≡ 1)) × (answer e p a ≡ 0)) ⊎ ((((a ≡ 0) × (p ≡ 0) × (e ≡ 1)) → ⊥) × (answer e p a ≡ 4))
-answers zero zero zero x y z = inr ((λ h. absurd (omega (arith, h.2))), refl)
-answers zero zero (suc zero) x y z = inr ((λ h. absurd (omega (arith, h.2))), refl)
-answers zero (suc zero) zero x y z = inr ((λ h. absurd (omega (arith, h.2))), refl)
-answers zero (suc zero) (suc zero) x y z = inr ((λ h. absurd (omega (arith, h.2))), refl)
-answers (suc zero) zero zero x y z = inl ((refl, refl, refl), refl)
-answers (suc zero) zero (suc zero) x y z = inr ((λ h. absurd (omega (arith, h.0))), refl)
-answers (suc zero) (suc zero) zero x y z = inr ((λ h. absurd (omega (arith, h.1))), refl)
-answers (suc zero) (suc zero) (suc zero) x y z = inr ((λ h. absurd (omega (arith, h.1))), refl)
-answers e p (suc (suc a)) x y z = absurd (omega arith)
-answers e (suc (suc p)) a x y z = absurd (omega arith)
-answers (suc (suc e)) p a x y z = absurd (omega arith)
+answers e p a x y z =
+    ⊎_elim (λ s. inl (s.0, ap (λ v. shifted_left v 2) s.1)) (λ s. inr (s.0, ap (λ v. shifted_left v 2) s.1)) (busies e p a x y z)
 
 module _ (offset task : ℕ) (c : Core) (h : MayActivate offset task (Csrrci 0 8 0x300 ∷ body task) c) where
   body_owes : Owes offset (offset + 4 + 64) (offset + 4) (body task) 0 (Activated task) (at offset (spread c)) (masked (spread c))
@@ -139,13 +121,7 @@ module _ (offset task : ℕ) (c : Core) (h : MayActivate offset task (Csrrci 0 8
       )
 
   runs_it : FromOpening 16 (at offset c) (Activated task)
-  runs_it =
-      let can = h.goes_back.can_run in
-      let fits = can.inside in
-      serves offset 16 (body task) c (Activated task)
-      (record { there = can.controller; lines = can.lines; aligned = can.aligned; fits = omega arith; placed = can.placed })
-      (omega arith)
-      (subst (λ x. Owes offset (offset + 4 + 64) (offset + 4) (body task) 0 (Activated task) (at offset x) (masked x)) (spread_is c can.registers can.zero) body_owes)
+  runs_it = opens offset 16 (body task) c (Activated task) h.goes_back.can_run (omega arith) body_owes
 
 pub activates : (task : ℕ) → Activates task (Csrrci 0 8 0x300 ∷ body task)
 activates task = record { masks = (body task, refl); runs = λ offset core h. runs_it offset task core h }

@@ -1,12 +1,12 @@
 -- The code of ChainTask has its effect.
-use Rattle.std.proofs.Common.{◌≡◌, ℕ, zero, suc, ◌+◌, ◌*◌, ◌<◌, ◌≤◌, ◌⊎◌, List, [], ◌∷◌, ◌++◌, get_or, refl, sym, ap, ◌∙◌, subst, arith, inl, inr, ⊎_elim}
+use Rattle.std.proofs.Common.{◌≡◌, ℕ, ◌+◌, ◌*◌, ◌<◌, ◌≤◌, List, [], ◌∷◌, ◌++◌, get_or, refl, sym, ap, ◌∙◌, arith, inl, inr, ⊎_elim}
 use Rattle.std.specs.Prelude.{false, set, pos, bit_or, bit_xor, ◌≢◌, eqb}
 use Rattle.std.proofs.lemmas.Bool.{cases_eq, eq-eqb, ne_eqb}
 use Rattle.std.proofs.lemmas.List.{get_or-set_other}
 use Rattle.sloth_base.specs.Machine.{Core, State}
 use Rattle.sloth_base.specs.Arrive.{arrive, state_arrive}
 use Rattle.rv32_instr.specs.declared.InstrKind.{InstrKind}
-use Rattle.rv32_instr.specs.declared.InstrKind.TheVariants.{Lui, Lw, Addi, Beq, Csrrci}
+use Rattle.rv32_instr.specs.declared.InstrKind.TheVariants.{Lui, Addi, Csrrci}
 use Rattle.rv32_instr.specs.Ram.{word_at}
 use Rattle.rv32_instr.specs.Effect.{plus}
 use Rattle.rv32_routine.specs.Place.{at}
@@ -14,37 +14,19 @@ use Rattle.rv32_routine.specs.Masked.{FromOpening}
 use Rattle.rv32_routine.specs.Owes.{AreOf, Owes, Pending, Enabled}
 use Rattle.rv32_routine.specs.Kernel.{leave}
 use Rattle.rv32_routine.proofs.Arrivals.{other_bytes}
-use Rattle.rv32_routine.proofs.Spread.{spread, spread_is, spread_from}
-use Rattle.rv32_routine.proofs.Whole.{serves, masked}
+use Rattle.rv32_routine.proofs.Spread.{spread, spread_from}
+use Rattle.rv32_routine.proofs.Whole.{masked}
 use Rattle.rv32_routine.proofs.Leave.{leave_owes, behind}
 use Rattle.service_gen.proofs.Others.{others}
-use Rattle.service_gen.proofs.Activating.{bit_arrives}
+use Rattle.service_gen.proofs.Busy.{bit_arrives, busy_of, busies}
 use Rattle.service_gen.proofs.Ending.{ended_ram, ends_owe, ended_below, terminated}
-use Rattle.service_gen.specs.Pieces.{ends, busy, raises, back}
+use Rattle.service_gen.proofs.Serving.{opens}
+use Rattle.service_gen.specs.Pieces.{ends, busy, raises, back, asks, refuses}
 use Rattle.service_gen.specs.TerminateTask.{Terminated}
 use Rattle.service_gen.specs.ChainTask.{MayChain, Chained, Chains}
 
 abbrev pub body : ℕ → List InstrKind
-body task =
-    Lui 4 0x8_0000 ∷ Lw 3 4 (pos 0) ∷ Addi 1 0 (pos (task + 1)) ∷ Beq 3 1 (pos 56)
-    ∷ (busy task 3 1 ++ (Beq 3 0 (pos 24) ∷ Addi 10 0 (pos 4) ∷ (back ++ (ends ++ (raises task ++ leave)))))
-
--- what the code computes of three bits
-abbrev busy_of : ℕ → ℕ → ℕ → ℕ
-busy_of e p a = bit_or (bit_or (bit_xor e 1) p) a
-
-busies : (e p a : ℕ) → e < 2 → p < 2 → a < 2 → (((a ≡ 0) × (p ≡ 0) × (e ≡ 1)) × (busy_of e p a ≡ 0)) ⊎ ((((a ≡ 0) × (p ≡ 0) × (e ≡ 1)) → ⊥) × (busy_of e p a ≡ 1))
-busies zero zero zero x y z = inr ((λ h. absurd (omega (arith, h.2))), refl)
-busies zero zero (suc zero) x y z = inr ((λ h. absurd (omega (arith, h.2))), refl)
-busies zero (suc zero) zero x y z = inr ((λ h. absurd (omega (arith, h.2))), refl)
-busies zero (suc zero) (suc zero) x y z = inr ((λ h. absurd (omega (arith, h.2))), refl)
-busies (suc zero) zero zero x y z = inl ((refl, refl, refl), refl)
-busies (suc zero) zero (suc zero) x y z = inr ((λ h. absurd (omega (arith, h.0))), refl)
-busies (suc zero) (suc zero) zero x y z = inr ((λ h. absurd (omega (arith, h.1))), refl)
-busies (suc zero) (suc zero) (suc zero) x y z = inr ((λ h. absurd (omega (arith, h.1))), refl)
-busies e p (suc (suc a)) x y z = absurd (omega arith)
-busies e (suc (suc p)) a x y z = absurd (omega arith)
-busies (suc (suc e)) p a x y z = absurd (omega arith)
+body task = Lui 4 0x8_0000 ∷ (asks task ++ (busy task 3 1 ++ (refuses ++ (back ++ (ends ++ (raises task ++ leave))))))
 
 -- a branch at an offset reaches the instruction behind so many more
 pub lands : (o k n : ℕ) → o ≤ 0x20_0000 → n ≤ 68 → k ≡ 4 + 4 * n → plus (0x8000_0000 + o) (pos k) ≡ 0x8000_0000 + (o + 4 + 4 * n)
@@ -135,7 +117,7 @@ module _ (offset task own place : ℕ) (c : Core) (h : MayChain offset task own 
       )
 
   -- behind the look at the task
-  looked_owe : (o : ℕ) (lines : List ℕ) → o ≤ 0x20_0000 → task ≢ own → Owes offset (offset + 4 + 272) o (Beq 3 0 (pos 24) ∷ Addi 10 0 (pos 4) ∷ (back ++ (ends ++ (raises task ++ leave)))) 0 (λ u. Chained task own place (task ∷ u)) (st (arrive lines c.pending)) (record (masked (spread c)) { registers = 0 ∷ word ∷ x2 ∷ busy_of (get_or c.enabled task 0) (get_or (arrive lines c.pending) task 0) word ∷ 0x8000_0000 ∷ tail; pending = arrive lines c.pending })
+  looked_owe : (o : ℕ) (lines : List ℕ) → o ≤ 0x20_0000 → task ≢ own → Owes offset (offset + 4 + 272) o (refuses ++ (back ++ (ends ++ (raises task ++ leave)))) 0 (λ u. Chained task own place (task ∷ u)) (st (arrive lines c.pending)) (record (masked (spread c)) { registers = 0 ∷ word ∷ x2 ∷ busy_of (get_or c.enabled task 0) (get_or (arrive lines c.pending) task 0) word ∷ 0x8000_0000 ∷ tail; pending = arrive lines c.pending })
   looked_owe o lines small ne =
       let p = arrive lines c.pending in
       let v = busy_of (get_or c.enabled task 0) (get_or p task 0) word in
@@ -215,13 +197,7 @@ module _ (offset task own place : ℕ) (c : Core) (h : MayChain offset task own 
       )
 
   runs_it : FromOpening 68 (at offset c) (Chained task own place)
-  runs_it =
-      let can = h.goes_back.can_run in
-      let fits = can.inside in
-      serves offset 68 (body task) c (Chained task own place)
-      (record { there = can.controller; lines = can.lines; aligned = can.aligned; fits = omega arith; placed = can.placed })
-      (omega arith)
-      (subst (λ x. Owes offset (offset + 4 + 272) (offset + 4) (body task) 0 (Chained task own place) (at offset x) (masked x)) (spread_is c can.registers can.zero) body_owes)
+  runs_it = opens offset 68 (body task) c (Chained task own place) h.goes_back.can_run (omega arith) body_owes
 
 pub chains : (task : ℕ) → Chains task (Csrrci 0 8 0x300 ∷ body task)
 chains task = record { masks = (body task, refl); runs = λ offset own place core h. runs_it offset task own place core h }

@@ -6,3 +6,5 @@ pub mod Releasing
 pub mod Ending
 pub mod Chaining
 pub mod Taking
+pub mod Serving
+pub mod Busy

@@ -1,21 +1,22 @@
 -- The code of ReleaseResource has its effect.
-use Rattle.std.proofs.Common.{ℕ, ◌+◌, ◌*◌, List, [], ◌∷◌, get_or, refl, ◌∙◌, subst, arith}
-use Rattle.std.specs.Prelude.{pos}
+use Rattle.std.proofs.Common.{ℕ, ◌+◌, ◌*◌, List, ◌∷◌, get_or, refl, ◌∙◌, arith}
 use Rattle.std.proofs.lemmas.List.{get_or-set_other}
 use Rattle.sloth_base.specs.Machine.{Core}
 use Rattle.rv32_instr.specs.declared.InstrKind.{InstrKind}
-use Rattle.rv32_instr.specs.declared.InstrKind.TheVariants.{Lui, Lw, Addi, Csrrw, Csrrci, Mret}
+use Rattle.rv32_instr.specs.declared.InstrKind.TheVariants.{Lui, Csrrci}
 use Rattle.rv32_instr.specs.Ram.{word_at}
 use Rattle.rv32_routine.specs.Place.{at}
 use Rattle.rv32_routine.specs.Masked.{FromOpening}
 use Rattle.rv32_routine.specs.Owes.{Owes}
-use Rattle.rv32_routine.proofs.Spread.{spread, spread_is, spread_from}
-use Rattle.rv32_routine.proofs.Whole.{serves, masked}
+use Rattle.rv32_routine.proofs.Spread.{spread, spread_from}
+use Rattle.rv32_routine.proofs.Whole.{masked}
 use Rattle.service_gen.proofs.Others.{others}
+use Rattle.service_gen.proofs.Serving.{opens}
+use Rattle.service_gen.specs.Pieces as piece
 use Rattle.service_gen.specs.ReleaseResource.{MayRelease, Released, Releases}
 
 abbrev pub body : ℕ → List InstrKind
-body resource = Lui 4 0x8_0000 ∷ Lw 3 4 (pos (752 + 4 * resource)) ∷ Csrrw 0 3 0x7C1 ∷ Csrrw 0 31 0x341 ∷ Addi 10 0 (pos 0) ∷ Mret ∷ []
+body resource = Lui 4 0x8_0000 ∷ piece.releases resource
 
 module _ (offset resource : ℕ) (c : Core) (h : MayRelease offset resource (Csrrci 0 8 0x300 ∷ body resource) c) where
   body_owes : Owes offset (offset + 4 + 24) (offset + 4) (body resource) 0 (Released resource) (at offset (spread c)) (masked (spread c))
@@ -35,15 +36,15 @@ module _ (offset resource : ℕ) (c : Core) (h : MayRelease offset resource (Csr
           saved,
           refl,
           (
-            c.plevel,
-            refl,
+            0,
             refl,
             (
-              c.mepc,
+              c.plevel,
               refl,
               refl,
               (
-                0,
+                c.mepc,
+                refl,
                 refl,
                 record {
                   touches = refl;
@@ -61,13 +62,7 @@ module _ (offset resource : ℕ) (c : Core) (h : MayRelease offset resource (Csr
       )
 
   runs_it : FromOpening 6 (at offset c) (Released resource)
-  runs_it =
-      let can = h.goes_back.can_run in
-      let fits = can.inside in
-      serves offset 6 (body resource) c (Released resource)
-      (record { there = can.controller; lines = can.lines; aligned = can.aligned; fits = omega arith; placed = can.placed })
-      (omega arith)
-      (subst (λ x. Owes offset (offset + 4 + 24) (offset + 4) (body resource) 0 (Released resource) (at offset x) (masked x)) (spread_is c can.registers can.zero) body_owes)
+  runs_it = opens offset 6 (body resource) c (Released resource) h.goes_back.can_run (omega arith) body_owes
 
 pub releases : (resource : ℕ) → Releases resource (Csrrci 0 8 0x300 ∷ body resource)
 releases resource = record { masks = (body resource, refl); runs = λ offset core h. runs_it offset resource core h }

@@ -1,5 +1,5 @@
 -- The code of GetResource has its effect.
-use Rattle.std.proofs.Common.{◌≡◌, ℕ, ◌+◌, ◌*◌, ◌%◌, ◌<◌, List, ◌∷◌, ◌++◌, get_or, refl, ap, ◌∙◌, subst, arith, inl, ⊎_elim}
+use Rattle.std.proofs.Common.{◌≡◌, ℕ, ◌+◌, ◌*◌, ◌%◌, ◌<◌, List, ◌∷◌, ◌++◌, get_or, refl, ap, ◌∙◌, arith, inl, ⊎_elim}
 use Rattle.std.specs.Prelude.{max, not}
 use Rattle.std.proofs.lemmas.Bool.{cases_lt, lt-ltb, le-ltb}
 use Rattle.std.proofs.lemmas.List.{get_or-set_other}
@@ -10,10 +10,11 @@ use Rattle.rv32_instr.specs.Ram.{with_word}
 use Rattle.rv32_routine.specs.Place.{at}
 use Rattle.rv32_routine.specs.Masked.{FromOpening}
 use Rattle.rv32_routine.specs.Owes.{Owes}
-use Rattle.rv32_routine.proofs.Spread.{spread, spread_is, spread_from}
-use Rattle.rv32_routine.proofs.Whole.{serves, masked}
+use Rattle.rv32_routine.proofs.Spread.{spread, spread_from}
+use Rattle.rv32_routine.proofs.Whole.{masked}
 use Rattle.service_gen.proofs.Others.{others}
 use Rattle.service_gen.proofs.Chaining.{lands}
+use Rattle.service_gen.proofs.Serving.{opens}
 use Rattle.service_gen.specs.Pieces.{takes, goes_on_at}
 use Rattle.service_gen.specs.GetResource.{MayTake, Taken, Takes}
 
@@ -30,15 +31,15 @@ module _ (offset resource ceiling : ℕ) (small : ceiling < 256) (c : Core) (h :
       let aligned = h.goes_back.back in
       let x31 = get_or c.registers 31 0 in
       let tail = spread_from 27 5 c.registers in (
-        c.plevel,
-        refl,
+        0,
         refl,
         (
-          c.mepc,
+          c.plevel,
           refl,
           refl,
           (
-            0,
+            c.mepc,
+            refl,
             refl,
             record {
               touches = refl;
@@ -90,13 +91,7 @@ module _ (offset resource ceiling : ℕ) (small : ceiling < 256) (c : Core) (h :
       )
 
   runs_it : FromOpening 10 (at offset c) (Taken resource ceiling)
-  runs_it =
-      let can = h.goes_back.can_run in
-      let fits = can.inside in
-      serves offset 10 (body resource ceiling) c (Taken resource ceiling)
-      (record { there = can.controller; lines = can.lines; aligned = can.aligned; fits = omega arith; placed = can.placed })
-      (omega arith)
-      (subst (λ x. Owes offset (offset + 4 + 40) (offset + 4) (body resource ceiling) 0 (Taken resource ceiling) (at offset x) (masked x)) (spread_is c can.registers can.zero) body_owes)
+  runs_it = opens offset 10 (body resource ceiling) c (Taken resource ceiling) h.goes_back.can_run (omega arith) body_owes
 
 pub taken : (resource ceiling : ℕ) → ceiling < 256 → Takes resource ceiling (Csrrci 0 8 0x300 ∷ body resource ceiling)
 taken resource ceiling small = record { masks = (body resource ceiling, refl); runs = λ offset core h. runs_it offset resource ceiling small core h }

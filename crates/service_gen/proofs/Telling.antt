@@ -1,5 +1,5 @@
 -- The code of GetTaskID has its effect.
-use Rattle.std.proofs.Common.{ℕ, ◌+◌, List, ◌∷◌, get_or, refl, ◌∙◌, subst, arith}
+use Rattle.std.proofs.Common.{ℕ, ◌+◌, List, ◌∷◌, get_or, refl, ◌∙◌, arith}
 use Rattle.std.specs.Prelude.{set, pos, negsuc}
 use Rattle.std.proofs.lemmas.List.{get_or-set_other}
 use Rattle.sloth_base.specs.Machine.{Core}
@@ -8,9 +8,10 @@ use Rattle.rv32_instr.specs.declared.InstrKind.TheVariants.{Lui, Lw, Addi, Csrrc
 use Rattle.rv32_routine.specs.Place.{at}
 use Rattle.rv32_routine.specs.Masked.{FromOpening}
 use Rattle.rv32_routine.specs.Owes.{Owes}
-use Rattle.rv32_routine.proofs.Spread.{spread, spread_is, spread_from}
-use Rattle.rv32_routine.proofs.Whole.{serves, masked}
+use Rattle.rv32_routine.proofs.Spread.{spread, spread_from}
+use Rattle.rv32_routine.proofs.Whole.{masked}
 use Rattle.service_gen.proofs.Others.{others}
+use Rattle.service_gen.proofs.Serving.{opens}
 use Rattle.service_gen.specs.Pieces.{back}
 use Rattle.service_gen.specs.GetTaskID.{MayTell, Told, TellsTask}
 
@@ -71,13 +72,7 @@ module _ (offset task : ℕ) (c : Core) (h : MayTell offset task (Csrrci 0 8 0x3
       )
 
   runs_it : FromOpening 8 (at offset c) (Told task)
-  runs_it =
-      let can = h.goes_back.can_run in
-      let fits = can.inside in
-      serves offset 8 body c (Told task)
-      (record { there = can.controller; lines = can.lines; aligned = can.aligned; fits = omega arith; placed = can.placed })
-      (omega arith)
-      (subst (λ x. Owes offset (offset + 4 + 32) (offset + 4) body 0 (Told task) (at offset x) (masked x)) (spread_is c can.registers can.zero) body_owes)
+  runs_it = opens offset 8 body c (Told task) h.goes_back.can_run (omega arith) body_owes
 
 pub tells : TellsTask (Csrrci 0 8 0x300 ∷ body)
 tells = record { masks = (body, refl); runs = λ offset task core h. runs_it offset task core h }

@@ -19,13 +19,21 @@ busy task rd other =
 abbrev pub raises : ℕ → List InstrKind
 raises task = Lui 1 0x1_0000 ∷ Addi 3 0 (pos 1) ∷ Sb 1 3 (pos task) ∷ []
 
--- back to the caller, whose address is in x31, at the level that runs
+-- back to the caller, whose address is in x31, at the level in x3
+abbrev pub back_at : List InstrKind
+back_at = Csrrw 0 3 0x7C1 ∷ Csrrw 0 31 0x341 ∷ Mret ∷ []
+
+-- at the level that runs
 abbrev pub back : List InstrKind
-back = Csrrs 3 0 0x7C0 ∷ Csrrw 0 3 0x7C1 ∷ Csrrw 0 31 0x341 ∷ Mret ∷ []
+back = Csrrs 3 0 0x7C0 ∷ back_at
+
+-- at the level in x3, with the status E_OK (0)
+abbrev pub goes_on_at : List InstrKind
+goes_on_at = Addi 10 0 (pos 0) ∷ back_at
 
 -- to the level that was saved for a resource, and back to the caller
 abbrev pub releases : ℕ → List InstrKind
-releases resource = Lw 3 4 (pos (752 + 4 * resource)) ∷ Csrrw 0 3 0x7C1 ∷ Csrrw 0 31 0x341 ∷ Addi 10 0 (pos 0) ∷ Mret ∷ []
+releases resource = Lw 3 4 (pos (752 + 4 * resource)) ∷ goes_on_at
 
 -- ChainTask asks whether the task is the caller, and goes on behind the refusal where it is
 abbrev pub asks : ℕ → List InstrKind
@@ -39,7 +47,3 @@ refuses = Beq 3 0 (pos 24) ∷ Addi 10 0 (pos 4) ∷ []
 abbrev pub takes : ℕ → ℕ → List InstrKind
 takes resource ceiling =
     Csrrs 3 0 0x7C0 ∷ Sw 4 3 (pos (752 + 4 * resource)) ∷ Addi 1 0 (pos ceiling) ∷ Bgeu 3 1 (pos 8) ∷ Addi 3 1 (pos 0) ∷ []
-
--- back to the caller, at the level in x3, with the status E_OK (0)
-abbrev pub goes_on_at : List InstrKind
-goes_on_at = Csrrw 0 3 0x7C1 ∷ Csrrw 0 31 0x341 ∷ Addi 10 0 (pos 0) ∷ Mret ∷ []

@@ -1,9 +1,9 @@
 //! GetResource: the level that runs is saved, and at least the resource's ceiling runs.
 ghost use Rattle.std.specs.Prelude.{◌≡◌, ◌≤◌, ◌++◌, IfOk, OnOk};
-ghost use Rattle.service_gen.specs.Pieces.{takes, goes_on_at};
+ghost use Rattle.service_gen.specs.Pieces.{takes};
 ghost use Rattle.service_gen.specs.GetResource.{Takes};
 
-use crate::pieces::open;
+use crate::pieces::{go_on, open};
 use rv32_instr::{Instr, InstrKind};
 use rv32_routine::emit::emit;
 use sloth_base::numbers::Reg;
@@ -54,29 +54,4 @@ fn take(code: &mut Vec<Instr>, resource: u8, ceiling: u8) -> Result<(), AllocErr
         },
     ];
     emit(code, &taken)
-}
-
-/// Back to the caller, at the level in x3, with the status 0.
-fn go_on(code: &mut Vec<Instr>) -> Result<(), AllocError>
-    ensures { OnOk result (code.new.items ≡ code.old.items ++ goes_on_at) }
-{
-    let gone_on = [
-        InstrKind::Csrrw {
-            rd: Reg(0),
-            rs1: Reg(3),
-            csr: 0x7C1,
-        },
-        InstrKind::Csrrw {
-            rd: Reg(0),
-            rs1: Reg(31),
-            csr: 0x341,
-        },
-        InstrKind::Addi {
-            rd: Reg(10),
-            rs1: Reg(0),
-            imm: 0,
-        },
-        InstrKind::Mret,
-    ];
-    emit(code, &gone_on)
 }

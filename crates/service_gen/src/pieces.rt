@@ -1,7 +1,7 @@
 //! Pieces of code that several services have.
 ghost use Rattle.std.specs.Prelude.{◌≡◌, ◌<◌, ◌++◌, ◌∷◌, [], OnOk};
 ghost use Rattle.rv32_instr.specs.declared.InstrKind.TheVariants.{Csrrci, Lui};
-ghost use Rattle.service_gen.specs.Pieces.{ends, busy, raises, back};
+ghost use Rattle.service_gen.specs.Pieces.{ends, busy, raises, back_at, back, goes_on_at};
 
 use rv32_instr::{Instr, InstrKind};
 use rv32_routine::emit::emit;
@@ -152,16 +152,11 @@ pub fn raise(code: &mut Vec<Instr>, task: u8) -> Result<(), AllocError>
     emit(code, &raised)
 }
 
-/// Back to the caller, whose address is in x31, at the level that runs.
-pub fn go_back(code: &mut Vec<Instr>) -> Result<(), AllocError>
-    ensures { OnOk result (code.new.items ≡ code.old.items ++ back) }
+/// Back to the caller, whose address is in x31, at the level in x3.
+fn go_back_at(code: &mut Vec<Instr>) -> Result<(), AllocError>
+    ensures { OnOk result (code.new.items ≡ code.old.items ++ back_at) }
 {
     let gone_back = [
-        InstrKind::Csrrs {
-            rd: Reg(3),
-            rs1: Reg(0),
-            csr: 0x7C0,
-        },
         InstrKind::Csrrw {
             rd: Reg(0),
             rs1: Reg(3),
@@ -175,4 +170,34 @@ pub fn go_back(code: &mut Vec<Instr>) -> Result<(), AllocError>
         InstrKind::Mret,
     ];
     emit(code, &gone_back)
+}
+
+/// Back to the caller, at the level that runs.
+pub fn go_back(code: &mut Vec<Instr>) -> Result<(), AllocError>
+    ensures { OnOk result (code.new.items ≡ code.old.items ++ back) }
+{
+    emit(
+        code,
+        &[InstrKind::Csrrs {
+            rd: Reg(3),
+            rs1: Reg(0),
+            csr: 0x7C0,
+        }],
+    )?;
+    go_back_at(code)
+}
+
+/// Back to the caller, at the level in x3, with the status 0.
+pub fn go_on(code: &mut Vec<Instr>) -> Result<(), AllocError>
+    ensures { OnOk result (code.new.items ≡ code.old.items ++ goes_on_at) }
+{
+    emit(
+        code,
+        &[InstrKind::Addi {
+            rd: Reg(10),
+            rs1: Reg(0),
+            imm: 0,
+        }],
+    )?;
+    go_back_at(code)
 }

@@ -3,7 +3,7 @@ ghost use Rattle.std.specs.Prelude.{◌≡◌, ◌≤◌, ◌++◌, IfOk, OnOk};
 ghost use Rattle.service_gen.specs.Pieces.{releases};
 ghost use Rattle.service_gen.specs.ReleaseResource.{Releases};
 
-use crate::pieces::open;
+use crate::pieces::{go_on, open};
 use rv32_instr::{Instr, InstrKind};
 use rv32_routine::emit::emit;
 use sloth_base::numbers::Reg;
@@ -25,28 +25,13 @@ fn release(code: &mut Vec<Instr>, resource: u8) -> Result<(), AllocError>
     requires { resource ≤ 32 }
     ensures { OnOk result (code.new.items ≡ code.old.items ++ releases resource) }
 {
-    let released = [
-        InstrKind::Lw {
+    emit(
+        code,
+        &[InstrKind::Lw {
             rd: Reg(3),
             rs1: Reg(4),
             imm: 752 + 4 * resource as i32,
-        },
-        InstrKind::Csrrw {
-            rd: Reg(0),
-            rs1: Reg(3),
-            csr: 0x7C1,
-        },
-        InstrKind::Csrrw {
-            rd: Reg(0),
-            rs1: Reg(31),
-            csr: 0x341,
-        },
-        InstrKind::Addi {
-            rd: Reg(10),
-            rs1: Reg(0),
-            imm: 0,
-        },
-        InstrKind::Mret,
-    ];
-    emit(code, &released)
+        }],
+    )?;
+    go_on(code)
 }

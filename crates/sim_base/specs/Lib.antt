@@ -10,3 +10,4 @@ pub mod Entry
 pub mod Start
 pub mod Laws
 pub mod Placed
+pub mod Bounds

@@ -16,12 +16,13 @@ use Rattle.sim_run.proofs.Routes.{Booting, booting}
 use Rattle.sim_run.proofs.Schedule.{below_moments}
 use Rattle.sim_run.proofs.Traces.{lines_before, below_trace}
 use Rattle.sim_base.specs.Build.{Build, Fits}
+use Rattle.sim_base.specs.Placed.{setting_of}
 use Rattle.sim_base.specs.Stands.{Stands}
 use Rattle.sim_base.specs.Start.{started}
 use Rattle.sim_base.proofs.Arrive.{stands_arrived}
+use Rattle.sim_base.proofs.Placed.{in_place-agree}
 use Rattle.sim_entries.specs.Boot.{IsImage}
-use Rattle.sim_entries.specs.Codes.{BootStands, setting_of}
-use Rattle.sim_entries.proofs.Codes.{in_place-agree}
+use Rattle.sim_entries.specs.Codes.{BootStands}
 use Rattle.sim_entries.proofs.Boot.{boots_law, ram_at}
 
 -- a stretch that touches no line has no early arrivals

@@ -1,36 +1,18 @@
--- Code that stands in the image stands in RAM, and where it stands no context does.
-use Rattle.std.proofs.Common.{◌≡◌, ℕ, ◌+◌, ◌*◌, ◌<◌, ◌≤◌, List, [], ◌∷◌, length, ap, ◌∙◌, arith, ⊎_elim, inl, inr, true}
+-- Where code stands in the image no context does.
+use Rattle.std.proofs.Common.{◌≡◌, ℕ, ◌+◌, ◌*◌, ◌<◌, ◌≤◌, List, [], ◌∷◌, length, arith, ⊎_elim, inl, inr}
 use Rattle.std.specs.Prelude.{◌⊎◌, slice_index}
 use Rattle.std.proofs.lemmas.Bool.{cases_lt}
 use Rattle.sloth_base.specs.Machine.{State}
 use Rattle.rv32_instr.specs.declared.InstrKind.{InstrKind}
-use Rattle.rv32_instr.specs.Table.{Decode}
-use Rattle.rv32_routine.specs.Place.{InPlace}
-use Rattle.rv32_routine.proofs.Words.{word_at-agree}
 use Rattle.osek_machine.specs.State.{System, task}
 use Rattle.sim_base.specs.Build.{Build, Fits}
 use Rattle.sim_base.specs.Position.{thread_of}
 use Rattle.sim_base.specs.Context.{Running}
 use Rattle.sim_base.specs.Stands.{Falling}
+use Rattle.sim_base.specs.Placed.{IsPlaced}
 use Rattle.sim_base.proofs.Contexts.{context_below}
+use Rattle.sim_base.proofs.Placed.{code_behind}
 use Rattle.sim_base.proofs.Tops.{falling_head}
-use Rattle.sim_entries.specs.Codes.{IsPlaced}
-
-pub in_place-agree : (old new : List ℕ) (code : List InstrKind) (offset : ℕ) → ((i : ℕ) → offset ≤ i → i < offset + 4 * length code → slice_index new i ≡ slice_index old i)
-    → InPlace old offset code → InPlace new offset code
-in_place-agree old new [] offset same h = tt
-in_place-agree old new (kind ∷ code) offset same h = (
-  ap Decode (word_at-agree new old offset (λ i a c. same i a (omega arith))) ∙ h.0,
-  in_place-agree old new code (offset + 4) (λ i a c. same i (omega arith) (omega arith)) h.1,
-)
-
--- code in RAM
-pub placed_in : (b : Build) (ram : List ℕ) (offset : ℕ) (code : List InstrKind) → ((i : ℕ) → b.is_code i ≡ true → slice_index ram i ≡ slice_index b.memory i)
-    → IsPlaced b offset code → InPlace ram offset code
-placed_in b ram offset code same p = in_place-agree b.memory ram code offset (λ i a c. same i (p.is_code i a c)) p.placed
-
-pub code_behind : (b : Build) (offset : ℕ) (code : List InstrKind) → Fits b → 0 < length code → IsPlaced b offset code → 1024 ≤ offset
-code_behind b offset code fits some p = fits.elsewhere offset (inl (p.is_code offset (omega arith) (omega arith)))
 
 -- code is apart from a task's part of the stacks
 pub code_apart : (b : Build) (t offset : ℕ) (code : List InstrKind) → Fits b → t < length b.config.tasks → b.low t < b.top t → 0 < length code → IsPlaced b offset code

@@ -27,14 +27,16 @@ use Rattle.sim_run.proofs.Routes.{Entering, entering, touches_parted, begins_ent
 use Rattle.sim_run.proofs.StretchPiece.{stretch_advances}
 use Rattle.sim_run.proofs.Traces.{below_trace}
 use Rattle.sim_base.specs.Build.{Build, Fits, start_level}
+use Rattle.sim_base.specs.Placed.{setting_of}
 use Rattle.sim_base.specs.Stands.{Stands}
 use Rattle.sim_base.proofs.Arrive.{stands_arrived}
 use Rattle.sim_base.proofs.Choice.{taken_declared}
+use Rattle.sim_base.proofs.Placed.{placed_in, code_behind}
 use Rattle.sim_base.proofs.Spot.{Spot, spot}
 use Rattle.sim_entries.specs.Range.{Sane}
 use Rattle.sim_entries.specs.Entries.{StandsAlone, first_words}
-use Rattle.sim_entries.specs.Codes.{PrologueStands, setting_of}
-use Rattle.sim_entries.proofs.Codes.{placed_in, code_behind, code_apart, code_beside}
+use Rattle.sim_entries.specs.Codes.{PrologueStands}
+use Rattle.sim_entries.proofs.Codes.{code_apart, code_beside}
 use Rattle.sim_entries.proofs.BootRoute.{none_early, lines_below}
 use Rattle.sim_entries.proofs.Enter as law
 use Rattle.sim_entries.proofs.Spot.{stored_at}

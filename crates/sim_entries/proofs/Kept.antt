@@ -1,6 +1,5 @@
 -- Boot with the facts that are kept beside the relation, and the range of the numbers at the start and after arrivals.
-use Rattle.std.proofs.Common.{ℕ, ◌<◌, List, arith}
-use Rattle.std.specs.Prelude.{slice_index}
+use Rattle.std.proofs.Common.{ℕ, List, arith}
 use Rattle.sloth_base.specs.declared.event.Arrival.{Arrival}
 use Rattle.sloth_base.specs.declared.image.Image.{Image}
 use Rattle.sloth_base.specs.Machine.{State}
@@ -11,16 +10,18 @@ use Rattle.osek_machine.specs.State.{System, opening}
 use Rattle.sim_run.specs.Admits.{IsSetting}
 use Rattle.sim_run.specs.Laws.{BootLaw}
 use Rattle.sim_run.proofs.Invariants.{IsKeptByRuns, IsKeptByEvents, With, boot_with}
+use Rattle.sim_base.specs.Bounds.{AreBelow}
 use Rattle.sim_base.specs.Build.{Build, Fits}
+use Rattle.sim_base.specs.Placed.{setting_of}
 use Rattle.sim_base.specs.Stands.{Stands}
 use Rattle.sim_entries.specs.Range.{Sane}
 use Rattle.sim_entries.specs.Boot.{IsImage}
-use Rattle.sim_entries.specs.Codes.{BootStands, setting_of}
+use Rattle.sim_entries.specs.Codes.{BootStands}
 use Rattle.sim_entries.proofs.Boot.{ram_at}
 use Rattle.sim_entries.proofs.BootRoute.{boot_stretch, booted_behind}
 use Rattle.sim_entries.proofs.Spot.{zero_at}
 
-pub sane_start : (image : Image) → ((i : ℕ) → slice_index image.memory i < 256) → Sane (start image)
+pub sane_start : (image : Image) → AreBelow 256 image.memory → Sane (start image)
 sane_start image bytes = record {
   pc = omega arith;
   registers = λ i. let e = zero_at 32 i in omega arith;

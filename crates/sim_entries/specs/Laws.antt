@@ -16,13 +16,14 @@ use Rattle.osek_machine.specs.Steps.{OsekStep, settled}
 use Rattle.sim_run.specs.Admits.{IsSetting, lines_at, with_admits}
 use Rattle.sim_run.specs.Laws.{BootLaw, StretchLaw}
 use Rattle.sim_base.specs.Build.{Build, Fits}
+use Rattle.sim_base.specs.Placed.{setting_of}
 use Rattle.sim_base.specs.Stands.{Stands}
 use Rattle.sim_base.specs.Start.{started}
 use Rattle.vector_gen.specs.Boot.{Booted}
 use Rattle.sim_entries.specs.Range.{Sane}
 use Rattle.sim_entries.specs.Entries.{EntersAnew, StandsAlone}
 use Rattle.sim_entries.specs.Boot.{IsImage, AreLevelsOf}
-use Rattle.sim_entries.specs.Codes.{BootStands, PrologueStands, setting_of}
+use Rattle.sim_entries.specs.Codes.{BootStands, PrologueStands}
 
 -- Where a task's line is the one taken and the task is to start anew, its prologue is the event Enter, whatever ran.
 abbrev pub EnterLaw : Type 0

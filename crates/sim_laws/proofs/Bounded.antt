@@ -29,7 +29,8 @@ use Rattle.rv32_routine.proofs.Words.{word_below}
 use Rattle.rv32_machine.specs.Advance.{Goes, advance, outcome}
 use Rattle.rv32_machine.specs.Run.{moment, arrived}
 use Rattle.sim_run.specs.Admits.{lines_at}
-use Rattle.sim_laws.specs.Bounded.{AreBelow, CoreBounded, IsBounded}
+use Rattle.sim_base.specs.Bounds.{AreBelow}
+use Rattle.sim_laws.specs.Bounded.{CoreBounded, IsBounded}
 use Rattle.sim_laws.proofs.Results.{set_below, mod_fits, signed_fits, and_fits, ChangeFits, EffectFits, effect_fits}
 
 -- ---- registers and memory

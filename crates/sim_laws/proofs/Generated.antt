@@ -65,7 +65,7 @@ module _ (b : Build) (image : Image) (levels : Levels) (map : Map) (g : IsGenera
         offset = p.offset;
         code = p.code;
         enters = enters_built b levels map t p.code g.fits built l p.one_body p.enters;
-        placed = record { aligned = p.placed.aligned; inside = p.placed.inside; is_code = p.placed.is_code; placed = p.placed.placed };
+        placed = p.placed;
         jump = v.jump;
         vector_word = record { aligned = omega arith; inside = omega arith; is_code = v.is_code; placed = (v.placed, tt) };
         to_code = v.target_is ∙ p.is;
@@ -84,7 +84,7 @@ module _ (b : Build) (image : Image) (levels : Levels) (map : Map) (g : IsGenera
       ranks = built.ranks;
       code = g.boot;
       boots = subst (λ i. Boots b.config.tasks levels.task i g.boot) (sym g.idle_is) g.boots;
-      placed = record { aligned = g.boot_placed.aligned; inside = g.boot_placed.inside; is_code = g.boot_placed.is_code; placed = g.boot_placed.placed };
+      placed = g.boot_placed;
     };
     idle = g.idle;
     prologues = prologue;

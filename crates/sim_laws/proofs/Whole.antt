@@ -22,6 +22,7 @@ use Rattle.sim_run.proofs.Follow.{booted_admits, leads_admits}
 use Rattle.sim_run.proofs.Invariants.{With, along_events, simulation_with, boot_with}
 use Rattle.sim_run.proofs.Schedule.{below_moments}
 use Rattle.sim_run.proofs.Simulated.{sound, is_setting}
+use Rattle.sim_base.specs.Bounds.{AreBelow}
 use Rattle.sim_base.specs.Build.{Build}
 use Rattle.sim_base.specs.Stands.{Stands}
 use Rattle.sim_base.proofs.Arrive.{stands_arrived}
@@ -31,7 +32,7 @@ use Rattle.sim_entries.proofs.BootRoute.{boot_stretch}
 use Rattle.sim_entries.proofs.Spot.{zero_at}
 use Rattle.sim_items.specs.Outside.{setting_of}
 use Rattle.sim_items.specs.Progress.{passed_at, passed_in, progress_in}
-use Rattle.sim_laws.specs.Bounded.{AreBelow, IsBounded}
+use Rattle.sim_laws.specs.Bounded.{IsBounded}
 use Rattle.sim_laws.specs.Kernel.{Kernel, Computes, Ends}
 use Rattle.sim_laws.specs.Plain.{OnlyComputes, IsPlain}
 use Rattle.sim_laws.proofs.Bounded.{arrive_fits, bounds_stay}

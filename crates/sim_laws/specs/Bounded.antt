@@ -1,13 +1,11 @@
 -- The numbers of the machine's state have room in its registers and bytes.
-use Rattle.std.specs.Prelude.{ℕ, ◌<◌, ◌≡◌, List, slice_index}
+use Rattle.std.specs.Prelude.{ℕ, ◌<◌, ◌≡◌, List}
 use Rattle.sloth_base.specs.declared.event.Arrival.{Arrival}
 use Rattle.sloth_base.specs.declared.step.Step.{Step}
 use Rattle.sloth_base.specs.Machine.{Core, State}
 use Rattle.rv32_machine.specs.Advance.{Goes}
 use Rattle.rv32_machine.specs.Run.{moment}
-
-abbrev pub AreBelow : ℕ → List ℕ → Type 0
-AreBelow bound numbers = (i : ℕ) → slice_index numbers i < bound
+use Rattle.sim_base.specs.Bounds.{AreBelow}
 
 -- words are below 2^32, and bytes and levels below 2^8
 pub record CoreBounded (core : Core) : Type 0 where

@@ -13,6 +13,7 @@ use Rattle.vector_gen.specs.Vectors.{AreJumps}
 use Rattle.prologue_gen.specs.Places.{EntersTask}
 use Rattle.std.specs.Prelude.{Some}
 use Rattle.std.specs.List.{slice_get}
+use Rattle.sim_base.specs.Bounds.{AreBelow}
 use Rattle.sim_base.specs.Build.{Build, Fits}
 use Rattle.sim_base.specs.Placed.{IsPlaced}
 use Rattle.sim_base.specs.Stands.{AreApart}
@@ -20,7 +21,6 @@ use Rattle.sim_entries.specs.Boot.{IsImage}
 use Rattle.sim_entries.specs.Entries.{first_words}
 use Rattle.sim_entries.specs.Generated.{HasOneBody}
 use Rattle.sim_items.specs.Outside.{HasIdle}
-use Rattle.sim_laws.specs.Bounded.{AreBelow}
 use Rattle.sim_laws.specs.Kernel.{Kernel, Computes, Ends}
 
 -- the prologue of a task stands where the map has the handler of its line

@@ -7,6 +7,7 @@ use Rattle.rv32_expand.specs.InPlace.{item_mark}
 use Rattle.observe.specs.Observe.{View, mark_at, view_of_image}
 use Rattle.osek_machine.specs.State.{function}
 use Rattle.sim_run.specs.Sound.{Sound}
+use Rattle.sim_base.specs.Bounds.{AreBelow}
 use Rattle.sim_base.specs.Build.{Build, Fits}
 use Rattle.sim_base.specs.Stands.{AreApart}
 use Rattle.sim_entries.specs.Boot.{IsImage}
@@ -15,7 +16,6 @@ use Rattle.sim_items.specs.Place.{IsComputed}
 use Rattle.sim_items.specs.Laws.{IsOneInstruction}
 use Rattle.sim_items.specs.Outside.{JumpsToService, HasIdle}
 use Rattle.sim_services.specs.Stretch.{HasTerminateTask}
-use Rattle.sim_laws.specs.Bounded.{AreBelow}
 
 -- an item that computes on registers and numbers stands in the image, with its mark
 pub record Computes (b : Build) (view : View) (func item : ℕ) : Type 0 where

@@ -10,9 +10,10 @@ use Rattle.osek_machine.specs.State.{System, task}
 use Rattle.osek_machine.specs.Priority.{IsTop}
 use Rattle.osek_machine.specs.Services.{ended}
 use Rattle.osek_machine.specs.Steps.{OsekStep, settled}
+use Rattle.sim_base.specs.Bounds.{AreBelow}
 use Rattle.sim_base.specs.Build.{Build, Fits}
 use Rattle.sim_base.specs.Stands.{Stands}
-use Rattle.sim_services.specs.Opening.{AtOpening, AreBytes}
+use Rattle.sim_services.specs.Opening.{AtOpening}
 
 -- what holds where TerminateTask of the running task begins: it holds no resource, and the context below it stands at `place`
 pub record MayEnd (b : Build) (state : State) (s : System) (t place : ℕ) : Type 0 where
@@ -20,7 +21,7 @@ pub record MayEnd (b : Build) (state : State) (s : System) (t place : ℕ) : Typ
   pub opening : AtOpening b state s t service.TerminateTask
   pub top : IsTop b.config s s.fresh t
   pub holds_nothing : (task s t).held ≡ []
-  pub bytes : AreBytes state.core.ram
+  pub bytes : AreBelow 256 state.core.ram
   pub below : word_at state.core.ram below_word ≡ 0x8000_0000 + place
 
 -- TerminateTask ends the task: what runs below it goes on, the task below or the idle loop.

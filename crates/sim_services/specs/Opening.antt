@@ -1,5 +1,5 @@
 -- Where a task's service begins.
-use Rattle.std.specs.Prelude.{ℕ, ◌+◌, ◌<◌, ◌≡◌, false, List, ◌∷◌, length, slice_index}
+use Rattle.std.specs.Prelude.{ℕ, ◌+◌, ◌<◌, ◌≡◌, false, List, ◌∷◌, length}
 use Rattle.sloth_base.specs.declared.service.Service.{Service}
 use Rattle.sloth_base.specs.Machine.{State}
 use Rattle.sloth_region.specs.Layout.{cur}
@@ -18,7 +18,3 @@ pub record AtOpening (b : Build) (state : State) (s : System) (t : ℕ) (service
   pub inside : frame.item < length (function b.app frame.func).items
   pub block : AtBlock b frame (thread_of state)
   pub calls : block.call.service ≡ service
-
--- RAM's entries are bytes
-abbrev pub AreBytes : List ℕ → Type 0
-AreBytes ram = (i : ℕ) → slice_index ram i < 256

@@ -16,10 +16,11 @@ use Rattle.osek_machine.specs.State.{System, task}
 use Rattle.osek_machine.specs.Priority.{is_in}
 use Rattle.sim_run.specs.Admits.{IsSetting, lines_at, with_admits}
 use Rattle.sim_run.specs.Laws.{StretchLaw}
+use Rattle.sim_base.specs.Bounds.{AreBelow}
 use Rattle.sim_base.specs.Build.{Build, Fits}
 use Rattle.sim_base.specs.Stands.{Stands}
 use Rattle.sim_base.specs.Placed.{setting_of, IsPlaced}
-use Rattle.sim_services.specs.Opening.{AtOpening, AreBytes}
+use Rattle.sim_services.specs.Opening.{AtOpening}
 
 -- the block of TerminateTask stands in the image, with code that does it, and its mark
 pub record HasTerminateTask (b : Build) (view : View) (object : ℕ) : Type 0 where
@@ -40,7 +41,7 @@ pub record OpensTerminateTask (b : Build) (view : View) (state : State) (s : Sys
   pub in_place : HasTerminateTask b view opening.block.call.object
   pub holds_nothing : (task s t).held ≡ []
   pub not_fresh : is_in t s.fresh ≡ false
-  pub bytes : AreBytes state.core.ram
+  pub bytes : AreBelow 256 state.core.ram
 
 -- The stretch that begins there is the event Left of TerminateTask.
 abbrev pub TerminateTaskStretches : Type 0

@@ -1,6 +1,6 @@
 -- The image of one task holds a kernel in place.
 use Rattle.std.proofs.Common.{◌≡◌, ◌<◌, ℕ, zero, suc, ℤ, List, [], length, refl, sym, ap, ◌∙◌, subst, arith, inl, inr, Some}
-use Rattle.std.specs.Prelude.{◌⊎◌, negsuc, All, slice_index}
+use Rattle.std.specs.Prelude.{◌⊎◌, negsuc, All}
 use Rattle.sloth_base.specs.declared.config.Config.{Config}
 use Rattle.sloth_base.specs.declared.app.App.{App}
 use Rattle.sloth_base.specs.declared.image.Image.{Image}
@@ -14,6 +14,7 @@ use Rattle.rv32_routine.specs.Place.{AreWritten}
 use Rattle.observe.specs.Observe.{View, view_from, view_of_image, mark_at}
 use Rattle.osek_machine.specs.State.{function}
 use Rattle.sim_run.specs.Sound.{Sound}
+use Rattle.sim_base.specs.Bounds.{AreBelow}
 use Rattle.sim_base.specs.Build.{Build}
 use Rattle.sim_items.specs.Place.{HasInstruction, IsOwn}
 use Rattle.sim_items.specs.Outside.{HasIdle}
@@ -163,7 +164,7 @@ module _ (config : Config) (name : List ℕ) (rd rs1 : ℕ) (imm : ℤ) (one : l
       service_words = service_words k p;
       data_stands = data_stands name rd rs1 imm config (kernel_memory k) (omega arith);
     };
-    bytes = subst (λ m. (i : ℕ) → slice_index m i < 256) (sym memory_is) (bytes k p);
+    bytes = subst (AreBelow 256) (sym memory_is) (bytes k p);
     vectors = k.vectors.code;
     jumps = is.jumps;
     vectors_placed = vectors_placed k p config app r;

@@ -1,0 +1,5 @@
+-- Numbers below a bound.
+use Rattle.std.specs.Prelude.{ℕ, ◌<◌, List, slice_index}
+
+abbrev pub AreBelow : ℕ → List ℕ → Type 0
+AreBelow bound numbers = (i : ℕ) → slice_index numbers i < bound
