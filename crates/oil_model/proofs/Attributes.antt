@@ -1,6 +1,6 @@
 -- What holds of the attributes of an object of a tree without a fault.
 use Rattle.std.proofs.Common.{◌≡◌, ◌∙◌, inl, inr, ℕ, ◌<◌, Bool, true, false, cond, Some, List, length, take, get_or, refl, ap, subst}
-use Rattle.std.specs.Prelude.{◌&&◌, ◌==◌, not}
+use Rattle.std.specs.Prelude.{◌==◌, not}
 use Rattle.std.specs.Str.{bytes_eq}
 use Rattle.std.proofs.lemmas.Slice.Eq.{bytes_eq-Decides}
 use Rattle.sloth_base.specs.declared.refusal.Code.TheVariants.{O10, O12}
@@ -14,15 +14,8 @@ use Rattle.oil_model.specs.Table.{place_of, attribute_of, allows}
 use Rattle.oil_model.specs.Objects.{is_of_kind, is_use, has_scheduler}
 use Rattle.oil_model.specs.AttributeFaults.{inner_place, place_at, misses_value, refers_to_none, is_refused, AttributeFault, RowFault}
 use Rattle.oil_model.specs.ModelFaults.{ModelFault}
+use Rattle.oil_model.proofs.Tests.{and_left, and_right}
 use Rattle.oil_model.proofs.NoFaults.{nowhere, case_false, inner_at}
-
-pub and_left : (a b : Bool) → (a && b) ≡ true → a ≡ true
-and_left true b e = refl
-and_left false b e = cc
-
-pub and_right : (a b : Bool) → (a && b) ≡ true → b ≡ true
-and_right true b e = e
-and_right false b e = cc
 
 not_false : (b : Bool) → not b ≡ false → b ≡ true
 not_false true e = refl

@@ -1,4 +1,10 @@
 pub mod Found
+pub mod Tests
+pub mod Names
+pub mod FirstNumbers
+pub mod Doubles
+pub mod Fronts
+pub mod KeptReferences
 pub mod NoFaults
 pub mod Lists
 pub mod Attributes

@@ -1,6 +1,6 @@
 -- What holds of each object of a tree without a fault.
 use Rattle.std.proofs.Common.{◌≡◌, ◌∙◌, inl, inr, ⊎_elim, ℕ, ◌<◌, ◌≤◌, ◌+◌, Bool, true, false, List, [], ◌∷◌, ◌++◌, length, take, get_or, suc, zero, refl, ap, sym, subst, append_assoc, append-nil, add-one, arith}
-use Rattle.std.specs.Prelude.{◌&&◌, ◌==◌, ◌||◌, not, codes, count_by, filter}
+use Rattle.std.specs.Prelude.{◌&&◌, ◌==◌, not, codes, count_by, filter}
 use Rattle.std.proofs.lemmas.List.Sums.{count_by_more_yes, count_by_more_no, length-filter}
 use Rattle.std.proofs.lemmas.List.{length-map}
 use Rattle.std.proofs.lemmas.Bool.{eqb-false, cases_lt}
@@ -18,6 +18,7 @@ use Rattle.oil_model.specs.Objects.{is_of_kind, has_scheduler}
 use Rattle.oil_model.specs.Events.{events_of}
 use Rattle.oil_model.specs.ObjectFaults.{is_known, is_above, comes_behind}
 use Rattle.oil_model.specs.Configs.{resource_names}
+use Rattle.oil_model.proofs.Tests.{or_left, or_right}
 use Rattle.oil_model.specs.ModelFaults.{InnerFault, ObjectFault, ModelFault}
 
 pub nowhere_from : {X : Type 0} (P : List X → X → Refusal → Type 0) (xs front : List X) → NoFault (SomeFrom P front xs) → (i : ℕ) (d : X) → i < length xs
@@ -38,14 +39,6 @@ case_false false line code n = refl
 
 lt_of_ne : (a b m : ℕ) → a ≤ b → (a ≡ b → ⊥) → m ≡ a + 1 → m ≤ b
 lt_of_ne a b m h ne e = ⊎_elim (λ l. omega (arith, l, e)) (λ l. absurd (ne (omega (arith, h, l)))) (cases_lt a b)
-
-pub or_left : (a b : Bool) → (a || b) ≡ false → a ≡ false
-or_left true b e = cc
-or_left false b e = refl
-
-pub or_right : (a b : Bool) → (a || b) ≡ false → b ≡ false
-or_right true b e = cc
-or_right false b e = e
 
 module _ {X : Type 0} (p : X → Bool) (limit : ℕ) (xs : List X) (never : (i : ℕ) (d : X) → i < length xs → (p (get_or xs i d) && (count_by p (take i xs) == limit)) ≡ false) where
   few_before : (i : ℕ) (d : X) → i ≤ length xs → count_by p (take i xs) ≤ limit

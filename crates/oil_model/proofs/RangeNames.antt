@@ -15,7 +15,8 @@ use Rattle.oil_parse.specs.declared.tree.OilTree.{OilTree}
 use Rattle.oil_model.specs.Objects.{is_of_kind, has_scheduler}
 use Rattle.oil_model.specs.ObjectFaults.{doubles, is_doubled, comes_behind}
 use Rattle.oil_model.specs.ModelFaults.{ModelFault}
-use Rattle.oil_model.proofs.NoFaults.{or_left, or_right, case_false, inner_at, not_above}
+use Rattle.oil_model.proofs.Tests.{or_left, or_right}
+use Rattle.oil_model.proofs.NoFaults.{case_false, inner_at, not_above}
 use Rattle.oil_model.proofs.Lists.{none_pass, All-kept, pairs_kept}
 
 pub true_not_false : (b : Bool) → b ≡ true → b ≡ false → {A : Type 0} → A

@@ -1,10 +1,14 @@
 pub mod Cases
 pub mod Table
 pub mod Objects
+pub mod Numbers
 pub mod Events
 pub mod ObjectFaults
 pub mod AttributeFaults
 pub mod TaskFaults
+pub mod Fronts
+pub mod References
+pub mod KeptReferences
 pub mod ModelFaults
 pub mod Configs
 pub mod Trees

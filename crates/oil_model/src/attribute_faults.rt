@@ -1,16 +1,17 @@
 //! The faults of an attribute by the attribute table.
-ghost use Rattle.std.specs.Prelude.{◌≡◌, ◌&&◌, bytes_eq, codes, is_none};
-ghost use Rattle.std.specs.List.{list_any};
-ghost use Rattle.oil_model.specs.Objects.{is_use};
+ghost use Rattle.std.specs.Prelude.{◌≡◌, ◌&&◌, IfOk, bytes_eq, codes, is_none};
 ghost use Rattle.oil_model.specs.declared.table.Attribute.TheVariants.{Resource};
 ghost use Rattle.sloth_refusal.specs.Search.{Finds, Somewhere};
 ghost use Rattle.oil_model.specs.AttributeFaults.{opened, place_by, is_second_use, misses, misses_value, refers_to_none, is_refused, RowFault, AttributeFault};
 
-use crate::objects::{has, is_use};
+use crate::before::Before;
+use crate::object_table::ObjectTable;
 use crate::table::{Attribute, Place, allows, attribute_of, block_place, is_single, same};
-use oil_parse::tree::{OilAttr, OilObject, OilValue};
+use oil_parse::tree::{OilAttr, OilValue};
+use sloth_base::memory::NoMemory;
 use sloth_base::refusal::{Code, Part, Refusal};
 use sloth_refusal::{merge, when};
+use std::alloc::Global;
 
 fn opened(place: Place, inner: Place, attr: &OilAttr) -> Place
     ensures { result ≡ opened place inner attr.now }
@@ -38,30 +39,24 @@ fn is_unlisted(row: Option<Attribute>) -> bool
     row.is_none()
 }
 
-fn is_used_before(before: &[OilAttr], attr: &OilAttr) -> bool
-    ensures { result ≡ list_any (is_use attr.now.name) before.now }
-{
-    before
-        .iter()
-        .any(|earlier| is_use(earlier, attr.name.bytes()))
-}
-
-fn is_second_use(row: Option<Attribute>, before: &[OilAttr], attr: &OilAttr) -> bool
+fn is_second_use(row: Option<Attribute>, before: &Before, attr: &OilAttr) -> bool
     ensures { result ≡ is_second_use row before.now attr.now }
 {
     match row {
-        Some(attribute) => is_single(attribute) && attr.depth == 0 && is_used_before(before, attr),
+        Some(attribute) => is_single(attribute)
+            && attr.depth == 0
+            && before.is_used(attr.name.bytes()),
         None => false,
     }
 }
 
-fn misses(objects: &[OilObject], scheduler: bool, attribute: Attribute, word: &[u8]) -> bool
+fn misses(objects: &ObjectTable, scheduler: bool, attribute: Attribute, word: &[u8]) -> bool
     ensures { result ≡ misses objects.now scheduler attribute word.now }
 {
     match attribute {
         Attribute::Mode => !same(word, b"OSDEFAULTAPPMODE"),
         Attribute::Resource => misses_resource(objects, scheduler, word),
-        Attribute::Event => !has(objects, b"EVENT", word),
+        Attribute::Event => !objects.has_event(word),
         _ => false,
     }
 }
@@ -72,14 +67,14 @@ fn is_scheduler(scheduler: bool, word: &[u8]) -> bool
     scheduler && same(word, b"RES_SCHEDULER")
 }
 
-fn misses_resource(objects: &[OilObject], scheduler: bool, word: &[u8]) -> bool
+fn misses_resource(objects: &ObjectTable, scheduler: bool, word: &[u8]) -> bool
     ensures { result ≡ misses objects.now scheduler Resource word.now }
 {
-    !is_scheduler(scheduler, word) && !has(objects, b"RESOURCE", word)
+    !is_scheduler(scheduler, word) && !objects.has_resource(word)
 }
 
 fn misses_value(
-    objects: &[OilObject],
+    objects: &ObjectTable,
     scheduler: bool,
     attribute: Attribute,
     value: &OilValue,
@@ -93,7 +88,7 @@ fn misses_value(
 }
 
 fn refers_to_none(
-    objects: &[OilObject],
+    objects: &ObjectTable,
     scheduler: bool,
     row: Option<Attribute>,
     value: &OilValue,
@@ -116,10 +111,10 @@ fn is_refused(row: Option<Attribute>, value: &OilValue) -> bool
 }
 
 fn row_fault(
-    objects: &[OilObject],
+    objects: &ObjectTable,
     scheduler: bool,
     row: Option<Attribute>,
-    before: &[OilAttr],
+    before: &Before,
     attr: &OilAttr,
 ) -> Option<Refusal>
     ensures { Finds (RowFault objects.now scheduler row before.now attr.now) result }
@@ -135,20 +130,22 @@ fn row_fault(
 
 /// O8, O9, O10 and O12 of the attributes of an object.
 pub fn attribute_faults(
-    objects: &[OilObject],
+    alloc: Global,
+    objects: &ObjectTable,
     scheduler: bool,
     place: Place,
     attrs: &[OilAttr],
-) -> Option<Refusal>
-    ensures { Finds (Somewhere (AttributeFault objects.now scheduler place) attrs.now) result }
+) -> Result<Option<Refusal>, NoMemory>
+    ensures { IfOk result (Finds (Somewhere (AttributeFault objects.now scheduler place) attrs.now)) }
 {
+    let mut before = Before::new(alloc);
     let mut inner = Place::Nowhere;
     let mut least = None;
     for (number, attr) in attrs.iter().enumerate() {
         let row = attribute_of(place_by(place, inner, attr), attr.name.bytes());
-        let found = row_fault(objects, scheduler, row, &attrs[..number], attr);
-        least = merge(least, found);
+        least = merge(least, row_fault(objects, scheduler, row, &before, attr));
         inner = opened(place, inner, attr);
+        before = before.with(&attrs[..=number], attr)?;
     }
-    least
+    Ok(least)
 }

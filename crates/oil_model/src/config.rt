@@ -3,12 +3,12 @@ ghost use Rattle.std.specs.Prelude.{◌≡◌, ◌≤◌, ◌==◌, IfOk, OnOk, 
 ghost use Rattle.std.specs.List.{list_any};
 ghost use Rattle.oil_model.specs.Configs.{resource_names, resource_number, listed_resource, with_number, with_resource, resources_of, mask_of_value, listed_mask, event_mask, task_of, tasks_of};
 
-use crate::events::mask_named;
+use crate::event_table::EventTable;
 use crate::memory::push;
+use crate::numbers::Numbers;
 use crate::objects::{first_is, first_number, is_of_kind, is_use, is_used};
-use crate::table::same;
 use oil_parse::tree::{OilAttr, OilObject, OilValue};
-use sloth_base::config::{EventDecl, TaskDecl};
+use sloth_base::config::TaskDecl;
 use sloth_base::list::List;
 use sloth_base::memory::NoMemory;
 use sloth_base::name::Name;
@@ -29,23 +29,17 @@ pub fn resource_names(alloc: Global, objects: &[OilObject]) -> Result<Vec<Name>,
     Ok(names)
 }
 
-fn place_of_name(names: &[Name], word: &[u8]) -> Option<usize>
-    ensures { result ≡ position (bytes_eq word.now) names.now }
-{
-    names.iter().position(|name| same(word, name.bytes()))
-}
-
-fn resource_named(names: &[Name], word: &[u8]) -> Option<u32>
+fn resource_named(names: &Numbers, word: &[u8]) -> Option<u32>
     requires { length names.now ≤ 32 }
     ensures { result ≡ position (bytes_eq word.now) names.now }
 {
-    match place_of_name(names, word) {
+    match names.number(word) {
         Some(number) => Some(number as u32),
         None => None,
     }
 }
 
-fn resource_number(names: &[Name], value: &OilValue) -> Option<u32>
+fn resource_number(names: &Numbers, value: &OilValue) -> Option<u32>
     requires { length names.now ≤ 32 }
     ensures { result ≡ resource_number names.now value.now }
 {
@@ -55,7 +49,7 @@ fn resource_number(names: &[Name], value: &OilValue) -> Option<u32>
     }
 }
 
-fn listed_resource(names: &[Name], attr: &OilAttr) -> Option<u32>
+fn listed_resource(names: &Numbers, attr: &OilAttr) -> Option<u32>
     requires { length names.now ≤ 32 }
     ensures { result ≡ listed_resource names.now attr.now }
 {
@@ -92,7 +86,7 @@ fn add_resource(listed: &mut Vec<ResId>, number: Option<u32>) -> Result<(), NoMe
 }
 
 /// The resources that a task lists, each once.
-fn resources_of(alloc: Global, names: &[Name], attrs: &[OilAttr]) -> Result<Vec<ResId>, NoMemory>
+fn resources_of(alloc: Global, names: &Numbers, attrs: &[OilAttr]) -> Result<Vec<ResId>, NoMemory>
     requires { length names.now ≤ 32 }
     ensures { IfOk result (λ listed. listed.items ≡ resources_of names.now attrs.now) }
 {
@@ -103,16 +97,16 @@ fn resources_of(alloc: Global, names: &[Name], attrs: &[OilAttr]) -> Result<Vec<
     Ok(listed)
 }
 
-fn mask_of_value(events: &[EventDecl], value: &OilValue) -> u32
+fn mask_of_value(events: &EventTable, value: &OilValue) -> u32
     ensures { result ≡ mask_of_value events.now value.now }
 {
     match value {
-        OilValue::Word(word) => mask_named(events, word.bytes()),
+        OilValue::Word(word) => events.mask_named(word.bytes()),
         _ => 0,
     }
 }
 
-fn listed_mask(events: &[EventDecl], attr: &OilAttr) -> u32
+fn listed_mask(events: &EventTable, attr: &OilAttr) -> u32
     ensures { result ≡ listed_mask events.now attr.now }
 {
     if is_use(attr, b"EVENT") {
@@ -123,7 +117,7 @@ fn listed_mask(events: &[EventDecl], attr: &OilAttr) -> u32
 }
 
 /// The union of the masks of the events that a task lists.
-fn event_mask(events: &[EventDecl], attrs: &[OilAttr]) -> u32
+fn event_mask(events: &EventTable, attrs: &[OilAttr]) -> u32
     ensures { result ≡ event_mask events.now attrs.now }
 {
     let mut mask = 0;
@@ -135,8 +129,8 @@ fn event_mask(events: &[EventDecl], attrs: &[OilAttr]) -> u32
 
 fn task_of(
     alloc: Global,
-    names: &[Name],
-    events: &[EventDecl],
+    names: &Numbers,
+    events: &EventTable,
     object: &OilObject,
 ) -> Result<TaskDecl, NoMemory>
     requires { length names.now ≤ 32 }
@@ -157,8 +151,8 @@ fn task_of(
 /// The tasks, in the order of their numbers.
 pub fn tasks_of(
     alloc: Global,
-    names: &[Name],
-    events: &[EventDecl],
+    names: &Numbers,
+    events: &EventTable,
     objects: &[OilObject],
 ) -> Result<Vec<TaskDecl>, NoMemory>
     requires { length names.now ≤ 32 }

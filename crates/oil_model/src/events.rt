@@ -1,12 +1,11 @@
 //! Events and their masks. AUTO events, in the order of their objects, take the lowest bit that is in no number mask and was given
 //! to no earlier AUTO event (OIL 2.5, section 3.2.6).
-ghost use Rattle.std.specs.Prelude.{◌≡◌, ◌<◌, All, IfOk, find, option_copied, bytes_eq};
+ghost use Rattle.std.specs.Prelude.{◌≡◌, ◌<◌, All, IfOk, find};
 ghost use Rattle.sloth_refusal.specs.Search.{Finds, Somewhere};
-ghost use Rattle.oil_model.specs.Events.{is_event, number_bits, number_masks, free_bit, is_auto, mask_by, taken_more, number_mask, lacks_bit, BitFault, events_of, mask_named};
+ghost use Rattle.oil_model.specs.Events.{is_event, number_bits, number_masks, free_bit, is_auto, mask_by, taken_more, number_mask, lacks_bit, BitFault, events_of};
 
 use crate::memory::push;
 use crate::objects::{first_is, first_number, is_of_kind, is_used};
-use crate::table::same;
 use oil_parse::tree::OilObject;
 use sloth_base::config::EventDecl;
 use sloth_base::memory::NoMemory;
@@ -159,20 +158,4 @@ pub fn events_of(alloc: Global, objects: &[OilObject]) -> Result<Vec<EventDecl>,
         taken |= mask;
     }
     Ok(events)
-}
-
-fn event_named<'t>(events: &'t [EventDecl], name: &[u8]) -> Option<&'t EventDecl>
-    ensures { option_copied result ≡ find (λ event. bytes_eq event.name name.now) events.now }
-{
-    events.iter().find(|event| same(event.name.bytes(), name))
-}
-
-/// The mask of the first event of this name, 0 where there is none.
-pub fn mask_named(events: &[EventDecl], name: &[u8]) -> u32
-    ensures { result ≡ mask_named events.now name.now }
-{
-    match event_named(events, name) {
-        Some(event) => event.mask,
-        None => 0,
-    }
 }

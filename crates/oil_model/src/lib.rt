@@ -2,12 +2,18 @@
 #![tactic(auto)]
 
 mod attribute_faults;
+mod before;
 mod config;
+mod event_table;
 mod events;
+mod front;
 mod judge;
 mod memory;
+mod numbers;
 mod object_faults;
+mod object_table;
 mod objects;
+mod references;
 mod resolving;
 mod table;
 mod task_faults;

@@ -1,27 +1,33 @@
 //! The faults of an object as a whole.
-ghost use Rattle.std.specs.Prelude.{◌≡◌, ◌&&◌, codes, count_by};
+ghost use Rattle.std.specs.Prelude.{◌≡◌, ◌&&◌, ◌==◌, codes};
 ghost use Rattle.sloth_refusal.specs.Search.{Finds};
 ghost use Rattle.std.specs.List.{list_any};
-ghost use Rattle.oil_model.specs.Objects.{is_of_kind, declares};
-ghost use Rattle.oil_model.specs.ObjectFaults.{doubles, is_doubled, lacks_attribute, is_strange_mode, comes_behind, is_above, KindFault, KnownFault};
+ghost use Rattle.oil_model.specs.Objects.{is_of_kind, declares, has};
+ghost use Rattle.oil_model.specs.ObjectFaults.{doubles, is_doubled, lacks_attribute, is_strange_mode, is_above, KindFault, KnownFault};
 
+use crate::front::Front;
 use crate::objects::{declares, is_of_kind, is_used};
 use crate::table::{is_nowhere, place_of, same};
 use oil_parse::tree::OilObject;
 use sloth_base::refusal::{Code, Part, Refusal};
 use sloth_refusal::{merge, when};
 
-fn doubles(object: &OilObject, earlier: &OilObject) -> bool
-    ensures { result ≡ doubles object.now earlier.now }
+fn is_second_of_its_name(front: &Front, object: &OilObject) -> bool
+    ensures { result ≡ has front.now object.now.kind object.now.name }
 {
-    same(earlier.kind.bytes(), object.kind.bytes())
-        && (same(earlier.name.bytes(), object.name.bytes()) || is_of_kind(object, b"OS"))
+    front.has(object.kind.bytes(), object.name.bytes())
 }
 
-fn is_second(front: &[OilObject], object: &OilObject) -> bool
+fn is_second_os(front: &Front, object: &OilObject) -> bool
+    ensures { result ≡ (is_of_kind (codes "OS") object.now && list_any (is_of_kind (codes "OS")) front.now) }
+{
+    is_of_kind(object, b"OS") && front.has_os()
+}
+
+fn is_second(front: &Front, object: &OilObject) -> bool
     ensures { result ≡ list_any (doubles object.now) front.now }
 {
-    front.iter().any(|earlier| doubles(object, earlier))
+    is_second_of_its_name(front, object) || is_second_os(front, object)
 }
 
 fn takes_scheduler(scheduler: bool, object: &OilObject) -> bool
@@ -30,7 +36,7 @@ fn takes_scheduler(scheduler: bool, object: &OilObject) -> bool
     scheduler && declares(object, b"RESOURCE", b"RES_SCHEDULER")
 }
 
-fn is_doubled(scheduler: bool, front: &[OilObject], object: &OilObject) -> bool
+fn is_doubled(scheduler: bool, front: &Front, object: &OilObject) -> bool
     ensures { result ≡ is_doubled scheduler front.now object.now }
 {
     is_second(front, object) || takes_scheduler(scheduler, object)
@@ -53,27 +59,19 @@ fn is_strange_mode(object: &OilObject) -> bool
     is_of_kind(object, b"APPMODE") && !same(object.name.bytes(), b"OSDEFAULTAPPMODE")
 }
 
-fn count_of(objects: &[OilObject], kind: &[u8]) -> usize
-    ensures { result ≡ count_by (is_of_kind kind.now) objects.now }
+/// Whether the object is of this kind, and comes behind so many.
+fn comes_behind(kind: &[u8], limit: usize, count: usize, object: &OilObject) -> bool
+    ensures { result ≡ (is_of_kind kind.now object.now && (count == limit)) }
 {
-    objects
-        .iter()
-        .filter(|object| is_of_kind(object, kind))
-        .count()
+    is_of_kind(object, kind) && count == limit
 }
 
-fn comes_behind(kind: &[u8], limit: usize, front: &[OilObject], object: &OilObject) -> bool
-    ensures { result ≡ comes_behind kind.now limit front.now object.now }
-{
-    is_of_kind(object, kind) && count_of(front, kind) == limit
-}
-
-fn is_above(front: &[OilObject], object: &OilObject) -> bool
+fn is_above(front: &Front, object: &OilObject) -> bool
     ensures { result ≡ is_above front.now object.now }
 {
-    comes_behind(b"TASK", 30, front, object)
-        || comes_behind(b"RESOURCE", 32, front, object)
-        || comes_behind(b"EVENT", 32, front, object)
+    comes_behind(b"TASK", 30, front.tasks(), object)
+        || comes_behind(b"RESOURCE", 32, front.resources(), object)
+        || comes_behind(b"EVENT", 32, front.events(), object)
         || 64 < object.name.bytes().len()
 }
 
@@ -90,7 +88,7 @@ pub fn kind_fault(object: &OilObject) -> Option<Refusal>
 }
 
 /// O9, O11, O12 and O14 of an object of a kind.
-pub fn known_fault(scheduler: bool, front: &[OilObject], object: &OilObject) -> Option<Refusal>
+pub fn known_fault(scheduler: bool, front: &Front, object: &OilObject) -> Option<Refusal>
     ensures { Finds (KnownFault scheduler front.now object.now) result }
 {
     let line = object.line;

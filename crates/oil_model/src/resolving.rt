@@ -1,45 +1,110 @@
 //! The configuration of a tree, or its least fault.
-ghost use Rattle.std.specs.Prelude.{◌≡◌, ◌≤◌, IfOk, OnOk, IfErr, length};
-ghost use Rattle.sloth_refusal.specs.Order.{NoFault, ErrorIs};
+ghost use Rattle.std.specs.Prelude.{◌≡◌, ◌≤◌, IfOk, OnOk, IfErr, length, codes};
+ghost use Rattle.sloth_refusal.specs.Search.{Finds};
+ghost use Rattle.sloth_refusal.specs.Order.{NoFault, IsLeast, ErrorIs};
 ghost use Rattle.sloth_base.specs.ConfigRange.{InRange};
 ghost use Rattle.sloth_base.specs.declared.config.Config.{Config};
 ghost use Rattle.oil_parse.specs.declared.tree.OilTree.{OilTree};
 ghost use Rattle.oil_model.specs.Objects.{has_scheduler};
 ghost use Rattle.oil_model.specs.Trees.{IsTree};
 ghost use Rattle.oil_model.specs.Events.{events_of};
+ghost use Rattle.oil_model.specs.Numbers.{names_of};
 ghost use Rattle.oil_model.specs.ModelFaults.{ModelFault};
 ghost use Rattle.oil_model.specs.Configs.{resource_names, config_of, IsConfig};
 
 use crate::config::{resource_names, tasks_of};
+use crate::event_table::EventTable;
 use crate::events::events_of;
 use crate::judge::judge;
+use crate::numbers::Numbers;
+use crate::object_table::ObjectTable;
 use crate::objects::has_scheduler;
 use oil_parse::tree::{OilObject, OilTree};
 use sloth_base::config::{Config, EventDecl};
 use sloth_base::list::List;
 use sloth_base::memory::NoMemory;
-use sloth_base::refusal::BuildError;
+use sloth_base::refusal::{BuildError, Refusal};
 use std::alloc::Global;
 
 fn config_of(
     alloc: Global,
     objects: &[OilObject],
     scheduler: bool,
+    resource_numbers: &Numbers,
+    event_numbers: &Numbers,
     events: Vec<EventDecl>,
 ) -> Result<Config, NoMemory>
     requires few { length (resource_names objects.now) ≤ 32 }
     requires scheduler { scheduler ≡ has_scheduler objects.now }
+    requires resource_numbers { resource_numbers.now ≡ resource_names objects.now }
+    requires event_numbers { event_numbers.now ≡ names_of (codes "EVENT") objects.now }
     requires events { events.items ≡ events_of objects.now }
     ensures { IfOk result (λ config. config ≡ config_of objects.now) }
 {
     let names = resource_names(alloc, objects)?;
-    let tasks = tasks_of(alloc, names.as_slice(), events.as_slice(), objects)?;
+    let table = EventTable::new(events.as_slice(), event_numbers);
+    let tasks = tasks_of(alloc, resource_numbers, &table, objects)?;
     Ok(Config {
         tasks: List::from_vec(tasks),
         resources: List::from_vec(names),
         events: List::from_vec(events),
         res_scheduler: scheduler,
     })
+}
+
+/// The least fault of a tree with these events.
+fn refusal_of(
+    alloc: Global,
+    tree: &OilTree,
+    scheduler: bool,
+    resource_numbers: &Numbers,
+    event_numbers: &Numbers,
+    events: &[EventDecl],
+) -> Result<Option<Refusal>, NoMemory>
+    requires scheduler { scheduler ≡ has_scheduler tree.now.objects }
+    requires resource_numbers { resource_numbers.now ≡ resource_names tree.now.objects }
+    requires event_numbers { event_numbers.now ≡ names_of (codes "EVENT") tree.now.objects }
+    requires events { events.now ≡ events_of tree.now.objects }
+    ensures { IfOk result (Finds (ModelFault tree.now)) }
+{
+    let objects = ObjectTable::new(tree.objects.items(), resource_numbers, event_numbers);
+    let events = EventTable::new(events, event_numbers);
+    judge(alloc, tree, &objects, scheduler, &events)
+}
+
+/// The configuration of a tree, or its least fault.
+fn config_or_refusal(alloc: Global, tree: &OilTree) -> Result<Result<Config, Refusal>, NoMemory>
+    requires { IsTree tree.now }
+    ensures config { IfOk result (λ found. IfOk found (IsConfig tree.now)) }
+    ensures none { IfOk result (λ found. OnOk found (NoFault (ModelFault tree.now))) }
+    ensures in_range { IfOk result (λ found. IfOk found InRange) }
+    ensures refused { IfOk result (λ found. IfErr found (IsLeast (ModelFault tree.now))) }
+{
+    let objects = tree.objects.items();
+    let scheduler = has_scheduler(objects);
+    let events = events_of(alloc, objects)?;
+    let resource_numbers = Numbers::new(alloc, objects, b"RESOURCE")?;
+    let event_numbers = Numbers::new(alloc, objects, b"EVENT")?;
+    let refusal = refusal_of(
+        alloc,
+        tree,
+        scheduler,
+        &resource_numbers,
+        &event_numbers,
+        events.as_slice(),
+    )?;
+    if let Some(refusal) = refusal {
+        return Ok(Err(refusal));
+    }
+    let config = config_of(
+        alloc,
+        objects,
+        scheduler,
+        &resource_numbers,
+        &event_numbers,
+        events,
+    )?;
+    Ok(Ok(config))
 }
 
 /// The configuration of a tree (OIL 2.5), or the least of its faults O7 to O15.
@@ -50,17 +115,9 @@ pub fn resolve(alloc: Global, tree: &OilTree) -> Result<Config, BuildError>
     ensures in_range { IfOk result InRange }
     ensures refused { IfErr result (λ error. ErrorIs (ModelFault tree.now) error) }
 {
-    let objects = tree.objects.items();
-    let scheduler = has_scheduler(objects);
-    let events = match events_of(alloc, objects) {
-        Ok(events) => events,
-        Err(NoMemory) => return Err(BuildError::Memory),
-    };
-    if let Some(refusal) = judge(tree, scheduler, events.as_slice()) {
-        return Err(BuildError::Refused(refusal));
-    }
-    match config_of(alloc, objects, scheduler, events) {
-        Ok(config) => Ok(config),
+    match config_or_refusal(alloc, tree) {
+        Ok(Ok(config)) => Ok(config),
+        Ok(Err(refusal)) => Err(BuildError::Refused(refusal)),
         Err(NoMemory) => Err(BuildError::Memory),
     }
 }

@@ -129,6 +129,23 @@ fn objects_that_are_refused(rt: HostRuntime) -> Result<(), Fail> {
             4,
             Code::O15,
         ),
+        (
+            b"TASK t { PRIORITY = 1; SCHEDULE = FULL; ACTIVATION = 1; AUTOSTART = FALSE; };\nTASK t { PRIORITY = 2; SCHEDULE = FULL; ACTIVATION = 1; AUTOSTART = FALSE; };\n".as_slice(),
+            5,
+            Code::O9,
+        ),
+        // Of two events of one name a reference is to the first.
+        (
+            b"TASK t { PRIORITY = 1; SCHEDULE = FULL; ACTIVATION = 1; AUTOSTART = FALSE; EVENT = e; EVENT = f; };\nEVENT e { MASK = 1; };\nEVENT f { MASK = 1; };\nEVENT e { MASK = 2; };\n".as_slice(),
+            4,
+            Code::O15,
+        ),
+        // The second and the third share a bit.
+        (
+            b"EVENT e { MASK = 1; }; EVENT f { MASK = 2; }; EVENT g { MASK = 6; };\nTASK t { PRIORITY = 1; SCHEDULE = FULL; ACTIVATION = 1; AUTOSTART = FALSE; EVENT = e; EVENT = f;\nEVENT = g; };\n".as_slice(),
+            6,
+            Code::O15,
+        ),
         // An object with a fault still counts.
         (b"OS p;\nMESSAGE m;\n".as_slice(), 4, Code::O9),
         (b"MESSAGE m;\nOS p;\n".as_slice(), 4, Code::O7),
@@ -261,18 +278,36 @@ fn tasks_that_are_accepted(rt: HostRuntime) -> Result<(), Fail> {
     Ok(())
 }
 
-#[test]
-fn a_kind_has_a_limit(rt: HostRuntime) -> Result<(), Fail> {
-    let mut objects = Vec::new(rt.alloc());
+/// A task that refers to the last of 33 objects, and these.
+fn too_many(alloc: Global, task: &[u8], kind: &[u8]) -> Result<Vec<u8>, Fail> {
+    let mut objects = Vec::new(alloc);
+    objects.extend_from_slice(task)?;
     for first in b"ABCDEFGHIJK" {
         for second in b"abc" {
-            objects.extend_from_slice(b"RESOURCE ")?;
+            objects.extend_from_slice(kind)?;
             objects.push(*first)?;
             objects.push(*second)?;
             objects.extend_from_slice(b";\n")?;
         }
     }
-    let text = with_objects(rt.alloc(), objects.as_slice())?;
-    assert_eq!(rt; refusal(rt.alloc(), text.as_slice()), Some((36, Code::O14)));
+    with_objects(alloc, objects.as_slice())
+}
+
+#[test]
+fn a_kind_has_a_limit(rt: HostRuntime) -> Result<(), Fail> {
+    let rows = [
+        (
+            b"TASK t { PRIORITY = 1; SCHEDULE = FULL; ACTIVATION = 1; AUTOSTART = FALSE; RESOURCE = Kc; };\n".as_slice(),
+            b"RESOURCE ".as_slice(),
+        ),
+        (
+            b"TASK t { PRIORITY = 1; SCHEDULE = FULL; ACTIVATION = 1; AUTOSTART = FALSE; EVENT = Kc; };\n".as_slice(),
+            b"EVENT ".as_slice(),
+        ),
+    ];
+    for (task, kind) in rows {
+        let text = too_many(rt.alloc(), task, kind)?;
+        assert_eq!(rt; refusal(rt.alloc(), text.as_slice()), Some((37, Code::O14)));
+    }
     Ok(())
 }

@@ -7,4 +7,5 @@ abbrev pub invariant-loop-number : goal.invariant-loop-number
 invariant-loop-number l = record {
   finds : Loop (AttributeFault l.objects l.scheduler l.place) l.attrs l.number l.least;
   opens : l.inner ≡ inner_place l.place (take l.number l.attrs);
+  behind : l.before ≡ take l.number l.attrs;
 }

@@ -5,8 +5,8 @@ use Rattle.oil_model.specs.ObjectFaults.{is_known}
 use Rattle.oil_model.specs.ModelFaults.{InnerFault}
 use Rattle.oil_model.proofs.judge.fault_of_known.Goals as goal
 
-pub returns-else-is_nowhere : goal.returns-else-is_nowhere
-returns-else-is_nowhere c =
+pub returns : goal.returns
+returns c =
     let o = c.args.object.now in
     let known : is_known o ≡ true = ap not (sym (c.is_nowhere.ensures ∙ ap is_nowhere (c.place_of.ensures ∙ ap place_of c.bytes.ensures)) ∙ c.if-is_nowhere.false) in
-    finds_if (InnerFault c.args.objects.now c.args.scheduler c.args.events.now c.args.front.now o) (is_known o) c.inner_fault.result (λ t. c.inner_fault.ensures) (λ f. cc)
+    finds_if (InnerFault c.args.table.now c.args.scheduler c.args.events.now c.args.front.now o) (is_known o) c.in_ok-found.found (λ t. c.in_ok-found.ensures) (λ f. cc)

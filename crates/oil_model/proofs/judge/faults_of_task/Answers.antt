@@ -7,10 +7,10 @@ use Rattle.oil_model.specs.Objects.{is_of_kind}
 use Rattle.oil_model.specs.TaskFaults.{TaskFault}
 use Rattle.oil_model.proofs.judge.faults_of_task.Goals as goal
 
-pub returns-then-is_of_kind : goal.returns-then-is_of_kind
-returns-then-is_of_kind c =
+pub returns : goal.returns
+returns c =
     let o = c.args.object.now in
     let P = TaskFault c.args.events.now c.args.front.now in
-    finds_if (Somewhere P o.attrs) (is_of_kind (codes "TASK") o) c.task_faults.result
-    (λ t. subst (λ (x : List OilAttr). Finds (Somewhere P x) c.task_faults.result) c.items.ensures c.task_faults.ensures)
-    (λ f. let t : is_of_kind (codes "TASK") o ≡ true = sym c.is_of_kind.ensures ∙ c.if-is_of_kind.true in cc)
+    finds_if (Somewhere P o.attrs) (is_of_kind (codes "TASK") o) c.in_ok-found.found
+    (λ t. subst (λ (x : List OilAttr). Finds (Somewhere P x) c.in_ok-found.found) c.items.ensures c.in_ok-found.ensures)
+    (λ f. let t : is_of_kind (codes "TASK") o ≡ true = sym c.is_of_kind.ensures ∙ c.if-not-is_of_kind.false in cc)

@@ -12,16 +12,16 @@ use Rattle.oil_model.proofs.judge.inner_fault.Goals as goal
 pub returns : goal.returns
 returns c =
     let o = c.args.object.now in
-    let objects = c.args.objects.now in
+    let objects = c.args.table.now in
     let scheduler = c.args.scheduler in
     let front = c.args.front.now in
     let events = c.args.events.now in
-    let found = c.attribute_faults-attributes.result in
+    let found = c.in_ok-attributes.attributes in
     let place = c.place_of-place.ensures ∙ ap place_of c.bytes.ensures in
     let attributes = subst (λ (x : List OilAttr). Finds (Somewhere (AttributeFault objects scheduler (place_of o.kind)) x) found) c.items.ensures
-    (subst (λ (p : Place). Finds (Somewhere (AttributeFault objects scheduler p) c.items.result.now) found) place c.attribute_faults-attributes.ensures) in
+    (subst (λ (p : Place). Finds (Somewhere (AttributeFault objects scheduler p) c.items.result.now) found) place c.in_ok-attributes.ensures) in
     both_are (KnownFault scheduler front o) (λ r. Somewhere (AttributeFault objects scheduler (place_of o.kind)) o.attrs r ⊎ TaskFaults events front o r)
     c.known_fault-known.result c.merge.result c.merge-2.result c.known_fault-known.ensures
-    (both_are (Somewhere (AttributeFault objects scheduler (place_of o.kind)) o.attrs) (TaskFaults events front o) found c.faults_of_task.result c.merge.result attributes c.faults_of_task.ensures
+    (both_are (Somewhere (AttributeFault objects scheduler (place_of o.kind)) o.attrs) (TaskFaults events front o) found c.in_ok-of_task.of_task c.merge.result attributes c.in_ok-of_task.ensures
     c.merge.ensures)
     c.merge-2.ensures

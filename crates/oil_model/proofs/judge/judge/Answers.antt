@@ -16,10 +16,11 @@ returns c =
     let tree = c.args.tree.now in
     let objects = tree.objects in
     let e = c.items-objects.ensures in
-    let found = c.object_faults-of_objects.result in
+    let found = c.in_ok-of_objects.of_objects in
     let of_objects = subst (λ (x : List EventDecl). Finds (Somewhere (ObjectFault objects (has_scheduler objects) x) objects) found) c.requires.events
     (subst (λ (b : Bool). Finds (Somewhere (ObjectFault objects b c.args.events.now) objects) found) c.requires.scheduler
-    (subst (λ (x : List OilObject). Finds (Somewhere (ObjectFault x c.args.scheduler c.args.events.now) x) found) e c.object_faults-of_objects.ensures)) in
+    (subst (λ (x : List OilObject). Finds (Somewhere (ObjectFault x c.args.scheduler c.args.events.now) objects) found) c.requires.objects
+    (subst (λ (x : List OilObject). Finds (Somewhere (ObjectFault c.args.table.now c.args.scheduler c.args.events.now) x) found) e c.in_ok-of_objects.ensures))) in
     let bits = subst (λ (x : List OilObject). Finds (Somewhere (BitFault x) x) c.events_without_bit.result) e c.events_without_bit.ensures in
     let without = case_found (lacks_os objects) (not c.has_os.result) tree.cpu_line O11 c.when-without_os.result c.when-without_os.ensures (ap not c.has_os.ensures ∙ ap lacks_os e) in
     both_are (Somewhere (ObjectFault objects (has_scheduler objects) (events_of objects)) objects) (λ r. Somewhere (BitFault objects) objects r ⊎ Case (lacks_os objects) tree.cpu_line O11 r)

@@ -1,6 +1,10 @@
+use Rattle.std.proofs.Common.{◌≡◌, take}
 use Rattle.sloth_refusal.proofs.Kept.{Loop}
 use Rattle.oil_model.specs.ModelFaults.{ObjectFault}
 use Rattle.oil_model.proofs.judge.object_faults.Given as goal
 
 abbrev pub invariant-loop-number : goal.invariant-loop-number
-invariant-loop-number l = Loop (ObjectFault l.objects l.scheduler l.events) l.objects l.number l.least
+invariant-loop-number l = record {
+  finds : Loop (ObjectFault l.table l.scheduler l.events) l.objects l.number l.least;
+  behind : l.front ≡ take l.number l.objects;
+}

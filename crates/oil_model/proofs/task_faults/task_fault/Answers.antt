@@ -1,16 +1,22 @@
+use Rattle.std.proofs.Common.{◌∙◌, ap}
+use Rattle.std.specs.Prelude.{◌&&◌, not, codes}
 use Rattle.sloth_base.specs.declared.refusal.Code.TheVariants.{O13, O15}
 use Rattle.sloth_refusal.proofs.Kept.{both_are}
 use Rattle.oil_model.specs.Cases.{Case}
-use Rattle.oil_model.specs.TaskFaults.{repeats_priority, shares_bit}
+use Rattle.oil_model.specs.Objects.{is_use, number_of}
+use Rattle.oil_model.specs.TaskFaults.{is_taken, repeats_priority, shares_bit}
 use Rattle.oil_model.proofs.Found.{case_found}
 use Rattle.oil_model.proofs.task_faults.task_fault.Goals as goal
 
 pub returns : goal.returns
 returns c =
     let a = c.args.attr.now in
-    let repeats = repeats_priority c.args.front.now c.args.before.now a in
-    let shares = shares_bit c.args.events.now c.args.before.now a in
+    let front = c.args.front.now in
+    let before = c.args.before.now in
+    let repeats = repeats_priority front before.attrs a in
+    let shares = shares_bit before.events before.attrs a in
     both_are (Case repeats a.line O13) (Case shares a.line O15) c.when-repeated.result c.when-shared.result c.merge.result
-    (case_found repeats c.repeats_priority-repeated.result a.line O13 c.when-repeated.result c.when-repeated.ensures c.repeats_priority-repeated.ensures)
+    (case_found repeats c.repeats_priority-repeated.result a.line O13 c.when-repeated.result c.when-repeated.ensures
+    (c.repeats_priority-repeated.ensures ∙ ap (λ b. (is_use (codes "PRIORITY") a && not b) && is_taken front (number_of a.value)) c.requires))
     (case_found shares c.shares_bit.result a.line O15 c.when-shared.result c.when-shared.ensures c.shares_bit.ensures)
     c.merge.ensures

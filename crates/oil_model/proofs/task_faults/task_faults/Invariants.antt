@@ -1,6 +1,13 @@
+use Rattle.std.proofs.Common.{◌≡◌, take}
+use Rattle.std.specs.Prelude.{codes}
 use Rattle.sloth_refusal.proofs.Kept.{Loop}
+use Rattle.oil_model.specs.Objects.{is_used}
 use Rattle.oil_model.specs.TaskFaults.{TaskFault}
 use Rattle.oil_model.proofs.task_faults.task_faults.Given as goal
 
 abbrev pub invariant-loop-number : goal.invariant-loop-number
-invariant-loop-number l = Loop (TaskFault l.events l.front) l.attrs l.number l.least
+invariant-loop-number l = record {
+  finds : Loop (TaskFault l.events l.front) l.attrs l.number l.least;
+  is_given : l.given ≡ is_used (take l.number l.attrs) (codes "PRIORITY");
+  behind : l.before ≡ record { events = l.events; attrs = take l.number l.attrs };
+}

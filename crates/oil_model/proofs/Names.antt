@@ -1,0 +1,113 @@
+-- Places of names among lists of names.
+use Rattle.std.proofs.Common.{◌≡◌, ◌∙◌, ⊎_elim, ℕ, suc, ◌<◌, ◌≤◌, ◌+◌, Bool, true, false, cond, Some, None, Option, List, [], ◌∷◌, length, get_or, slice_get, refl, ap, sym, arith, true≢false}
+use Rattle.std.specs.Prelude.{◌||◌, ◌&&◌, not, nat_lt, if◌then◌else◌, position, map, filter, find, is_some}
+use Rattle.std.specs.List.{list_any, position_or_len}
+use Rattle.std.specs.Str.{bytes_eq}
+use Rattle.std.proofs.lemmas.Bool.{cases_lt, lt-ltb, le-ltb}
+use Rattle.std.proofs.lemmas.Option.{slice_get-get_or}
+use Rattle.std.proofs.lemmas.List.{length-map}
+use Rattle.std.proofs.lemmas.List.Quantifiers.{position-Some}
+use Rattle.std.proofs.lemmas.Slice.Eq.{bytes_eq-Decides}
+use Rattle.sloth_base.specs.declared.config.EventDecl.{EventDecl}
+use Rattle.oil_parse.specs.declared.tree.OilObject.{OilObject}
+use Rattle.oil_model.specs.Objects.{is_of_kind, has}
+use Rattle.oil_model.specs.Events.{mask_given, mask_named}
+use Rattle.oil_model.specs.Numbers.{names_of}
+
+abbrev pub further : Option ℕ → Option ℕ
+further None = None
+further (Some i) = Some (suc i)
+
+pub bytes_eq-sym : (a b : List ℕ) → bytes_eq a b ≡ bytes_eq b a
+bytes_eq-sym a b = by (bytes_eq a b) (bytes_eq b a) refl refl
+  where
+    by : (x y : Bool) → bytes_eq a b ≡ x → bytes_eq b a ≡ y → bytes_eq a b ≡ bytes_eq b a
+    by true y p q = p ∙ sym ((bytes_eq-Decides b a).1 (sym ((bytes_eq-Decides a b).0 p)))
+    by false true p q = absurd (true≢false (sym ((bytes_eq-Decides a b).1 (sym ((bytes_eq-Decides b a).0 q))) ∙ p))
+    by false false p q = p ∙ sym q
+
+lt_suc : (a b : ℕ) → nat_lt (1 + a) (suc b) ≡ nat_lt a b
+lt_suc a b = ⊎_elim (λ h. let k : 1 + a < suc b = omega (arith, h) in lt-ltb (1 + a) (suc b) k ∙ sym (lt-ltb a b h)) (λ h. let k : suc b ≤ 1 + a = omega (arith, h) in le-ltb (1 + a) (suc b) k ∙ sym (le-ltb a b h)) (cases_lt a b)
+
+further_some : (n : ℕ) (b : Bool) → cond b (Some (1 + n)) None ≡ further (cond b (Some n) None)
+further_some n true = let e : 1 + n ≡ suc n = omega arith in ap Some e
+further_some n false = refl
+
+module _ {X : Type 0} (p : X → Bool) where
+  pub position-cons : (x : X) (xs : List X) → position p (x ∷ xs) ≡ (if p x then Some 0 else further (position p xs))
+  position-cons x xs = by (p x) refl
+    where
+      by : (b : Bool) → p x ≡ b → position p (x ∷ xs) ≡ (if p x then Some 0 else further (position p xs))
+      by true e =
+          let n = position_or_len p xs in
+          let z : nat_lt 0 (suc (length xs)) ≡ true = lt-ltb 0 (suc (length xs)) (omega arith) in
+          ap (λ b. cond (nat_lt (cond (not b) (1 + n) 0) (suc (length xs))) (Some (cond (not b) (1 + n) 0)) None) e ∙ ap (λ b. cond b (Some 0) None) z
+          ∙ sym (ap (λ b. cond b (Some 0) (further (position p xs))) e)
+      by false e =
+          let n = position_or_len p xs in
+          ap (λ b. cond (nat_lt (cond (not b) (1 + n) 0) (suc (length xs))) (Some (cond (not b) (1 + n) 0)) None) e ∙ ap (λ b. cond b (Some (1 + n)) None) (lt_suc n (length xs))
+          ∙ further_some n (nat_lt n (length xs)) ∙ sym (ap (λ b. cond b (Some 0) (further (position p xs))) e)
+
+  pub position-any : (xs : List X) → is_some (position p xs) ≡ list_any p xs
+  position-any [] = refl
+  position-any (x ∷ xs) = ap is_some (position-cons x xs) ∙ by (p x) (position-any xs)
+    where
+      by : (b : Bool) → is_some (position p xs) ≡ list_any p xs → is_some (if b then Some 0 else further (position p xs)) ≡ (b || list_any p xs)
+      by true e = refl
+      by false e = any (position p xs) ∙ e
+        where
+          any : (o : Option ℕ) → is_some (further o) ≡ is_some o
+          any None = refl
+          any (Some i) = refl
+
+abbrev pub place_in : {X : Type 0} → List X → Option ℕ → Option X
+place_in xs None = None
+place_in xs (Some i) = slice_get xs i
+
+further_place : {X : Type 0} (x : X) (xs : List X) (o : Option ℕ) → place_in (x ∷ xs) (further o) ≡ place_in xs o
+further_place x xs None = refl
+further_place x xs (Some i) = refl
+
+-- the event of a name is the one at the place of the name
+pub event_at : (word : List ℕ) (events : List EventDecl) → find (λ (e : EventDecl). bytes_eq e.name word) events ≡ place_in events (position (bytes_eq word) (map (λ (e : EventDecl). e.name) events))
+event_at word [] = refl
+event_at word (e ∷ events) =
+    by (bytes_eq word e.name) (bytes_eq-sym e.name word) (event_at word events) ∙ sym (ap (place_in (e ∷ events)) (position-cons (bytes_eq word) e.name (map (λ (x : EventDecl). x.name) events)))
+  where
+    by : (b : Bool) → bytes_eq e.name word ≡ b → find (λ (x : EventDecl). bytes_eq x.name word) events ≡ place_in events (position (bytes_eq word) (map (λ (x : EventDecl). x.name) events))
+        → find (λ (x : EventDecl). bytes_eq x.name word) (e ∷ events) ≡ place_in (e ∷ events) (if b then Some 0 else further (position (bytes_eq word) (map (λ (x : EventDecl). x.name) events)))
+    by true q again = ap (λ b. cond b (Some e) (find (λ (x : EventDecl). bytes_eq x.name word) events)) q
+    by false q again =
+        ap (λ b. cond b (Some e) (find (λ (x : EventDecl). bytes_eq x.name word) events)) q ∙ again ∙ sym (further_place e events (position (bytes_eq word) (map (λ (x : EventDecl). x.name) events)))
+
+pub mask_some : (word : List ℕ) (events : List EventDecl) (names : List (List ℕ)) (i : ℕ) (d : EventDecl) → names ≡ map (λ (e : EventDecl). e.name) events → position (bytes_eq word) names ≡ Some i → i < length events
+    → (get_or events i d).mask ≡ mask_named events word
+mask_some word events names i d n e h =
+    sym (ap mask_given (event_at word events ∙ ap (place_in events) (ap (position (bytes_eq word)) (sym n) ∙ e) ∙ slice_get-get_or events i d h))
+
+pub mask_none : (word : List ℕ) (events : List EventDecl) (names : List (List ℕ)) → names ≡ map (λ (e : EventDecl). e.name) events → position (bytes_eq word) names ≡ None → 0 ≡ mask_named events word
+mask_none word events names n e = sym (ap mask_given (event_at word events ∙ ap (place_in events) (ap (position (bytes_eq word)) (sym n) ∙ e)))
+
+any_named : (kind word : List ℕ) (objects : List OilObject) → list_any (bytes_eq word) (names_of kind objects) ≡ has objects kind word
+any_named kind word [] = refl
+any_named kind word (o ∷ objects) = by (bytes_eq o.kind kind) refl (any_named kind word objects)
+  where
+    by : (b : Bool) → bytes_eq o.kind kind ≡ b → list_any (bytes_eq word) (names_of kind objects) ≡ has objects kind word → list_any (bytes_eq word) (names_of kind (o ∷ objects)) ≡ has (o ∷ objects) kind word
+    by true e again =
+        ap (λ b. list_any (bytes_eq word) (map (λ (x : OilObject). x.name) (cond b (o ∷ filter (is_of_kind kind) objects) (filter (is_of_kind kind) objects)))) e
+        ∙ ap (λ b. b || list_any (bytes_eq word) (names_of kind objects)) (bytes_eq-sym word o.name) ∙ ap (λ b. bytes_eq o.name word || b) again
+        ∙ sym (ap (λ b. (b && bytes_eq o.name word) || has objects kind word) e)
+    by false e again =
+        ap (λ b. list_any (bytes_eq word) (map (λ (x : OilObject). x.name) (cond b (o ∷ filter (is_of_kind kind) objects) (filter (is_of_kind kind) objects)))) e ∙ again
+        ∙ sym (ap (λ b. (b && bytes_eq o.name word) || has objects kind word) e)
+
+-- a name has a number where there is an object of the kind and the name
+pub numbered : (kind word : List ℕ) (objects : List OilObject) (names : List (List ℕ)) → names ≡ names_of kind objects → is_some (position (bytes_eq word) names) ≡ has objects kind word
+numbered kind word objects names e =
+    ap (λ (x : List (List ℕ)). is_some (position (bytes_eq word) x)) e ∙ position-any (bytes_eq word) (names_of kind objects) ∙ any_named kind word objects
+
+pub within : (word : List ℕ) (events : List EventDecl) (names : List (List ℕ)) (i : ℕ) → names ≡ map (λ (e : EventDecl). e.name) events → position (bytes_eq word) names ≡ Some i → i < length events
+within word events names i n e =
+    let l : length names ≡ length events = ap length n ∙ length-map events (λ (x : EventDecl). x.name) in
+    let h = (position-Some (bytes_eq word) names i [] e).0 in
+    omega (arith, l, h)

@@ -1,0 +1,33 @@
+use Rattle.std.proofs.Common.{◌≡◌, ◌≤◌, ◌<◌, List, Option, length, sym, subst}
+use Rattle.std.proofs.lemmas.List.Elements.{All-weaker}
+use Rattle.std.specs.Prelude.{All}
+use Rattle.sloth_base.specs.declared.config.EventDecl.{EventDecl}
+use Rattle.sloth_base.specs.declared.refusal.Refusal.{Refusal}
+use Rattle.sloth_base.specs.ConfigRange.{InRange}
+use Rattle.sloth_base.specs.ImageRange.{IsWord}
+use Rattle.sloth_refusal.specs.Search.{Finds}
+use Rattle.oil_parse.specs.declared.tree.OilObject.{OilObject}
+use Rattle.oil_parse.specs.Words.{IsObjectOfWords}
+use Rattle.oil_parse.proofs.Words.{tree_words}
+use Rattle.oil_model.specs.Events.{events_of}
+use Rattle.oil_model.specs.Configs.{resource_names, config_of}
+use Rattle.oil_model.specs.ModelFaults.{ModelFault}
+use Rattle.oil_model.proofs.NoFaults.{few_names}
+use Rattle.oil_model.proofs.Range.{in_range}
+use Rattle.oil_model.proofs.resolving.config_or_refusal.Goals as goal
+
+pub config_of-requires-clause-few : goal.config_of-requires-clause-few
+config_of-requires-clause-few c =
+    let tree = c.args.tree.now in
+    subst (λ (x : List OilObject). length (resource_names x) ≤ 32) (sym c.items-objects.ensures)
+    (few_names tree (subst (λ (o : Option Refusal). Finds (ModelFault tree) o) c.in_default.is c.in_ok-refusal.ensures))
+
+pub returns-clause-in_range : goal.returns-clause-in_range
+returns-clause-in_range c =
+    let tree = c.args.tree.now in
+    let none = subst (λ (o : Option Refusal). Finds (ModelFault tree) o) c.in_default.is c.in_ok-refusal.ensures in
+    let events = c.in_ok-events.ensures in
+    let fit = subst (λ (x : List EventDecl). All (λ (e : EventDecl). e.mask < 4294967296) x) events.events events.fit in
+    let words = All-weaker IsObjectOfWords (λ (o : OilObject). IsWord o.name) (λ (o : OilObject) w. w.name) tree.objects (tree_words c.requires.text tree c.requires.has_tree) in
+    subst InRange (sym (subst (λ (x : List OilObject). c.in_ok-config.config ≡ config_of x) c.items-objects.ensures c.in_ok-config.ensures))
+    (in_range tree none words (subst (λ (x : List OilObject). All (λ (e : EventDecl). e.mask < 4294967296) (events_of x)) c.items-objects.ensures fit))
