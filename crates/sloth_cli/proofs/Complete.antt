@@ -14,7 +14,7 @@ use Rattle.sloth_cli.specs.LastLine.{refusal_line}
 use Rattle.sloth_cli.specs.Command.{Command, Run, IsCommand, NoCommand}
 use Rattle.sloth_cli.specs.declared.top.Status.{Status}
 use Rattle.sloth_cli.specs.declared.top.Status.TheVariants as status
-use Rattle.sloth_cli.specs.Top.{OfArrivals, OfInputs, HoldsArrivals, AreThere, IsFailedRead, IsLong, IsLongRead, IsRefusal, IsRefused, IsAccepted, IsDone, IsFailedWrite, Requires, Puts, Took, Answers, AnswersUsage, AnswersRefused, ReadsStay, CountsStay, TellsUsage, TellsRefused, IsComplete}
+use Rattle.sloth_cli.specs.Top.{OfArrivals, OfInputs, HoldsArrivals, AreThere, IsFailedRead, IsLong, IsLongRead, IsRefusal, IsRefused, IsAccepted, IsDone, IsFailedWrite, Requires, Puts, Took, Stands, Answers, AnswersUsage, AnswersRefused, ReadsStay, CountsStay, TellsUsage, TellsRefused, IsComplete}
 use Rattle.sloth_cli.proofs.Commands.{one-command}
 
 stays : (a b : ℕ) → Stays a b → Rose a b → ⊥
@@ -157,15 +157,17 @@ tells-refused words old new t u a b answer h c is oil src arr there stay r refus
 -- ---- Done
 
 -- no put failed, so the answer is the one that was wanted
-was-put : (wanted answer : Status) (t u : Option (List ℕ)) (a b : ℕ) (text : List ℕ) → Stays a b → Puts wanted answer t u a b text → answer ≡ wanted
-was-put wanted answer t u a b text s (inl p) = p.0
-was-put wanted answer t u a b text s (inr p) = absurd (stays a b s p.1.0)
+stands : (wanted answer : Status) (words : List (List ℕ)) (old new : Files) (t u : Option (List ℕ)) (a b : ℕ) (text : List ℕ)
+    → Stays a b → Requires wanted words old new text → Puts wanted answer t u a b text → Stands wanted words old new t u answer
+stands wanted answer words old new t u a b text s q (inl p) = (p.0, (text, q, p.1))
+stands wanted answer words old new t u a b text s q (inr p) = absurd (stays a b s p.1.0)
 
 complete-by : (wanted answer : Status) (words : List (List ℕ)) (old new : Files) (t u : Option (List ℕ)) (a b : ℕ) (text : List ℕ) (c : Command) (oil src : List ℕ) (config : Config) (app : App)
     → Requires wanted words old new text → Puts wanted answer t u a b text
-    → IsCommand words c → AreThere old c oil src [] → CountsStay old new a b → Accepted oil src config app → (answer ≡ status.Done) ⊎ (answer ≡ status.NoMemory)
-complete-by status.Done answer words old new t u a b text c oil src config app q p is there stay h = inl (was-put status.Done answer t u a b text stay.2 p)
-complete-by status.NoMemory answer words old new t u a b text c oil src config app q p is there stay h = inr (was-put status.NoMemory answer t u a b text stay.2 p)
+    → IsCommand words c → AreThere old c oil src [] → CountsStay old new a b → Accepted oil src config app
+    → Stands status.Done words old new t u answer ⊎ Stands status.NoMemory words old new t u answer
+complete-by status.Done answer words old new t u a b text c oil src config app q p is there stay h = inl (stands status.Done answer words old new t u a b text stay.2 q p)
+complete-by status.NoMemory answer words old new t u a b text c oil src config app q p is there stay h = inr (stands status.NoMemory answer words old new t u a b text stay.2 q p)
 complete-by status.Usage answer words old new t u a b text c oil src config app q p is there stay h = absurd (q.0 c is)
 complete-by status.Refused answer words old new t u a b text c oil src config app q p is there stay h =
     absurd (refused-verdict old c config app oil src q.2 there h (subst (λ x. IsRefused old x q.2) (one-command words q.0 c q.1 is) q.3))
@@ -179,6 +181,6 @@ complete-by status.Stopped answer words old new t u a b text c oil src config ap
 complete-by status.NotAnImage answer words old new t u a b text c oil src config app q p is there stay h = absurd q
 
 pub is-complete : (words : List (List ℕ)) (old new : Files) (t u : Option (List ℕ)) (a b : ℕ) (answer : Status)
-    → Answers words old new t u a b answer → IsComplete words old new a b answer
+    → Answers words old new t u a b answer → IsComplete words old new t u a b answer
 is-complete words old new t u a b answer h c is oil src there stay config app accepted =
     complete-by h.wanted answer words old new t u a b h.text c oil src config app h.required h.puts is there stay accepted

@@ -204,6 +204,10 @@ Finished failure.NoMemory answer t u a b = Puts status.NoMemory answer t u a b (
 Finished failure.WriteFile answer t u a b = Puts status.WriteFault answer t u a b (codes "write fault\n")
 Finished failure.Put answer t u a b = (answer ≡ status.WriteFault) × (u ≡ t)
 
+-- this is the answer, and all that it requires stands
+abbrev pub Stands : Status → List (List ℕ) → Files → Files → Option (List ℕ) → Option (List ℕ) → Status → Type 0
+Stands wanted words old new t u answer = (answer ≡ wanted) × ((text : List ℕ) × Requires wanted words old new text × Took t u text)
+
 -- ---- which answer comes
 
 -- the store tells its files, and these are the inputs, each of at most 4 MiB
@@ -241,8 +245,9 @@ TellsRefused words old new t u a b answer =
     (c : Command) → IsCommand words c → (oil src arr : List ℕ) → AreThere old c oil src arr → ReadsStay old new
     → (refusal : Refusal) → IsRefusal oil src arr refusal → AnswersRefused t u a b refusal answer
 
--- The inputs are there and accepted, and no read, write or put failed: Done, or want of memory.
-abbrev pub IsComplete : List (List ℕ) → Files → Files → ℕ → ℕ → Status → Type 0
-IsComplete words old new a b answer =
+-- The inputs are there and accepted, and no read, write or put failed: all was done, or memory was wanting, with all that this requires.
+abbrev pub IsComplete : List (List ℕ) → Files → Files → Option (List ℕ) → Option (List ℕ) → ℕ → ℕ → Status → Type 0
+IsComplete words old new t u a b answer =
     (c : Command) → IsCommand words c → (oil src : List ℕ) → AreThere old c oil src [] → CountsStay old new a b
-    → (config : Config) (app : App) → Accepted oil src config app → (answer ≡ status.Done) ⊎ (answer ≡ status.NoMemory)
+    → (config : Config) (app : App) → Accepted oil src config app
+    → Stands status.Done words old new t u answer ⊎ Stands status.NoMemory words old new t u answer

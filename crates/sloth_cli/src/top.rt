@@ -288,7 +288,7 @@ pub fn sloth_top<F: Store, S: Sink>(
     ensures answers { Answers (words_of words.now) (F.seen files.old) (F.seen files.new) (S.taken out.old) (S.taken out.new) (S.faults out.old) (S.faults out.new) result }
     ensures usage { TellsUsage (words_of words.now) (S.faults out.old) (S.faults out.new) result }
     ensures refused { TellsRefused (words_of words.now) (F.seen files.old) (F.seen files.new) (S.taken out.old) (S.taken out.new) (S.faults out.old) (S.faults out.new) result }
-    ensures complete { IsComplete (words_of words.now) (F.seen files.old) (F.seen files.new) (S.faults out.old) (S.faults out.new) result }
+    ensures complete { IsComplete (words_of words.now) (F.seen files.old) (F.seen files.new) (S.taken out.old) (S.taken out.new) (S.faults out.old) (S.faults out.new) result }
 {
     answer(alloc, words, files, out)
 }
