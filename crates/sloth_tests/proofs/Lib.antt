@@ -1,2 +1,1 @@
 pub mod FourFiles
-pub mod Every

@@ -2,8 +2,8 @@ use Rattle.std.proofs.Common.{get_or, refl, arith, ⊎_elim, lit<}
 use Rattle.std.specs.Prelude.{ltb, set, replicate}
 use Rattle.std.proofs.lemmas.Bool.{ltb-true, cases_lt}
 use Rattle.std.proofs.lemmas.List.{get_or_past}
-use Rattle.sloth_tests.proofs.Every.{every_at}
-use Rattle.sloth_tests.proofs.small_kernel.small_levels.Goals as goal
+use Rattle.layer_tests.proofs.Every.{every_at}
+use Rattle.layer_tests.proofs.small_kernel.small_levels.Goals as goal
 
 pub returns : goal.returns
 returns c =

@@ -1,8 +1,8 @@
 use Rattle.std.proofs.Common.{◌%◌, get_or, refl}
 use Rattle.std.specs.Prelude.{ltb, leb, eqb, set, replicate}
 use Rattle.std.proofs.lemmas.Bool.{ltb-true, leb-true, eqb-true}
-use Rattle.sloth_tests.proofs.Every.{every_at}
-use Rattle.sloth_tests.proofs.small_kernel.small_map.Goals as goal
+use Rattle.layer_tests.proofs.Every.{every_at}
+use Rattle.layer_tests.proofs.small_kernel.small_map.Goals as goal
 
 pub returns-clause-reach : goal.returns-clause-reach
 returns-clause-reach c =
