@@ -16,12 +16,13 @@ use Rattle.rv32_machine.specs.Start.{start}
 use Rattle.rv32_machine.specs.Advance.{Halts}
 use Rattle.rv32_machine.specs.Run.{Moment, moment, arrived, run, run_from, steps_of, state_after}
 use Rattle.rv32_machine.proofs.Runs.{run_halts, stop_halts, stop_none, run_front}
-use Rattle.sloth_cli.specs.Runner.{Running, IsFresh, Went, Broke, Halted, Adds, image_of, given, count_of, sloth_state, run_steps, run_events, run_text, run_end, end_of}
+use Rattle.sim_run.specs.Sound.{events_of}
+use Rattle.sloth_cli.specs.Runner.{Running, IsFresh, Went, Broke, Halted, Adds, image_of, given, count_of, sloth_state, run_steps, run_text, run_end, end_of}
 use Rattle.sloth_cli.specs.declared.runner.Runner.{Runner}
 use Rattle.sloth_cli.specs.declared.runner.Printer.{Printer}
 use Rattle.sloth_cli.specs.declared.runner.RunEnd.{RunEnd}
 
-nothing-yet : (image : Image) (A : List Arrival) → run_events image A 0 ≡ []
+nothing-yet : (image : Image) (A : List Arrival) → events_of image A 0 ≡ []
 unfolding run_from
 nothing-yet image A = observe-nothing (view_of_image image) A
 
@@ -51,8 +52,8 @@ adds-at i j A B k n es p q e h =
 
 -- the text of one instruction more
 text-more : (image : Image) (A : List Arrival) (form : Form) (k : ℕ) (es : List Stamped) → Adds image A k es
-    → run_text image A form (k + 1) ≡ run_text image A form k ++ text_after image form (ends_idle false (run_events image A k)) es
-text-more image A form k es h = ap (text_in image form) h ∙ text_after-append image form false (run_events image A k) es
+    → run_text image A form (k + 1) ≡ run_text image A form k ++ text_after image form (ends_idle false (events_of image A k)) es
+text-more image A form k es h = ap (text_in image form) h ∙ text_after-append image form false (events_of image A k) es
 
 ends-append : (b : Bool) (es fs : List Stamped) → ends_idle b (es ++ fs) ≡ ends_idle (ends_idle b es) fs
 ends-append b [] fs = refl
@@ -68,15 +69,15 @@ running-more r0 r q form before after t0 t u k run w image arrivals form_is prin
     let i0 : Image = image_of r0 in
     let A : List Arrival = given r0 in
     let adds = adds-at (image_of r) i0 (given r) A (count_of r) k w.events run.image run.arrivals run.count w.adds in
-    let piece = piece-at (image_of r) i0 before.form form before.after_idle (ends_idle false (run_events i0 A k)) w.events run.image run.form_is run.idle in
+    let piece = piece-at (image_of r) i0 before.form form before.after_idle (ends_idle false (events_of i0 A k)) w.events run.image run.form_is run.idle in
     record {
       running = w.running;
       count = w.count ∙ ap (λ n. n + 1) run.count;
       image = image ∙ run.image;
       arrivals = arrivals ∙ run.arrivals;
-      taken = w.taken ∙ ap (gains t) piece ∙ ap (λ x. gains x (text_after i0 form (ends_idle false (run_events i0 A k)) w.events)) run.taken
-          ∙ gains-gains t0 (run_text i0 A form k) (text_after i0 form (ends_idle false (run_events i0 A k)) w.events) ∙ ap (gains t0) (sym (text-more i0 A form k w.events adds));
-      idle = w.idle ∙ ap (λ b. ends_idle b w.events) run.idle ∙ sym (ends-append false (run_events i0 A k) w.events) ∙ ap (ends_idle false) (sym adds);
+      taken = w.taken ∙ ap (gains t) piece ∙ ap (λ x. gains x (text_after i0 form (ends_idle false (events_of i0 A k)) w.events)) run.taken
+          ∙ gains-gains t0 (run_text i0 A form k) (text_after i0 form (ends_idle false (events_of i0 A k)) w.events) ∙ ap (gains t0) (sym (text-more i0 A form k w.events adds));
+      idle = w.idle ∙ ap (λ b. ends_idle b w.events) run.idle ∙ sym (ends-append false (events_of i0 A k) w.events) ∙ ap (ends_idle false) (sym adds);
       form_is = form_is ∙ run.form_is;
       printed = printed ∙ run.printed;
     }
@@ -117,15 +118,15 @@ broken-text r0 r form p t0 t u k n run b lt =
     let i0 : Image = image_of r0 in
     let A : List Arrival = given r0 in
     let adds = adds-at (image_of r) i0 (given r) A (count_of r) k b.events run.image run.arrivals run.count b.adds in
-    let last : Bool = ends_idle false (run_events i0 A k) in
+    let last : Bool = ends_idle false (events_of i0 A k) in
     let piece = piece-at (image_of r) i0 p.form form p.after_idle last b.events run.image run.form_is run.idle in
     let P : List ℕ → Type 0 = λ x. GainsPart t u x in
     let front = run_front n (k + 1) A 0 (start i0) (omega arith) in
     let more = observe-front (view_of_image i0) A (run_steps i0 A (k + 1)) (steps_of front.0) in
-    let all : run_events i0 A n ≡ run_events i0 A (k + 1) ++ more.0 =
+    let all : events_of i0 A n ≡ events_of i0 A (k + 1) ++ more.0 =
     ap (λ ms. observe (view_of_image i0) A (steps_of ms)) front.1 ∙ ap (observe (view_of_image i0) A) (steps-append (run_from (k + 1) A 0 (start i0)) front.0) ∙ more.1 in
-    let tail : List ℕ = text_after i0 form (ends_idle false (run_events i0 A (k + 1))) more.0 in
+    let tail : List ℕ = text_after i0 form (ends_idle false (events_of i0 A (k + 1))) more.0 in
     part-behind t0 t u (run_text i0 A form k) (text_after i0 form last b.events) tail (run_text i0 A form n) run.taken (subst P piece b.taken)
-    (ap (text_in i0 form) all ∙ text_after-append i0 form false (run_events i0 A (k + 1)) more.0
+    (ap (text_in i0 form) all ∙ text_after-append i0 form false (events_of i0 A (k + 1)) more.0
     ∙ ap (λ x. x ++ tail) (text-more i0 A form k b.events adds)
     ∙ append_assoc (run_text i0 A form k) (text_after i0 form last b.events) tail)

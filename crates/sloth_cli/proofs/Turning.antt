@@ -17,7 +17,8 @@ use Rattle.observe.proofs.Growing.{observe-nothing}
 use Rattle.rv32_machine.specs.Start.{start}
 use Rattle.rv32_machine.specs.Advance.{Outcome, Goes, advance}
 use Rattle.rv32_machine.specs.Run.{Moment, moment, moment_of, arrived, run, run_from, steps_of, state_after}
-use Rattle.sloth_cli.specs.Runner.{Stands, Adds, IsRunning, given, sloth_state, run_steps, run_events}
+use Rattle.sim_run.specs.Sound.{events_of}
+use Rattle.sloth_cli.specs.Runner.{Stands, Adds, IsRunning, given, sloth_state, run_steps}
 use Rattle.sloth_cli.specs.declared.runner.Runner.{Runner}
 use Rattle.rv32_machine.proofs.Runs.{after_more, run_more}
 use Rattle.std.proofs.lemmas.List.Elements.{All-take, All-drop}
@@ -59,7 +60,7 @@ pub adds-is : (r : Runner) (image : Image) (k : ℕ) (s : Step) (n : State) (o :
     → Adds image (given r) k (remaining o)
 adds-is r image k s n o st g fed view arrivals =
     let F : List Step = run_steps image (given r) k in
-    let f = fed F (run_events image (given r) k) st.fed in
+    let f = fed F (events_of image (given r) k) st.fed in
     ap (observe (view_of_image image) (given r)) (steps-more k (given r) (start image) (sloth_state r.machine) n s st.after g)
     ∙ ap (λ w. observe w (given r) (F ++ s ∷ [])) (sym (view ∙ st.view)) ∙ ap (λ B. observe (view_of o) B (F ++ s ∷ [])) (sym arrivals) ∙ sym f.told
 
@@ -75,7 +76,7 @@ stands-more r q image k s o st g fed view arrivals expected fed2 view2 arrivals2
     let A : List Arrival = given r in
     let same : given q ≡ A = arrivals2 ∙ arrivals in
     let F : List Step = run_steps image A k in
-    let E : List Stamped = run_events image A k in
+    let E : List Stamped = events_of image A k in
     let coming_is : q.coming.now ≡ from (k + 1) A =
     coming ∙ ap (λ c. behind c r.coming.now) st.count ∙ ap (behind k) st.coming ∙ behind-from 0 k A st.fed.ordered in
     let more = steps-more k A (start image) (sloth_state r.machine) (sloth_state q.machine) s st.after g in
@@ -83,7 +84,7 @@ stands-more r q image k s o st g fed view arrivals expected fed2 view2 arrivals2
     let f = fed2 (F ++ s ∷ []) E (fed F E st.fed) in
     let G : List Step → Type 0 = λ K. Fed q.observer K (E ++ remaining o) in
     let H : List Stamped → Type 0 = λ es. Fed q.observer (run_steps image A (k + 1)) es in
-    let P : List Arrival → Type 0 = λ B. Fed q.observer (run_steps image B (k + 1)) (run_events image B (k + 1)) in
+    let P : List Arrival → Type 0 = λ B. Fed q.observer (run_steps image B (k + 1)) (events_of image B (k + 1)) in
     record {
       format = st.format;
       lines = lines;
@@ -116,7 +117,7 @@ pub controller-lines : (tasks : ℕ) (A : List Arrival) → tasks ≤ 30 → All
 controller-lines tasks A few h k d l = let below = h k d l in omega arith
 
 -- an observer that was fed nothing
-pub first-fed : (o : Observer) (image : Image) → Fed o [] [] → Fed o (run_steps image (arrivals_of o) 0) (run_events image (arrivals_of o) 0)
+pub first-fed : (o : Observer) (image : Image) → Fed o [] [] → Fed o (run_steps image (arrivals_of o) 0) (events_of image (arrivals_of o) 0)
 unfolding run_from
 first-fed o image f =
     let P : List Stamped → Type 0 = λ es. Fed o [] es in

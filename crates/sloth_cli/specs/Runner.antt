@@ -9,10 +9,11 @@ use Rattle.sloth_base.specs.declared.step.Step.{Step}
 use Rattle.sloth_io.specs.Sink.{gains, GainsPart}
 use Rattle.trace_text.specs.Texts.{text_after, text_in, ends_idle}
 use Rattle.trace_text.specs.declared.print.Form.{Form}
-use Rattle.observe.specs.Observe.{observe, view_of_image}
+use Rattle.observe.specs.Observe.{view_of_image}
 use Rattle.observe.specs.Touched.{AreLines}
 use Rattle.observe.specs.Progress.{Fed, remaining, view_of, arrivals_of, expected_of, from}
 use Rattle.observe.specs.declared.observer.Observer.{Observer}
+use Rattle.sim_run.specs.Sound.{events_of}
 use Rattle.rv32_machine.specs.Start.{start}
 use Rattle.rv32_machine.specs.Advance.{Halts}
 use Rattle.rv32_machine.specs.State.{state}
@@ -32,13 +33,9 @@ use Rattle.sloth_cli.specs.declared.runner.RunEnd.TheVariants as ends
 abbrev pub run_steps : Image → List Arrival → ℕ → List Step
 run_steps image arrivals n = steps_of (run n arrivals (start image))
 
--- their events
-abbrev pub run_events : Image → List Arrival → ℕ → List Stamped
-run_events image arrivals n = observe (view_of_image image) arrivals (run_steps image arrivals n)
-
--- the text of the events
+-- the text of their events
 abbrev pub run_text : Image → List Arrival → Form → ℕ → List ℕ
-run_text image arrivals form n = text_in image form (run_events image arrivals n)
+run_text image arrivals form n = text_in image form (events_of image arrivals n)
 
 abbrev pub end_of : Option Stopping → RunEnd
 end_of None = ends.Whole
@@ -82,7 +79,7 @@ pub record Stands (runner : Runner) (image : Image) (k : ℕ) : Type 0 where
   pub lines : AreLines runner.coming.now
   pub view : view_of runner.observer ≡ view_of_image image
   pub after : state_after k (given runner) (start image) ≡ Some (sloth_state runner.machine)
-  pub fed : Fed runner.observer (run_steps image (given runner) k) (run_events image (given runner) k)
+  pub fed : Fed runner.observer (run_steps image (given runner) k) (events_of image (given runner) k)
   pub drained : remaining runner.observer ≡ []
   pub coming : runner.coming.now ≡ from k (given runner)
   pub count : runner.count ≡ k
@@ -99,7 +96,7 @@ IsFresh runner = IsRunning runner × (runner.count ≡ 0)
 
 -- these are the events that the instruction of count k adds
 abbrev pub Adds : Image → List Arrival → ℕ → List Stamped → Type 0
-Adds image arrivals k events = run_events image arrivals (k + 1) ≡ run_events image arrivals k ++ events
+Adds image arrivals k events = events_of image arrivals (k + 1) ≡ events_of image arrivals k ++ events
 
 -- an instruction was done, and its events' lines were put
 pub record Went (old new : Runner) (before after : Printer) (t u : Option (List ℕ)) : Type 0 where
@@ -128,6 +125,6 @@ pub record Running (r0 r : Runner) (form : Form) (printer : Printer) (t0 t : Opt
   pub image : image_of r ≡ image_of r0
   pub arrivals : given r ≡ given r0
   pub taken : t ≡ gains t0 (run_text (image_of r0) (given r0) form k)
-  pub idle : printer.after_idle ≡ ends_idle false (run_events (image_of r0) (given r0) k)
+  pub idle : printer.after_idle ≡ ends_idle false (events_of (image_of r0) (given r0) k)
   pub form_is : printer.form ≡ form
   pub printed : printer.image.now ≡ image_of r0
