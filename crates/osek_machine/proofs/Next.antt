@@ -3,6 +3,7 @@ use Rattle.std.proofs.Common.{◌≡◌, ℕ, ◌<◌, ◌==◌, ◌&&◌, List,
 use Rattle.std.specs.Bool.{Decides}
 use Rattle.std.proofs.lemmas.Bool.{and_parts, and_from, not-true, not_from_false, eqb-true, eq-eqb}
 use Rattle.std.proofs.lemmas.Bool.Decides.{Decides-ltb, Decides-not, Decides-below_and}
+use Rattle.sloth_base.specs.ServiceCodes.{code_of}
 use Rattle.sloth_base.specs.declared.config.Config.{Config}
 use Rattle.sloth_base.specs.declared.app.App.{App}
 use Rattle.sloth_base.specs.declared.app.Call.{Call}
@@ -18,7 +19,7 @@ use Rattle.osek_machine.specs.Priority.{IsDue, is_active}
 use Rattle.osek_machine.specs.Meaning.{meaning, on_some}
 use Rattle.osek_machine.specs.Services.{Outcome, GoesOn, Leaves, outcome}
 use Rattle.osek_machine.specs.Steps.{settled, IsAt, Executes, Serves, OsekStep}
-use Rattle.osek_machine.specs.Next.{is_ready, is_due, is_top, all_below, operation_of, operation_at, meaning_of, is_position, code, served, going_on_with, leaving, executed, answer_to, next_state}
+use Rattle.osek_machine.specs.Next.{is_ready, is_due, is_top, all_below, operation_of, operation_at, meaning_of, is_position, served, going_on_with, leaving, executed, answer_to, next_state}
 use Rattle.osek_machine.proofs.Tests.{Decides-is_ready, Decides-is_active, Decides-is_due, Decides-is_top, some_one, if_true_some, if_true_is, on_some_from, on_some_is}
 
 -- ---- where a task runs
@@ -61,7 +62,7 @@ at_is app s t operation at =
 abbrev all_services : List Service
 all_services = service.ActivateTask ∷ service.TerminateTask ∷ service.ChainTask ∷ service.Schedule ∷ service.GetTaskID ∷ service.GetTaskState ∷ service.GetResource ∷ service.ReleaseResource ∷ service.SetEvent ∷ service.ClearEvent ∷ service.GetEvent ∷ service.WaitEvent ∷ []
 
-by_code : (a : Service) → get_or all_services (code a) service.ActivateTask ≡ a
+by_code : (a : Service) → get_or all_services (code_of a) service.ActivateTask ≡ a
 by_code service.ActivateTask = refl
 by_code service.TerminateTask = refl
 by_code service.ChainTask = refl
@@ -75,7 +76,7 @@ by_code service.ClearEvent = refl
 by_code service.GetEvent = refl
 by_code service.WaitEvent = refl
 
-pub same_code : (a b : Service) → code a ≡ code b → a ≡ b
+pub same_code : (a b : Service) → code_of a ≡ code_of b → a ≡ b
 same_code a b e = sym (by_code a) ∙ (ap (λ n. get_or all_services n service.ActivateTask) e ∙ by_code b)
 
 -- the call that a served operation is
@@ -87,7 +88,7 @@ record IsCall (s : Service) (caller : ℕ) (before : System) (operation : Op) (a
 
 call_of : (s : Service) (caller : ℕ) (before : System) (operation : Op) (answer : Outcome) → served s caller before operation ≡ Some answer → IsCall s caller before operation answer
 call_of s caller before (op.Serve call) answer e =
-    let h = if_true_some (code call.service == code s) _ answer e in
+    let h = if_true_some (code_of call.service == code_of s) _ answer e in
     record { call = call; serve = refl; same = same_code call.service s (eqb-true _ _ h.0); is = some_one _ _ h.1 }
 call_of s caller before (op.Alu k a b c) answer e = absurd cc
 call_of s caller before (op.AluImm k a b c) answer e = absurd cc
@@ -106,7 +107,7 @@ call_of s caller before op.Return answer e = absurd cc
 
 served_is : (s : Service) (caller : ℕ) (before : System) (call : Call) (answer : Outcome) → call.service ≡ s
     → outcome s call.object call.mask caller before ≡ answer → served s caller before (op.Serve call) ≡ Some answer
-served_is s caller before call answer same is = if_true_is _ _ answer (eq-eqb _ _ (ap code same)) (ap Some is)
+served_is s caller before call answer same is = if_true_is _ _ answer (eq-eqb _ _ (ap code_of same)) (ap Some is)
 
 module _ (config : Config) (app : App) where
   pub serves_of : (t : ℕ) (s : Service) (before : System) (answer : Outcome) → answer_to config app t s before ≡ Some answer

@@ -1,5 +1,6 @@
 -- The next state, computed: what a checker of event lists does.
 use Rattle.std.specs.Prelude.{ℕ, zero, suc, ◌==◌, List, [], ◌∷◌, Bool, true, false, not, ◌&&◌, ◌||◌, leb, ltb, length, Option, Some, None, get_or}
+use Rattle.sloth_base.specs.ServiceCodes.{code_of}
 use Rattle.sloth_base.specs.declared.config.Config.{Config}
 use Rattle.sloth_base.specs.declared.app.App.{App}
 use Rattle.sloth_base.specs.declared.app.Op.{Op}
@@ -60,23 +61,9 @@ abbrev pub is_position : ℕ → ℕ → List Frame → Bool
 is_position func item [] = false
 is_position func item (frame ∷ outer) = (frame.func == func) && (frame.item == item)
 
-abbrev pub code : Service → ℕ
-code service.ActivateTask = 0
-code service.TerminateTask = 1
-code service.ChainTask = 2
-code service.Schedule = 3
-code service.GetTaskID = 4
-code service.GetTaskState = 5
-code service.GetResource = 6
-code service.ReleaseResource = 7
-code service.SetEvent = 8
-code service.ClearEvent = 9
-code service.GetEvent = 10
-code service.WaitEvent = 11
-
 -- the outcome of the service that an operation is, where it is this one
 abbrev pub served : Service → ℕ → System → Op → Option Outcome
-served s caller before (op.Serve call) = if_true (code call.service == code s) (Some (outcome s call.object call.mask caller before))
+served s caller before (op.Serve call) = if_true (code_of call.service == code_of s) (Some (outcome s call.object call.mask caller before))
 served s caller before (op.Alu k a b c) = None
 served s caller before (op.AluImm k a b c) = None
 served s caller before (op.Lui a b) = None

@@ -1,5 +1,6 @@
 -- The instructions of each item. The last one, which commits the item, changes what task code sees; those before it use x30 and x31 alone.
 use Rattle.std.specs.Prelude.{ℕ, zero, suc, ◌+◌, ◌*◌, ◌/◌, ◌%◌, ◌^◌, ℤ, pos, ◌-ℤ◌, neg_ℤ, List, [], ◌∷◌, ◌++◌, length, get_or, None}
+use Rattle.sloth_base.specs.ServiceCodes.{code_of}
 use Rattle.sloth_base.specs.declared.app.App.{App}
 use Rattle.sloth_base.specs.declared.app.Func.{Func}
 use Rattle.sloth_base.specs.declared.app.Call.{Call}
@@ -29,20 +30,6 @@ low value = signed 12 (value % 4096)
 
 -- ---- addresses
 
-abbrev pub code : Service → ℕ
-code service.ActivateTask = 0
-code service.TerminateTask = 1
-code service.ChainTask = 2
-code service.Schedule = 3
-code service.GetTaskID = 4
-code service.GetTaskState = 5
-code service.GetResource = 6
-code service.ReleaseResource = 7
-code service.SetEvent = 8
-code service.ClearEvent = 9
-code service.GetEvent = 10
-code service.WaitEvent = 11
-
 abbrev pub item_address : Places → ℕ → ℕ → ℕ
 item_address places func index = get_or places.items (get_or places.first func 0 + index) 0
 
@@ -50,7 +37,7 @@ abbrev pub symbol_address : Places → ℕ → ℕ
 symbol_address places symbol = get_or places.symbols symbol 0
 
 abbrev pub block_address : Places → Service → ℕ → ℕ
-block_address places s object = get_or places.blocks (code s * 40 + object) 0
+block_address places s object = get_or places.blocks (code_of s * 40 + object) 0
 
 -- how far it is from one address to another
 abbrev pub distance : ℕ → ℕ → ℤ

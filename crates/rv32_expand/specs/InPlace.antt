@@ -1,5 +1,6 @@
 -- The items of task code stand in an image, and its marks say where.
 use Rattle.std.specs.Prelude.{ℕ, ◌+◌, ◌-◌, ◌*◌, ◌<◌, ◌≡◌, ◌∷◌, List, [], map, length, get_or, All, Contains, Some}
+use Rattle.sloth_base.specs.ServiceCodes.{code_of}
 use Rattle.sloth_base.specs.declared.app.App.{App}
 use Rattle.sloth_base.specs.declared.app.Op.{Op}
 use Rattle.sloth_base.specs.declared.app.Op.TheVariants as op
@@ -11,7 +12,7 @@ use Rattle.sloth_base.specs.declared.places.Places.{Places}
 use Rattle.rv32_instr.specs.Encode.{Encode}
 use Rattle.rv32_instr.specs.Ram.{word_at}
 use Rattle.rv32_instr.specs.declared.InstrKind.{InstrKind}
-use Rattle.rv32_expand.specs.Expansion.{code, function, operation, expansion, item_address}
+use Rattle.rv32_expand.specs.Expansion.{function, operation, expansion, item_address}
 
 -- the register of an item's result: its destination, a store's source, or x0
 abbrev pub result_register : Op → ℕ
@@ -33,7 +34,7 @@ result_register (op.Serve call) = 0
 
 -- the mark of an item at an address: of a service it names the service
 abbrev pub mark_of : Op → (address func index : ℕ) → Mark
-mark_of (op.Serve call) address func index = record { address = address; kind = kind.Jump; a = code call.service; b = func; c = index }
+mark_of (op.Serve call) address func index = record { address = address; kind = kind.Jump; a = code_of call.service; b = func; c = index }
 mark_of operation address func index = record { address = address; kind = kind.Item; a = result_register operation; b = func; c = index }
 
 -- the address of an item's last word

@@ -3,7 +3,7 @@ use Rattle.std.specs.Prelude.{ℕ, ◌≡◌, ◌<◌, ◌≤◌, List, slice_in
 use Rattle.sloth_base.specs.declared.image.Mark.{Mark}
 use Rattle.sloth_base.specs.declared.image.MarkKind.TheVariants as mark
 use Rattle.sloth_base.specs.declared.service.Service.{Service}
-use Rattle.sloth_base.specs.declared.service.Service.TheVariants.{ActivateTask, TerminateTask, ChainTask, Schedule, GetTaskID, GetTaskState, GetResource, ReleaseResource, SetEvent, ClearEvent, GetEvent, WaitEvent}
+use Rattle.sloth_base.specs.declared.service.Service.TheVariants.{ActivateTask, TerminateTask, ChainTask, GetTaskID, GetResource, ReleaseResource}
 use Rattle.sloth_base.specs.declared.places.Levels.{Levels}
 use Rattle.rv32_instr.specs.declared.InstrKind.{InstrKind}
 use Rattle.service_gen.specs.ActivateTask.{Activates}
@@ -16,21 +16,6 @@ use Rattle.service_gen.specs.ReleaseResource.{Releases}
 -- the mark on the instruction with which a service of this code begins
 abbrev pub opening : ℕ → ℕ → Mark
 opening address code = record { address = address; kind = mark.Opening; a = code; b = 0; c = 0 }
-
--- the codes of the services
-abbrev pub code_of : Service → ℕ
-code_of ActivateTask = 0
-code_of TerminateTask = 1
-code_of ChainTask = 2
-code_of Schedule = 3
-code_of GetTaskID = 4
-code_of GetTaskState = 5
-code_of GetResource = 6
-code_of ReleaseResource = 7
-code_of SetEvent = 8
-code_of ClearEvent = 9
-code_of GetEvent = 10
-code_of WaitEvent = 11
 
 -- the services whose code is generated so far; the object is a task, a resource, or 0 where there is none
 abbrev pub HasBlock : Service → ℕ → Type 0

@@ -2,7 +2,8 @@
 #![tactic(auto)]
 
 ghost use Rattle.std.specs.Prelude.{◌≡◌, ◌+◌, ◌*◌, ◌<◌, [], ◌∷◌, IfOk, slice_index};
-ghost use Rattle.service_gen.specs.Block.{opening, code_of, HasBlock, Serves};
+ghost use Rattle.sloth_base.specs.ServiceCodes.{code_of};
+ghost use Rattle.service_gen.specs.Block.{opening, HasBlock, Serves};
 
 mod activate_task;
 mod chain_task;

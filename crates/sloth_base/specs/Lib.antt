@@ -7,3 +7,4 @@ pub mod Choose
 pub mod Take
 pub mod Arrive
 pub mod Arithmetic
+pub mod ServiceCodes

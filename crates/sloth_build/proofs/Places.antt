@@ -6,7 +6,7 @@ use Rattle.sloth_base.specs.declared.config.Config.{Config}
 use Rattle.sloth_base.specs.declared.app.App.{App}
 use Rattle.sloth_base.specs.declared.app.Func.{Func}
 use Rattle.sloth_region.specs.declared.extent.Extent.{Extent}
-use Rattle.rv32_expand.specs.Expansion.{code}
+use Rattle.sloth_base.specs.ServiceCodes.{code_of}
 use Rattle.osek_machine.specs.State.{body_of, function, opening}
 use Rattle.sim_base.specs.Build.{Build, Fits, IsElsewhere}
 use Rattle.sim_base.specs.DataStands.{DataStands}
@@ -113,7 +113,7 @@ module _ (name : List ℕ) (rd rs1 : ℕ) (imm : ℤ) where
       outside = λ t i l e. inl (let x = (elsewhere i e).1 in omega (arith, x));
       apart = λ i e. refl;
       items = λ func index. two_each 0x8000_06ac 0x8000_06b0 (get_or kernel_map.places.first func 0 + index) (λ a. a % 4 ≡ 0) refl refl refl;
-      blocks = λ func index call e. set_each 512 40 terminate_task (code call.service * 40 + call.object) (λ a. a % 4 ≡ 0) refl refl;
+      blocks = λ func index call e. set_each 512 40 terminate_task (code_of call.service * 40 + call.object) (λ a. a % 4 ≡ 0) refl refl;
       idle_address = refl;
       back_address = refl;
       from = λ t l. omega arith;
