@@ -19,7 +19,8 @@ use Rattle.sloth_cli.specs.declared.top.Status.{Status}
 use Rattle.sloth_cli.specs.declared.top.Status.TheVariants as status
 use Rattle.sloth_cli.specs.declared.top.Failure.{Failure}
 use Rattle.sloth_cli.specs.declared.top.Failure.TheVariants as failure
-use Rattle.sloth_cli.specs.Top.{OfInputs, AreInputs, IsLong, FilesStay, IsAccepted, IsWritten, IsDone, Puts, Took, Answers, done_text, FetchFailed, ReadFailed, JudgeFailed, PerformFailed, CommandFailed, IsPerformed, Finished}
+use Rattle.sloth_cli.specs.Top.{OfInputs, AreInputs, IsLong, FilesStay, IsAccepted, IsWritten, IsDone, Puts, Took, Answers, done_text}
+use Rattle.sloth_cli.specs.Failures.{FetchFailed, ReadFailed, JudgeFailed, PerformFailed, CommandFailed, IsPerformed, Finished}
 
 -- a count that rose behind others, or before them
 pub rose-behind : (a b c : ℕ) → a ≤ b → Rose b c → Rose a c

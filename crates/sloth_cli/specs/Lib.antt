@@ -3,3 +3,4 @@ pub mod Command
 pub mod Words
 pub mod LastLine
 pub mod Top
+pub mod Failures

@@ -10,7 +10,8 @@ ghost use Rattle.sloth_cli.specs.Command.{words_of, IsInLimit};
 ghost use Rattle.sloth_cli.specs.Words.{command_of, run_of};
 ghost use Rattle.sloth_cli.specs.LastLine.{built_line};
 ghost use Rattle.sloth_cli.specs.Runner.{run_text};
-ghost use Rattle.sloth_cli.specs.Top.{AreInputs, HoldsArrivals, ArrivalsFailed, IsWritten, done_text, Took, Puts, Answers, FetchFailed, ReadFailed, JudgeFailed, PerformFailed, CommandFailed, Finished, TellsUsage, TellsRefused, IsComplete, IsPerformed};
+ghost use Rattle.sloth_cli.specs.Top.{AreInputs, HoldsArrivals, IsWritten, done_text, Took, Puts, Answers, TellsUsage, TellsRefused, IsComplete};
+ghost use Rattle.sloth_cli.specs.Failures.{ArrivalsFailed, FetchFailed, ReadFailed, JudgeFailed, PerformFailed, CommandFailed, Finished, IsPerformed};
 
 use crate::command::{CommandWords, RunWords, command};
 use crate::last_line::{built_line, refusal_line};
