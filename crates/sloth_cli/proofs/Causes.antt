@@ -90,10 +90,10 @@ pub record IsBuilt (old mid : Files) (c : Command) (bytes text : List ℕ) : Typ
   pub kept : KeepsFiles old mid
 
 -- the image of accepted texts was built of the inputs
-pub built_of : (old mid : Files) (c : Command) (config : Config) (app : App) (image : Image) (oil src arr : List ℕ)
+pub built-of : (old mid : Files) (c : Command) (config : Config) (app : App) (image : Image) (oil src arr : List ℕ)
     → AreInputs old c oil src arr → arr ≡ [] → Accepted oil src config app → Sound config app image → ItemsInPlace image app → InFormat image → KeepsFiles old mid
     → IsBuilt old mid c (image_bytes image) (done_text image c.run)
-built_of old mid c config app image oil src arr inputs none accepted sound items format kept = record {
+built-of old mid c config app image oil src arr inputs none accepted sound items format kept = record {
   config = config;
   app = app;
   image = image;

@@ -1,5 +1,5 @@
 use Rattle.sloth_cli.specs.Words.{command_of}
-use Rattle.sloth_cli.proofs.Causes.{read-ends, judge-ends, perform-ends, built_of, done}
+use Rattle.sloth_cli.proofs.Causes.{read-ends, judge-ends, perform-ends, built-of, done}
 use Rattle.sloth_cli.proofs.top.attempt.Goals as goal
 
 pub returns-in-Err-clause-err : goal.returns-in-Err-clause-err
@@ -13,7 +13,7 @@ pub returns-in-Err-perform-clause-err : goal.returns-in-Err-perform-clause-err
 returns-in-Err-perform-clause-err g c =
     let of = c.in-Ok-judge.ensures in
     perform-ends c.in-Err-perform.failure _ _ _ (command_of c.args.c.now) _ _ _ _ _ _
-    (built_of _ _ (command_of c.args.c.now) _ _ c.in-Ok-judge.built.image _ _ _ c.in-Ok.ensures.ok of.none of.accepted of.sound of.items of.format c.read_inputs.ensures.keeps)
+    (built-of _ _ (command_of c.args.c.now) _ _ c.in-Ok-judge.built.image _ _ _ c.in-Ok.ensures.ok of.none of.accepted of.sound of.items of.format c.read_inputs.ensures.keeps)
     c.in-Err-perform.ensures.err
 
 pub returns-clause-done : goal.returns-clause-done
@@ -21,7 +21,7 @@ returns-clause-done g c =
     let of = c.in-Ok-judge.ensures in (
       _,
       done _ _ _ (command_of c.args.c.now) _ _
-          (built_of _ _ (command_of c.args.c.now) _ _ c.in-Ok-judge.built.image _ _ _ c.in-Ok.ensures.ok of.none of.accepted of.sound of.items of.format c.read_inputs.ensures.keeps)
+          (built-of _ _ (command_of c.args.c.now) _ _ c.in-Ok-judge.built.image _ _ _ c.in-Ok.ensures.ok of.none of.accepted of.sound of.items of.format c.read_inputs.ensures.keeps)
           c.in-Ok-perform.ensures.written,
       c.in-Ok-perform.ensures.text,
     )
