@@ -11,7 +11,8 @@ use Rattle.std.proofs.Math.Seq.{take-suc}
 use Rattle.indexmap.specs.IndexMap.{IndexMap, UpdatesBy}
 use Rattle.oil_parse.specs.declared.tree.OilObject.{OilObject}
 use Rattle.oil_model.specs.Objects.{is_of_kind}
-use Rattle.oil_model.specs.Numbers.{names_of, number_in, with_first, AreNumbered}
+use Rattle.oil_model.specs.Numbers.{number_in, with_first, AreNumbered}
+use Rattle.oil_model.specs.Objects.{names_of}
 use Rattle.oil_model.proofs.Names.{further, bytes_eq-sym, position-cons}
 
 either_same : (o : Option ℕ) → (if is_some o then o else o) ≡ o

@@ -12,7 +12,7 @@ use Rattle.sloth_base.specs.declared.config.EventDecl.{EventDecl}
 use Rattle.oil_parse.specs.declared.tree.OilObject.{OilObject}
 use Rattle.oil_model.specs.Objects.{is_of_kind, has}
 use Rattle.oil_model.specs.Events.{mask_given, mask_named}
-use Rattle.oil_model.specs.Numbers.{names_of}
+use Rattle.oil_model.specs.Objects.{names_of}
 
 abbrev pub further : Option ℕ → Option ℕ
 further None = None

@@ -11,12 +11,12 @@ use Rattle.oil_parse.specs.declared.tree.OilValue.TheVariants.{Word}
 use Rattle.oil_parse.specs.declared.tree.OilAttr.{OilAttr}
 use Rattle.oil_parse.specs.declared.tree.OilObject.{OilObject}
 use Rattle.oil_parse.specs.declared.tree.OilTree.{OilTree}
-use Rattle.oil_model.specs.Objects.{is_of_kind, is_use, is_used, first_is, first_number, has_scheduler}
+use Rattle.oil_model.specs.Objects.{names_of, is_of_kind, is_use, is_used, first_is, first_number, has_scheduler}
 use Rattle.oil_model.specs.Events.{events_of, mask_named}
 
 -- the names of the resources, in the order of their numbers
 abbrev pub resource_names : List OilObject → List (List ℕ)
-resource_names objects = map (λ object. object.name) (filter (is_of_kind (codes "RESOURCE")) objects)
+resource_names objects = names_of (codes "RESOURCE") objects
 
 -- the number of the resource that a value names
 abbrev pub resource_number : List (List ℕ) → OilValue → Option ℕ

@@ -1,14 +1,8 @@
 -- The numbers of names: a kind's objects are numbered in the order of the text, and a name has the number of its first object.
-use Rattle.std.specs.Prelude.{◌≡◌, ℕ, if◌then◌else◌, List, map, filter, position, Option, Some, is_some}
+use Rattle.std.specs.Prelude.{◌≡◌, ℕ, if◌then◌else◌, List, position, Option, Some, is_some}
 use Rattle.std.specs.Borrow.{Bor}
 use Rattle.std.specs.Str.{bytes_eq}
 use Rattle.indexmap.specs.IndexMap.{IndexMap, get_by}
-use Rattle.oil_parse.specs.declared.tree.OilObject.{OilObject}
-use Rattle.oil_model.specs.Objects.{is_of_kind}
-
--- the names of the objects of a kind
-abbrev pub names_of : List ℕ → List OilObject → List (List ℕ)
-names_of kind objects = map (λ object. object.name) (filter (is_of_kind kind) objects)
 
 -- the number that a map has for a name
 abbrev pub number_in : {S : Type 0} → IndexMap (Bor (List ℕ)) ℕ S → List ℕ → Option ℕ

@@ -1,5 +1,5 @@
 -- What an object says by the attributes of its own block. Of two uses of one attribute the first counts.
-use Rattle.std.specs.Prelude.{ℕ, Bool, true, false, not, ◌&&◌, ◌==◌, List, codes, find, Option, Some, None}
+use Rattle.std.specs.Prelude.{ℕ, Bool, true, false, not, ◌&&◌, ◌==◌, List, codes, find, map, filter, Option, Some, None}
 use Rattle.std.specs.List.{list_any}
 use Rattle.std.specs.Str.{bytes_eq}
 use Rattle.oil_parse.specs.declared.tree.OilValue.{OilValue}
@@ -44,6 +44,10 @@ has objects kind name = list_any (declares kind name) objects
 
 abbrev pub is_of_kind : List ℕ → OilObject → Bool
 is_of_kind kind object = bytes_eq object.kind kind
+
+-- the names of the objects of a kind, in the order of the text
+abbrev pub names_of : List ℕ → List OilObject → List (List ℕ)
+names_of kind objects = map (λ object. object.name) (filter (is_of_kind kind) objects)
 
 abbrev pub os_scheduler : OilObject → Bool
 os_scheduler os = not (first_is os.attrs (codes "USERESSCHEDULER") (codes "FALSE"))

@@ -1,6 +1,7 @@
 //! The numbers of names.
 ghost use Rattle.std.specs.Prelude.{◌≡◌, ℕ, List, None, IfOk, OnOk, position, bytes_eq};
-ghost use Rattle.oil_model.specs.Numbers.{names_of, number_in, with_first};
+ghost use Rattle.oil_model.specs.Numbers.{number_in, with_first};
+ghost use Rattle.oil_model.specs.Objects.{names_of};
 
 use crate::objects::is_of_kind;
 use indexmap::IndexMap;
@@ -20,7 +21,8 @@ pub struct Numbers<'t> {
 
 impl<'t> Model for Numbers<'t> {
     ghost use Rattle.std.specs.Prelude.{List, ℕ};
-    ghost use Rattle.oil_model.specs.Numbers.{names_of, AreNumbered};
+    ghost use Rattle.oil_model.specs.Numbers.{AreNumbered};
+    ghost use Rattle.oil_model.specs.Objects.{names_of};
 
     ghost Value = { List (List ℕ) };
 

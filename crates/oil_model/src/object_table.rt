@@ -1,7 +1,7 @@
 //! Objects by their names.
 ghost use Rattle.std.specs.Prelude.{◌≡◌, codes};
 ghost use Rattle.oil_model.specs.Objects.{has};
-ghost use Rattle.oil_model.specs.Numbers.{names_of};
+ghost use Rattle.oil_model.specs.Objects.{names_of};
 
 use crate::numbers::Numbers;
 use oil_parse::tree::OilObject;
@@ -18,7 +18,7 @@ pub struct ObjectTable<'t> {
 impl<'t> Model for ObjectTable<'t> {
     ghost use Rattle.std.specs.Prelude.{◌≡◌, List, codes};
     ghost use Rattle.oil_parse.specs.declared.tree.OilObject.{OilObject};
-    ghost use Rattle.oil_model.specs.Numbers.{names_of};
+    ghost use Rattle.oil_model.specs.Objects.{names_of};
 
     ghost Value = { List OilObject };
 

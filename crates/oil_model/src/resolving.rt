@@ -8,7 +8,7 @@ ghost use Rattle.oil_parse.specs.declared.tree.OilTree.{OilTree};
 ghost use Rattle.oil_model.specs.Objects.{has_scheduler};
 ghost use Rattle.oil_model.specs.Trees.{IsTree};
 ghost use Rattle.oil_model.specs.Events.{events_of};
-ghost use Rattle.oil_model.specs.Numbers.{names_of};
+ghost use Rattle.oil_model.specs.Objects.{names_of};
 ghost use Rattle.oil_model.specs.ModelFaults.{ModelFault};
 ghost use Rattle.oil_model.specs.Configs.{resource_names, config_of, IsConfig};
 

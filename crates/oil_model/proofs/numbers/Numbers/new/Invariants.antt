@@ -1,5 +1,6 @@
 use Rattle.std.proofs.Common.{◌≡◌, take, length}
-use Rattle.oil_model.specs.Numbers.{names_of, AreNumbered}
+use Rattle.oil_model.specs.Numbers.{AreNumbered}
+use Rattle.oil_model.specs.Objects.{names_of}
 use Rattle.oil_model.proofs.numbers.Numbers.new.Given as goal
 
 abbrev pub invariant-loop-object : goal.invariant-loop-object
