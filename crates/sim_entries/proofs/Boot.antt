@@ -10,10 +10,10 @@ use Rattle.rv32_machine.specs.Start.{ram_of, start}
 use Rattle.osek_machine.specs.State.{declaration, opening}
 use Rattle.osek_machine.specs.Steps.{OsekStep}
 use Rattle.vector_gen.specs.Boot.{Booted}
-use Rattle.sim_base.specs.Build.{Build, Fits}
-use Rattle.sim_base.specs.Stands.{Stands, Fixed}
-use Rattle.sim_base.specs.Start.{Starts, started}
-use Rattle.sim_base.proofs.Starting.{starts_stand}
+use Rattle.sim_relation.specs.Build.{Build, Fits}
+use Rattle.sim_relation.specs.Stands.{Stands, Fixed}
+use Rattle.sim_relation.specs.Start.{Starts, started}
+use Rattle.sim_relation.proofs.Starting.{starts_stand}
 use Rattle.sim_entries.specs.Boot.{IsImage, AreLevelsOf}
 use Rattle.sim_entries.proofs.Spot.{zero_at}
 

@@ -9,18 +9,18 @@ use Rattle.rv32_machine.specs.Start.{start}
 use Rattle.rv32_routine.specs.Trace.{Trace, touched_lines, early, late}
 use Rattle.observe.specs.Observe.{View}
 use Rattle.vector_gen.specs.Boot.{Booted}
-use Rattle.sim_run.specs.Admits.{Setting, IsSetting, AllBelow, lines_at, with_admits}
-use Rattle.sim_run.specs.Laws.{BootLaw}
-use Rattle.sim_run.proofs.Boot.{nothing_before}
-use Rattle.sim_run.proofs.Routes.{Booting, booting}
-use Rattle.sim_run.proofs.Schedule.{below_moments}
-use Rattle.sim_run.proofs.Traces.{lines_before, below_trace}
-use Rattle.sim_base.specs.Build.{Build, Fits}
-use Rattle.sim_base.specs.Placed.{setting_of}
-use Rattle.sim_base.specs.Stands.{Stands}
-use Rattle.sim_base.specs.Start.{started}
-use Rattle.sim_base.proofs.Arrive.{stands_arrived}
-use Rattle.sim_base.proofs.Placed.{in_place-agree}
+use Rattle.sim_induction.specs.Admits.{Setting, IsSetting, AllBelow, lines_at, with_admits}
+use Rattle.sim_induction.specs.Laws.{BootLaw}
+use Rattle.sim_induction.proofs.Boot.{nothing_before}
+use Rattle.sim_induction.proofs.Routes.{Booting, booting}
+use Rattle.sim_induction.proofs.Schedule.{below_moments}
+use Rattle.sim_induction.proofs.Traces.{lines_before, below_trace}
+use Rattle.sim_relation.specs.Build.{Build, Fits}
+use Rattle.sim_relation.specs.Placed.{setting_of}
+use Rattle.sim_relation.specs.Stands.{Stands}
+use Rattle.sim_relation.specs.Start.{started}
+use Rattle.sim_relation.proofs.Arrive.{stands_arrived}
+use Rattle.sim_relation.proofs.Placed.{in_place-agree}
 use Rattle.sim_entries.specs.Boot.{IsImage}
 use Rattle.sim_entries.specs.Codes.{BootStands}
 use Rattle.sim_entries.proofs.Boot.{boots_law, ram_at}

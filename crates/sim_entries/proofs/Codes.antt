@@ -5,14 +5,14 @@ use Rattle.std.proofs.lemmas.Bool.{cases_lt}
 use Rattle.sloth_base.specs.Machine.{State}
 use Rattle.rv32_instr.specs.declared.InstrKind.{InstrKind}
 use Rattle.osek_machine.specs.State.{System, task}
-use Rattle.sim_base.specs.Build.{Build, Fits}
-use Rattle.sim_base.specs.Position.{thread_of}
-use Rattle.sim_base.specs.Context.{Running}
-use Rattle.sim_base.specs.Stands.{Falling}
-use Rattle.sim_base.specs.Placed.{IsPlaced}
-use Rattle.sim_base.proofs.Contexts.{context_below}
-use Rattle.sim_base.proofs.Placed.{code_behind}
-use Rattle.sim_base.proofs.Tops.{falling_head}
+use Rattle.sim_relation.specs.Build.{Build, Fits}
+use Rattle.sim_relation.specs.Position.{thread_of}
+use Rattle.sim_relation.specs.Context.{Running}
+use Rattle.sim_relation.specs.Stands.{Falling}
+use Rattle.sim_relation.specs.Placed.{IsPlaced}
+use Rattle.sim_relation.proofs.Contexts.{context_below}
+use Rattle.sim_relation.proofs.Placed.{code_behind}
+use Rattle.sim_relation.proofs.Tops.{falling_head}
 
 -- code is apart from a task's part of the stacks
 pub code_apart : (b : Build) (t offset : ℕ) (code : List InstrKind) → Fits b → t < length b.config.tasks → b.low t < b.top t → 0 < length code → IsPlaced b offset code

@@ -13,17 +13,17 @@ use Rattle.osek_machine.specs.State.{Task, System, task, with_task, declaration,
 use Rattle.osek_machine.specs.Priority.{is_active}
 use Rattle.osek_machine.specs.Services.{starts, entered}
 use Rattle.osek_machine.specs.Steps.{OsekStep, settled}
-use Rattle.sim_base.specs.Build.{Build, Fits}
-use Rattle.sim_base.specs.Position.{AreWords, thread_of}
-use Rattle.sim_base.specs.Context.{Context}
-use Rattle.sim_base.specs.Stands.{Stands}
-use Rattle.sim_base.specs.Entry.{EntryRam, EntryMachine, TaskEntry}
-use Rattle.sim_base.proofs.AtItem.{position_first}
-use Rattle.sim_base.proofs.Parts.{rests}
-use Rattle.sim_base.proofs.Tops.{falling_active}
-use Rattle.sim_base.proofs.Spot.{Spot, spot}
-use Rattle.sim_base.proofs.Entering.{entry_stands}
-use Rattle.sim_base.proofs.Choice.{taken_declared, taken_ready, taken_top}
+use Rattle.sim_relation.specs.Build.{Build, Fits}
+use Rattle.sim_relation.specs.Position.{AreWords, thread_of}
+use Rattle.sim_relation.specs.Context.{Context}
+use Rattle.sim_relation.specs.Stands.{Stands}
+use Rattle.sim_relation.specs.Entry.{EntryRam, EntryMachine, TaskEntry}
+use Rattle.sim_relation.proofs.AtItem.{position_first}
+use Rattle.sim_relation.proofs.Parts.{rests}
+use Rattle.sim_relation.proofs.Tops.{falling_active}
+use Rattle.sim_relation.proofs.Spot.{Spot, spot}
+use Rattle.sim_relation.proofs.Entering.{entry_stands}
+use Rattle.sim_relation.proofs.Choice.{taken_declared, taken_ready, taken_top}
 use Rattle.sim_entries.specs.Range.{Sane}
 use Rattle.sim_entries.specs.Entries.{EntersAnew, StandsAlone, first_words}
 use Rattle.sim_entries.proofs.Spot.{registers_at, registers_small, zeros_small, zero_at, context_words, words_small, stored_apart}

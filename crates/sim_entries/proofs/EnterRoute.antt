@@ -19,20 +19,20 @@ use Rattle.osek_machine.specs.State.{System, task, body_of}
 use Rattle.osek_machine.specs.Services as services
 use Rattle.osek_machine.specs.Steps.{OsekStep, settled}
 use Rattle.prologue_gen.specs.Fresh.{vector, MayEnter, Entered}
-use Rattle.sim_run.specs.Admits.{IsSetting, lines_at, with_admits}
-use Rattle.sim_run.specs.Advances.{Advances}
-use Rattle.sim_run.specs.Laws.{AreOneOf, StretchLaw}
-use Rattle.sim_run.specs.Short.{IsOneOf}
-use Rattle.sim_run.proofs.Routes.{Entering, entering, touches_parted, begins_entered, entered_event}
-use Rattle.sim_run.proofs.StretchPiece.{stretch_advances}
-use Rattle.sim_run.proofs.Traces.{below_trace}
-use Rattle.sim_base.specs.Build.{Build, Fits, start_level}
-use Rattle.sim_base.specs.Placed.{setting_of}
-use Rattle.sim_base.specs.Stands.{Stands}
-use Rattle.sim_base.proofs.Arrive.{stands_arrived}
-use Rattle.sim_base.proofs.Choice.{taken_declared}
-use Rattle.sim_base.proofs.Placed.{placed_in, code_behind}
-use Rattle.sim_base.proofs.Spot.{Spot, spot}
+use Rattle.sim_induction.specs.Admits.{IsSetting, lines_at, with_admits}
+use Rattle.sim_induction.specs.Advances.{Advances}
+use Rattle.sim_induction.specs.Laws.{AreOneOf, StretchLaw}
+use Rattle.sim_induction.specs.Short.{IsOneOf}
+use Rattle.sim_induction.proofs.Routes.{Entering, entering, touches_parted, begins_entered, entered_event}
+use Rattle.sim_induction.proofs.StretchPiece.{stretch_advances}
+use Rattle.sim_induction.proofs.Traces.{below_trace}
+use Rattle.sim_relation.specs.Build.{Build, Fits, start_level}
+use Rattle.sim_relation.specs.Placed.{setting_of}
+use Rattle.sim_relation.specs.Stands.{Stands}
+use Rattle.sim_relation.proofs.Arrive.{stands_arrived}
+use Rattle.sim_relation.proofs.Choice.{taken_declared}
+use Rattle.sim_relation.proofs.Placed.{placed_in, code_behind}
+use Rattle.sim_relation.proofs.Spot.{Spot, spot}
 use Rattle.sim_entries.specs.Range.{Sane}
 use Rattle.sim_entries.specs.Entries.{StandsAlone, first_words}
 use Rattle.sim_entries.specs.Codes.{PrologueStands}

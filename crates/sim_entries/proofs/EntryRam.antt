@@ -3,8 +3,8 @@ use Rattle.std.proofs.Common.{◌≡◌, ℕ, suc, ◌+◌, ◌*◌, ◌%◌, �
 use Rattle.std.specs.Prelude.{◌⊎◌, ◌≢◌, slice_index}
 use Rattle.rv32_instr.specs.Ram.{word_at, with_word, with_words}
 use Rattle.rv32_routine.proofs.Words.{word_at-same, word_at-others, get_or-with_word, get_or-with_words, word_at-with_words, length-with_word, length-with_words, word_at-agree}
-use Rattle.sim_base.specs.Position.{AreWords}
-use Rattle.sim_base.proofs.Parts.{word_other}
+use Rattle.sim_relation.specs.Position.{AreWords}
+use Rattle.sim_relation.proofs.Parts.{word_other}
 
 -- words in place after they were written
 pub written : (words ram : List ℕ) (place : ℕ) → place + 4 * length words ≤ length ram → ((i : ℕ) → slice_index words i < 4294967296) → AreWords (with_words ram place words) place words

@@ -16,9 +16,9 @@ use Rattle.osek_machine.specs.Priority.{greatest, highest}
 use Rattle.prologue_gen.specs.Fresh.{Enters}
 use Rattle.prologue_gen.specs.Places.{EntersTask, frame_at, first_item}
 use Rattle.prologue_gen.specs.Places as generator
-use Rattle.sim_run.specs.Mirror.{level_of}
-use Rattle.sim_base.specs.Build.{Build, Fits, start_level}
-use Rattle.sim_base.proofs.Levels.{levels_in}
+use Rattle.sim_induction.specs.Mirror.{level_of}
+use Rattle.sim_relation.specs.Build.{Build, Fits, start_level}
+use Rattle.sim_relation.proofs.Levels.{levels_in}
 use Rattle.sim_entries.specs.Entries.{EntersBuilt, first_words}
 use Rattle.sim_entries.specs.Generated.{IsBuiltFrom, HasOneBody}
 

@@ -7,13 +7,13 @@ use Rattle.sloth_base.specs.Arrive.{state_arrive}
 use Rattle.rv32_machine.specs.Start.{start}
 use Rattle.observe.specs.Observe.{View}
 use Rattle.osek_machine.specs.State.{System, opening}
-use Rattle.sim_run.specs.Admits.{IsSetting}
-use Rattle.sim_run.specs.Laws.{BootLaw}
-use Rattle.sim_run.proofs.Invariants.{IsKeptByRuns, IsKeptByEvents, With, boot_with}
-use Rattle.sim_base.specs.Bounds.{AreBelow}
-use Rattle.sim_base.specs.Build.{Build, Fits}
-use Rattle.sim_base.specs.Placed.{setting_of}
-use Rattle.sim_base.specs.Stands.{Stands}
+use Rattle.sim_induction.specs.Admits.{IsSetting}
+use Rattle.sim_induction.specs.Laws.{BootLaw}
+use Rattle.sim_induction.proofs.Invariants.{IsKeptByRuns, IsKeptByEvents, With, boot_with}
+use Rattle.sim_relation.specs.Bounds.{AreBelow}
+use Rattle.sim_relation.specs.Build.{Build, Fits}
+use Rattle.sim_relation.specs.Placed.{setting_of}
+use Rattle.sim_relation.specs.Stands.{Stands}
 use Rattle.sim_entries.specs.Range.{Sane}
 use Rattle.sim_entries.specs.Boot.{IsImage}
 use Rattle.sim_entries.specs.Codes.{BootStands}

@@ -5,12 +5,12 @@ use Rattle.sloth_base.specs.Machine.{State}
 use Rattle.rv32_routine.specs.Pieces.{registers_from}
 use Rattle.osek_machine.specs.State.{System, task}
 use Rattle.osek_machine.specs.Priority.{is_in}
-use Rattle.sim_base.specs.Build.{Build, Fits}
-use Rattle.sim_base.specs.Position.{thread_of}
-use Rattle.sim_base.specs.Context.{Running}
-use Rattle.sim_base.specs.Stands.{AreApart}
-use Rattle.sim_base.proofs.Contexts.{context_below}
-use Rattle.sim_base.proofs.Tops.{is_in-head}
+use Rattle.sim_relation.specs.Build.{Build, Fits}
+use Rattle.sim_relation.specs.Position.{thread_of}
+use Rattle.sim_relation.specs.Context.{Running}
+use Rattle.sim_relation.specs.Stands.{AreApart}
+use Rattle.sim_relation.proofs.Contexts.{context_below}
+use Rattle.sim_relation.proofs.Tops.{is_in-head}
 
 -- ---- lists
 

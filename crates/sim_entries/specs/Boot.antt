@@ -2,9 +2,9 @@
 use Rattle.std.specs.Prelude.{ℕ, ◌<◌, ◌≤◌, ◌≡◌, List, length, slice_index}
 use Rattle.sloth_base.specs.declared.image.Image.{Image}
 use Rattle.osek_machine.specs.State.{declaration, opening}
-use Rattle.sim_run.specs.Mirror.{level_of}
-use Rattle.sim_base.specs.Build.{Build}
-use Rattle.sim_base.specs.DataStands.{DataStands}
+use Rattle.sim_induction.specs.Mirror.{level_of}
+use Rattle.sim_relation.specs.Build.{Build}
+use Rattle.sim_relation.specs.DataStands.{DataStands}
 
 -- The image of what is built: its service words are zero, and its data are those that the task code declares.
 pub record IsImage (b : Build) (image : Image) : Type 0 where

@@ -6,8 +6,8 @@ use Rattle.rv32_instr.specs.Effect.{plus}
 use Rattle.osek_machine.specs.State.{body_of, function}
 use Rattle.vector_gen.specs.Boot.{Boots}
 use Rattle.prologue_gen.specs.Fresh.{vector}
-use Rattle.sim_base.specs.Build.{Build}
-use Rattle.sim_base.specs.Placed.{IsPlaced}
+use Rattle.sim_relation.specs.Build.{Build}
+use Rattle.sim_relation.specs.Placed.{IsPlaced}
 use Rattle.sim_entries.specs.Entries.{EntersBuilt, first_words}
 use Rattle.sim_entries.specs.Boot.{AreLevelsOf}
 

@@ -6,8 +6,8 @@ use Rattle.rv32_instr.specs.declared.InstrKind.{InstrKind}
 use Rattle.rv32_expand.specs.Expansion.{item_address}
 use Rattle.osek_machine.specs.State.{System, task, function, body_of}
 use Rattle.prologue_gen.specs.Fresh.{Entered, Enters}
-use Rattle.sim_base.specs.Build.{Build, start_level}
-use Rattle.sim_base.specs.Stands.{IsAlive, AreApart}
+use Rattle.sim_relation.specs.Build.{Build, start_level}
+use Rattle.sim_relation.specs.Stands.{IsAlive, AreApart}
 
 -- the words of the frame of a task's body
 abbrev pub first_words : Build → ℕ → ℕ

@@ -13,12 +13,12 @@ use Rattle.observe.specs.Observe.{View}
 use Rattle.osek_machine.specs.State.{System, task, function, body_of, opening}
 use Rattle.osek_machine.specs.Services.{entered}
 use Rattle.osek_machine.specs.Steps.{OsekStep, settled}
-use Rattle.sim_run.specs.Admits.{IsSetting, lines_at, with_admits}
-use Rattle.sim_run.specs.Laws.{BootLaw, StretchLaw}
-use Rattle.sim_base.specs.Build.{Build, Fits}
-use Rattle.sim_base.specs.Placed.{setting_of}
-use Rattle.sim_base.specs.Stands.{Stands}
-use Rattle.sim_base.specs.Start.{started}
+use Rattle.sim_induction.specs.Admits.{IsSetting, lines_at, with_admits}
+use Rattle.sim_induction.specs.Laws.{BootLaw, StretchLaw}
+use Rattle.sim_relation.specs.Build.{Build, Fits}
+use Rattle.sim_relation.specs.Placed.{setting_of}
+use Rattle.sim_relation.specs.Stands.{Stands}
+use Rattle.sim_relation.specs.Start.{started}
 use Rattle.vector_gen.specs.Boot.{Booted}
 use Rattle.sim_entries.specs.Range.{Sane}
 use Rattle.sim_entries.specs.Entries.{EntersAnew, StandsAlone}

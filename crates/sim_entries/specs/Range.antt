@@ -1,7 +1,7 @@
 -- The numbers of a machine's state.
 use Rattle.std.specs.Prelude.{◌<◌}
 use Rattle.sloth_base.specs.Machine.{State}
-use Rattle.sim_base.specs.Bounds.{AreBelow}
+use Rattle.sim_relation.specs.Bounds.{AreBelow}
 
 -- words are below 2^32, and bytes and the running level below 2^8
 pub record Sane (state : State) : Type 0 where

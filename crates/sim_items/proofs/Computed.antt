@@ -21,16 +21,16 @@ use Rattle.osek_machine.specs.Priority.{IsTop}
 use Rattle.osek_machine.specs.Meaning.{Meant, register, seen_in, going_on}
 use Rattle.osek_machine.specs.Meaning as meaning
 use Rattle.osek_machine.specs.Steps.{IsAt, Executes}
-use Rattle.sim_base.specs.Build.{Build, Fits}
-use Rattle.sim_base.specs.Position.{thread_of}
-use Rattle.sim_base.specs.Context.{Context}
-use Rattle.sim_base.specs.Stands.{Stands, AreActive}
-use Rattle.sim_base.specs.DataStands.{DataStands}
-use Rattle.sim_base.specs.Moves.{moved_to, TaskStep, SameMachine}
-use Rattle.sim_base.proofs.AtItem.{position_first}
-use Rattle.sim_base.proofs.Placed.{first_by_word}
-use Rattle.sim_base.proofs.Tops.{falling_head}
-use Rattle.sim_base.proofs.TaskSteps.{task_steps}
+use Rattle.sim_relation.specs.Build.{Build, Fits}
+use Rattle.sim_relation.specs.Position.{thread_of}
+use Rattle.sim_relation.specs.Context.{Context}
+use Rattle.sim_relation.specs.Stands.{Stands, AreActive}
+use Rattle.sim_relation.specs.DataStands.{DataStands}
+use Rattle.sim_relation.specs.Moves.{moved_to, TaskStep, SameMachine}
+use Rattle.sim_relation.proofs.AtItem.{position_first}
+use Rattle.sim_relation.proofs.Placed.{first_by_word}
+use Rattle.sim_relation.proofs.Tops.{falling_head}
+use Rattle.sim_relation.proofs.TaskSteps.{task_steps}
 use Rattle.sim_items.specs.Place.{AtItem, HasInstruction, IsOwn, IsComputed}
 use Rattle.sim_items.specs.Laws.{IsOneInstruction, RunsItem}
 use Rattle.sim_items.proofs.Values.{Computed, computed}

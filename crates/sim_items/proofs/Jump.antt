@@ -19,16 +19,16 @@ use Rattle.observe.specs.Observe.{View, mark_at, events_of_kind}
 use Rattle.osek_machine.specs.declared.state.TaskState.{TaskState}
 use Rattle.osek_machine.specs.declared.state.TaskState.TheVariants as mode
 use Rattle.osek_machine.specs.State.{Task, System, task, sleeping}
-use Rattle.sim_run.specs.Admits.{lines_at}
-use Rattle.sim_run.specs.Laws.{seen_at}
-use Rattle.sim_run.proofs.Passing.{kept_admits}
-use Rattle.sim_base.specs.Build.{Build}
-use Rattle.sim_base.specs.Stands.{Stands, AreActive}
-use Rattle.sim_base.specs.Moves.{moved_to, TaskStep}
-use Rattle.sim_base.proofs.Arrive.{stands_fresh}
-use Rattle.sim_base.proofs.TaskSteps.{task_steps}
-use Rattle.sim_base.proofs.Placed.{first_by_word}
-use Rattle.sim_base.proofs.Tops.{falling_head}
+use Rattle.sim_induction.specs.Admits.{lines_at}
+use Rattle.sim_induction.specs.Laws.{seen_at}
+use Rattle.sim_induction.proofs.Passing.{kept_admits}
+use Rattle.sim_relation.specs.Build.{Build}
+use Rattle.sim_relation.specs.Stands.{Stands, AreActive}
+use Rattle.sim_relation.specs.Moves.{moved_to, TaskStep}
+use Rattle.sim_relation.proofs.Arrive.{stands_fresh}
+use Rattle.sim_relation.proofs.TaskSteps.{task_steps}
+use Rattle.sim_relation.proofs.Placed.{first_by_word}
+use Rattle.sim_relation.proofs.Tops.{falling_head}
 use Rattle.sim_items.specs.Place.{AtItem}
 use Rattle.sim_items.specs.Outside.{At, GoesOutside, JumpsToService}
 use Rattle.sim_items.specs.Progress.{passed_at, passed_in, progress_in}

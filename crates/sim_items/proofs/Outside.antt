@@ -22,20 +22,20 @@ use Rattle.observe.specs.Observe.{View, mark_at, task_of, outside_events, events
 use Rattle.osek_machine.specs.State.{System}
 use Rattle.osek_machine.specs.Priority.{IsTop}
 use Rattle.osek_machine.specs.Steps.{settled}
-use Rattle.sim_run.specs.Short.{IsOneOf}
-use Rattle.sim_run.specs.Admits.{Setting, lines_at, with_admits}
-use Rattle.sim_run.specs.Laws.{OutsideLaw, Shows, seen_at}
-use Rattle.sim_run.proofs.Routes.{begins_none}
-use Rattle.sim_run.proofs.Schedule.{below_moments}
-use Rattle.sim_base.specs.Build.{Build}
-use Rattle.sim_base.specs.Context.{Running, RunsIdle}
-use Rattle.sim_base.specs.Stands.{Stands}
-use Rattle.sim_base.proofs.Arrive.{stands_arrived, stands_fresh}
-use Rattle.sim_base.proofs.Placed.{placed_in, first_by_word}
-use Rattle.sim_base.proofs.Choice.{running_top, none_due}
+use Rattle.sim_induction.specs.Short.{IsOneOf}
+use Rattle.sim_induction.specs.Admits.{Setting, lines_at, with_admits}
+use Rattle.sim_induction.specs.Laws.{OutsideLaw, Shows, seen_at}
+use Rattle.sim_induction.proofs.Routes.{begins_none}
+use Rattle.sim_induction.proofs.Schedule.{below_moments}
+use Rattle.sim_relation.specs.Build.{Build}
+use Rattle.sim_relation.specs.Context.{Running, RunsIdle}
+use Rattle.sim_relation.specs.Stands.{Stands}
+use Rattle.sim_relation.proofs.Arrive.{stands_arrived, stands_fresh}
+use Rattle.sim_relation.proofs.Placed.{placed_in, first_by_word}
+use Rattle.sim_relation.proofs.Choice.{running_top, none_due}
 use Rattle.sim_items.specs.Place.{AtItem, IsComputed}
 use Rattle.sim_items.specs.Laws.{IsOneInstruction, RunsItem}
-use Rattle.sim_base.specs.Placed.{setting_of}
+use Rattle.sim_relation.specs.Placed.{setting_of}
 use Rattle.sim_items.specs.Outside.{At, GoesOutside, HasIdle}
 use Rattle.sim_items.proofs.Computed.{computed_run}
 

@@ -9,8 +9,8 @@ use Rattle.rv32_expand.specs.InPlace.{result_register}
 use Rattle.osek_machine.specs.State.{System, function}
 use Rattle.osek_machine.specs.Priority.{IsTop}
 use Rattle.osek_machine.specs.Steps.{OsekStep}
-use Rattle.sim_base.specs.Build.{Build, Fits}
-use Rattle.sim_base.specs.Stands.{Stands}
+use Rattle.sim_relation.specs.Build.{Build, Fits}
+use Rattle.sim_relation.specs.Stands.{Stands}
 use Rattle.sim_items.specs.Place.{AtItem, HasInstruction, IsComputed}
 
 -- the code of an item, at its address, is one instruction, and behind it stands the next item

@@ -17,12 +17,12 @@ use Rattle.rv32_expand.specs.InPlace.{item_mark}
 use Rattle.observe.specs.Observe.{View, mark_at}
 use Rattle.vector_gen.specs.Idle.{Idles}
 use Rattle.osek_machine.specs.State.{System}
-use Rattle.sim_run.specs.Admits.{IsSetting, lines_at, with_admits}
-use Rattle.sim_run.specs.Laws.{OutsideLaw}
-use Rattle.sim_base.specs.Build.{Build, Fits}
-use Rattle.sim_base.specs.Stands.{Stands}
-pub use Rattle.sim_base.specs.Placed.{setting_of}
-use Rattle.sim_base.specs.Placed.{IsPlaced}
+use Rattle.sim_induction.specs.Admits.{IsSetting, lines_at, with_admits}
+use Rattle.sim_induction.specs.Laws.{OutsideLaw}
+use Rattle.sim_relation.specs.Build.{Build, Fits}
+use Rattle.sim_relation.specs.Stands.{Stands}
+pub use Rattle.sim_relation.specs.Placed.{setting_of}
+use Rattle.sim_relation.specs.Placed.{IsPlaced}
 use Rattle.sim_items.specs.Place.{AtItem, HasInstruction, IsComputed}
 use Rattle.sim_items.specs.Laws.{IsOneInstruction}
 use Rattle.sim_items.specs.Progress.{progress_in}

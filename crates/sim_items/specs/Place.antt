@@ -12,9 +12,9 @@ use Rattle.rv32_instr.specs.Range.{InRange, Signed}
 use Rattle.rv32_instr.specs.Ram.{word_at}
 use Rattle.rv32_expand.specs.Expansion.{item_address}
 use Rattle.osek_machine.specs.State.{Frame, System, task, function}
-use Rattle.sim_base.specs.Build.{Build}
-use Rattle.sim_base.specs.Position.{thread_of, FramesAt}
-use Rattle.sim_base.specs.Context.{Context}
+use Rattle.sim_relation.specs.Build.{Build}
+use Rattle.sim_relation.specs.Position.{thread_of, FramesAt}
+use Rattle.sim_relation.specs.Context.{Context}
 
 -- the running task stands at the first instruction of its next item
 pub record AtItem (b : Build) (state : State) (s : System) (t : ℕ) : Type 0 where

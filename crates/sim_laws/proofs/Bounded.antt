@@ -28,8 +28,8 @@ use Rattle.rv32_instr.proofs.Table.{decode_is}
 use Rattle.rv32_routine.proofs.Words.{word_below}
 use Rattle.rv32_machine.specs.Advance.{Goes, advance, outcome}
 use Rattle.rv32_machine.specs.Run.{moment, arrived}
-use Rattle.sim_run.specs.Admits.{lines_at}
-use Rattle.sim_base.specs.Bounds.{AreBelow}
+use Rattle.sim_induction.specs.Admits.{lines_at}
+use Rattle.sim_relation.specs.Bounds.{AreBelow}
 use Rattle.sim_laws.specs.Bounded.{CoreBounded, IsBounded}
 use Rattle.sim_laws.proofs.Results.{set_below, mod_fits, signed_fits, and_fits, ChangeFits, EffectFits, effect_fits}
 

@@ -17,21 +17,21 @@ use Rattle.observe.specs.Observe.{View, view_of_image}
 use Rattle.osek_machine.specs.declared.state.TaskState.TheVariants as mode
 use Rattle.osek_machine.specs.State.{System, task, function}
 use Rattle.osek_machine.specs.Priority.{is_in, is_active}
-use Rattle.sim_run.specs.Admits.{IsSetting, lines_at, with_admits}
-use Rattle.sim_run.specs.Advances.{Advances}
-use Rattle.sim_run.specs.Laws.{StretchLaw}
-use Rattle.sim_run.proofs.Follow.{booted_admits}
-use Rattle.sim_run.proofs.OutsidePiece.{outside_advances}
-use Rattle.sim_run.proofs.Schedule.{below_moments}
-use Rattle.sim_run.proofs.StretchPiece.{stretch_advances}
-use Rattle.sim_base.specs.Build.{Build}
-use Rattle.sim_base.specs.Position.{Position, Standing, InExpansion, AtBlock, thread_of}
-use Rattle.sim_base.specs.Context.{Running, RunsIdle, RunsTask}
-use Rattle.sim_base.specs.Stands.{Stands, AreActive, IsActive}
-use Rattle.sim_base.proofs.Arrive.{stands_arrived}
-use Rattle.sim_base.proofs.Choice.{taken_declared, taken_ready}
-use Rattle.sim_base.proofs.Framing.{position_elim}
-use Rattle.sim_base.proofs.Tops.{falling_head}
+use Rattle.sim_induction.specs.Admits.{IsSetting, lines_at, with_admits}
+use Rattle.sim_induction.specs.Advances.{Advances}
+use Rattle.sim_induction.specs.Laws.{StretchLaw}
+use Rattle.sim_induction.proofs.Follow.{booted_admits}
+use Rattle.sim_induction.proofs.OutsidePiece.{outside_advances}
+use Rattle.sim_induction.proofs.Schedule.{below_moments}
+use Rattle.sim_induction.proofs.StretchPiece.{stretch_advances}
+use Rattle.sim_relation.specs.Build.{Build}
+use Rattle.sim_relation.specs.Position.{Position, Standing, InExpansion, AtBlock, thread_of}
+use Rattle.sim_relation.specs.Context.{Running, RunsIdle, RunsTask}
+use Rattle.sim_relation.specs.Stands.{Stands, AreActive, IsActive}
+use Rattle.sim_relation.proofs.Arrive.{stands_arrived}
+use Rattle.sim_relation.proofs.Choice.{taken_declared, taken_ready}
+use Rattle.sim_relation.proofs.Framing.{position_elim}
+use Rattle.sim_relation.proofs.Tops.{falling_head}
 use Rattle.sim_entries.specs.Range.{Sane}
 use Rattle.sim_entries.proofs.EnterRoute.{enter_advances}
 use Rattle.sim_items.specs.Place.{AtItem, IsComputed}

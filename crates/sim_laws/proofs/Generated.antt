@@ -14,8 +14,8 @@ use Rattle.osek_machine.specs.State.{undeclared}
 use Rattle.vector_gen.specs.Boot.{Boots}
 use Rattle.vector_gen.specs.Vectors.{AreJumps}
 use Rattle.prologue_gen.specs.Fresh.{vector}
-use Rattle.sim_base.specs.Build.{Build}
-use Rattle.sim_base.specs.Placed.{IsPlaced}
+use Rattle.sim_relation.specs.Build.{Build}
+use Rattle.sim_relation.specs.Placed.{IsPlaced}
 use Rattle.sim_entries.specs.Codes.{PrologueStands}
 use Rattle.sim_entries.specs.Generated.{IsBuiltFrom}
 use Rattle.sim_entries.proofs.Generated.{enters_built}

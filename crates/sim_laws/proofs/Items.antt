@@ -24,7 +24,7 @@ use Rattle.rv32_expand.specs.Expansion.{item_address, block_address, distance, m
 use Rattle.rv32_expand.specs.InPlace.{IsItem, CodeAt, item_mark, mark_of, last_address}
 use Rattle.observe.specs.Observe.{AreAscending, mark_at, view_of_image}
 use Rattle.osek_machine.specs.State.{function}
-use Rattle.sim_base.specs.Build.{Build}
+use Rattle.sim_relation.specs.Build.{Build}
 use Rattle.sim_items.specs.Place.{IsOwn, IsNumber, IsComputed}
 use Rattle.sim_laws.specs.Kernel.{Computes, Ends}
 use Rattle.sim_laws.specs.Items.{HasItems, CallsTerminateTask}

@@ -19,8 +19,8 @@ use Rattle.osek_machine.specs.State.{Frame, Task, System, task, with_task, sleep
 use Rattle.osek_machine.specs.Priority.{is_in, is_active}
 use Rattle.osek_machine.specs.Services.{if_suspended, activated, Outcome, GoesOn, Leaves, outcome, ended, starts}
 use Rattle.osek_machine.specs.Steps.{OsekStep, Serves, settled, autostarted, admitted}
-use Rattle.sim_base.proofs.Arrive.{is_suspended, not_suspended}
-use Rattle.sim_base.proofs.Parts.{this_task, other_task, by_task}
+use Rattle.sim_relation.proofs.Arrive.{is_suspended, not_suspended}
+use Rattle.sim_relation.proofs.Parts.{this_task, other_task, by_task}
 use Rattle.sim_items.specs.Place.{IsComputed}
 use Rattle.sim_laws.specs.Plain.{OnlyComputes, IsPlainTask, IsPlain}
 

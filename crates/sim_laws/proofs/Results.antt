@@ -15,7 +15,7 @@ use Rattle.rv32_instr.specs.Fields.{signed, complement}
 use Rattle.rv32_instr.specs.Range.{Signed, InRange}
 use Rattle.rv32_instr.specs.Effect.{effect, number_of, halved}
 use Rattle.rv32_instr.proofs.Words.{signed_pos, signed_neg}
-use Rattle.sim_base.specs.Bounds.{AreBelow}
+use Rattle.sim_relation.specs.Bounds.{AreBelow}
 
 pub set_below : (bound : ℕ) (xs : List ℕ) (k v : ℕ) → AreBelow bound xs → v < bound → AreBelow bound (set xs k v)
 set_below bound [] k v h l i = h i

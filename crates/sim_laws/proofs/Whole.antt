@@ -14,19 +14,19 @@ use Rattle.rv32_routine.specs.Trace.{late}
 use Rattle.rv32_expand.specs.Expansion.{item_address, operation, expansion, expanded}
 use Rattle.observe.specs.Observe.{View, view_of_image}
 use Rattle.osek_machine.specs.State.{Frame, System, task, function}
-use Rattle.sim_run.specs.Sound.{Sound}
-use Rattle.sim_run.specs.Admits.{IsSetting, lines_at, with_admits, admit_event}
-use Rattle.sim_run.specs.Laws.{BootLaw}
-use Rattle.sim_run.specs.Related.{IsSimulation}
-use Rattle.sim_run.proofs.Follow.{booted_admits, leads_admits}
-use Rattle.sim_run.proofs.Invariants.{With, along_events, simulation_with, boot_with}
-use Rattle.sim_run.proofs.Schedule.{below_moments}
-use Rattle.sim_run.proofs.Simulated.{sound, is_setting}
-use Rattle.sim_base.specs.Bounds.{AreBelow}
-use Rattle.sim_base.specs.Build.{Build}
-use Rattle.sim_base.specs.Stands.{Stands}
-use Rattle.sim_base.proofs.Arrive.{stands_arrived}
-use Rattle.sim_base.proofs.MirrorOf.{mirror_of}
+use Rattle.sim_induction.specs.Sound.{Sound}
+use Rattle.sim_induction.specs.Admits.{IsSetting, lines_at, with_admits, admit_event}
+use Rattle.sim_induction.specs.Laws.{BootLaw}
+use Rattle.sim_induction.specs.Related.{IsSimulation}
+use Rattle.sim_induction.proofs.Follow.{booted_admits, leads_admits}
+use Rattle.sim_induction.proofs.Invariants.{With, along_events, simulation_with, boot_with}
+use Rattle.sim_induction.proofs.Schedule.{below_moments}
+use Rattle.sim_induction.proofs.Simulated.{sound, is_setting}
+use Rattle.sim_relation.specs.Bounds.{AreBelow}
+use Rattle.sim_relation.specs.Build.{Build}
+use Rattle.sim_relation.specs.Stands.{Stands}
+use Rattle.sim_relation.proofs.Arrive.{stands_arrived}
+use Rattle.sim_relation.proofs.MirrorOf.{mirror_of}
 use Rattle.sim_entries.proofs.Boot.{ram_at}
 use Rattle.sim_entries.proofs.BootRoute.{boot_stretch}
 use Rattle.sim_entries.proofs.Spot.{zero_at}

@@ -5,7 +5,7 @@ use Rattle.sloth_base.specs.declared.step.Step.{Step}
 use Rattle.sloth_base.specs.Machine.{Core, State}
 use Rattle.rv32_machine.specs.Advance.{Goes}
 use Rattle.rv32_machine.specs.Run.{moment}
-use Rattle.sim_base.specs.Bounds.{AreBelow}
+use Rattle.sim_relation.specs.Bounds.{AreBelow}
 
 -- words are below 2^32, and bytes and levels below 2^8
 pub record CoreBounded (core : Core) : Type 0 where

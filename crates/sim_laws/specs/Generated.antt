@@ -13,10 +13,10 @@ use Rattle.vector_gen.specs.Vectors.{AreJumps}
 use Rattle.prologue_gen.specs.Places.{EntersTask}
 use Rattle.std.specs.Prelude.{Some}
 use Rattle.std.specs.List.{slice_get}
-use Rattle.sim_base.specs.Bounds.{AreBelow}
-use Rattle.sim_base.specs.Build.{Build, Fits}
-use Rattle.sim_base.specs.Placed.{IsPlaced}
-use Rattle.sim_base.specs.Stands.{AreApart}
+use Rattle.sim_relation.specs.Bounds.{AreBelow}
+use Rattle.sim_relation.specs.Build.{Build, Fits}
+use Rattle.sim_relation.specs.Placed.{IsPlaced}
+use Rattle.sim_relation.specs.Stands.{AreApart}
 use Rattle.sim_entries.specs.Boot.{IsImage}
 use Rattle.sim_entries.specs.Entries.{first_words}
 use Rattle.sim_entries.specs.Generated.{HasOneBody}

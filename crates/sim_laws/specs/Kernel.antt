@@ -6,10 +6,10 @@ use Rattle.rv32_expand.specs.Expansion.{item_address, operation}
 use Rattle.rv32_expand.specs.InPlace.{item_mark}
 use Rattle.observe.specs.Observe.{View, mark_at, view_of_image}
 use Rattle.osek_machine.specs.State.{function}
-use Rattle.sim_run.specs.Sound.{Sound}
-use Rattle.sim_base.specs.Bounds.{AreBelow}
-use Rattle.sim_base.specs.Build.{Build, Fits}
-use Rattle.sim_base.specs.Stands.{AreApart}
+use Rattle.sim_induction.specs.Sound.{Sound}
+use Rattle.sim_relation.specs.Bounds.{AreBelow}
+use Rattle.sim_relation.specs.Build.{Build, Fits}
+use Rattle.sim_relation.specs.Stands.{AreApart}
 use Rattle.sim_entries.specs.Boot.{IsImage}
 use Rattle.sim_entries.specs.Codes.{BootStands, PrologueStands}
 use Rattle.sim_items.specs.Place.{IsComputed}

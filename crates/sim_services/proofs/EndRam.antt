@@ -3,7 +3,7 @@ use Rattle.std.proofs.Common.{◌≡◌, ℕ, ◌+◌, ◌*◌, ◌%◌, ◌<◌
 use Rattle.std.specs.Prelude.{◌≢◌, slice_index}
 use Rattle.rv32_instr.specs.Ram.{word_at, with_word}
 use Rattle.rv32_routine.proofs.Words.{word_at-same, get_or-with_word, length-with_word}
-use Rattle.sim_base.proofs.Parts.{word_other}
+use Rattle.sim_relation.proofs.Parts.{word_other}
 
 pub record EndRam (old new : List ℕ) (t current link : ℕ) : Type 0 where
   pub long : length new ≡ 0x20_0000

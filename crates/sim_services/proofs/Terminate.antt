@@ -15,16 +15,16 @@ use Rattle.osek_machine.specs.Priority.{is_active}
 use Rattle.osek_machine.specs.Services.{ended}
 use Rattle.osek_machine.specs.Steps.{OsekStep, IsAt, settled}
 use Rattle.sloth_base.specs.declared.app.Op.TheVariants as op
-use Rattle.sim_base.specs.Build.{Build, Fits}
-use Rattle.sim_base.specs.Context.{RunsTask, Running}
-use Rattle.sim_base.specs.ServiceWords.{ServiceWords, HeldWords, base_priority}
-use Rattle.sim_base.specs.Stands.{Stands, IsActive, AreActive, IsLineOf}
-use Rattle.sim_base.specs.Moves.{TaskLeave}
-use Rattle.sim_base.proofs.Placed.{first_by_word}
-use Rattle.sim_base.proofs.Tops.{falling_head}
-use Rattle.sim_base.proofs.Leaving.{leave_stands}
-use Rattle.sim_base.proofs.TaskSteps.{active_resumes}
-use Rattle.sim_base.proofs.TaskMoves.{line_active}
+use Rattle.sim_relation.specs.Build.{Build, Fits}
+use Rattle.sim_relation.specs.Context.{RunsTask, Running}
+use Rattle.sim_relation.specs.ServiceWords.{ServiceWords, HeldWords, base_priority}
+use Rattle.sim_relation.specs.Stands.{Stands, IsActive, AreActive, IsLineOf}
+use Rattle.sim_relation.specs.Moves.{TaskLeave}
+use Rattle.sim_relation.proofs.Placed.{first_by_word}
+use Rattle.sim_relation.proofs.Tops.{falling_head}
+use Rattle.sim_relation.proofs.Leaving.{leave_stands}
+use Rattle.sim_relation.proofs.TaskSteps.{active_resumes}
+use Rattle.sim_relation.proofs.TaskMoves.{line_active}
 use Rattle.sim_services.specs.Laws.{MayEnd}
 use Rattle.sim_services.proofs.EndRam.{EndRam, end_ram}
 

@@ -26,25 +26,25 @@ use Rattle.osek_machine.specs.State.{System, task, zero_registers}
 use Rattle.osek_machine.specs.Priority.{IsTop}
 use Rattle.osek_machine.specs.Services.{ended}
 use Rattle.osek_machine.specs.Steps.{OsekStep, settled}
-use Rattle.sim_run.specs.Admits.{IsSetting, lines_at, with_admits, AllBelow}
-use Rattle.sim_run.specs.Laws.{AreOneOf, StretchLaw}
-use Rattle.sim_run.proofs.Passing.{kept_admits, still_top}
-use Rattle.sim_run.proofs.Routes.{Masking, masking}
-use Rattle.sim_run.proofs.Schedule.{below_moments}
-use Rattle.sim_run.proofs.Stretched.{service_law, shows_left}
-use Rattle.sim_run.proofs.Traces.{below_trace}
-use Rattle.sim_base.specs.Build.{Build, Fits}
-use Rattle.sim_base.specs.Context.{RunsTask, Running}
-use Rattle.sim_base.specs.Stands.{Stands, IsActive, AreActive}
-use Rattle.sim_base.proofs.Arrive.{stands_arrived}
-use Rattle.sim_base.proofs.Below.{is_below}
-use Rattle.sim_base.proofs.Choice.{running_top}
-use Rattle.sim_base.proofs.Placed.{placed_in, code_behind, first_by_word}
-use Rattle.sim_base.proofs.Parts.{this_task}
-use Rattle.sim_base.proofs.Tops.{falling_head}
+use Rattle.sim_induction.specs.Admits.{IsSetting, lines_at, with_admits, AllBelow}
+use Rattle.sim_induction.specs.Laws.{AreOneOf, StretchLaw}
+use Rattle.sim_induction.proofs.Passing.{kept_admits, still_top}
+use Rattle.sim_induction.proofs.Routes.{Masking, masking}
+use Rattle.sim_induction.proofs.Schedule.{below_moments}
+use Rattle.sim_induction.proofs.Stretched.{service_law, shows_left}
+use Rattle.sim_induction.proofs.Traces.{below_trace}
+use Rattle.sim_relation.specs.Build.{Build, Fits}
+use Rattle.sim_relation.specs.Context.{RunsTask, Running}
+use Rattle.sim_relation.specs.Stands.{Stands, IsActive, AreActive}
+use Rattle.sim_relation.proofs.Arrive.{stands_arrived}
+use Rattle.sim_relation.proofs.Below.{is_below}
+use Rattle.sim_relation.proofs.Choice.{running_top}
+use Rattle.sim_relation.proofs.Placed.{placed_in, code_behind, first_by_word}
+use Rattle.sim_relation.proofs.Parts.{this_task}
+use Rattle.sim_relation.proofs.Tops.{falling_head}
 use Rattle.sim_services.specs.Opening.{AtOpening}
 use Rattle.sim_services.specs.Laws.{MayEnd}
-use Rattle.sim_base.specs.Placed.{setting_of}
+use Rattle.sim_relation.specs.Placed.{setting_of}
 use Rattle.sim_services.specs.Stretch.{OpensTerminateTask}
 use Rattle.sim_services.proofs.Terminate.{terminate_ends}
 

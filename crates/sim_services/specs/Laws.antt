@@ -10,9 +10,9 @@ use Rattle.osek_machine.specs.State.{System, task}
 use Rattle.osek_machine.specs.Priority.{IsTop}
 use Rattle.osek_machine.specs.Services.{ended}
 use Rattle.osek_machine.specs.Steps.{OsekStep, settled}
-use Rattle.sim_base.specs.Bounds.{AreBelow}
-use Rattle.sim_base.specs.Build.{Build, Fits}
-use Rattle.sim_base.specs.Stands.{Stands}
+use Rattle.sim_relation.specs.Bounds.{AreBelow}
+use Rattle.sim_relation.specs.Build.{Build, Fits}
+use Rattle.sim_relation.specs.Stands.{Stands}
 use Rattle.sim_services.specs.Opening.{AtOpening}
 
 -- what holds where TerminateTask of the running task begins: it holds no resource, and the context below it stands at `place`

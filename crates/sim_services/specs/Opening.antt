@@ -5,8 +5,8 @@ use Rattle.sloth_base.specs.Machine.{State}
 use Rattle.sloth_region.specs.Layout.{cur}
 use Rattle.rv32_instr.specs.Ram.{word_at}
 use Rattle.osek_machine.specs.State.{Frame, System, task, function}
-use Rattle.sim_base.specs.Build.{Build}
-use Rattle.sim_base.specs.Position.{thread_of, AtBlock}
+use Rattle.sim_relation.specs.Build.{Build}
+use Rattle.sim_relation.specs.Position.{thread_of, AtBlock}
 
 -- the running task stands at the opening mark of the block of its next item, a call of the service
 pub record AtOpening (b : Build) (state : State) (s : System) (t : ℕ) (service : Service) : Type 0 where

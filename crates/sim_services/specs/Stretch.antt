@@ -14,12 +14,12 @@ use Rattle.observe.specs.Observe.{View, mark_at, services}
 use Rattle.service_gen.specs.TerminateTask.{Terminates}
 use Rattle.osek_machine.specs.State.{System, task}
 use Rattle.osek_machine.specs.Priority.{is_in}
-use Rattle.sim_run.specs.Admits.{IsSetting, lines_at, with_admits}
-use Rattle.sim_run.specs.Laws.{StretchLaw}
-use Rattle.sim_base.specs.Bounds.{AreBelow}
-use Rattle.sim_base.specs.Build.{Build, Fits}
-use Rattle.sim_base.specs.Stands.{Stands}
-use Rattle.sim_base.specs.Placed.{setting_of, IsPlaced}
+use Rattle.sim_induction.specs.Admits.{IsSetting, lines_at, with_admits}
+use Rattle.sim_induction.specs.Laws.{StretchLaw}
+use Rattle.sim_relation.specs.Bounds.{AreBelow}
+use Rattle.sim_relation.specs.Build.{Build, Fits}
+use Rattle.sim_relation.specs.Stands.{Stands}
+use Rattle.sim_relation.specs.Placed.{setting_of, IsPlaced}
 use Rattle.sim_services.specs.Opening.{AtOpening}
 
 -- the block of TerminateTask stands in the image, with code that does it, and its mark

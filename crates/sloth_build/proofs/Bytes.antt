@@ -11,7 +11,7 @@ use Rattle.rv32_instr.specs.declared.InstrKind.{InstrKind}
 use Rattle.rv32_instr.proofs.Fits.{encode_fits}
 use Rattle.rv32_routine.specs.Place.{InPlace, AreWritten}
 use Rattle.rv32_routine.proofs.Whole.{in_place}
-use Rattle.sim_base.specs.Bounds.{AreBelow}
+use Rattle.sim_relation.specs.Bounds.{AreBelow}
 use Rattle.sloth_build.specs.Memory.{code_bytes, placed}
 
 -- ---- words

@@ -6,8 +6,8 @@ use Rattle.sloth_base.specs.declared.config.Config.{Config}
 use Rattle.rv32_instr.specs.declared.InstrKind.{InstrKind}
 use Rattle.rv32_instr.specs.Range.{InRange}
 use Rattle.rv32_routine.specs.Place.{AreWritten}
-use Rattle.sim_base.specs.Bounds.{AreBelow}
-use Rattle.sim_base.specs.Placed.{IsPlaced}
+use Rattle.sim_relation.specs.Bounds.{AreBelow}
+use Rattle.sim_relation.specs.Placed.{IsPlaced}
 use Rattle.sloth_build.specs.Kernel.{ArePlaced, AreInRange, kernel_memory}
 use Rattle.sloth_build.specs.declared.kernel.Kernel.{Kernel}
 use Rattle.sloth_build.proofs.Bytes.{Holds, holds_placed, holds_behind, written, stands, Begins, begins_placed, begins_behind, zeros_before, below_placed, below_nothing}

@@ -8,8 +8,8 @@ use Rattle.sloth_base.specs.declared.app.Func.{Func}
 use Rattle.sloth_region.specs.declared.extent.Extent.{Extent}
 use Rattle.sloth_base.specs.ServiceCodes.{code_of}
 use Rattle.osek_machine.specs.State.{body_of, function, opening}
-use Rattle.sim_base.specs.Build.{Build, Fits, IsElsewhere}
-use Rattle.sim_base.specs.DataStands.{DataStands}
+use Rattle.sim_relation.specs.Build.{Build, Fits, IsElsewhere}
+use Rattle.sim_relation.specs.DataStands.{DataStands}
 use Rattle.sloth_build.specs.Form.{one_body}
 use Rattle.sloth_build.specs.Where.{kernel_map, idle, terminate_task}
 

@@ -13,9 +13,9 @@ use Rattle.rv32_instr.specs.Range.{InRange, Signed}
 use Rattle.rv32_routine.specs.Place.{AreWritten}
 use Rattle.observe.specs.Observe.{View, view_from, view_of_image, mark_at}
 use Rattle.osek_machine.specs.State.{function}
-use Rattle.sim_run.specs.Sound.{Sound}
-use Rattle.sim_base.specs.Bounds.{AreBelow}
-use Rattle.sim_base.specs.Build.{Build}
+use Rattle.sim_induction.specs.Sound.{Sound}
+use Rattle.sim_relation.specs.Bounds.{AreBelow}
+use Rattle.sim_relation.specs.Build.{Build}
 use Rattle.sim_items.specs.Place.{HasInstruction, IsOwn}
 use Rattle.sim_items.specs.Outside.{HasIdle}
 use Rattle.sim_laws.specs.Kernel.{Computes, Ends}

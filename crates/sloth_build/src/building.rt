@@ -4,7 +4,7 @@ ghost use Rattle.sloth_base.specs.ConfigRange.{InRange};
 ghost use Rattle.sloth_base.specs.ImageRange.{IsName, InFormat};
 ghost use Rattle.rv32_instr.specs.Range.{Signed};
 ghost use Rattle.rv32_expand.specs.InPlace.{ItemsInPlace};
-ghost use Rattle.sim_run.specs.Sound.{Sound};
+ghost use Rattle.sim_induction.specs.Sound.{Sound};
 ghost use Rattle.sim_items.specs.Place.{IsOwn};
 ghost use Rattle.sloth_build.specs.OilText.{IsOneTask};
 ghost use Rattle.sloth_build.specs.Form.{Accepted, ErrorIs, one_body, one_items, not_built};

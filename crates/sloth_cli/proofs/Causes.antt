@@ -6,7 +6,7 @@ use Rattle.rv32_expand.specs.InPlace.{ItemsInPlace}
 use Rattle.sloth_base.specs.declared.config.Config.{Config}
 use Rattle.sloth_base.specs.declared.app.App.{App}
 use Rattle.sloth_base.specs.declared.image.Image.{Image}
-use Rattle.sim_run.specs.Sound.{Sound}
+use Rattle.sim_induction.specs.Sound.{Sound}
 use Rattle.sloth_io.specs.Counts.{Rose}
 use Rattle.sloth_io.specs.Sink.{GainsPart}
 use Rattle.sloth_io.specs.Store.{Files, KeepsFiles}

@@ -16,7 +16,7 @@ use Rattle.rv32_machine.specs.Start.{start}
 use Rattle.rv32_machine.specs.Advance.{Halts}
 use Rattle.rv32_machine.specs.Run.{Moment, moment, arrived, run, run_from, steps_of, state_after}
 use Rattle.rv32_machine.proofs.Runs.{run_halts, stop_halts, stop_none, run_front}
-use Rattle.sim_run.specs.Sound.{events_of}
+use Rattle.sim_induction.specs.Sound.{events_of}
 use Rattle.sloth_cli.specs.Runner.{Running, IsFresh, Went, Broke, Halted, Adds, image_of, given, count_of, sloth_state, run_steps, run_text, run_end, end_of}
 use Rattle.sloth_cli.specs.declared.runner.Runner.{Runner}
 use Rattle.sloth_cli.specs.declared.runner.Printer.{Printer}

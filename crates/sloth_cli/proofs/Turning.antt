@@ -17,7 +17,7 @@ use Rattle.observe.proofs.Growing.{observe-nothing}
 use Rattle.rv32_machine.specs.Start.{start}
 use Rattle.rv32_machine.specs.Advance.{Outcome, Goes, advance}
 use Rattle.rv32_machine.specs.Run.{Moment, moment, moment_of, arrived, run, run_from, steps_of, state_after}
-use Rattle.sim_run.specs.Sound.{events_of}
+use Rattle.sim_induction.specs.Sound.{events_of}
 use Rattle.sloth_cli.specs.Runner.{Stands, Adds, IsRunning, given, sloth_state, run_steps}
 use Rattle.sloth_cli.specs.declared.runner.Runner.{Runner}
 use Rattle.rv32_machine.proofs.Runs.{after_more, run_more}

@@ -13,7 +13,7 @@ use Rattle.observe.specs.Observe.{view_of_image}
 use Rattle.observe.specs.Touched.{AreLines}
 use Rattle.observe.specs.Progress.{Fed, remaining, view_of, arrivals_of, expected_of, from}
 use Rattle.observe.specs.declared.observer.Observer.{Observer}
-use Rattle.sim_run.specs.Sound.{events_of}
+use Rattle.sim_induction.specs.Sound.{events_of}
 use Rattle.rv32_machine.specs.Start.{start}
 use Rattle.rv32_machine.specs.Advance.{Halts}
 use Rattle.rv32_machine.specs.State.{state}

@@ -6,7 +6,7 @@ use Rattle.sloth_base.specs.declared.image.Image.{Image}
 use Rattle.sloth_base.specs.declared.refusal.Refusal.{Refusal}
 use Rattle.sloth_base.specs.declared.refusal.Part.TheVariants as part
 use Rattle.rv32_expand.specs.InPlace.{ItemsInPlace}
-use Rattle.sim_run.specs.Sound.{Sound}
+use Rattle.sim_induction.specs.Sound.{Sound}
 use Rattle.sloth_io.specs.Counts.{Rose, Stays}
 use Rattle.sloth_io.specs.Sink.{gains, GainsPart}
 use Rattle.sloth_io.specs.Store.{Files, Holds, KeepsOthers}

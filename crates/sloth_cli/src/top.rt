@@ -2,7 +2,7 @@
 ghost use Rattle.std.specs.Prelude.{◌≡◌, ◌≤◌, IfOk, IfErr, OnOk, [], length};
 ghost use Rattle.rv32_expand.specs.InPlace.{ItemsInPlace};
 ghost use Rattle.sloth_base.specs.ImageRange.{InFormat};
-ghost use Rattle.sim_run.specs.Sound.{Sound};
+ghost use Rattle.sim_induction.specs.Sound.{Sound};
 ghost use Rattle.sloth_io.specs.Store.{KeepsFiles, Holds};
 ghost use Rattle.image_file.specs.ImageText.{image_bytes};
 ghost use Rattle.sloth_build.specs.Form.{Accepted};

@@ -1,5 +1,0 @@
-use Rattle.sim_base.proofs.entries_keep.Goals as goal
-use Rattle.sim_base.proofs.Entering.{entry_stands}
-
-pub returns : goal.returns
-returns c = λ b old now s t own place fits k e entry. entry_stands b old now s k fits t e own place entry

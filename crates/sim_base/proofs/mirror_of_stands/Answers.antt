@@ -1,5 +1,0 @@
-use Rattle.sim_base.proofs.mirror_of_stands.Goals as goal
-use Rattle.sim_base.proofs.MirrorOf.{mirror_of}
-
-pub returns : goal.returns
-returns c = λ b state s k. mirror_of b state s k

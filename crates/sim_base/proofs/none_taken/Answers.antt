@@ -1,5 +1,0 @@
-use Rattle.sim_base.proofs.none_taken.Goals as goal
-use Rattle.sim_base.proofs.Undisturbed.{undisturbed}
-
-pub returns : goal.returns
-returns c = λ b state s few k e. undisturbed b state s few k e

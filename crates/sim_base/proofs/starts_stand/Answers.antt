@@ -1,5 +1,0 @@
-use Rattle.sim_base.proofs.starts_stand.Goals as goal
-use Rattle.sim_base.proofs.Starting.{starts_stand}
-
-pub returns : goal.returns
-returns c = λ b state fits start. starts_stand b state fits start

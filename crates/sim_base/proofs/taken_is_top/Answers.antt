@@ -1,5 +1,0 @@
-use Rattle.sim_base.proofs.taken_is_top.Goals as goal
-use Rattle.sim_base.proofs.Choice.{taken_top, taken_ready}
-
-pub returns : goal.returns
-returns c = λ b state s few k t e. (taken_top b state s k few t e, taken_ready b state s k few t e)

@@ -1,0 +1,56 @@
+-- Runs of the abstract scheduler, joined; and the events of arrivals.
+use Rattle.std.proofs.Common.{◌≡◌, ℕ, List, [], ◌∷◌, ◌++◌, length, refl, sym, ◌∙◌, subst, append_assoc, append-nil, true}
+use Rattle.std.specs.Prelude.{map}
+use Rattle.sloth_base.specs.declared.config.Config.{Config}
+use Rattle.sloth_base.specs.declared.app.App.{App}
+use Rattle.sloth_base.specs.declared.event.Arrival.{Arrival}
+use Rattle.sloth_base.specs.declared.event.Stamped.{Stamped}
+use Rattle.osek_machine.specs.declared.state.TaskState.{TaskState}
+use Rattle.osek_machine.specs.declared.state.TaskState.TheVariants as mode
+use Rattle.osek_machine.specs.State.{System, task}
+use Rattle.osek_machine.specs.Services.{if_suspended, activated}
+use Rattle.osek_machine.specs.Steps.{admitted}
+use Rattle.osek_machine.specs.Runs.{Leads, Follows}
+use Rattle.sim_induction.specs.Admits.{with_admits, AllBelow, admit_event}
+
+pub leads-append : (c : Config) (app : App) (a b : List Stamped) (s x z : System) → Leads c app a s x → Leads c app b x z → Leads c app (a ++ b) s z
+leads-append c app [] b s x z h k = subst (λ v. Leads c app b v z) h k
+leads-append c app (e ∷ a) b s x z h k = (h.0, h.1, leads-append c app a b h.0 x z h.2 k)
+
+pub follows_leads : (c : Config) (app : App) (past : List Stamped) (s : System) (es : List Stamped) (z : System) → Follows c app past s es z → Leads c app es s z
+follows_leads c app past s [] z h = h
+follows_leads c app past s (e ∷ es) z h = (h.0, h.1, follows_leads c app (past ++ e ∷ []) h.0 es z h.3)
+
+pub follows-append : (c : Config) (app : App) (past : List Stamped) (s x z : System) (a b : List Stamped) → Follows c app past s a x → Follows c app (past ++ a) x b z → Follows c app past s (a ++ b) z
+follows-append c app past s x z [] b h k =
+    subst (λ v. Follows c app past v b z) h (subst (λ p. Follows c app p x b z) (append-nil past) k)
+follows-append c app past s x z (e ∷ a) b h k =
+    (h.0, h.1, h.2, follows-append c app (past ++ e ∷ []) h.0 x z a b h.3 (subst (λ p. Follows c app p x b z) (sym (append_assoc past (e ∷ []) a)) k))
+
+-- ---- arrivals
+
+booted_if : (t : TaskState) (x s : System) → x.booted ≡ s.booted → (if_suspended t x s).booted ≡ s.booted
+booted_if mode.Suspended x s h = h
+booted_if mode.Ready x s h = refl
+booted_if mode.Active x s h = refl
+booted_if (mode.Waiting m) x s h = refl
+
+pub booted_admitted : (t : ℕ) (s : System) → (admitted t s).booted ≡ s.booted
+booted_admitted t s = booted_if (task s t).state (record (activated s t) { fresh = t ∷ s.fresh }) s refl
+
+pub booted_admits : (lines : List ℕ) (s : System) → (with_admits lines s).booted ≡ s.booted
+booted_admits [] s = refl
+booted_admits (t ∷ lines) s = booted_admits lines (admitted t s) ∙ booted_admitted t s
+
+pub with_admits-append : (a b : List ℕ) (s : System) → with_admits (a ++ b) s ≡ with_admits b (with_admits a s)
+with_admits-append [] b s = refl
+with_admits-append (t ∷ a) b s = with_admits-append a b (admitted t s)
+
+pub follows_admits : (c : Config) (app : App) (past : List Stamped) (a : List Arrival) (s : System) → s.booted ≡ true → AllBelow (length c.tasks) (map (λ x. x.line) a)
+    → Follows c app past s (map admit_event a) (with_admits (map (λ x. x.line) a) s)
+follows_admits c app past [] s b h = refl
+follows_admits c app past (x ∷ a) s b h =
+    (admitted x.line s, (b, h.0, refl), tt, follows_admits c app (past ++ admit_event x ∷ []) a (admitted x.line s) (booted_admitted x.line s ∙ b) h.1)
+
+pub leads_admits : (c : Config) (app : App) (a : List Arrival) (s : System) → s.booted ≡ true → AllBelow (length c.tasks) (map (λ x. x.line) a) → Leads c app (map admit_event a) s (with_admits (map (λ x. x.line) a) s)
+leads_admits c app a s b h = follows_leads c app [] s (map admit_event a) (with_admits (map (λ x. x.line) a) s) (follows_admits c app [] a s b h)

@@ -1,0 +1,134 @@
+-- An instruction outside the stretches is a piece of the run.
+use Rattle.std.proofs.Common.{◌≡◌, ℕ, ◌+◌, ◌<◌, ◌≤◌, List, [], ◌∷◌, ◌++◌, length, refl, sym, ap, ◌∙◌, subst, arith, true, false, cond, inl, append-nil}
+use Rattle.std.specs.Prelude.{map}
+use Rattle.std.proofs.lemmas.Bool.{not_from_false}
+use Rattle.sloth_base.specs.declared.event.Event.{Event}
+use Rattle.sloth_base.specs.declared.event.Event.TheVariants as event
+use Rattle.sloth_base.specs.declared.event.Stamped.{Stamped}
+use Rattle.sloth_base.specs.declared.step.Step.{Step}
+use Rattle.sloth_base.specs.Machine.{State}
+use Rattle.sloth_base.specs.Arrivals.{moments}
+use Rattle.observe.specs.Pieces.{Outside, Stretch, is_outside, begins}
+use Rattle.observe.specs.Observe.{stamp, mark_at, outside_events}
+use Rattle.osek_machine.specs.State.{System}
+use Rattle.osek_machine.specs.Runs.{Leads, Follows, PassesOverArrivals}
+use Rattle.osek_machine.specs.InTime.{is_admit, admits_at, SpansFor, IsOrdered, KeepsOrder}
+use Rattle.sim_induction.specs.Short.{passed_by}
+use Rattle.sim_induction.specs.Admits.{Setting, IsSetting, lines_at, with_admits, AllBelow}
+use Rattle.sim_induction.specs.Advances.{EachEvent, EachPair, IsWithin, found_by, Advances}
+use Rattle.sim_induction.specs.Laws.{OutsideLaw, Shows, seen_at}
+use Rattle.sim_induction.proofs.Schedule.{below_moments, admits_are}
+use Rattle.sim_induction.proofs.Counts.{admits-append, admits_of, others_count}
+use Rattle.sim_induction.proofs.Order.{orders-append, admits_order, others_order}
+use Rattle.sim_induction.proofs.Shown.{AreSingle, IsSingle, outside_single}
+use Rattle.sim_induction.proofs.MaskedRun.{going_moment}
+
+single_other : (what : Event) (k : ℕ) → IsSingle what → is_admit (stamp k k what) ≡ false
+single_other (event.Run t func item result) k h = refl
+single_other event.Idle k h = refl
+single_other event.Boot k h = absurd h
+single_other (event.Admit t) k h = absurd h
+single_other (event.Enter t) k h = absurd h
+single_other (event.Call t served status) k h = absurd h
+single_other (event.Left t served) k h = absurd h
+single_other (event.Back t) k h = absurd h
+single_other event.Stray k h = absurd h
+
+single_spans : (what : Event) (k : ℕ) → IsSingle what → SpansFor what (stamp k k what)
+single_spans (event.Run t func item result) k h = refl
+single_spans event.Idle k h = refl
+single_spans event.Boot k h = absurd h
+single_spans (event.Admit t) k h = absurd h
+single_spans (event.Enter t) k h = absurd h
+single_spans (event.Call t served status) k h = absurd h
+single_spans (event.Left t served) k h = absurd h
+single_spans (event.Back t) k h = absurd h
+single_spans event.Stray k h = absurd h
+
+single_passes : (given : Setting) (past : List Stamped) (s : System) (k : ℕ) (what : Event) → IsSingle what → PassesOverArrivals given.config given.app past s k what
+single_passes given past s k (event.Run t func item result) h = tt
+single_passes given past s k event.Idle h = tt
+single_passes given past s k event.Boot h = absurd h
+single_passes given past s k (event.Admit t) h = absurd h
+single_passes given past s k (event.Enter t) h = absurd h
+single_passes given past s k (event.Call t served status) h = absurd h
+single_passes given past s k (event.Left t served) h = absurd h
+single_passes given past s k (event.Back t) h = absurd h
+single_passes given past s k event.Stray h = absurd h
+
+-- what its events are: none or one
+record Alone (given : Setting) (k : ℕ) (whats : List Event) (s after : System) : Type 0 where
+  stamps : EachEvent (IsWithin k (k + 1)) (map (stamp k k) whats)
+  others : EachEvent (λ e. is_admit e ≡ false) (map (stamp k k) whats)
+  later : EachEvent (λ e. is_admit e ≡ true → k < e.stamp.at) (map (stamp k k) whats)
+  placed : EachPair IsOrdered (map (stamp k k) whats)
+  leads : Leads given.config given.app (map (stamp k k) whats) s after
+  follows : (past : List Stamped) → Follows given.config given.app past s (map (stamp k k) whats) after
+  passing : (before from to : ℕ) → before ≤ from → (whats ≡ [] → from < to) → passed_by whats before ≤ to
+
+alone : (given : Setting) (k : ℕ) (whats : List Event) (s after : System) → AreSingle whats → Shows given whats s after → Alone given k whats s after
+alone given k [] s after h w = record {
+  stamps = tt;
+  others = tt;
+  later = tt;
+  placed = tt;
+  leads = w;
+  follows = λ past. w;
+  passing = λ before from to l p. let q = p refl in omega arith;
+}
+alone given k (what ∷ []) s after h w =
+    let o = single_other what k h.0 in
+    record {
+      stamps = (record { begins = omega arith; ordered = omega arith; ends = omega arith; spans = single_spans what k h.0 }, tt);
+      others = (o, tt);
+      later = ((λ e. let z : is_admit (stamp k k what) ≡ false = o in cc), tt);
+      placed = (tt, tt);
+      leads = (after, w, refl);
+      follows = λ past. (after, w, single_passes given past s k what h.0, refl);
+      passing = λ before from to l p. omega arith;
+    }
+alone given k (what ∷ other ∷ more) s after h w = absurd w
+
+pub outside_advances : (given : Setting) → IsSetting given → (R : State → System → Type 0) (progress : State → System → ℕ) (k : ℕ) (m : State) (s : System) (x : State)
+    → OutsideLaw given R progress k m s x → Advances given R progress k m s
+outside_advances given setting R progress k m s x law =
+    let first : Step = seen_at given k m x in
+    let out : is_outside [] first ≡ true = not_from_false (begins first) law.outside in
+    let a = alone given k law.whats (with_admits (lines_at given.arrivals k) s) law.after
+    (subst AreSingle law.whats_are (outside_single (mark_at given.view first.pc) given.view first)) law.shows in
+    let others = map (stamp k k) law.whats in
+    record {
+      first = first;
+      rest = [];
+      next = x;
+      runs = (first, x, going_moment given.arrivals k m x law.goes, ([], refl, (refl, refl)));
+      piece = Outside first;
+      pieces_are = ap (λ b. cond b (Outside first ∷ []) (cond first.enabled_after (Stretch (first ∷ []) ∷ []) [])) out;
+      cut_is = ap (λ b. cond b [] (cond first.enabled_after [] (first ∷ []))) out;
+      unfinished = λ n l. absurd (omega arith);
+      finds = (refl, inl refl);
+      closed = λ i a b y e. absurd (omega arith);
+      others = others;
+      events =
+          ap (λ u. u ++ map (stamp k k) (outside_events (mark_at given.view first.pc) given.view first))
+          (admits_are given.view (moments k (k + 1) given.arrivals)
+          (subst (λ n. AllBelow n (map (λ a. a.line) (moments k (k + 1) given.arrivals))) (sym setting.tasks) (below_moments (length given.config.tasks) k (k + 1) given.arrivals setting.lines)))
+          ∙ ap (λ v. found_by given k ++ map (stamp k k) v) law.whats_are;
+      stamps = a.stamps;
+      later = a.later;
+      placed = a.placed;
+      counted = λ i t.
+          admits-append i t (found_by given k) others ∙ ap (λ n. n + admits_at i t others) (admits_of i t (moments k (k + 1) given.arrivals))
+          ∙ (let z = others_count i t others a.others in omega arith);
+      keeps =
+          subst (λ u. KeepsOrder u (found_by given k ++ others)) (append-nil (moments k (k + 1) given.arrivals))
+          (orders-append (moments k (k + 1) given.arrivals) [] (found_by given k) others (admits_order (moments k (k + 1) given.arrivals)) (others_order others a.others));
+      few = omega arith;
+      short = law.untouched;
+      short_front = λ n l. absurd (omega arith);
+      after = law.after;
+      leads = a.leads;
+      follows = λ past h. a.follows past;
+      progresses = λ before l. subst (λ v. passed_by v before ≤ progress x law.after) (sym law.whats_are) (a.passing before (progress m s) (progress x law.after) l law.progresses);
+      related = law.related;
+    }

@@ -1,0 +1,41 @@
+-- What holds of a run from a count on that finds MIE 1.
+use Rattle.std.proofs.Common.{◌≡◌, ℕ, ◌+◌, ◌<◌, ◌≤◌, List, [], Some, true, false, filter}
+use Rattle.sloth_base.specs.declared.event.Stamped.{Stamped}
+use Rattle.sloth_base.specs.Machine.{State}
+use Rattle.sloth_base.specs.Arrivals.{moments}
+use Rattle.rv32_machine.specs.Run.{after_from, arrived}
+use Rattle.observe.specs.Pieces.{EachPiece, pieces, cut_off}
+use Rattle.observe.specs.Observe.{observe}
+use Rattle.osek_machine.specs.State.{System}
+use Rattle.osek_machine.specs.Runs.{Leads, Follows}
+use Rattle.osek_machine.specs.InTime.{is_admit, admits_at, arrivals_at, IsOrdered, KeepsOrder}
+use Rattle.sim_induction.specs.Short.{IsShort, IsShortPiece, HasShortGaps}
+use Rattle.sim_induction.specs.Sound.{stands_before}
+use Rattle.sim_induction.specs.Admits.{Setting}
+use Rattle.sim_induction.specs.Advances.{EachEvent, EachPair, IsWithin}
+use Rattle.sim_induction.proofs.Runs.{steps_from}
+
+-- its events
+abbrev pub events_from : Setting → ℕ → ℕ → State → List Stamped
+events_from given n k m = observe given.view given.arrivals (steps_from n given.arrivals k m)
+
+-- these events lead to a system that is related with this state of the count, with the arrivals of the count
+abbrev pub ReachedAt : Setting → (State → System → Type 0) → List Stamped → System → ℕ → State → Type 0
+ReachedAt given R events s count x = (z : System) × Leads given.config given.app (filter (stands_before count) events) s z × R (arrived given.arrivals count x) z
+
+pub record SoundFrom (given : Setting) (R : State → System → Type 0) (progress : State → System → ℕ) (n k : ℕ) (m : State) (s : System) (past : List Stamped) : Type 0 where
+  pub end : State
+  pub whole : after_from n given.arrivals k m ≡ Some end
+  pub last : System
+  pub follows : Follows given.config given.app past s (events_from given n k m) last
+  pub within : EachEvent (IsWithin k (k + n)) (events_from given n k m)
+  pub placed : EachPair IsOrdered (events_from given n k m)
+  pub to : ℕ
+  pub to_in : (k ≤ to) × (to ≤ k + n) × (k + n < to + 160)
+  pub ends : EachEvent (λ e. is_admit e ≡ false → e.stamp.at < to) (events_from given n k m)
+  pub counted : (i t : ℕ) → admits_at i t (events_from given n k m) ≡ arrivals_at i t (moments k to given.arrivals)
+  pub keeps : KeepsOrder (moments k to given.arrivals) (events_from given n k m)
+  pub short : EachPiece IsShortPiece (pieces [] (steps_from n given.arrivals k m))
+  pub short_cut : IsShort (cut_off [] (steps_from n given.arrivals k m))
+  pub gaps : (before : ℕ) → before ≤ progress m s → HasShortGaps given.view before (pieces [] (steps_from n given.arrivals k m))
+  pub mirrors : (i : ℕ) → i < n → (x : State) → after_from i given.arrivals k m ≡ Some x → x.core.mie ≡ true → ReachedAt given R (events_from given n k m) s (k + i) x

@@ -1,0 +1,90 @@
+-- The arrivals of a moment, and of the moments of a stretch.
+use Rattle.std.proofs.Common.{◌≡◌, ℕ, suc, ◌+◌, ◌<◌, ◌≤◌, List, [], ◌∷◌, ◌++◌, refl, sym, ap, ◌∙◌, arith, Bool, true, false, cond, nat_le, nat_lt, ⊎_elim}
+use Rattle.std.specs.Prelude.{map, All, ◌&&◌}
+use Rattle.std.proofs.lemmas.Bool.{le-leb, lt-leb, lt-ltb, le-ltb, cases_lt}
+use Rattle.sloth_base.specs.declared.event.Arrival.{Arrival}
+use Rattle.sloth_base.specs.declared.event.Event.TheVariants as event
+use Rattle.sloth_base.specs.Arrivals.{moments, NeverFalls}
+use Rattle.observe.specs.Observe.{View, admit, task_of_line}
+use Rattle.observe.proofs.Moments.{moments-later}
+use Rattle.sim_induction.specs.Admits.{lines_at, AllBelow, admit_event, at_moment}
+
+pub from_zero : (xs : List Arrival) → NeverFalls 1 xs → NeverFalls 0 xs
+from_zero [] h = tt
+from_zero (x ∷ xs) h = (omega arith, h.1)
+
+-- an arrival is of these moments, or not
+here : (from to : ℕ) (x : Arrival) (xs : List Arrival) → from ≤ x.at → x.at < to → moments from to (x ∷ xs) ≡ x ∷ moments from to xs
+here from to x xs a b = rw (le-leb from x.at a, lt-ltb x.at to b) refl
+
+early_one : (from to : ℕ) (x : Arrival) (xs : List Arrival) → x.at < from → moments from to (x ∷ xs) ≡ moments from to xs
+early_one from to x xs a = rw (lt-leb from x.at a) refl
+
+late_one : (b : Bool) (from to : ℕ) (x : Arrival) (xs : List Arrival) → nat_le from x.at ≡ b → to ≤ x.at → moments from to (x ∷ xs) ≡ moments from to xs
+late_one true from to x xs e a = rw (e, le-ltb x.at to a) refl
+late_one false from to x xs e a = rw e refl
+
+pub moments-split : (before from mid to : ℕ) (xs : List Arrival) → NeverFalls before xs → from ≤ mid → mid ≤ to → moments from to xs ≡ moments from mid xs ++ moments mid to xs
+moments-split before from mid to [] up a b = refl
+moments-split before from mid to (x ∷ xs) up a b =
+    let ih = moments-split x.at from mid to xs up.1 a b in
+    ⊎_elim
+    (λ (l : x.at < mid).
+    ⊎_elim
+    (λ (f : x.at < from). early_one from to x xs f ∙ ih ∙ sym (ap (λ u. u ++ moments mid to (x ∷ xs)) (early_one from mid x xs f) ∙ ap (λ u. moments from mid xs ++ u) (early_one mid to x xs l)))
+    (λ (f : from ≤ x.at). here from to x xs f (omega arith) ∙ ap (λ u. x ∷ u) ih ∙ sym (ap (λ u. u ++ moments mid to (x ∷ xs)) (here from mid x xs f l) ∙ ap (λ u. x ∷ (moments from mid xs ++ u)) (early_one mid to x xs l)))
+    (cases_lt x.at from))
+    (λ (l : mid ≤ x.at).
+    let none : moments from mid (x ∷ xs) ≡ [] = moments-later x.at from mid (x ∷ xs) (omega arith, up.1) l in
+    let skip : moments from mid xs ≡ [] = moments-later x.at from mid xs up.1 l in
+    let ih2 : moments from to xs ≡ moments mid to xs = ih ∙ ap (λ u. u ++ moments mid to xs) skip in
+    ⊎_elim
+    (λ (u : x.at < to). here from to x xs (omega arith) u ∙ ap (λ v. x ∷ v) ih2 ∙ sym (here mid to x xs l u) ∙ ap (λ v. v ++ moments mid to (x ∷ xs)) (sym none))
+    (λ (u : to ≤ x.at). late_one (nat_le from x.at) from to x xs refl u ∙ ih2 ∙ sym (late_one (nat_le mid x.at) mid to x xs refl u) ∙ ap (λ v. v ++ moments mid to (x ∷ xs)) (sym none))
+    (cases_lt x.at to))
+    (cases_lt x.at mid)
+
+-- those of one moment are its lines
+pub moment_is : (k : ℕ) (xs : List Arrival) → moments k (k + 1) xs ≡ at_moment k (lines_at xs k)
+moment_is k [] = refl
+moment_is k (x ∷ xs) =
+    let ih = moment_is k xs in
+    ⊎_elim
+    (λ (l : x.at < k). early_one k (k + 1) x xs l ∙ ih ∙ sym (ap (λ u. at_moment k (map (λ a. a.line) u)) (early_one k (k + 1) x xs l)))
+    (λ (l : k ≤ x.at).
+    ⊎_elim
+    (λ (u : x.at < k + 1).
+    let e : x.at ≡ k = omega arith in
+    let one : x ≡ record { at = k; line = x.line } = ap (λ (v : ℕ). record { at = v; line = x.line }) e in
+    here k (k + 1) x xs l u ∙ ap (λ v. x ∷ v) ih ∙ ap (λ v. v ∷ at_moment k (lines_at xs k)) one ∙ sym (ap (λ v. at_moment k (map (λ a. a.line) v)) (here k (k + 1) x xs l u)))
+    (λ (u : k + 1 ≤ x.at). late_one (nat_le k x.at) k (k + 1) x xs refl u ∙ ih ∙ sym (ap (λ v. at_moment k (map (λ a. a.line) v)) (late_one (nat_le k x.at) k (k + 1) x xs refl u)))
+    (cases_lt x.at (k + 1)))
+    (cases_lt x.at k)
+
+pub lines_back : (k : ℕ) (a : List ℕ) → map (λ x. x.line) (at_moment k a) ≡ a
+lines_back k [] = refl
+lines_back k (l ∷ a) = ap (λ u. l ∷ u) (lines_back k a)
+
+-- ---- lines of tasks
+
+first_below : (n : ℕ) (x : Arrival) (xs : List Arrival) → All (λ a. a.line < n) (x ∷ xs) → x.line < n
+first_below n x xs h = h 0 x (omega arith)
+
+rest_below : (n : ℕ) (x : Arrival) (xs : List Arrival) → All (λ a. a.line < n) (x ∷ xs) → All (λ a. a.line < n) xs
+rest_below n x xs h k d lt = h (suc k) d (omega arith)
+
+below_kept : (n : ℕ) (b : Bool) (x : Arrival) (u : List Arrival) → x.line < n → AllBelow n (map (λ a. a.line) u) → AllBelow n (map (λ a. a.line) (cond b (x ∷ u) u))
+below_kept n true x u l h = (l, h)
+below_kept n false x u l h = h
+
+pub below_moments : (n from to : ℕ) (xs : List Arrival) → All (λ a. a.line < n) xs → AllBelow n (map (λ a. a.line) (moments from to xs))
+below_moments n from to [] h = tt
+below_moments n from to (x ∷ xs) h =
+    below_kept n (nat_le from x.at && nat_lt x.at to) x (moments from to xs) (first_below n x xs h) (below_moments n from to xs (rest_below n x xs h))
+
+-- the observer's admits are those of the tasks
+pub admits_are : (view : View) (xs : List Arrival) → AllBelow view.tasks (map (λ a. a.line) xs) → map (admit view) xs ≡ map admit_event xs
+admits_are view [] h = refl
+admits_are view (x ∷ xs) h =
+    let one : task_of_line view.tasks x.line ≡ x.line = rw (lt-ltb x.line view.tasks h.0) refl in
+    ap (λ (t : ℕ). record (admit_event x) { event = event.Admit t } ∷ map (admit view) xs) one ∙ ap (λ u. admit_event x ∷ u) (admits_are view xs h.1)

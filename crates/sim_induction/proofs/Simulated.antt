@@ -1,0 +1,34 @@
+-- Every run of an image is one of the abstract scheduler, where a relation goes on from each count that finds MIE 1 to the next.
+use Rattle.std.proofs.Common.{◌≡◌, ℕ, List, length}
+use Rattle.sloth_base.specs.declared.config.Config.{Config}
+use Rattle.sloth_base.specs.declared.app.App.{App}
+use Rattle.sloth_base.specs.declared.image.Image.{Image}
+use Rattle.sloth_base.specs.declared.event.Arrival.{Arrival}
+use Rattle.sloth_base.specs.Machine.{State}
+use Rattle.sloth_base.specs.Arrivals.{AreArrivals}
+use Rattle.rv32_machine.specs.Start.{start}
+use Rattle.osek_machine.specs.State.{System}
+use Rattle.sim_induction.specs.Sound.{SoundRun, Sound}
+use Rattle.sim_induction.specs.Admits.{IsSetting}
+use Rattle.sim_induction.specs.Laws.{BootLaw}
+use Rattle.sim_induction.specs.Related.{IsSimulation}
+use Rattle.sim_induction.proofs.Boot.{whole_run}
+use Rattle.sim_induction.proofs.WholeRun.{setting_of, sound_of}
+
+pub is_setting : (config : Config) (app : App) (image : Image) (arrivals : List Arrival) → length image.tasks ≡ length config.tasks → AreArrivals (length config.tasks) arrivals
+    → IsSetting (setting_of config app image arrivals)
+is_setting config app image arrivals tasks are = record { tasks = tasks; ordered = are.ordered; lines = are.lines_of_tasks }
+
+pub sound_run : (config : Config) (app : App) (image : Image) (arrivals : List Arrival) (R : State → System → Type 0) (progress : State → System → ℕ)
+    → IsSetting (setting_of config app image arrivals) → IsSimulation (setting_of config app image arrivals) R progress → BootLaw (setting_of config app image arrivals) R (start image)
+    → (n : ℕ) → SoundRun config app image arrivals n
+sound_run config app image arrivals R progress setting simulation boot n =
+    sound_of config app image arrivals R progress setting simulation n
+    (whole_run (setting_of config app image arrivals) setting R progress simulation (start image) boot n)
+
+pub sound : (config : Config) (app : App) (image : Image) (R : State → System → Type 0) (progress : State → System → ℕ) → length image.tasks ≡ length config.tasks
+    → ((arrivals : List Arrival) → AreArrivals (length config.tasks) arrivals → IsSimulation (setting_of config app image arrivals) R progress × BootLaw (setting_of config app image arrivals) R (start image))
+    → Sound config app image
+sound config app image R progress tasks laws = record {
+  each = λ arrivals n are few. sound_run config app image arrivals R progress (is_setting config app image arrivals tasks are) (laws arrivals are).0 (laws arrivals are).1 n;
+}

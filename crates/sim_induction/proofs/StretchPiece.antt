@@ -1,0 +1,276 @@
+-- A stretch is a piece of the run.
+use Rattle.std.proofs.Common.{◌≡◌, ℕ, zero, suc, ◌+◌, ◌<◌, ◌≤◌, List, [], ◌∷◌, ◌++◌, length, take, refl, sym, ap, ◌∙◌, subst, arith, Bool, true, false, cond, inr, filter, Some}
+use Rattle.std.specs.Prelude.{map, not}
+use Rattle.std.proofs.lemmas.Bool.{ne_eqb, not_from_true}
+use Rattle.std.proofs.lemmas.List.{length-take}
+use Rattle.sloth_base.specs.declared.event.Arrival.{Arrival}
+use Rattle.sloth_base.specs.declared.event.Stamped.{Stamped}
+use Rattle.sloth_base.specs.declared.step.Step.{Step}
+use Rattle.sloth_base.specs.Machine.{State}
+use Rattle.sloth_base.specs.Arrivals.{moments}
+use Rattle.rv32_machine.specs.Run.{after_from}
+use Rattle.rv32_routine.specs.Trace.{Trace, touched_lines, early, late}
+use Rattle.observe.specs.Pieces.{Stretch, is_outside, begins}
+use Rattle.observe.specs.Observe.{admit, stamp, is_early, last_of, stretch_event, piece_events}
+use Rattle.osek_machine.specs.State.{System, opening}
+use Rattle.osek_machine.specs.Runs.{Leads, Follows}
+use Rattle.osek_machine.specs.InTime.{is_admit, admits_at, arrivals_at, IsOrdered, StandsBefore, SpansFor, KeepsOrder}
+use Rattle.sim_induction.specs.Short.{IsShort, IsShortAt, TouchesOnly}
+use Rattle.sim_induction.specs.Admits.{Setting, IsSetting, lines_at, with_admits, admit_event, AllBelow, before_event, behind_event}
+use Rattle.sim_induction.specs.Observed.{IsTraced}
+use Rattle.sim_induction.specs.Advances.{RunTo, EachEvent, EachPair, IsWithin, found_by, Advances}
+use Rattle.sim_induction.specs.Laws.{StretchLaw, AreOneOf, seen_at}
+use Rattle.sim_induction.proofs.Follow.{leads-append, follows-append, booted_admits, follows_admits, leads_admits}
+use Rattle.sim_induction.proofs.Events.{IsFrom, each-append, each_arrival, admit_pairs, pairs-append, before_within, behind_within}
+use Rattle.sim_induction.proofs.Runs.{one_after}
+use Rattle.sim_induction.proofs.Schedule.{from_zero, below_moments, admits_are, moments-split}
+use Rattle.sim_induction.proofs.Counts.{admits-append, arrivals-append, admits_of, other_counts, arrivals_parted}
+use Rattle.sim_induction.proofs.Order.{orders-append, admits_order, parted_order}
+use Rattle.sim_induction.proofs.Shown.{stretch_long}
+use Rattle.sim_induction.proofs.Traces.{lines_before, lines_behind, is_traced, below_trace, EachStep, steps_touch, each_step, each_step-take}
+use Rattle.sim_induction.proofs.MaskedRun.{MaskedRun, masked_steps, masked_inside, trace_long, going_moment, Flags, flag_first, ShowsState}
+use Rattle.sim_induction.proofs.Cut.{cut_whole, cut_short}
+
+-- ---- the events of a stretch with this event
+
+abbrev pub masked_events : ℕ → Trace → Stamped → List Stamped
+masked_events k t e = map admit_event (before_event k t) ++ (e ∷ map admit_event (behind_event k t))
+
+pub within_admits : (from to : ℕ) (a : Arrival) → IsFrom from to a → IsWithin from to (admit_event a)
+within_admits from to a h = record { begins = h.0; ordered = omega arith; ends = h.1; spans = refl }
+
+-- an event of the counts from k to below k + 1 + j, with the arrivals of the counts behind k
+module _ (k j : ℕ) (t : Trace) (e : Stamped) (long : length t ≡ j) (from_is : e.stamp.from ≡ k) (at_is : e.stamp.at ≡ k + j) (other : is_admit e ≡ false) where
+  befores : List Stamped
+  befores = map admit_event (before_event (k + 1) t)
+
+  pub masked_placed : EachPair IsOrdered (masked_events (k + 1) t e)
+  masked_placed =
+      pairs-append IsOrdered (map admit_event (before_event (k + 1) t)) (e ∷ map admit_event (behind_event (k + 1) t))
+      (admit_pairs (before_event (k + 1) t))
+      (each_arrival (IsOrdered e) (IsFrom (k + 1) (k + 1 + j)) (λ a h. after_it a h) (behind_event (k + 1) t) (behind_within (k + 1) (k + 1 + j) (k + 1) t (omega arith) (omega arith)), admit_pairs (behind_event (k + 1) t))
+      (each_arrival (λ x. EachEvent (IsOrdered x) (e ∷ map admit_event (behind_event (k + 1) t))) (IsFrom (k + 1) (k + 1 + j)) (λ a h. (before_it a h, all a (behind_event (k + 1) t))) (before_event (k + 1) t) (before_within (k + 1) (k + 1 + j) (k + 1) t (omega arith) (omega arith)))
+    where
+      before_it : (a : Arrival) → IsFrom (k + 1) (k + 1 + j) a → IsOrdered (admit_event a) e
+      before_it a h = subst (λ b. StandsBefore true b (admit_event a).stamp e.stamp) (sym other) (let l : a.at ≤ e.stamp.at = omega arith in l)
+
+      after_it : (a : Arrival) → IsFrom (k + 1) (k + 1 + j) a → IsOrdered e (admit_event a)
+      after_it a h = subst (λ b. StandsBefore b true e.stamp (admit_event a).stamp) (sym other) (let l : e.stamp.from < a.at = omega arith in l)
+
+      all : (a : Arrival) (ys : List Arrival) → EachEvent (IsOrdered (admit_event a)) (map admit_event ys)
+      all a [] = tt
+      all a (y ∷ ys) = (tt, all a ys)
+
+  pub masked_later : EachEvent (λ x. is_admit x ≡ true → k < x.stamp.at) (masked_events (k + 1) t e)
+  masked_later =
+      each-append (λ x. is_admit x ≡ true → k < x.stamp.at) (map admit_event (before_event (k + 1) t)) (e ∷ map admit_event (behind_event (k + 1) t))
+      (each_arrival (λ x. is_admit x ≡ true → k < x.stamp.at) (IsFrom (k + 1) (k + 1 + j)) (λ a h z. omega arith) (before_event (k + 1) t) (before_within (k + 1) (k + 1 + j) (k + 1) t (omega arith) (omega arith)))
+      ((λ z. let q = other in absurd (true_false (sym z ∙ q))), each_arrival (λ x. is_admit x ≡ true → k < x.stamp.at) (IsFrom (k + 1) (k + 1 + j)) (λ a h z. omega arith) (behind_event (k + 1) t) (behind_within (k + 1) (k + 1 + j) (k + 1) t (omega arith) (omega arith)))
+    where
+      true_false : true ≡ false → ⊥
+      true_false z = cc
+
+  pub masked_stamps : IsWithin k (k + suc j) e → EachEvent (IsWithin k (k + suc j)) (masked_events (k + 1) t e)
+  masked_stamps w =
+      each-append (IsWithin k (k + suc j)) (map admit_event (before_event (k + 1) t)) (e ∷ map admit_event (behind_event (k + 1) t))
+      (each_arrival (IsWithin k (k + suc j)) (IsFrom k (k + suc j)) (within_admits k (k + suc j)) (before_event (k + 1) t) (before_within k (k + suc j) (k + 1) t (omega arith) (omega arith)))
+      (w, each_arrival (IsWithin k (k + suc j)) (IsFrom k (k + suc j)) (within_admits k (k + suc j)) (behind_event (k + 1) t) (behind_within k (k + suc j) (k + 1) t (omega arith) (omega arith)))
+
+-- the admits of a stretch whose inner arrivals are parted by a test
+pub stretch_counts : (i t : ℕ) (e : Stamped) (found inside before behind : List Arrival) (p : Arrival → Bool) → is_admit e ≡ false → filter p inside ≡ before → filter (λ a. not (p a)) inside ≡ behind
+    → admits_at i t (map admit_event found ++ (map admit_event before ++ (e ∷ map admit_event behind))) ≡ arrivals_at i t (found ++ inside)
+stretch_counts i t e found inside before behind p other b c =
+    let a1 = admits-append i t (map admit_event found) (map admit_event before ++ (e ∷ map admit_event behind)) in
+    let a2 = admits-append i t (map admit_event before) (e ∷ map admit_event behind) in
+    let a3 = other_counts i t e (map admit_event behind) other in
+    let n1 = admits_of i t found in
+    let n2 = admits_of i t before in
+    let n3 = admits_of i t behind in
+    let r = arrivals-append i t found inside in
+    let q : arrivals_at i t before + arrivals_at i t (filter (λ a. not (p a)) inside) ≡ arrivals_at i t inside =
+    ap (λ u. arrivals_at i t u + arrivals_at i t (filter (λ a. not (p a)) inside)) (sym b) ∙ arrivals_parted i t p inside in
+    let q2 : arrivals_at i t before + arrivals_at i t behind ≡ arrivals_at i t inside = ap {A = List Arrival} {B = ℕ} (λ u. arrivals_at i t before + arrivals_at i t u) (sym c) ∙ q in
+    omega arith
+
+-- ---- the piece
+
+module _ (given : Setting) (setting : IsSetting given) (R : State → System → Type 0) (progress : State → System → ℕ) (k : ℕ) (late_k : 0 < k) (m : State) (s : System)
+    (x1 : State) (t : Trace) (x : State) (law : StretchLaw given R k m s x1 t x) (s_booted : s.booted ≡ true) (after_booted : law.after.booted ≡ true) where
+  abbrev A : List Arrival
+  A = given.arrivals
+
+  abbrev first : Step
+  first = seen_at given k m x1
+
+  r : MaskedRun A law.more (k + 1) x1 t x
+  r = masked_steps A law.more (k + 1) x1 t x law.steps law.ends
+
+  outside : is_outside [] first ≡ false
+  outside = not_from_true (begins first) law.starts
+
+  flags : Flags (first ∷ r.steps)
+  flags = flag_first x1 first r.steps refl (λ e. ap (λ (y : State). y.core.mie) (sym (r.nil e)) ∙ law.ends) r.some r.flags
+
+  last_is : ShowsState x (last_of first r.steps) × ((last_of first r.steps).count + 1 ≡ k + 1 + law.more)
+  last_is = r.last first refl (refl, refl)
+
+  abbrev event : Stamped
+  event = stamp k (k + law.more) law.what
+
+  event_is : stamp k (last_of first r.steps).count (stretch_event given.view first (last_of first r.steps)) ≡ event
+  event_is =
+      let w = law.what_is (last_of first r.steps) last_is.0.0 last_is.0.1 in
+      let n = last_is.1 in
+      let a : (last_of first r.steps).count ≡ k + law.more = omega arith in
+      ap (λ v. stamp k v (stretch_event given.view first (last_of first r.steps))) a ∙ ap (λ v. stamp k (k + law.more) v) w
+
+  other : is_admit event ≡ false
+  other =
+      let w = law.what_is (last_of first r.steps) last_is.0.0 last_is.0.1 in
+      subst (λ v. is_admit (stamp k (k + law.more) v) ≡ false) w (stretch_long given.view first (last_of first r.steps)).0
+
+  within : IsWithin k (k + suc law.more) event
+  within =
+      let w = law.what_is (last_of first r.steps) last_is.0.0 last_is.0.1 in
+      record { begins = omega arith; ordered = omega arith; ends = omega arith; spans = subst (λ v. SpansFor v event) w ((stretch_long given.view first (last_of first r.steps)).1 event) }
+
+  abbrev others : List Stamped
+  others = masked_events (k + 1) t event
+
+  traced : IsTraced A (k + 1) (first ∷ []) r.steps
+  traced = is_traced A (from_zero A setting.ordered) (k + 1) (first ∷ []) r.steps (omega arith, tt) r.from
+
+  abbrev early_inside : Arrival → Bool
+  early_inside = is_early (first ∷ r.steps)
+
+  inside_before : filter early_inside (moments (k + 1) (k + 1 + length r.steps) A) ≡ before_event (k + 1) t
+  inside_before = traced.before ∙ ap (before_event (k + 1)) r.trace
+
+  inside_behind : filter (λ a. not (early_inside a)) (moments (k + 1) (k + 1 + length r.steps) A) ≡ behind_event (k + 1) t
+  inside_behind = traced.behind ∙ ap (behind_event (k + 1)) r.trace
+
+  in_range : AllBelow (length given.config.tasks) (early t) × AllBelow (length given.config.tasks) (late t)
+  in_range = below_trace (length given.config.tasks) law.more (k + 1) (lines_at A) x1 t x (λ i. below_moments (length given.config.tasks) i (i + 1) A setting.lines) law.steps
+
+  lines_in : (a : List Arrival) → AllBelow (length given.config.tasks) (map (λ y. y.line) a) → map (admit given.view) a ≡ map admit_event a
+  lines_in a h = admits_are given.view a (subst (λ n. AllBelow n (map (λ y. y.line) a)) (sym setting.tasks) h)
+
+  below_before : AllBelow (length given.config.tasks) (map (λ a. a.line) (before_event (k + 1) t))
+  below_before = subst (AllBelow (length given.config.tasks)) (sym (lines_before (k + 1) t)) in_range.0
+
+  below_behind : AllBelow (length given.config.tasks) (map (λ a. a.line) (behind_event (k + 1) t))
+  below_behind = subst (AllBelow (length given.config.tasks)) (sym (lines_behind (k + 1) t)) in_range.1
+
+  -- as the observer lists them
+  abbrev listed : List Arrival → List Arrival → List Arrival → Stamped → List Stamped
+  listed found before behind e = map (admit given.view) found ++ (map (admit given.view) before ++ (e ∷ map (admit given.view) behind))
+
+  events_are : piece_events given.view A (Stretch (first ∷ r.steps)) ≡ found_by given k ++ others
+  events_are =
+      let n = last_is.1 in
+      let n2 = r.long in
+      let last : (last_of first r.steps).count + 1 ≡ k + 1 + length r.steps = omega arith in
+      let e = stamp k (last_of first r.steps).count (stretch_event given.view first (last_of first r.steps)) in
+      let found = moments k (k + 1) A in
+      let p = early_inside in
+      ap (λ b. listed (moments k (cond b (k + 1) k) A) (filter p (moments (cond b (k + 1) k) ((last_of first r.steps).count + 1) A)) (filter (λ a. not (p a)) (moments (cond b (k + 1) k) ((last_of first r.steps).count + 1) A)) e) law.finds
+      ∙ ap (λ v. listed found (filter p (moments (k + 1) v A)) (filter (λ a. not (p a)) (moments (k + 1) v A)) e) last
+      ∙ ap (λ v. listed found v (filter (λ a. not (p a)) (moments (k + 1) (k + 1 + length r.steps) A)) e) inside_before
+      ∙ ap (λ v. listed found (before_event (k + 1) t) v e) inside_behind
+      ∙ ap (λ v. listed found (before_event (k + 1) t) (behind_event (k + 1) t) v) event_is
+      ∙ ap (λ v. v ++ (map (admit given.view) (before_event (k + 1) t) ++ (event ∷ map (admit given.view) (behind_event (k + 1) t)))) (lines_in found (below_moments (length given.config.tasks) k (k + 1) A setting.lines))
+      ∙ ap (λ v. found_by given k ++ (v ++ (event ∷ map (admit given.view) (behind_event (k + 1) t)))) (lines_in (before_event (k + 1) t) below_before)
+      ∙ ap (λ v. found_by given k ++ (map admit_event (before_event (k + 1) t) ++ (event ∷ v))) (lines_in (behind_event (k + 1) t) below_behind)
+
+  abbrev s1 : System
+  s1 = with_admits (lines_at A k) s
+
+  s1_booted : s1.booted ≡ true
+  s1_booted = booted_admits (lines_at A k) s ∙ s_booted
+
+  lead_others : Leads given.config given.app others s1 (with_admits (late t) law.after)
+  lead_others =
+      leads-append given.config given.app (map admit_event (before_event (k + 1) t)) (event ∷ map admit_event (behind_event (k + 1) t)) s1 (with_admits (early t) s1) (with_admits (late t) law.after)
+      (subst (λ a. Leads given.config given.app (map admit_event (before_event (k + 1) t)) s1 (with_admits a s1)) (lines_before (k + 1) t) (leads_admits given.config given.app (before_event (k + 1) t) s1 s1_booted below_before)) (
+        law.after,
+        law.step_is,
+        subst (λ a. Leads given.config given.app (map admit_event (behind_event (k + 1) t)) law.after (with_admits a law.after)) (lines_behind (k + 1) t) (leads_admits given.config given.app (behind_event (k + 1) t) law.after after_booted below_behind),
+      )
+
+  follow_others : (past : List Stamped) → Leads given.config given.app past (opening given.config given.app) s1 → Follows given.config given.app past s1 others (with_admits (late t) law.after)
+  follow_others past h =
+      follows-append given.config given.app past s1 (with_admits (early t) s1) (with_admits (late t) law.after) (map admit_event (before_event (k + 1) t)) (event ∷ map admit_event (behind_event (k + 1) t))
+      (subst (λ a. Follows given.config given.app past s1 (map admit_event (before_event (k + 1) t)) (with_admits a s1)) (lines_before (k + 1) t) (follows_admits given.config given.app past (before_event (k + 1) t) s1 s1_booted below_before)) (
+        law.after,
+        law.step_is,
+        law.passes past h,
+        subst (λ a. Follows given.config given.app ((past ++ map admit_event (before_event (k + 1) t)) ++ event ∷ []) law.after (map admit_event (behind_event (k + 1) t)) (with_admits a law.after)) (lines_behind (k + 1) t)
+            (follows_admits given.config given.app ((past ++ map admit_event (before_event (k + 1) t)) ++ event ∷ []) (behind_event (k + 1) t) law.after after_booted below_behind),
+      )
+
+  touching : EachStep (TouchesOnly (law.one ∷ law.other ∷ [])) r.steps
+  touching = steps_touch A (law.one ∷ law.other ∷ []) r.steps (subst (λ u. AreOneOf (law.one ∷ law.other ∷ []) (touched_lines u)) (sym r.trace) law.touches)
+
+  short_at : (steps : List Step) → length steps ≤ 159 → EachStep (TouchesOnly (law.one ∷ law.other ∷ [])) steps → IsShort (first ∷ steps)
+  short_at steps l h =
+      subst (λ b. IsShortAt b (first ∷ steps)) (sym (ne_eqb k 0 (λ e. omega arith)))
+      (let n : length (first ∷ steps) ≤ 160 = omega arith in (n, (law.one, law.other, each_step (TouchesOnly (law.one ∷ law.other ∷ [])) (first ∷ steps) (law.touches_first, h))))
+
+  counts : (i u : ℕ) → admits_at i u (found_by given k ++ others) ≡ arrivals_at i u (moments k (k + suc (length r.steps)) A)
+  counts i u =
+      let n : k + suc (length r.steps) ≡ k + 1 + length r.steps = omega arith in
+      stretch_counts i u event (moments k (k + 1) A) (moments (k + 1) (k + 1 + length r.steps) A) (before_event (k + 1) t) (behind_event (k + 1) t) early_inside other inside_before inside_behind
+      ∙ ap (arrivals_at i u) (sym (moments-split 0 k (k + 1) (k + 1 + length r.steps) A (from_zero A setting.ordered) (omega arith) (omega arith)))
+      ∙ ap (λ v. arrivals_at i u (moments k v A)) (sym n)
+
+  keeps : KeepsOrder (moments k (k + suc (length r.steps)) A) (found_by given k ++ others)
+  keeps =
+      let n : k + suc (length r.steps) ≡ k + 1 + length r.steps = omega arith in
+      let inside = moments (k + 1) (k + 1 + length r.steps) A in
+      subst (λ v. KeepsOrder (moments k v A) (found_by given k ++ others)) (sym n)
+      (subst (λ v. KeepsOrder v (found_by given k ++ others)) (sym (moments-split 0 k (k + 1) (k + 1 + length r.steps) A (from_zero A setting.ordered) (omega arith) (omega arith)))
+      (orders-append (moments k (k + 1) A) inside (found_by given k) others (admits_order (moments k (k + 1) A))
+      (subst (λ v. KeepsOrder inside (map admit_event v ++ (event ∷ map admit_event (behind_event (k + 1) t)))) inside_before
+      (subst (λ v. KeepsOrder inside (map admit_event (filter early_inside inside) ++ (event ∷ map admit_event v))) inside_behind
+      (parted_order early_inside (λ a. not (early_inside a)) inside event other)))))
+
+  closed_at : (i : ℕ) → 0 < i → i < suc (length r.steps) → (y : State) → after_from i A k m ≡ Some y → y.core.mie ≡ false
+  closed_at zero p l y e = absurd (omega arith)
+  closed_at (suc i) p l y e =
+      let n = r.long in
+      masked_inside A law.more (k + 1) x1 t x law.steps i (omega arith) y (sym (one_after i k A m x1 first (going_moment A k m x1 law.goes)) ∙ e)
+
+  pub stretch_advances : Advances given R progress k m s
+  stretch_advances =
+      let cut = cut_whole r.steps [] first outside flags in
+      let long = trace_long law.more (k + 1) (lines_at A) x1 t x law.steps in
+      let few = law.few in
+      let n = r.long in
+      let one : k + 1 ≡ suc k = omega arith in
+      record {
+        first = first;
+        rest = r.steps;
+        next = x;
+        runs = (first, x1, going_moment A k m x1 law.goes, (r.steps, refl, subst (λ i. RunTo A i (k + 1) x1 r.steps x) (sym r.long) r.runs));
+        piece = Stretch (first ∷ r.steps);
+        pieces_are = cut.0;
+        cut_is = cut.1;
+        unfinished = λ i l. cut_short r.steps [] first i outside flags l;
+        finds = (refl, inr law.finds);
+        closed = closed_at;
+        others = others;
+        events = events_are;
+        stamps = subst (λ j. EachEvent (IsWithin k (k + suc j)) others) (sym n) (masked_stamps k law.more t event long refl refl other within);
+        later = masked_later k law.more t event long refl refl other;
+        placed = masked_placed k law.more t event long refl refl other;
+        counted = counts;
+        keeps = keeps;
+        few = omega arith;
+        short = short_at r.steps (omega arith) touching;
+        short_front = λ i l. short_at (take i r.steps) (let z = length-take i r.steps in omega arith) (each_step-take (TouchesOnly (law.one ∷ law.other ∷ [])) i r.steps touching);
+        after = with_admits (late t) law.after;
+        leads = lead_others;
+        follows = follow_others;
+        progresses = λ before l. omega arith;
+        related = law.related;
+      }

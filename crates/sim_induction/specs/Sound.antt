@@ -1,0 +1,42 @@
+-- A run of an image is one of the abstract scheduler: the promise of the builder.
+use Rattle.std.specs.Prelude.{ℕ, ◌<◌, ◌≤◌, ◌≡◌, List, Bool, true, filter, nat_le, nat_lt, if◌then◌else◌, length, Some, None}
+use Rattle.sloth_base.specs.declared.config.Config.{Config}
+use Rattle.sloth_base.specs.declared.app.App.{App}
+use Rattle.sloth_base.specs.declared.image.Image.{Image}
+use Rattle.sloth_base.specs.declared.event.Arrival.{Arrival}
+use Rattle.sloth_base.specs.declared.event.Stamped.{Stamped}
+use Rattle.sloth_base.specs.Machine.{State}
+use Rattle.sloth_base.specs.Arrivals.{AreArrivals}
+use Rattle.rv32_machine.specs.Start.{start}
+use Rattle.rv32_machine.specs.Run.{run, steps_of, state_after, stop_of, arrived}
+use Rattle.observe.specs.Observe.{view_of_image, observe}
+use Rattle.osek_machine.specs.State.{System, opening}
+use Rattle.osek_machine.specs.Runs.{OsekRun, Leads}
+use Rattle.osek_machine.specs.InTime.{InTime, is_admit}
+use Rattle.sim_induction.specs.Mirror.{Mirror}
+use Rattle.sim_induction.specs.Short.{Short}
+
+-- the events of a run of n instructions
+abbrev pub events_of : Image → List Arrival → ℕ → List Stamped
+events_of image arrivals n = observe (view_of_image image) arrivals (steps_of (run n arrivals (start image)))
+
+-- the event stands before the count: an admit of its moment or an earlier one, another that ended before it
+abbrev pub stands_before : ℕ → Stamped → Bool
+stands_before count e = if is_admit e then nat_le e.stamp.at count else nat_lt e.stamp.at count
+
+-- the abstract state that these events lead to mirrors the machine's state, with the arrivals of the count
+abbrev pub MirrorsAt : Config → App → List Stamped → State → Type 0
+MirrorsAt config app events state = (s : System) × Leads config app events (opening config app) s × Mirror config state.core s
+
+pub record SoundRun (config : Config) (app : App) (image : Image) (arrivals : List Arrival) (n : ℕ) : Type 0 where
+  -- the image executes so many instructions
+  pub whole : stop_of n arrivals (start image) ≡ None
+  pub osek : OsekRun config app (events_of image arrivals n)
+  pub in_time : InTime n arrivals (events_of image arrivals n)
+  pub short : Short (view_of_image image) (steps_of (run n arrivals (start image)))
+  pub mirrors : (count : ℕ) (state : State) → count < n → state_after count arrivals (start image) ≡ Some state → state.core.mie ≡ true
+      → MirrorsAt config app (filter (stands_before count) (events_of image arrivals n)) (arrived arrivals count state)
+
+-- for every list of arrivals and every number of instructions
+pub record Sound (config : Config) (app : App) (image : Image) : Type 0 where
+  pub each : (arrivals : List Arrival) (n : ℕ) → AreArrivals (length config.tasks) arrivals → n ≤ 1000000 → SoundRun config app image arrivals n

@@ -1,0 +1,202 @@
+-- An arrival at a count that finds MIE 1 is the admit of its task.
+use Rattle.std.proofs.Common.{◌≡◌, ℕ, ◌<◌, ◌≤◌, List, [], ◌∷◌, length, set, refl, sym, ap, ◌∙◌, subst, arith, ⊎_elim, inl, inr, true, false}
+use Rattle.std.specs.Prelude.{◌⊎◌, ◌≢◌, slice_index}
+use Rattle.std.proofs.lemmas.Bool.{cases_eq}
+use Rattle.std.proofs.lemmas.List.{get_or-set_same, get_or-set_other, length-set}
+use Rattle.sloth_base.specs.Machine.{State}
+use Rattle.sloth_base.specs.Arrive.{state_arrive}
+use Rattle.osek_machine.specs.declared.state.TaskState.{TaskState}
+use Rattle.osek_machine.specs.declared.state.TaskState.TheVariants as mode
+use Rattle.osek_machine.specs.State.{Task, System, task, with_task}
+use Rattle.osek_machine.specs.Priority.{is_in, is_active}
+use Rattle.osek_machine.specs.Services.{if_suspended, activated}
+use Rattle.osek_machine.specs.Steps.{admitted}
+use Rattle.sim_induction.specs.Admits.{with_admits, AllBelow}
+use Rattle.sim_relation.specs.Build.{Build}
+use Rattle.sim_relation.specs.ServiceWords.{ServiceWords, active_word}
+use Rattle.sim_relation.specs.Stands.{Stands, IsLineOf, IsAlive, TidyTask, Tidy, Fixed}
+use Rattle.sim_relation.proofs.Tops.{falling_active}
+use Rattle.sim_relation.proofs.Parts.{other_task, by_task, falling_kept, running_tasks, rests, anew}
+
+-- the line of a task that is not Suspended
+more_pending : (m : TaskState) (p e : ℕ) → (m ≡ mode.Suspended → ⊥) → IsLineOf m p e → IsLineOf m 1 e
+more_pending mode.Suspended p e n h = absurd (n refl)
+more_pending mode.Ready p e n h = (refl, h.1)
+more_pending mode.Active p e n h = h
+more_pending (mode.Waiting w) p e n h = h
+
+line_ready : (m : TaskState) (p e : ℕ) → m ≡ mode.Suspended → IsLineOf m p e → IsLineOf mode.Ready 1 e
+line_ready mode.Suspended p e n h = (refl, h.1)
+line_ready mode.Ready p e n h = cc
+line_ready mode.Active p e n h = cc
+line_ready (mode.Waiting w) p e n h = cc
+
+line_pending : (m : TaskState) (p q e : ℕ) → q ≡ p → IsLineOf m p e → IsLineOf m q e
+line_pending m p q e k h = subst (λ x. IsLineOf m x e) (sym k) h
+
+pub is_suspended : (m : TaskState) → (m ≡ mode.Suspended) ⊎ (m ≡ mode.Suspended → ⊥)
+is_suspended mode.Suspended = inl refl
+is_suspended mode.Ready = inr (λ e. cc)
+is_suspended mode.Active = inr (λ e. cc)
+is_suspended (mode.Waiting w) = inr (λ e. cc)
+
+pub not_suspended : (m : TaskState) (x y : System) → (m ≡ mode.Suspended → ⊥) → if_suspended m x y ≡ y
+not_suspended mode.Suspended x y n = absurd (n refl)
+not_suspended mode.Ready x y n = refl
+not_suspended mode.Active x y n = refl
+not_suspended (mode.Waiting w) x y n = refl
+
+module _ (b : Build) (state : State) (s : System) (l : ℕ) (k : Stands b state s) (inside : l < length b.config.tasks) (few : length b.config.tasks ≤ 32) where
+  abbrev now : State
+  now = state_arrive (l ∷ []) state
+
+  fixed_kept : Fixed b now.core
+  fixed_kept =
+      let f = k.fixed in
+      record {
+        open_to_lines = f.open_to_lines;
+        previous = f.previous;
+        controller = f.controller;
+        registers = f.registers;
+        zero = f.zero;
+        pending = length-set state.core.pending l 1 ∙ f.pending;
+        enabled = f.enabled;
+        levels = f.levels;
+        ram = f.ram;
+        code = f.code;
+      }
+
+  here_pending : slice_index (set state.core.pending l 1) l ≡ 1
+  here_pending = let f = k.fixed.pending in get_or-set_same state.core.pending l 1 0 (omega arith)
+
+  -- a task that is not Suspended: nothing but its pending byte
+  lost : ((task s l).state ≡ mode.Suspended → ⊥) → Stands b now s
+  lost n = record {
+    stack = k.stack;
+    active = k.active;
+    lines = record {
+      each = λ t h. ⊎_elim
+          (λ (e : t ≡ l). subst (λ x. IsLineOf (task s x).state (slice_index (set state.core.pending l 1) x) (slice_index state.core.enabled x)) (sym e)
+          (line_pending (task s l).state 1 (slice_index (set state.core.pending l 1) l) (slice_index state.core.enabled l) here_pending
+          (more_pending (task s l).state (slice_index state.core.pending l) (slice_index state.core.enabled l) n (k.lines.each l inside))))
+          (λ (e : t ≡ l → ⊥). line_pending (task s t).state (slice_index state.core.pending t) (slice_index (set state.core.pending l 1) t) (slice_index state.core.enabled t)
+          (get_or-set_other state.core.pending l t 1 0 e) (k.lines.each t h))
+          (cases_eq t l);
+      levels = k.lines.levels;
+      others = k.lines.others;
+    };
+    running = running_tasks b state now s s k.stack refl refl refl refl (λ u h. refl) k.running;
+    words = k.words;
+    data_stands = k.data_stands;
+    apart = k.apart;
+    tidy = k.tidy;
+    fixed = fixed_kept;
+  }
+
+  -- a Suspended task becomes Ready
+  module _ (e : (task s l).state ≡ mode.Suspended) where
+    abbrev next : System
+    next = record (activated s l) { fresh = l ∷ s.fresh }
+
+    abbrev as_ready : Task
+    as_ready = record (task s l) { state = mode.Ready }
+
+    among : l < length s.tasks
+    among = let t = k.tidy.tasks in omega arith
+
+    rest : (frames : (task s l).frames ≡ []) × ((task s l).events ≡ 0)
+    rest = (k.tidy.each l inside).asleep e
+
+    not_active : (u : ℕ) → (task s u).state ≡ mode.Active → u ≢ l
+    not_active u a h = let c : (task s l).state ≡ mode.Active = subst (λ x. (task s x).state ≡ mode.Active) h a in cc
+
+    in_stack : (u : ℕ) → is_in u k.stack ≡ true → task (with_task s l as_ready) u ≡ task s u
+    in_stack u h = other_task s l u as_ready (not_active u (falling_active b s k.stack k.active.falling u h).active)
+
+    line : (u : ℕ) → u < length b.config.tasks → IsLineOf (task (with_task s l as_ready) u).state (slice_index (set state.core.pending l 1) u) (slice_index state.core.enabled u)
+    line = by_task (λ u t. u < length b.config.tasks → IsLineOf t.state (slice_index (set state.core.pending l 1) u) (slice_index state.core.enabled u)) s l as_ready among
+        (λ h. line_pending mode.Ready 1 (slice_index (set state.core.pending l 1) l) (slice_index state.core.enabled l) here_pending
+        (line_ready (task s l).state (slice_index state.core.pending l) (slice_index state.core.enabled l) e (k.lines.each l inside)))
+        (λ u n h. line_pending (task s u).state (slice_index state.core.pending u) (slice_index (set state.core.pending l 1) u) (slice_index state.core.enabled u)
+        (get_or-set_other state.core.pending l u 1 0 n) (k.lines.each u h))
+
+    all : (u : ℕ) → u < length b.config.tasks → (task (with_task s l as_ready) u).state ≡ mode.Active → is_in u k.stack ≡ true
+    all = by_task (λ u t. u < length b.config.tasks → t.state ≡ mode.Active → is_in u k.stack ≡ true) s l as_ready among
+        (λ h a. cc) (λ u n h a. k.active.all u h a)
+
+    service : (u : ℕ) → u < length b.config.tasks → ServiceWords b state.core.ram u (task (with_task s l as_ready) u)
+    service = by_task (λ u t. u < length b.config.tasks → ServiceWords b state.core.ram u t) s l as_ready among
+        (λ h. let w = k.words l inside in
+        record {
+          activity = w.activity ∙ ap active_word e;
+          event_mask = w.event_mask;
+          wait_mask = tt;
+          resumption = anew b state.core.ram l as_ready false (task s l).frames rest.0
+              (rests b state.core.ram l (task s l) (is_active (task s l).state) (task s l).frames rest.0 w.resumption);
+          held = w.held;
+        })
+        (λ u n h. k.words u h)
+
+    -- who is alive was so before
+    alive : (u : ℕ) → IsAlive (task (with_task s l as_ready) u) → IsAlive (task s u)
+    alive = by_task (λ u t. IsAlive t → IsAlive (task s u)) s l as_ready among
+        (λ a. ⊎_elim (λ (x : mode.Ready ≡ mode.Active). absurd cc) (λ (x : (task s l).frames ≢ []). inr x) a)
+        (λ u n a. a)
+
+    tidy : Tidy b next
+    tidy =
+        let t = k.tidy in
+        record {
+          booted = t.booted;
+          tasks = length-set s.tasks l as_ready ∙ t.tasks;
+          each = by_task (λ u t. u < length b.config.tasks → TidyTask t) s l as_ready among
+              (λ h. let y = t.each l inside in record { registers = y.registers; at_rest = λ _. y.at_rest (ap is_active e); asleep = λ a. cc; few = y.few })
+              (λ u n h. t.each u h);
+        }
+
+    raised : Stands b now next
+    raised = record {
+      stack = k.stack;
+      active = record { falling = falling_kept b s next k.stack in_stack k.active.falling; all = all };
+      lines = record { each = line; levels = k.lines.levels; others = k.lines.others };
+      running = running_tasks b state now s next k.stack refl refl refl refl in_stack k.running;
+      words = service;
+      data_stands = k.data_stands;
+      apart = λ t u h i n x y. k.apart t u h i n (alive t x) (alive u y);
+      tidy = tidy;
+      fixed = fixed_kept;
+    }
+
+    is_next : next ≡ admitted l s
+    is_next = sym (ap (λ x. if_suspended x next s) e)
+
+  pub arrived_one : Stands b now (admitted l s)
+  arrived_one =
+      ⊎_elim
+      (λ (e : (task s l).state ≡ mode.Suspended). subst (λ z. Stands b now z) (is_next e) (raised e))
+      (λ (n : (task s l).state ≡ mode.Suspended → ⊥).
+      subst (λ z. Stands b now z) (sym (not_suspended (task s l).state (record (activated s l) { fresh = l ∷ s.fresh }) s n)) (lost n))
+      (is_suspended (task s l).state)
+
+-- Arrivals at a count that finds MIE 1 are the admits of their tasks.
+pub stands_arrived : (b : Build) (lines : List ℕ) (state : State) (s : System) → length b.config.tasks ≤ 32 → AllBelow (length b.config.tasks) lines
+    → Stands b state s → Stands b (state_arrive lines state) (with_admits lines s)
+stands_arrived b [] state s few h k = k
+stands_arrived b (l ∷ lines) state s few h k =
+    stands_arrived b lines (state_arrive (l ∷ []) state) (admitted l s) few h.1 (arrived_one b state s l k h.0 few)
+
+-- nothing here speaks of `fresh`
+pub stands_fresh : (b : Build) (state : State) (s : System) (fresh : List ℕ) → Stands b state s → Stands b state (record s { fresh = fresh })
+stands_fresh b state s fresh k =
+    let next : System = record s { fresh = fresh } in
+    record {
+      stack = k.stack;
+      active = record { falling = falling_kept b s next k.stack (λ u h. refl) k.active.falling; all = k.active.all };
+      lines = record { each = k.lines.each; levels = k.lines.levels; others = k.lines.others };
+      running = running_tasks b state state s next k.stack refl refl refl refl (λ u h. refl) k.running;
+      words = k.words;
+      data_stands = k.data_stands;
+      apart = k.apart;
+      tidy = record { booted = k.tidy.booted; tasks = k.tidy.tasks; each = k.tidy.each };
+      fixed = k.fixed;
+    }

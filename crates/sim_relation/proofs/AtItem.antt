@@ -1,0 +1,67 @@
+-- A task before the first instruction of its next item.
+use Rattle.std.proofs.Common.{◌≡◌, ℕ, ◌+◌, ◌<◌, List, ◌∷◌, length, ◌∙◌, arith, inl, false}
+use Rattle.std.specs.Prelude.{slice_index}
+use Rattle.std.proofs.lemmas.List.{length-append}
+use Rattle.sloth_base.specs.declared.app.App.{App}
+use Rattle.sloth_base.specs.declared.app.Op.{Op}
+use Rattle.sloth_base.specs.declared.app.Op.TheVariants as op
+use Rattle.sloth_base.specs.declared.places.Places.{Places}
+use Rattle.rv32_instr.specs.Ram.{word_at}
+use Rattle.rv32_expand.specs.Expansion.{item_address, operation, expanded}
+use Rattle.osek_machine.specs.State.{Frame, Task, function}
+use Rattle.sim_relation.specs.Build.{Build}
+use Rattle.sim_relation.specs.Position.{Thread, FramesAt, InExpansion, Position}
+use Rattle.sim_relation.specs.Context.{Context, Rested}
+use Rattle.sim_relation.proofs.Framing.{scratch_first}
+
+-- each item has an instruction
+pub expanded_some : (app : App) (places : Places) (func address : ℕ) (i : Op) → 0 < length (expanded app places func address i)
+expanded_some app places func address (op.Alu kind rd rs1 rs2) = omega arith
+expanded_some app places func address (op.AluImm kind rd rs1 number) = omega arith
+expanded_some app places func address (op.Lui rd number) = omega arith
+expanded_some app places func address (op.Li rd value) = omega arith
+expanded_some app places func address (op.FrameLoad rd word) = omega arith
+expanded_some app places func address (op.FrameStore rs word) = omega arith
+expanded_some app places func address (op.Load width rd symbol offset) = omega arith
+expanded_some app places func address (op.Store width rs symbol offset) = omega arith
+expanded_some app places func address (op.LoadAt width rd symbol index mask) = omega arith
+expanded_some app places func address (op.StoreAt width rs symbol index mask) = omega arith
+expanded_some app places func address (op.Branch kind rs1 rs2 label) = omega arith
+expanded_some app places func address (op.Jump label) = omega arith
+expanded_some app places func address (op.Invoke callee) = omega arith
+expanded_some app places func address op.Return = omega arith
+expanded_some app places func address (op.Serve call) = simp length-append (omega arith)
+
+pub at_first : (b : Build) (own : Task) (frame : Frame) (th : Thread) → th.pc ≡ item_address b.places frame.func frame.item → InExpansion b own frame th
+at_first b own frame th e = record {
+  done = 0;
+  within = expanded_some b.app b.places frame.func (item_address b.places frame.func frame.item) (operation b.app frame.func frame.item);
+  pc = omega arith;
+  scratch = scratch_first b own.registers frame (operation b.app frame.func frame.item) th;
+}
+
+pub position_first : (b : Build) (ram : List ℕ) (t : ℕ) (own : Task) (th : Thread) (place : ℕ) (frame : Frame) (outer : List Frame)
+    → own.frames ≡ frame ∷ outer → own.owed ≡ false → frame.item < length (function b.app frame.func).items
+    → th.pc ≡ item_address b.places frame.func frame.item → FramesAt b ram frame outer place (b.top t) → Position b ram t own th place
+position_first b ram t own th place frame outer e w l pc f = record {
+  frame = frame;
+  outer = outer;
+  frames = e;
+  inside = l;
+  here = inl (record { free = w; frames = f; here = inl (at_first b own frame th pc) });
+}
+
+-- a task that goes on from its own context; its registers may have changed since
+pub rested_context : (b : Build) (ram : List ℕ) (t : ℕ) (own new : Task) (frame : Frame) (outer : List Frame) (place : ℕ) (th : Thread)
+    → Rested b ram t own frame outer place → new.frames ≡ frame ∷ outer → new.owed ≡ false → th.pc ≡ word_at ram place → th.x2 ≡ 0x8000_0000 + (place + 128)
+    → ((i : ℕ) → i < 25 → slice_index new.registers i ≡ th.x (i + 5)) → Context b ram t new th (place + 128)
+rested_context b ram t own new frame outer place th r e w pc x2 x =
+    let room = r.room in
+    let a = r.aligned in
+    record {
+      x2 = x2;
+      registers = x;
+      position = position_first b ram t new th (place + 128) frame outer e w r.inside (pc ∙ r.pc) r.frames;
+      room = omega arith;
+      aligned = omega arith;
+    }

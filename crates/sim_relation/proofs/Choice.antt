@@ -1,0 +1,168 @@
+-- The line that is taken is that of the top task.
+use Rattle.std.proofs.Common.{◌≡◌, ℕ, ◌<◌, ◌≤◌, List, [], ◌∷◌, length, refl, sym, subst, arith, ⊎_elim, inl, inr, true, cond, Some, None}
+use Rattle.std.specs.Prelude.{◌⊎◌, slice_index}
+use Rattle.std.proofs.lemmas.Bool.{cases_lt, false≢true}
+use Rattle.sloth_base.specs.Machine.{Core, State}
+use Rattle.sloth_base.specs.Lines.{lines_of}
+use Rattle.sloth_base.specs.Choose.{MayTake, IsChosen, choose_line, choose}
+use Rattle.sloth_base.proofs.Choosing.{choose_line-is}
+use Rattle.osek_machine.specs.declared.state.TaskState.{TaskState}
+use Rattle.osek_machine.specs.declared.state.TaskState.TheVariants as mode
+use Rattle.osek_machine.specs.State.{System, task, declaration}
+use Rattle.osek_machine.specs.Priority.{is_in, IsDue, IsTop}
+use Rattle.sim_induction.specs.Mirror.{priority_of, level_of}
+use Rattle.sim_relation.specs.Build.{Build}
+use Rattle.sim_relation.specs.Context.{Running, RunsTask, RunsIdle}
+use Rattle.sim_relation.specs.Stands.{Stands, IsLineOf, Falling, AreActive}
+use Rattle.sim_relation.proofs.Levels.{above_from, at_most_from, level_of-below, level_of-some}
+use Rattle.sim_relation.proofs.Tops.{static_le, rank_active, rank_ready, first_most, top_running}
+
+choice_is : (core : Core) → core.controller ≡ true → IsChosen (lines_of core) core.ilevel (choose core)
+unfolding choose
+choice_is core e =
+    subst (λ v. IsChosen (lines_of core) core.ilevel (cond v (choose_line (lines_of core) core.ilevel) None)) (sym e) (choose_line-is (lines_of core) core.ilevel)
+
+pub chosen_some : (core : Core) (line : ℕ) → core.controller ≡ true → choose core ≡ Some line → IsChosen (lines_of core) core.ilevel (Some line)
+chosen_some core line h e = subst (IsChosen (lines_of core) core.ilevel) e (choice_is core h)
+
+pub chosen_none : (core : Core) → core.controller ≡ true → choose core ≡ None → IsChosen (lines_of core) core.ilevel None
+chosen_none core h e = subst (IsChosen (lines_of core) core.ilevel) e (choice_is core h)
+
+ready_line : (m : TaskState) (pending enabled : ℕ) → m ≡ mode.Ready → IsLineOf m pending enabled → (pending ≡ 1) × (enabled ≡ 1)
+ready_line mode.Ready p e q h = h
+ready_line mode.Suspended p e q h = cc
+ready_line mode.Active p e q h = cc
+ready_line (mode.Waiting w) p e q h = cc
+
+ready_or_active : (m : TaskState) (pending enabled : ℕ) → pending ≡ 1 → enabled ≡ 1 → IsLineOf m pending enabled → (m ≡ mode.Ready) ⊎ (m ≡ mode.Active)
+ready_or_active mode.Ready p e a b h = inl refl
+ready_or_active mode.Active p e a b h = inr refl
+ready_or_active mode.Suspended p e a b h = absurd (omega (arith, h.0))
+ready_or_active (mode.Waiting w) p e a b h = absurd (omega arith)
+
+-- the level that runs
+runs_at : Build → System → List ℕ → ℕ
+runs_at b s [] = 0
+runs_at b s (t ∷ below) = level_of b.config (priority_of b.config s t)
+
+runs_level : (b : Build) (state : State) (s : System) (stack : List ℕ) → Running b state s stack → state.core.ilevel ≡ runs_at b s stack
+unfolding runs_at
+runs_level b state s [] k = k.level
+runs_level b state s (t ∷ below) k = k.level
+
+-- a task of a level above the running one has a priority above the current ones of all Active tasks
+above_all : (b : Build) (s : System) (stack : List ℕ) → Falling b s stack → (t : ℕ) → runs_at b s stack < level_of b.config (declaration b.config t).priority
+    → (u : ℕ) → is_in u stack ≡ true → priority_of b.config s u < (declaration b.config t).priority
+unfolding runs_at
+above_all b s [] f t l u h = cc
+above_all b s (v ∷ below) f t l u h =
+    let a = above_from b.config t (priority_of b.config s v) l in
+    let q = first_most b s v below f u h in
+    omega arith
+
+module _ (b : Build) (state : State) (s : System) (k : Stands b state s) (few : length b.config.tasks ≤ 32) where
+  ready_may : (u : ℕ) → u < length b.config.tasks → (task s u).state ≡ mode.Ready → state.core.ilevel < level_of b.config (declaration b.config u).priority
+      → MayTake (lines_of state.core) state.core.ilevel u
+  ready_may u h e l =
+      let r = ready_line (task s u).state (slice_index state.core.pending u) (slice_index state.core.enabled u) e (k.lines.each u h) in
+      let v = k.lines.levels u h in
+      record { in_range = omega arith; is_pending = r.0; is_enabled = r.1; is_above = omega arith }
+
+  -- where no line is taken, no Ready task stands above the running level
+  pub none_above : choose state.core ≡ None → (u : ℕ) → u < length b.config.tasks → (task s u).state ≡ mode.Ready
+      → level_of b.config (declaration b.config u).priority ≤ state.core.ilevel
+  none_above e u h r =
+      ⊎_elim
+      (λ (a : state.core.ilevel < level_of b.config (declaration b.config u).priority).
+      absurd (chosen_none state.core k.fixed.controller e u (ready_may u h r a)))
+      (λ (a : level_of b.config (declaration b.config u).priority ≤ state.core.ilevel). a)
+      (cases_lt state.core.ilevel (level_of b.config (declaration b.config u).priority))
+
+  -- then the first of the Active tasks is the top one
+  pub running_top : choose state.core ≡ None → (t : ℕ) (below : List ℕ) → k.stack ≡ t ∷ below → IsTop b.config s [] t
+  running_top e t below is =
+      let active : AreActive b s (t ∷ below) = subst (AreActive b s) is k.active in
+      let run : RunsTask b state s t below = subst (Running b state s) is k.running in
+      top_running b s t below [] active refl
+      (λ u h r o.
+      let a = none_above e u h r in
+      let v = run.level in
+      at_most_from b.config u (priority_of b.config s t) h (omega arith))
+
+  -- and where no task is Active, none is due
+  pub none_due : choose state.core ≡ None → k.stack ≡ [] → (u : ℕ) → u < length b.config.tasks → ¬ (IsDue s u)
+  none_due e is u h due =
+      ⊎_elim
+      (λ (r : (task s u).state ≡ mode.Ready).
+      let run : RunsIdle b state = subst (Running b state s) is k.running in
+      let a = none_above e u h r in
+      let v = run.level in
+      let w = level_of-some b.config u h in
+      absurd (omega arith))
+      (λ (r : (task s u).state ≡ mode.Active).
+      let active : AreActive b s [] = subst (AreActive b s) is k.active in
+      absurd (false≢true (active.all u h r)))
+      due
+
+  module _ (t : ℕ) (e : choose state.core ≡ Some t) where
+    chosen : IsChosen (lines_of state.core) state.core.ilevel (Some t)
+    chosen = chosen_some state.core t k.fixed.controller e
+
+    may : MayTake (lines_of state.core) state.core.ilevel t
+    may = chosen.0
+
+    pub taken_declared : t < length b.config.tasks
+    taken_declared =
+        ⊎_elim (λ (a : t < length b.config.tasks). a)
+        (λ (a : length b.config.tasks ≤ t). absurd (let o = k.lines.others t a in let p = may.is_enabled in omega arith))
+        (cases_lt t (length b.config.tasks))
+
+    level_is : state.core.ilevel < level_of b.config (declaration b.config t).priority
+    level_is = let l = k.lines.levels t taken_declared in let p = may.is_above in omega arith
+
+    -- the Active tasks have current priorities below its static one
+    pub taken_above : (u : ℕ) → is_in u k.stack ≡ true → priority_of b.config s u < (declaration b.config t).priority
+    taken_above = above_all b s k.stack k.active.falling t (let l = level_is in let r = runs_level b state s k.stack k.running in omega arith)
+
+    pub taken_ready : (task s t).state ≡ mode.Ready
+    taken_ready =
+        ⊎_elim (λ (a : (task s t).state ≡ mode.Ready). a)
+        (λ (a : (task s t).state ≡ mode.Active).
+        absurd (let q = taken_above t (k.active.all t taken_declared a) in let v = static_le b.config s t in omega arith))
+        (ready_or_active (task s t).state (slice_index state.core.pending t) (slice_index state.core.enabled t) may.is_pending may.is_enabled (k.lines.each t taken_declared))
+
+    -- another Ready task has no higher priority
+    most_ready : (u : ℕ) → u < length b.config.tasks → (task s u).state ≡ mode.Ready → (declaration b.config u).priority ≤ (declaration b.config t).priority
+    most_ready u h r =
+        ⊎_elim
+        (λ (a : (declaration b.config t).priority < (declaration b.config u).priority). absurd (
+        let higher = level_of-below b.config u (declaration b.config t).priority h a in
+        let l = level_is in
+        let v = k.lines.levels u h in
+        let w = k.lines.levels t taken_declared in
+        ⊎_elim
+        (λ (y : slice_index state.core.levels u < slice_index state.core.levels t). omega arith)
+        (λ (y : (slice_index state.core.levels u ≡ slice_index state.core.levels t) × (t ≤ u)). let z = y.0 in omega arith)
+        (chosen.1 u (ready_may u h r (omega arith)))))
+        (λ (a : (declaration b.config u).priority ≤ (declaration b.config t).priority). a)
+        (cases_lt (declaration b.config t).priority (declaration b.config u).priority)
+
+    pub taken_top : IsTop b.config s [] t
+    taken_top = record {
+      declared = taken_declared;
+      due = inl taken_ready;
+      is_greatest = λ u h due o.
+          ⊎_elim
+          (λ (r : (task s u).state ≡ mode.Ready).
+          let q = most_ready u h r in
+          let x = rank_ready b.config s t taken_ready in
+          let y = rank_ready b.config s u r in
+          omega arith)
+          (λ (r : (task s u).state ≡ mode.Active).
+          let q = taken_above u (k.active.all u h r) in
+          let x = rank_ready b.config s t taken_ready in
+          let y = rank_active b.config s u r in
+          omega arith)
+          due;
+      is_not_left_out = refl;
+    }

@@ -1,0 +1,289 @@
+-- The entry of a task: where it leaves the machine so, the relation stands again.
+use Rattle.std.proofs.Common.{◌≡◌, ℕ, ◌+◌, ◌%◌, ◌<◌, ◌≤◌, List, [], ◌∷◌, length, set, sym, ap, ◌∙◌, subst, arith, ⊎_elim, inl, inr, true, false, cond, max, Some, eqb}
+use Rattle.std.specs.Prelude.{◌≢◌, slice_index}
+use Rattle.std.proofs.lemmas.Bool.{cases_Bool, eqb-true}
+use Rattle.std.proofs.lemmas.List.{get_or-set_other, length-set}
+use Rattle.sloth_base.specs.Machine.{State}
+use Rattle.sloth_base.specs.Choose.{choose}
+use Rattle.sloth_region.specs.Layout.{active, events, wait, resume, saved}
+use Rattle.rv32_instr.specs.Ram.{word_at}
+use Rattle.osek_machine.specs.declared.state.TaskState.{TaskState}
+use Rattle.osek_machine.specs.declared.state.TaskState.TheVariants as mode
+use Rattle.osek_machine.specs.State.{Task, System, task, with_task, declaration}
+use Rattle.osek_machine.specs.Priority.{is_in, is_active, highest, current_priority}
+use Rattle.osek_machine.specs.Steps.{settled}
+use Rattle.sim_induction.specs.Mirror.{level_of}
+use Rattle.sim_relation.specs.Build.{Build, Fits, IsElsewhere}
+use Rattle.sim_relation.specs.Position.{thread_of, thread_at}
+use Rattle.sim_relation.specs.Context.{Context, Chain, Running, RunsTask}
+use Rattle.sim_relation.specs.ServiceWords.{ServiceWords, HeldWords, IsWaitWord, active_word}
+use Rattle.sim_relation.specs.Stands.{Stands, Falling, IsLineOf, IsAlive, AreApart, TidyTask, Tidy, Fixed}
+use Rattle.sim_relation.specs.Framing.{Agree, SameThread, SamePart}
+use Rattle.sim_relation.specs.Entry.{TaskEntry}
+use Rattle.sim_relation.proofs.Contexts.{context_same, chain_kept, data_kept}
+use Rattle.sim_relation.proofs.Parts.{other_task, this_task, by_task, falling_kept, each_from, service_kept}
+use Rattle.sim_relation.proofs.Tops.{falling_head, falling_active, not_below, is_in-head, is_in-tail}
+use Rattle.sim_relation.proofs.Choice.{taken_declared, taken_ready, taken_above}
+use Rattle.sim_relation.proofs.TaskSteps.{resumes_active}
+use Rattle.sim_relation.proofs.Fresh.{start_priority, falling_cons}
+use Rattle.sim_relation.proofs.Spot.{is_first, is_first_in, Spot, spot}
+
+enabled_ready : (m : TaskState) (p e : ℕ) → m ≡ mode.Ready → IsLineOf m p e → e ≡ 1
+enabled_ready mode.Ready p e q h = h.1
+enabled_ready mode.Suspended p e q h = cc
+enabled_ready mode.Active p e q h = cc
+enabled_ready (mode.Waiting v) p e q h = cc
+
+not_first : (b : Build) (s : System) (t : ℕ) (below : List ℕ) → Falling b s (t ∷ below) → (u : ℕ) → is_in u below ≡ true → eqb t u ≡ false
+not_first b s t below f u h =
+    ⊎_elim
+    (λ (a : eqb t u ≡ true). let n = not_below b s t below f in let g : is_in t below ≡ true = subst (λ x. is_in x below ≡ true) (sym (eqb-true t u a)) h in cc)
+    (λ (a : eqb t u ≡ false). a)
+    (cases_Bool (eqb t u))
+
+module _ (b : Build) (old now : State) (s : System) (k : Stands b old s) (fits : Fits b) (t : ℕ) (e : choose old.core ≡ Some t)
+    (own : Task) (place : ℕ) (entry : TaskEntry b old now s t own place) where
+  few : length b.config.tasks ≤ 32
+  few = let f = fits.few_tasks in omega arith
+
+  declared : t < length b.config.tasks
+  declared = taken_declared b old s k few t e
+
+  ready : (task s t).state ≡ mode.Ready
+  ready = taken_ready b old s k few t e
+
+  few30 : t < 30
+  few30 = let g = fits.few_tasks in let l = declared in omega arith
+
+  abbrev next : System
+  next = settled (with_task s t own)
+
+  among : t < length s.tasks
+  among = let y = k.tidy.tasks in let l = declared in omega arith
+
+  not_t : (u : ℕ) → (task s u).state ≡ mode.Active → u ≢ t
+  not_t u a h = let r = ready in let c : (task s t).state ≡ mode.Active = subst (λ x. (task s x).state ≡ mode.Active) h a in cc
+
+  in_stack : (u : ℕ) → is_in u k.stack ≡ true → task next u ≡ task s u
+  in_stack u h = other_task s t u own (not_t u (falling_active b s k.stack k.active.falling u h).active)
+
+  place_is : Spot b s k.stack place
+  place_is = spot b old s k.stack place fits k.apart k.active.falling entry.x2 k.running
+
+  -- a task of another state than Active is not the preempted one
+  off_first : (u : ℕ) → ((task s u).state ≡ mode.Active → ⊥) → is_first k.stack u ≡ false
+  off_first u h =
+      ⊎_elim
+      (λ (a : is_first k.stack u ≡ true). absurd (h (falling_active b s k.stack k.active.falling u (is_first_in k.stack u a)).active))
+      (λ (a : is_first k.stack u ≡ false). a)
+      (cases_Bool (is_first k.stack u))
+
+  abbrev old_ram : List ℕ
+  old_ram = old.core.ram
+
+  abbrev new_ram : List ℕ
+  new_ram = now.core.ram
+
+  -- a task that is neither this one nor the preempted one keeps its stack
+  part : (u : ℕ) → u < length b.config.tasks → u ≢ t → IsAlive (task s u) → is_first k.stack u ≡ false → Agree old_ram new_ram (b.low u) (b.top u)
+  part u l n a f i x h =
+      let v = fits.from u l in
+      entry.ram.outside i (omega arith)
+      (⊎_elim (λ (y : b.top u ≤ place). inl (omega arith)) (λ (y : place + 128 ≤ b.low u). inr (omega arith)) (place_is.apart u l a f))
+      (⊎_elim (λ (y : b.top t ≤ b.low u). inr (omega arith)) (λ (y : b.top u ≤ b.low t). inl (omega arith)) (entry.apart u l n a))
+
+  -- code and data
+  elsewhere_kept : (i : ℕ) → IsElsewhere b i → slice_index new_ram i ≡ slice_index old_ram i
+  elsewhere_kept i g = entry.ram.outside i (let w = fits.elsewhere i g in omega arith) (place_is.clear i g) (fits.outside t i declared g)
+
+  -- ---- the chain behind the task
+
+  same_thread : SameThread (thread_of old) (thread_at new_ram place)
+  same_thread = record { pc = entry.ram.pc_word; x2 = sym entry.x2; x = entry.ram.register_words }
+
+  chain_of : (stack : List ℕ) → Falling b s stack → ((u : ℕ) → is_in u stack ≡ true → task next u ≡ task s u)
+      → ((u : ℕ) → u < length b.config.tasks → u ≢ t → IsAlive (task s u) → is_first stack u ≡ false → Agree old_ram new_ram (b.low u) (b.top u))
+      → Running b old s stack → Chain b new_ram next stack place
+  chain_of [] fl same pt run =
+      let x = run.x2 in
+      let y = entry.x2 in
+      let p : place ≡ 884 = omega arith in
+      record {
+        is = p;
+        pc = ap (word_at new_ram) (sym p) ∙ entry.ram.pc_word ∙ run.pc;
+        level = ap (λ j. word_at new_ram (j + 4)) (sym p) ∙ entry.ram.level_word ∙ run.level;
+        current = ap (λ j. word_at new_ram (j + 8)) (sym p) ∙ entry.ram.current_word ∙ run.current;
+      }
+  chain_of (a ∷ below) fl same pt run =
+      let here = falling_head b s a below fl in
+      let same_a = same a (is_in-head a below) in
+      let frame : run.place ≡ place + 128 = let x = run.context.x2 in let y = entry.x2 in omega arith in
+      let low = run.context.room in
+      let v = fits.from a here.declared in
+      let n = not_t a here.active in (
+        record {
+          level = entry.ram.level_word ∙ run.level ∙ sym (ap (λ x. level_of b.config (current_priority b.config (declaration b.config a) x)) same_a);
+          current = entry.ram.current_word ∙ run.current;
+          context = subst (λ p. Context b new_ram a (task next a) (thread_at new_ram place) p) frame
+              (context_same b old_ram new_ram a (task s a) (task next a) (thread_of old) (thread_at new_ram place) run.place same_a same_thread
+              (λ i x y. entry.ram.outside i (omega arith) (inr (omega arith))
+              (⊎_elim (λ (h : b.top t ≤ b.low a). inr (omega arith)) (λ (h : b.top a ≤ b.low t). inl (omega arith)) (entry.apart a here.declared n (inl here.active))))
+              run.context);
+        },
+        (
+          run.next,
+          entry.ram.link_word ∙ run.link,
+          chain_kept b old_ram new_ram s next
+              (λ i x y. let u = fits.from t declared in
+              entry.ram.outside i x (inl (let c = beyond in omega arith)) (inl (omega arith)))
+              below run.next
+              (each_from (SamePart b old_ram new_ram s next) below
+              (λ u h.
+              let in_all = is_in-tail a u below h in
+              let act = falling_active b s (a ∷ below) fl u in_all in
+              record { tasks = same u in_all; bytes = pt u act.declared (not_t u act.active) (inl act.active) (not_first b s a below fl u h) }))
+              run.chain,
+        ),
+      )
+    where
+      beyond : 1024 ≤ place
+      beyond =
+          let x = run.context.x2 in
+          let y = entry.x2 in
+          let low = run.context.room in
+          let v = fits.from a (falling_head b s a below fl).declared in
+          omega arith
+
+  held_nil : (task s t).held ≡ []
+  held_nil = ((k.tidy.each t declared).at_rest (ap is_active ready)).0
+
+  this : task next t ≡ own
+  this = this_task s t own among
+
+  runs : RunsTask b now next t k.stack
+  runs = record {
+    level = entry.machine.level ∙ sym (ap (level_of b.config) (start_priority b.config t own (entry.held ∙ held_nil) entry.raised))
+        ∙ sym (ap (λ x. level_of b.config (current_priority b.config (declaration b.config t) x)) this);
+    current = entry.ram.current;
+    place = entry.frame;
+    context = subst (λ x. Context b new_ram t x (thread_of now) entry.frame) (sym this) entry.context;
+    next = place;
+    link = entry.ram.link;
+    chain = chain_of k.stack k.active.falling in_stack part k.running;
+  }
+
+  -- ---- the rest
+
+  line : (u : ℕ) → u < length b.config.tasks → IsLineOf (task next u).state (slice_index now.core.pending u) (slice_index now.core.enabled u)
+  line =
+      let p = entry.machine.pending in
+      let n = entry.machine.enabled in
+      by_task (λ u x. u < length b.config.tasks → IsLineOf x.state (slice_index now.core.pending u) (slice_index now.core.enabled u)) s t own among
+      (λ h. subst (λ a. IsLineOf a (slice_index now.core.pending t) (slice_index now.core.enabled t)) (sym entry.state)
+      (ap (λ l. slice_index l t) n ∙ enabled_ready (task s t).state (slice_index old.core.pending t) (slice_index old.core.enabled t) ready (k.lines.each t declared)))
+      (λ u ne h.
+      subst (λ l. IsLineOf (task s u).state (slice_index l u) (slice_index now.core.enabled u)) (sym p)
+      (subst (λ l. IsLineOf (task s u).state (slice_index (set old.core.pending t 0) u) (slice_index l u)) (sym n)
+      (subst (λ v. IsLineOf (task s u).state v (slice_index old.core.enabled u)) (sym (get_or-set_other old.core.pending t u 0 0 ne)) (k.lines.each u h))))
+
+  all : (u : ℕ) → u < length b.config.tasks → (task next u).state ≡ mode.Active → is_in u (t ∷ k.stack) ≡ true
+  all = by_task (λ u x. u < length b.config.tasks → x.state ≡ mode.Active → is_in u (t ∷ k.stack) ≡ true) s t own among
+      (λ h a. is_in-head t k.stack) (λ u n h a. is_in-tail t u k.stack (k.active.all u h a))
+
+  named : (p : ℕ) → p + 4 ≤ 884 → p % 4 ≡ 0 → p ≢ 0 → p ≢ 628 → p ≢ active t → p ≢ resume t → word_at new_ram p ≡ word_at old_ram p
+  named = entry.ram.named
+
+  held_word : (u : ℕ) → u < length b.config.tasks → (r : ℕ) → is_in r (task s u).held ≡ true → word_at new_ram (saved r) ≡ word_at old_ram (saved r)
+  held_word u h r a =
+      let g = few30 in
+      let l = (k.tidy.each u h).few r a in
+      named (saved r) (omega arith) (omega arith) (omega arith) (λ c. omega arith) (λ c. omega arith) (λ c. omega arith)
+
+  service : (u : ℕ) → u < length b.config.tasks → ServiceWords b new_ram u (task next u)
+  service = by_task (λ u x. u < length b.config.tasks → ServiceWords b new_ram u x) s t own among
+      (λ h. let v = k.words t declared in
+      let g = few30 in
+      record {
+        activity = entry.ram.activity ∙ sym (ap active_word entry.state);
+        event_mask = named (events t) (omega arith) (omega arith) (omega arith) (λ a. omega arith) (λ a. omega arith) (λ a. omega arith) ∙ v.event_mask ∙ sym entry.events;
+        wait_mask = subst (λ a. IsWaitWord a (word_at new_ram (wait t))) (sym entry.state) tt;
+        resumption = resumes_active b new_ram t own (is_active own.state) own.frames (ap is_active entry.state) entry.ram.resumption;
+        held = subst (λ x. HeldWords b new_ram (max (declaration b.config t).priority (cond own.raised (highest b.config) 0)) x) (sym (entry.held ∙ held_nil)) tt;
+      })
+      (λ u n h.
+      let g = few30 in
+      let c = fits.few_tasks in
+      service_kept b old_ram new_ram u (task s u)
+      (named (active u) (omega arith) (omega arith) (omega arith) (λ a. omega arith) (λ a. n (omega arith)) (λ a. omega arith))
+      (named (events u) (omega arith) (omega arith) (omega arith) (λ a. omega arith) (λ a. omega arith) (λ a. omega arith))
+      (named (wait u) (omega arith) (omega arith) (omega arith) (λ a. omega arith) (λ a. omega arith) (λ a. omega arith))
+      (named (resume u) (omega arith) (omega arith) (omega arith) (λ a. omega arith) (λ a. omega arith) (λ a. n (omega arith)))
+      (held_word u h)
+      (λ a f. part u h n (inr f) (off_first u (λ x. let y = ap is_active x in cc)))
+      (k.words u h))
+
+  apart : (x u : ℕ) → x < length b.config.tasks → u < length b.config.tasks → x ≢ u → IsAlive (task next x) → IsAlive (task next u) → AreApart b x u
+  apart = by_task (λ x v. (u : ℕ) → x < length b.config.tasks → u < length b.config.tasks → x ≢ u → IsAlive v → IsAlive (task next u) → AreApart b x u) s t own among
+      (λ u h l n a c. entry.apart u l (λ z. n (sym z)) (was u (λ z. n (sym z)) c))
+      (λ x m u h l n a. by_task (λ u v. u < length b.config.tasks → x ≢ u → IsAlive v → AreApart b x u) s t own among
+      (λ i z c. ⊎_elim (λ (y : b.top t ≤ b.low x). inr y) (λ (y : b.top x ≤ b.low t). inl y) (entry.apart x h m a))
+      (λ v o i z c. k.apart x v h i z a c) u l n)
+    where
+      was : (u : ℕ) → u ≢ t → IsAlive (task next u) → IsAlive (task s u)
+      was u n a = subst IsAlive (other_task s t u own n) a
+
+  tidy : Tidy b next
+  tidy =
+      let v = k.tidy in
+      record {
+        booted = v.booted;
+        tasks = length-set s.tasks t own ∙ v.tasks;
+        each = by_task (λ u x. u < length b.config.tasks → TidyTask x) s t own among
+            (λ h. record {
+              registers = entry.registers;
+              at_rest = λ a. let c = ap is_active entry.state in cc;
+              asleep = λ a. let c = entry.state in cc;
+              few = λ x a. (v.each t h).few x (subst (λ l. is_in x l ≡ true) entry.held a);
+            })
+            (λ u n h. v.each u h);
+      }
+
+  fixed : Fixed b now.core
+  fixed =
+      let v = k.fixed in
+      let m = entry.machine in
+      record {
+        open_to_lines = m.open_to_lines;
+        previous = m.previous;
+        controller = m.controller ∙ v.controller;
+        registers = m.registers ∙ v.registers;
+        zero = m.zero ∙ v.zero;
+        pending = ap length m.pending ∙ length-set old.core.pending t 0 ∙ v.pending;
+        enabled = ap length m.enabled ∙ v.enabled;
+        levels = ap length m.levels ∙ v.levels;
+        ram = entry.ram.long;
+        code = λ i x. elsewhere_kept i (inl x) ∙ v.code i x;
+      }
+
+  -- the states stand
+  pub entry_stands : Stands b now next
+  entry_stands = record {
+    stack = t ∷ k.stack;
+    active = record {
+      falling = falling_cons b next t k.stack (record { declared = declared; active = ap (λ x. x.state) this ∙ entry.state })
+          (λ u h. subst (λ x. current_priority b.config (declaration b.config u) x < (declaration b.config t).priority) (sym (in_stack u h)) (taken_above b old s k few t e u h))
+          (falling_kept b s next k.stack in_stack k.active.falling);
+      all = all;
+    };
+    lines = record {
+      each = line;
+      levels = λ u h. ap (λ l. slice_index l u) entry.machine.levels ∙ k.lines.levels u h;
+      others = λ l h. ap (λ x. slice_index x l) entry.machine.enabled ∙ k.lines.others l h;
+    };
+    running = runs;
+    words = service;
+    data_stands = data_kept b old_ram new_ram s.symbols (λ i x. elsewhere_kept i (inr x)) k.data_stands;
+    apart = apart;
+    tidy = tidy;
+    fixed = fixed;
+  }

@@ -1,0 +1,42 @@
+-- The running task is the first of the stack.
+use Rattle.std.proofs.Common.{◌≡◌, ℕ, List, [], ◌∷◌, refl, ap, ◌∙◌, subst}
+use Rattle.std.proofs.lemmas.Bool.{false≢true}
+use Rattle.sloth_base.specs.Machine.{State}
+use Rattle.rv32_routine.specs.Kernel.{IsBelow}
+use Rattle.osek_machine.specs.State.{Task, System, with_task}
+use Rattle.osek_machine.specs.Steps.{settled}
+use Rattle.sim_induction.specs.Mirror.{Runs}
+use Rattle.sim_relation.specs.Build.{Build, Fits}
+use Rattle.sim_relation.specs.Context.{Running, RunsTask}
+use Rattle.sim_relation.specs.Stands.{Stands, AreActive}
+use Rattle.sim_relation.specs.Moves.{moved_to, TaskStep, TaskMove, TaskLeave}
+use Rattle.sim_relation.proofs.Below.{is_below}
+use Rattle.sim_relation.proofs.Leaving.{leave_stands}
+use Rattle.sim_relation.proofs.MirrorOf.{first_is}
+use Rattle.sim_relation.proofs.TaskMoves.{task_moves}
+use Rattle.sim_relation.proofs.TaskSteps.{task_steps}
+
+module _ (b : Build) (state : State) (s : System) (t : ℕ) (fits : Fits b) (k : Stands b state s) (r : Runs b.config s t) where
+  by_stack : (stack : List ℕ) → k.stack ≡ stack → (below : List ℕ) × (k.stack ≡ t ∷ below)
+  by_stack [] is = let a : AreActive b s [] = subst (AreActive b s) is k.active in absurd (false≢true (a.all t r.declared r.active))
+  by_stack (u ∷ below) is =
+      let a : AreActive b s (u ∷ below) = subst (AreActive b s) is k.active in
+      (below, is ∙ ap (λ v. v ∷ below) (first_is b s u below a t r))
+
+  pub first_of : (below : List ℕ) × (k.stack ≡ t ∷ below)
+  first_of = by_stack k.stack refl
+
+  pub steps_keep : (now : State) (own : Task) (symbols : List (List ℕ)) → TaskStep b state now s t own symbols → Stands b now (moved_to s t own symbols)
+  steps_keep now own symbols step = task_steps b state now s k fits t first_of.0 first_of.1 own symbols step
+
+  pub moves_keep : (now : State) (own : Task) (symbols : List (List ℕ)) → TaskMove b state now s t own symbols → Stands b now (moved_to s t own symbols)
+  moves_keep now own symbols step = task_moves b state now s k fits t first_of.0 first_of.1 own symbols step
+
+  pub leaves_keep : (now : State) (own : Task) (place : ℕ) → TaskLeave b state now s t own place → Stands b now (settled (with_task s t own))
+  leaves_keep now own place leave = leave_stands b state now s k fits t first_of.0 first_of.1 own place leave
+
+  pub runs_task : RunsTask b state s t first_of.0
+  runs_task = subst (Running b state s) first_of.1 k.running
+
+  pub below_found : (place : ℕ) × IsBelow place state.core
+  below_found = (runs_task.next, is_below b state s t first_of.0 fits (subst (AreActive b s) first_of.1 k.active) runs_task)

@@ -1,0 +1,34 @@
+-- Code that stands in the image stands in RAM, and the word at 0x80000000 names the first of the stack.
+use Rattle.std.proofs.Common.{◌≡◌, ℕ, ◌+◌, ◌*◌, ◌<◌, ◌≤◌, List, [], ◌∷◌, length, ap, ◌∙◌, arith, inl, true}
+use Rattle.std.specs.Prelude.{slice_index}
+use Rattle.sloth_base.specs.Machine.{State}
+use Rattle.rv32_instr.specs.declared.InstrKind.{InstrKind}
+use Rattle.rv32_instr.specs.Table.{Decode}
+use Rattle.rv32_instr.specs.Ram.{word_at}
+use Rattle.rv32_routine.specs.Place.{InPlace}
+use Rattle.rv32_routine.proofs.Words.{word_at-agree}
+use Rattle.osek_machine.specs.State.{System}
+use Rattle.sim_relation.specs.Build.{Build, Fits}
+use Rattle.sim_relation.specs.Context.{Running}
+use Rattle.sim_relation.specs.Placed.{IsPlaced}
+
+pub in_place-agree : (old new : List ℕ) (code : List InstrKind) (offset : ℕ) → ((i : ℕ) → offset ≤ i → i < offset + 4 * length code → slice_index new i ≡ slice_index old i)
+    → InPlace old offset code → InPlace new offset code
+in_place-agree old new [] offset same h = tt
+in_place-agree old new (kind ∷ code) offset same h = (
+  ap Decode (word_at-agree new old offset (λ i a c. same i a (omega arith))) ∙ h.0,
+  in_place-agree old new code (offset + 4) (λ i a c. same i (omega arith) (omega arith)) h.1,
+)
+
+-- code in RAM
+pub placed_in : (b : Build) (ram : List ℕ) (offset : ℕ) (code : List InstrKind) → ((i : ℕ) → b.is_code i ≡ true → slice_index ram i ≡ slice_index b.memory i)
+    → IsPlaced b offset code → InPlace ram offset code
+placed_in b ram offset code same p = in_place-agree b.memory ram code offset (λ i a c. same i (p.is_code i a c)) p.placed
+
+pub code_behind : (b : Build) (offset : ℕ) (code : List InstrKind) → Fits b → 0 < length code → IsPlaced b offset code → 1024 ≤ offset
+code_behind b offset code fits some p = fits.elsewhere offset (inl (p.is_code offset (omega arith) (omega arith)))
+
+pub first_by_word : (b : Build) (state : State) (s : System) (t : ℕ) (stack : List ℕ) → Running b state s stack → word_at state.core.ram 0 ≡ t + 1
+    → (below : List ℕ) × (stack ≡ t ∷ below)
+first_by_word b state s t [] run h = let a = run.current in absurd (omega arith)
+first_by_word b state s t (u ∷ below) run h = let a = run.current in let e : u ≡ t = omega arith in (below, ap (λ v. v ∷ below) e)

@@ -1,0 +1,99 @@
+-- The relation stands where boot has started the system.
+use Rattle.std.proofs.Common.{◌≡◌, ℕ, zero, suc, ◌+◌, ◌<◌, ◌≤◌, List, [], ◌∷◌, length, get_or, refl, sym, ap, subst, arith, ⊎_elim, Bool, true, false, cond}
+use Rattle.std.specs.Prelude.{◌≢◌, map, slice_index}
+use Rattle.sloth_base.specs.Machine.{State}
+use Rattle.sloth_base.specs.declared.config.TaskDecl.{TaskDecl}
+use Rattle.sloth_region.specs.Layout.{active, events, resume}
+use Rattle.rv32_instr.specs.Ram.{word_at}
+use Rattle.osek_machine.specs.declared.state.TaskState.TheVariants as mode
+use Rattle.osek_machine.specs.State.{Task, System, sleeping, task, declaration, undeclared}
+use Rattle.osek_machine.specs.Steps.{autostarted}
+use Rattle.sim_relation.specs.Build.{Build, Fits}
+use Rattle.sim_relation.specs.ServiceWords.{ServiceWords}
+use Rattle.sim_relation.specs.Stands.{Stands, IsLineOf, IsAlive, TidyTask}
+use Rattle.sim_relation.specs.Start.{Starts, started}
+
+-- a task as the start leaves it
+abbrev pub awake : Bool → Task
+awake autostart = cond autostart (record sleeping { state = mode.Ready }) sleeping
+
+autostarted_at : (ds : List TaskDecl) (t : ℕ) → t < length ds
+    → get_or (autostarted ds (map (λ (_ : TaskDecl). sleeping) ds)) t sleeping ≡ awake (get_or ds t undeclared).autostart
+autostarted_at [] t l = absurd (omega arith)
+autostarted_at (d ∷ ds) zero l = refl
+autostarted_at (d ∷ ds) (suc t) l = autostarted_at ds t (omega arith)
+
+length-autostarted : (ds : List TaskDecl) → length (autostarted ds (map (λ (_ : TaskDecl). sleeping) ds)) ≡ length ds
+length-autostarted [] = refl
+length-autostarted (d ∷ ds) = ap suc (length-autostarted ds)
+
+zero_word : (ram : List ℕ) (p : ℕ) → ((i : ℕ) → i < 884 → slice_index ram i ≡ 0) → p + 4 ≤ 884 → word_at ram p ≡ 0
+unfolding word_at
+zero_word ram p h l =
+    let a = h p (omega arith) in
+    let c = h (p + 1) (omega arith) in
+    let d = h (p + 2) (omega arith) in
+    let e = h (p + 3) (omega arith) in
+    omega arith
+
+-- what holds of a task that the start leaves
+line_of : (autostart : Bool) (pending enabled : ℕ) → pending ≡ cond autostart 1 0 → enabled ≡ 1 → IsLineOf (awake autostart).state pending enabled
+line_of true p e a c = (a, c)
+line_of false p e a c = (a, c)
+
+rests : (autostart : Bool) → ((awake autostart).state ≡ mode.Active → ⊥) × ((awake autostart).frames ≡ [])
+rests true = ((λ e. cc), refl)
+rests false = ((λ e. cc), refl)
+
+few : (r : ℕ) → false ≡ true → r < 33
+few r e = cc
+
+tidy_of : (autostart : Bool) → TidyTask (awake autostart)
+tidy_of true = record { registers = refl; at_rest = λ _. (refl, refl, refl); asleep = λ e. (refl, refl); few = few }
+tidy_of false = record { registers = refl; at_rest = λ _. (refl, refl, refl); asleep = λ e. (refl, refl); few = few }
+
+words_of : (b : Build) (ram : List ℕ) (t : ℕ) (autostart : Bool) → word_at ram (active t) ≡ 0 → word_at ram (events t) ≡ 0 → word_at ram (resume t) ≡ 0
+    → ServiceWords b ram t (awake autostart)
+words_of b ram t true a e r = record { activity = a; event_mask = e; wait_mask = tt; resumption = r; held = tt }
+words_of b ram t false a e r = record { activity = a; event_mask = e; wait_mask = tt; resumption = r; held = tt }
+
+module _ (b : Build) (state : State) (fits : Fits b) (start : Starts b state) where
+  abbrev s : System
+  s = started b
+
+  task_is : (t : ℕ) → t < length b.config.tasks → task s t ≡ awake (declaration b.config t).autostart
+  task_is t h = autostarted_at b.config.tasks t h
+
+  by_awake : (P : ℕ → Task → Type 0) → ((t : ℕ) → t < length b.config.tasks → P t (awake (declaration b.config t).autostart)) → (t : ℕ) → t < length b.config.tasks → P t (task s t)
+  by_awake P f t h = subst (P t) (sym (task_is t h)) (f t h)
+
+  not_active : (t : ℕ) → t < length b.config.tasks → (task s t).state ≡ mode.Active → ⊥
+  not_active = by_awake (λ t v. v.state ≡ mode.Active → ⊥) (λ t h. (rests (declaration b.config t).autostart).0)
+
+  not_alive : (t : ℕ) → t < length b.config.tasks → IsAlive (task s t) → ⊥
+  not_alive t h a =
+      ⊎_elim (λ (x : (task s t).state ≡ mode.Active). not_active t h x)
+      (λ (x : (task s t).frames ≢ []). x (by_awake (λ t v. v.frames ≡ []) (λ t h. (rests (declaration b.config t).autostart).1) t h)) a
+
+  zero_at : (p : ℕ) → p + 4 ≤ 884 → word_at state.core.ram p ≡ 0
+  zero_at p h = zero_word state.core.ram p start.service_words h
+
+  pub starts_stand : Stands b state s
+  starts_stand = record {
+    stack = [];
+    active = record { falling = tt; all = λ t h a. absurd (not_active t h a) };
+    lines = record {
+      each = by_awake (λ t v. IsLineOf v.state (slice_index state.core.pending t) (slice_index state.core.enabled t))
+          (λ t h. line_of (declaration b.config t).autostart (slice_index state.core.pending t) (slice_index state.core.enabled t) (start.pending t h) (start.enabled t h));
+      levels = start.levels;
+      others = start.other_enabled;
+    };
+    running = record { level = start.level; current = zero_at 0 (omega arith); pc = start.pc; x2 = start.x2 };
+    words = by_awake (λ t v. ServiceWords b state.core.ram t v)
+        (λ t h. let n = fits.few_tasks in
+        words_of b state.core.ram t (declaration b.config t).autostart (zero_at (active t) (omega arith)) (zero_at (events t) (omega arith)) (zero_at (resume t) (omega arith)));
+    data_stands = start.data_stands;
+    apart = λ t u h i n x y. absurd (not_alive t h x);
+    tidy = record { booted = refl; tasks = length-autostarted b.config.tasks; each = by_awake (λ t v. TidyTask v) (λ t h. tidy_of (declaration b.config t).autostart) };
+    fixed = start.fixed;
+  }

@@ -1,0 +1,54 @@
+-- What is built: the configuration, the task code, and where the image has everything.
+use Rattle.std.specs.Prelude.{ℕ, ◌+◌, ◌*◌, ◌%◌, ◌<◌, ◌≤◌, ◌≡◌, ◌⊎◌, Bool, true, false, List, cond, length}
+use Rattle.sloth_base.specs.declared.config.Config.{Config}
+use Rattle.sloth_base.specs.declared.app.App.{App}
+use Rattle.sloth_base.specs.declared.places.Places.{Places}
+use Rattle.sloth_base.specs.declared.app.Call.{Call}
+use Rattle.sloth_base.specs.declared.app.Op.TheVariants as op
+use Rattle.rv32_expand.specs.Expansion.{item_address, block_address, operation}
+use Rattle.osek_machine.specs.State.{declaration, function, body_of}
+use Rattle.osek_machine.specs.Priority.{highest}
+use Rattle.sim_induction.specs.Mirror.{level_of}
+
+pub record Build : Type 0 where
+  pub config : Config
+  pub app : App
+  -- the addresses of items, symbols and service blocks
+  pub places : Places
+  -- Offsets from 0x80000000. The part of the stacks that a task has, from its low end up to its top.
+  pub low : ℕ → ℕ
+  pub top : ℕ → ℕ
+  -- whether the byte at an offset is one of code, and one of data
+  pub is_code : ℕ → Bool
+  pub is_data : ℕ → Bool
+  -- the addresses of the idle loop and of the instruction that comes back from Schedule
+  pub idle : ℕ
+  pub back : ℕ
+  -- the image's bytes
+  pub memory : List ℕ
+
+-- the level at which a task runs that holds nothing: that of its priority, and where its scheduling is NON the highest
+abbrev pub start_level : Build → ℕ → ℕ
+start_level b t = level_of b.config (cond (declaration b.config t).non (highest b.config) (declaration b.config t).priority)
+
+-- a byte of code or data
+abbrev pub IsElsewhere : Build → ℕ → Type 0
+IsElsewhere b i = (b.is_code i ≡ true) ⊎ (b.is_data i ≡ true)
+
+-- The places are apart and large enough. Of two tasks' parts of the stacks nothing is said here: those of tasks that are
+-- never alive together may be the same.
+pub record Fits (b : Build) : Type 0 where
+  pub few_tasks : length b.config.tasks ≤ 30
+  -- code and data are apart, and stand behind the service words and outside each task's part of the stacks
+  pub elsewhere : (i : ℕ) → IsElsewhere b i → 1024 ≤ i
+  pub outside : (t i : ℕ) → t < length b.config.tasks → IsElsewhere b i → (i < b.low t) ⊎ (b.top t ≤ i)
+  pub apart : (i : ℕ) → b.is_code i ≡ true → b.is_data i ≡ false
+  -- instructions stand at multiples of 4
+  pub items : (func index : ℕ) → item_address b.places func index % 4 ≡ 0
+  pub blocks : (func index : ℕ) (call : Call) → operation b.app func index ≡ op.Serve call → block_address b.places call.service call.object % 4 ≡ 0
+  pub idle_address : b.idle % 4 ≡ 0
+  pub back_address : b.back % 4 ≡ 0
+  -- each task's part lies behind the service words in RAM, and has room for its first frame and a context
+  pub from : (t : ℕ) → t < length b.config.tasks → 1024 ≤ b.low t
+  pub to : (t : ℕ) → t < length b.config.tasks → (b.top t ≤ 0x20_0000) × (b.top t % 4 ≡ 0)
+  pub room : (t : ℕ) → t < length b.config.tasks → b.low t + 128 + 4 * (function b.app (body_of b.app.funcs t)).frame_words ≤ b.top t

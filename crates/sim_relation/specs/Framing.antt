@@ -1,0 +1,44 @@
+-- What a stretch leaves as it was.
+use Rattle.std.specs.Prelude.{ℕ, ◌<◌, ◌≤◌, ◌≡◌, ◌+◌, ◌*◌, List, [], ◌∷◌, slice_index}
+use Rattle.sloth_base.specs.Machine.{State}
+use Rattle.rv32_instr.specs.Ram.{word_at}
+use Rattle.osek_machine.specs.State.{System, task}
+use Rattle.sim_relation.specs.Build.{Build}
+use Rattle.sim_relation.specs.Position.{Thread}
+
+-- the bytes from `from` up to `to` are the same
+abbrev pub Agree : List ℕ → List ℕ → (from to : ℕ) → Type 0
+Agree old new from to = (i : ℕ) → from ≤ i → i < to → slice_index new i ≡ slice_index old i
+
+-- the same pc, x2 and x5 to x31
+pub record SameThread (old new : Thread) : Type 0 where
+  pub pc : new.pc ≡ old.pc
+  pub x2 : new.x2 ≡ old.x2
+  pub x : (i : ℕ) → 5 ≤ i → i < 32 → new.x i ≡ old.x i
+
+-- the same pc, x30 and x31: all that a position says of a thread
+pub record SamePlace (old new : Thread) : Type 0 where
+  pub pc : new.pc ≡ old.pc
+  pub x30 : new.x 30 ≡ old.x 30
+  pub x31 : new.x 31 ≡ old.x 31
+
+-- a task has the same part in both: its record, and the bytes of its stack
+pub record SamePart (b : Build) (old new : List ℕ) (s next : System) (t : ℕ) : Type 0 where
+  pub tasks : task next t ≡ task s t
+  pub bytes : Agree old new (b.low t) (b.top t)
+
+-- it holds of each number of the list
+abbrev pub Each : (ℕ → Type 0) → List ℕ → Type 0
+Each P [] = Unit {0}
+Each P (t ∷ rest) = P t × Each P rest
+
+-- What going back to the context at `place` does, beside what else the routine writes: `old` is the RAM before, `new` the RAM
+-- afterwards.
+pub record HasLeftFor (old new : List ℕ) (place : ℕ) (end : State) : Type 0 where
+  pub ram : end.core.ram ≡ new
+  pub current : word_at new 0 ≡ word_at old (place + 8)
+  pub link : word_at new 628 ≡ word_at old (place + 12)
+  pub x2 : slice_index end.core.registers 2 ≡ 0x8000_0000 + (place + 128)
+  pub loaded : (i : ℕ) → 5 ≤ i → i < 32 → slice_index end.core.registers i ≡ word_at old (place + 4 * i)
+  pub pc : end.pc ≡ word_at old place
+  pub level : end.core.ilevel ≡ word_at old (place + 4)

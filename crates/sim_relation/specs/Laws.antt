@@ -1,0 +1,69 @@
+-- The laws of the relation.
+use Rattle.std.specs.Prelude.{ℕ, ◌<◌, ◌≤◌, ◌≡◌, List, [], length, Some, None}
+use Rattle.sloth_base.specs.Machine.{State}
+use Rattle.sloth_base.specs.Arrive.{state_arrive}
+use Rattle.sloth_base.specs.Choose.{choose}
+use Rattle.osek_machine.specs.declared.state.TaskState.TheVariants as mode
+use Rattle.rv32_routine.specs.Kernel.{IsBelow}
+use Rattle.osek_machine.specs.State.{Task, System, task, with_task}
+use Rattle.osek_machine.specs.Priority.{IsTop, IsDue}
+use Rattle.osek_machine.specs.Steps.{settled}
+use Rattle.sim_induction.specs.Admits.{with_admits, AllBelow}
+use Rattle.sim_induction.specs.Mirror.{Mirror, Runs}
+use Rattle.sim_relation.specs.Build.{Build, Fits}
+use Rattle.sim_relation.specs.Stands.{Stands}
+use Rattle.sim_relation.specs.Moves.{moved_to, TaskStep, TaskMove, TaskLeave}
+use Rattle.sim_relation.specs.Entry.{TaskEntry}
+use Rattle.sim_relation.specs.Start.{Starts, started}
+
+-- where the relation stands, the interrupt controller mirrors the abstract scheduler
+abbrev pub MirrorOfStands : Type 0
+MirrorOfStands = (b : Build) (state : State) (s : System) → Stands b state s → Mirror b.config state.core s
+
+-- lines that arrive where MIE is 1 are the activations of their tasks
+abbrev pub ArrivalsAreAdmits : Type 0
+ArrivalsAreAdmits = (b : Build) (lines : List ℕ) (state : State) (s : System) → length b.config.tasks ≤ 32
+    → AllBelow (length b.config.tasks) lines → Stands b state s → Stands b (state_arrive lines state) (with_admits lines s)
+
+-- the line that is taken is that of a Ready task, which is the top task
+abbrev pub TakenIsTop : Type 0
+TakenIsTop = (b : Build) (state : State) (s : System) → length b.config.tasks ≤ 32 → Stands b state s
+    → (t : ℕ) → choose state.core ≡ Some t → IsTop b.config s [] t × ((task s t).state ≡ mode.Ready)
+
+-- where no line is taken, the running task is the top task, and where none runs none is due
+pub record IsUndisturbed (b : Build) (s : System) : Type 0 where
+  pub running : (t : ℕ) → Runs b.config s t → IsTop b.config s [] t
+  pub idle : ((t : ℕ) → t < length b.config.tasks → ¬ ((task s t).state ≡ mode.Active)) → (t : ℕ) → t < length b.config.tasks → ¬ (IsDue s t)
+
+abbrev pub NoneTaken : Type 0
+NoneTaken = (b : Build) (state : State) (s : System) → length b.config.tasks ≤ 32 → Stands b state s → choose state.core ≡ None → IsUndisturbed b s
+
+-- ---- what keeps the relation; t is the running task
+
+-- an instruction of it, and a service that goes back to it
+abbrev pub StepsKeep : Type 0
+StepsKeep = (b : Build) (old now : State) (s : System) (t : ℕ) (own : Task) (symbols : List (List ℕ)) → Fits b → Stands b old s → Runs b.config s t
+    → TaskStep b old now s t own symbols → Stands b now (moved_to s t own symbols)
+
+abbrev pub MovesKeep : Type 0
+MovesKeep = (b : Build) (old now : State) (s : System) (t : ℕ) (own : Task) (symbols : List (List ℕ)) → Fits b → Stands b old s → Runs b.config s t
+    → TaskMove b old now s t own symbols → Stands b now (moved_to s t own symbols)
+
+-- its end, or its wait
+abbrev pub LeavesKeep : Type 0
+LeavesKeep = (b : Build) (old now : State) (s : System) (t : ℕ) (own : Task) (place : ℕ) → Fits b → Stands b old s → Runs b.config s t
+    → TaskLeave b old now s t own place → Stands b now (settled (with_task s t own))
+
+-- the entry of the task whose line is taken
+abbrev pub EntriesKeep : Type 0
+EntriesKeep = (b : Build) (old now : State) (s : System) (t : ℕ) (own : Task) (place : ℕ) → Fits b → Stands b old s → choose old.core ≡ Some t
+    → TaskEntry b old now s t own place → Stands b now (settled (with_task s t own))
+
+-- the context of what runs below it is where a routine looks for it
+abbrev pub BelowIsFound : Type 0
+BelowIsFound = (b : Build) (state : State) (s : System) (t : ℕ) → Fits b → Stands b state s → Runs b.config s t
+    → (place : ℕ) × IsBelow place state.core
+
+-- it stands where boot has started the system
+abbrev pub StartsStand : Type 0
+StartsStand = (b : Build) (state : State) → Fits b → Starts b state → Stands b state (started b)

@@ -1,0 +1,19 @@
+-- Code in the image, and runs of what is built.
+use Rattle.std.specs.Prelude.{ℕ, ◌+◌, ◌*◌, ◌%◌, ◌<◌, ◌≤◌, ◌≡◌, true, List, length}
+use Rattle.sloth_base.specs.declared.event.Arrival.{Arrival}
+use Rattle.rv32_instr.specs.declared.InstrKind.{InstrKind}
+use Rattle.rv32_routine.specs.Place.{InPlace}
+use Rattle.observe.specs.Observe.{View}
+use Rattle.sim_induction.specs.Admits.{Setting}
+use Rattle.sim_relation.specs.Build.{Build}
+
+-- a run of what is built
+abbrev pub setting_of : Build → View → List Arrival → Setting
+setting_of b view arrivals = record { config = b.config; app = b.app; view = view; arrivals = arrivals }
+
+-- code at an offset in the image
+pub record IsPlaced (b : Build) (offset : ℕ) (code : List InstrKind) : Type 0 where
+  pub aligned : offset % 4 ≡ 0
+  pub inside : offset + 4 * length code ≤ 0x20_0000
+  pub is_code : (i : ℕ) → offset ≤ i → i < offset + 4 * length code → b.is_code i ≡ true
+  pub placed : InPlace b.memory offset code

@@ -1,0 +1,38 @@
+-- A task's words among the service words.
+use Rattle.std.specs.Prelude.{ℕ, ◌≡◌, List, [], ◌∷◌, cond, max}
+use Rattle.sloth_region.specs.Layout.{active, events, wait, saved}
+use Rattle.rv32_instr.specs.Ram.{word_at}
+use Rattle.osek_machine.specs.declared.state.TaskState.{TaskState}
+use Rattle.osek_machine.specs.declared.state.TaskState.TheVariants as mode
+use Rattle.osek_machine.specs.State.{Task, declaration}
+use Rattle.osek_machine.specs.Priority.{highest, ceiling, is_active}
+use Rattle.sim_induction.specs.Mirror.{level_of}
+use Rattle.sim_relation.specs.Build.{Build}
+use Rattle.sim_relation.specs.Context.{Resumes}
+
+abbrev pub active_word : TaskState → ℕ
+active_word state = cond (is_active state) 1 0
+
+-- the word of the events that a task waits for is stale where it does not wait
+abbrev pub IsWaitWord : TaskState → ℕ → Type 0
+IsWaitWord (mode.Waiting mask) word = word ≡ mask
+IsWaitWord mode.Suspended word = Unit {0}
+IsWaitWord mode.Ready word = Unit {0}
+IsWaitWord mode.Active word = Unit {0}
+
+-- each held resource's word is the level that ran as it was taken; `priority` was the current priority before the first
+abbrev pub HeldWords : Build → List ℕ → ℕ → List ℕ → Type 0
+HeldWords b ram priority [] = Unit {0}
+HeldWords b ram priority (r ∷ held) =
+    (word_at ram (saved r) ≡ level_of b.config priority) × HeldWords b ram (max priority (ceiling b.config r)) held
+
+-- the priority of a task less the ceilings of what it holds
+abbrev pub base_priority : Build → ℕ → Task → ℕ
+base_priority b t own = max (declaration b.config t).priority (cond own.raised (highest b.config) 0)
+
+pub record ServiceWords (b : Build) (ram : List ℕ) (t : ℕ) (own : Task) : Type 0 where
+  pub activity : word_at ram (active t) ≡ active_word own.state
+  pub event_mask : word_at ram (events t) ≡ own.events
+  pub wait_mask : IsWaitWord own.state (word_at ram (wait t))
+  pub resumption : Resumes b ram t own (is_active own.state) own.frames
+  pub held : HeldWords b ram (base_priority b t own) own.held

@@ -1,0 +1,94 @@
+-- The relation of the simulation, between a state of the machine that finds MIE 1 and a state of the abstract scheduler.
+use Rattle.std.specs.Prelude.{ℕ, ◌<◌, ◌≤◌, ◌≡◌, ◌≢◌, ◌⊎◌, List, [], ◌∷◌, true, false, length, slice_index}
+use Rattle.sloth_base.specs.Machine.{Core, State}
+use Rattle.osek_machine.specs.declared.state.TaskState.{TaskState}
+use Rattle.osek_machine.specs.declared.state.TaskState.TheVariants as mode
+use Rattle.osek_machine.specs.State.{Task, System, task, declaration}
+use Rattle.osek_machine.specs.Priority.{is_in, is_active}
+use Rattle.sim_induction.specs.Mirror.{priority_of, level_of}
+use Rattle.sim_relation.specs.Build.{Build}
+use Rattle.sim_relation.specs.Context.{Running}
+use Rattle.sim_relation.specs.ServiceWords.{ServiceWords}
+use Rattle.sim_relation.specs.DataStands.{DataStands}
+
+-- ---- the lines
+
+abbrev pub IsLineOf : TaskState → (pending enabled : ℕ) → Type 0
+IsLineOf mode.Suspended pending enabled = (pending ≡ 0) × (enabled ≡ 1)
+IsLineOf mode.Ready pending enabled = (pending ≡ 1) × (enabled ≡ 1)
+IsLineOf mode.Active pending enabled = enabled ≡ 1
+IsLineOf (mode.Waiting mask) pending enabled = enabled ≡ 0
+
+pub record LinesStand (b : Build) (core : Core) (s : System) : Type 0 where
+  pub each : (t : ℕ) → t < length b.config.tasks → IsLineOf (task s t).state (slice_index core.pending t) (slice_index core.enabled t)
+  pub levels : (t : ℕ) → t < length b.config.tasks → slice_index core.levels t ≡ level_of b.config (declaration b.config t).priority
+  pub others : (line : ℕ) → length b.config.tasks ≤ line → slice_index core.enabled line ≡ 0
+
+-- ---- the Active tasks
+
+pub record IsActive (b : Build) (s : System) (t : ℕ) : Type 0 where
+  pub declared : t < length b.config.tasks
+  pub active : (task s t).state ≡ mode.Active
+
+-- each has a current priority below the static one of the task above it
+abbrev pub Falling : Build → System → List ℕ → Type 0
+Falling b s [] = Unit {0}
+Falling b s (t ∷ []) = IsActive b s t
+Falling b s (t ∷ u ∷ below) = IsActive b s t × (priority_of b.config s u < (declaration b.config t).priority) × Falling b s (u ∷ below)
+
+pub record AreActive (b : Build) (s : System) (stack : List ℕ) : Type 0 where
+  pub falling : Falling b s stack
+  pub all : (u : ℕ) → u < length b.config.tasks → (task s u).state ≡ mode.Active → is_in u stack ≡ true
+
+-- ---- stacks
+
+-- a task that has something on its stack
+abbrev pub IsAlive : Task → Type 0
+IsAlive own = (own.state ≡ mode.Active) ⊎ (own.frames ≢ [])
+
+abbrev pub AreApart : Build → (t u : ℕ) → Type 0
+AreApart b t u = (b.top t ≤ b.low u) ⊎ (b.top u ≤ b.low t)
+
+-- those of two tasks with something on them are apart
+abbrev pub StacksApart : Build → System → Type 0
+StacksApart b s =
+    (t u : ℕ) → t < length b.config.tasks → u < length b.config.tasks → t ≢ u → IsAlive (task s t) → IsAlive (task s u) → AreApart b t u
+
+-- ---- what holds of the abstract state alone
+
+pub record TidyTask (own : Task) : Type 0 where
+  pub registers : length own.registers ≡ 25
+  pub at_rest : is_active own.state ≡ false → (own.held ≡ []) × (own.owed ≡ false) × (own.raised ≡ false)
+  pub asleep : own.state ≡ mode.Suspended → (own.frames ≡ []) × (own.events ≡ 0)
+  pub few : (r : ℕ) → is_in r own.held ≡ true → r < 33
+
+pub record Tidy (b : Build) (s : System) : Type 0 where
+  pub booted : s.booted ≡ true
+  pub tasks : length s.tasks ≡ length b.config.tasks
+  pub each : (t : ℕ) → t < length b.config.tasks → TidyTask (task s t)
+
+-- ---- what no stretch changes
+
+pub record Fixed (b : Build) (core : Core) : Type 0 where
+  pub open_to_lines : core.mie ≡ true
+  pub previous : core.mpie ≡ true
+  pub controller : core.controller ≡ true
+  pub registers : length core.registers ≡ 32
+  pub zero : slice_index core.registers 0 ≡ 0
+  pub pending : length core.pending ≡ 32
+  pub enabled : length core.enabled ≡ 32
+  pub levels : length core.levels ≡ 32
+  pub ram : length core.ram ≡ 0x20_0000
+  pub code : (i : ℕ) → b.is_code i ≡ true → slice_index core.ram i ≡ slice_index b.memory i
+
+pub record Stands (b : Build) (state : State) (s : System) : Type 0 where
+  -- the Active tasks, the running one first
+  pub stack : List ℕ
+  pub active : AreActive b s stack
+  pub lines : LinesStand b state.core s
+  pub running : Running b state s stack
+  pub words : (t : ℕ) → t < length b.config.tasks → ServiceWords b state.core.ram t (task s t)
+  pub data_stands : DataStands b state.core.ram s.symbols
+  pub apart : StacksApart b s
+  pub tidy : Tidy b s
+  pub fixed : Fixed b state.core

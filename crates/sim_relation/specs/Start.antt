@@ -1,0 +1,27 @@
+-- What boot leaves.
+use Rattle.std.specs.Prelude.{ℕ, ◌+◌, ◌<◌, ◌≤◌, ◌≡◌, length, slice_index, true, cond}
+use Rattle.sloth_base.specs.Machine.{State}
+use Rattle.osek_machine.specs.State.{System, declaration, opening}
+use Rattle.osek_machine.specs.Steps.{settled, autostarted}
+use Rattle.sim_induction.specs.Mirror.{level_of}
+use Rattle.sim_relation.specs.Build.{Build}
+use Rattle.sim_relation.specs.DataStands.{DataStands}
+use Rattle.sim_relation.specs.Stands.{Fixed}
+
+-- the abstract state after the system has started
+abbrev pub started : Build → System
+started b = settled (record (opening b.config b.app) { tasks = autostarted b.config.tasks (opening b.config b.app).tasks; booted = true })
+
+-- The idle loop is next, the service words are zero, and the lines of autostarted tasks are pending. The bytes of code and data
+-- are the image's.
+pub record Starts (b : Build) (state : State) : Type 0 where
+  pub pc : state.pc ≡ b.idle
+  pub level : state.core.ilevel ≡ 0
+  pub x2 : slice_index state.core.registers 2 ≡ 0x8000_0000 + 1012
+  pub fixed : Fixed b state.core
+  pub service_words : (i : ℕ) → i < 884 → slice_index state.core.ram i ≡ 0
+  pub pending : (t : ℕ) → t < length b.config.tasks → slice_index state.core.pending t ≡ cond (declaration b.config t).autostart 1 0
+  pub enabled : (t : ℕ) → t < length b.config.tasks → slice_index state.core.enabled t ≡ 1
+  pub other_enabled : (line : ℕ) → length b.config.tasks ≤ line → slice_index state.core.enabled line ≡ 0
+  pub levels : (t : ℕ) → t < length b.config.tasks → slice_index state.core.levels t ≡ level_of b.config (declaration b.config t).priority
+  pub data_stands : DataStands b state.core.ram (opening b.config b.app).symbols

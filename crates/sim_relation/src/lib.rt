@@ -1,0 +1,54 @@
+//! The relation of the simulation, between states of the machine and of the abstract scheduler, and its laws.
+#![tactic(auto)]
+
+ghost use Rattle.sim_relation.specs.Laws.{MirrorOfStands, ArrivalsAreAdmits, TakenIsTop, NoneTaken, StepsKeep, MovesKeep, LeavesKeep, EntriesKeep, BelowIsFound, StartsStand};
+
+/// Where the relation stands, the interrupt controller mirrors the abstract scheduler.
+pub fn mirror_of_stands()
+    ensures { MirrorOfStands }
+{}
+
+/// Lines that arrive where interrupts are open are the activations of their tasks.
+pub fn arrivals_are_admits()
+    ensures { ArrivalsAreAdmits }
+{}
+
+/// The line that is taken is that of the top task, which is Ready.
+pub fn taken_is_top()
+    ensures { TakenIsTop }
+{}
+
+/// Where no line is taken, the running task is the top task, and where none runs none is due.
+pub fn none_taken()
+    ensures { NoneTaken }
+{}
+
+/// The relation stands behind an instruction of the running task that changes only its own stack and the data.
+pub fn steps_keep()
+    ensures { StepsKeep }
+{}
+
+/// The relation stands behind a service that goes back to the running task.
+pub fn moves_keep()
+    ensures { MovesKeep }
+{}
+
+/// The relation stands behind the end or the wait of the running task.
+pub fn leaves_keep()
+    ensures { LeavesKeep }
+{}
+
+/// The relation stands behind the entry of the task whose line is taken.
+pub fn entries_keep()
+    ensures { EntriesKeep }
+{}
+
+/// The context of what runs below the running task is where a routine looks for it.
+pub fn below_is_found()
+    ensures { BelowIsFound }
+{}
+
+/// The relation stands where boot has started the system.
+pub fn starts_stand()
+    ensures { StartsStand }
+{}
