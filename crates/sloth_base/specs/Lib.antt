@@ -8,3 +8,4 @@ pub mod Take
 pub mod Arrive
 pub mod Arithmetic
 pub mod ServiceCodes
+pub mod Status
