@@ -1,6 +1,6 @@
 pub mod TerminateTask
 pub mod Activating
-pub mod Others
+pub mod Returning
 pub mod Telling
 pub mod Releasing
 pub mod Ending
@@ -8,3 +8,4 @@ pub mod Chaining
 pub mod Taking
 pub mod Serving
 pub mod Busy
+pub mod Sizes

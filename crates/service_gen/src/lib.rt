@@ -1,7 +1,7 @@
 //! The code of the operating system services (OSEK OS 2.2.3, section 13) that need no events.
 #![tactic(auto)]
 
-ghost use Rattle.std.specs.Prelude.{◌≡◌, ◌+◌, ◌*◌, ◌<◌, [], ◌∷◌, IfOk, slice_index};
+ghost use Rattle.std.specs.Prelude.{◌≡◌, ◌+◌, ◌*◌, ◌<◌, ◌≤◌, [], ◌∷◌, IfOk, length, slice_index};
 ghost use Rattle.sloth_base.specs.ServiceCodes.{code_of};
 ghost use Rattle.service_gen.specs.Block.{opening, HasBlock, Serves};
 
@@ -36,6 +36,7 @@ pub fn block(
     requires { HasBlock service object }
     ensures at { IfOk result (λ block. block.at ≡ slice_index map.now.places.blocks (code_of service * 40 + object)) }
     ensures marks { IfOk result (λ block. block.marks ≡ opening block.at (code_of service) ∷ []) }
+    ensures size { IfOk result (λ block. length block.code ≤ 256) }
     ensures effect { IfOk result (λ block. Serves service object levels.now block.code) }
 {
     let number = number_of(service);

@@ -2,23 +2,27 @@
 use Rattle.std.specs.Prelude.{ℕ, suc, ◌+◌, ◌*◌, ◌%◌, ◌≡◌, ◌<◌, ◌≤◌, Bool, true, false, pos, List, [], ◌∷◌, ◌++◌, length, slice_index, slice_index_or}
 use Rattle.sloth_base.specs.declared.config.TaskDecl.{TaskDecl}
 use Rattle.sloth_base.specs.Machine.{Core, State}
-use Rattle.sloth_region.specs.Layout.{idle_context, context_bytes}
+use Rattle.sloth_region.specs.Layout.{idle_context, context_bytes, words_high, controller_high, pending_byte, enabled_byte, level_byte}
+use Rattle.rv32_instr.specs.declared.csr.TheConstants.{MSTATUS, MEPC, MPIE}
 use Rattle.rv32_instr.specs.declared.InstrKind.{InstrKind}
 use Rattle.rv32_instr.specs.declared.InstrKind.TheVariants.{Lui, Addi, Sb, Csrrw, Mret}
 use Rattle.rv32_routine.specs.Constant.{hi, lo}
 use Rattle.rv32_routine.specs.Place.{at}
 use Rattle.rv32_routine.specs.Masked.{Masked, WithArrivals}
-use Rattle.rv32_routine.specs.Kernel.{CanRun}
+use Rattle.rv32_routine.specs.Kernel.{CanRun, LeftAs}
 
 -- ---- the code
 
+abbrev pub begins : List InstrKind
+begins = Lui 1 controller_high ∷ Addi 4 0 (pos 1) ∷ []
+
 -- x1 holds the controller's address, x4 holds 1
 abbrev pub raises : ℕ → Bool → List InstrKind
-raises line true = Sb 1 4 (pos line) ∷ []
+raises line true = Sb 1 4 (pos (pending_byte line)) ∷ []
 raises line false = []
 
 abbrev pub starts_one : ℕ → ℕ → Bool → List InstrKind
-starts_one line level autostart = Addi 3 0 (pos level) ∷ Sb 1 3 (pos (64 + line)) ∷ Sb 1 4 (pos (32 + line)) ∷ raises line autostart
+starts_one line level autostart = Addi 3 0 (pos level) ∷ Sb 1 3 (pos (level_byte line)) ∷ Sb 1 4 (pos (enabled_byte line)) ∷ raises line autostart
 
 abbrev pub starts : ℕ → List TaskDecl → List ℕ → List InstrKind
 starts line [] levels = []
@@ -26,8 +30,8 @@ starts line (task ∷ tasks) levels = starts_one line (slice_index levels line) 
 
 abbrev pub finishes : ℕ → List InstrKind
 finishes idle =
-    Lui 2 0x8_0000 ∷ Addi 2 2 (pos 1012) ∷ Addi 3 0 (pos 128) ∷ Csrrw 0 3 0x300 ∷ Lui 3 (hi idle) ∷ Addi 3 3 (lo idle) ∷ Csrrw 0 3 0x341
-    ∷ Mret ∷ []
+    Lui 2 words_high ∷ Addi 2 2 (pos (idle_context + context_bytes)) ∷ Addi 3 0 MPIE ∷ Csrrw 0 3 MSTATUS ∷ Lui 3 (hi idle)
+    ∷ Addi 3 3 (lo idle) ∷ Csrrw 0 3 MEPC ∷ Mret ∷ []
 
 -- ---- what it needs, and its effect
 
@@ -51,16 +55,9 @@ pub record Booted (tasks : List TaskDecl) (levels : List ℕ) (idle : ℕ) (touc
   pub other_pending : (line : ℕ) → length tasks ≤ line → slice_index end.core.pending line ≡ slice_index start.core.pending line
   pub lines : (length end.core.pending ≡ 32) × (length end.core.enabled ≡ 32) × (length end.core.levels ≡ 32)
   pub pc : end.pc ≡ idle
-  pub running : end.core.ilevel ≡ start.core.plevel
+  pub left : LeftAs (record start.core { ilevel = start.core.plevel; pending = end.core.pending; enabled = end.core.enabled; levels = end.core.levels }) end.core
   pub x2 : slice_index end.core.registers 2 ≡ 0x8000_0000 + (idle_context + context_bytes)
   pub kept : (i : ℕ) → 5 ≤ i → slice_index end.core.registers i ≡ slice_index start.core.registers i
-  pub zero : slice_index end.core.registers 0 ≡ 0
-  pub registers : length end.core.registers ≡ 32
-  pub ram : end.core.ram ≡ start.core.ram
-  pub opened : end.core.mie ≡ true
-  pub previous : end.core.mpie ≡ true
-  pub scratch : end.core.mscratch ≡ start.core.mscratch
-  pub controller : end.core.controller ≡ start.core.controller
 
 -- Code of boot: at most 130 instructions lead to its effect, whatever lines arrive.
 pub record Boots (tasks : List TaskDecl) (levels : List ℕ) (idle : ℕ) (code : List InstrKind) : Type 0 where
