@@ -1,5 +1,5 @@
 -- The state of the abstract machine: tasks, their registers, frames, events and resources, and the data.
-use Rattle.std.specs.Prelude.{ℕ, suc, ◌==◌, List, [], ◌∷◌, Bool, false, cond, Option, Some, None, get_or, set, map, replicate}
+use Rattle.std.specs.Prelude.{ℕ, suc, ◌==◌, ◌<◌, List, [], ◌∷◌, Bool, false, cond, Option, Some, None, length, get_or, set, map, replicate}
 use Rattle.sloth_base.specs.declared.config.Config.{Config}
 use Rattle.sloth_base.specs.declared.config.TaskDecl.{TaskDecl}
 use Rattle.sloth_base.specs.declared.app.App.{App}
@@ -73,6 +73,10 @@ is_body_of t (Some u) = u == t
 abbrev pub body_of : List Func → ℕ → ℕ
 body_of [] t = 0
 body_of (f ∷ rest) t = cond (is_body_of t f.task) 0 (suc (body_of rest t))
+
+-- a task has a body
+abbrev pub HasBody : App → ℕ → Type 0
+HasBody app t = body_of app.funcs t < length app.funcs
 
 -- a function as it is entered
 abbrev pub entry_frame : App → ℕ → Frame
