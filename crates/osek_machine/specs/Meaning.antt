@@ -2,11 +2,12 @@
 use Rattle.std.specs.Prelude.{ℕ, zero, suc, ◌+◌, ◌-◌, ◌*◌, ◌/◌, ◌%◌, ◌^◌, List, [], ◌∷◌, ◌++◌, cond, leb, ltb, ◌&&◌, Option, Some, None, get_or, set, length, take, drop, bit_and}
 use Rattle.sloth_base.specs.Arithmetic.{word_of, signed_value, register_result, number_result, branch_holds}
 use Rattle.sloth_base.specs.declared.app.App.{App}
-use Rattle.sloth_base.specs.declared.app.Label.{Label}
 use Rattle.sloth_base.specs.declared.app.Op.{Op}
 use Rattle.sloth_base.specs.declared.app.Op.TheVariants as op
 use Rattle.sloth_base.specs.declared.app.Width.{Width}
 use Rattle.sloth_base.specs.declared.app.Width.TheVariants as width
+pub use Rattle.app_rules.specs.Named.{nowhere}
+pub use Rattle.app_rules.specs.Code.{size}
 use Rattle.osek_machine.specs.State.{Frame, function, entry_frame}
 
 -- x0 is 0; the list holds x5 to x29
@@ -24,13 +25,6 @@ seen_in zero value = 0
 seen_in (suc r) value = value
 
 -- ---- data: little-endian numbers in the bytes of a symbol
-
-abbrev pub size : Width → ℕ
-size width.Byte = 1
-size width.Half = 2
-size width.Word = 4
-size width.ByteU = 1
-size width.HalfU = 2
 
 abbrev pub number_of : List ℕ → ℕ
 number_of [] = 0
@@ -66,9 +60,6 @@ pub record Meant : Type 0 where
   pub frames : List Frame
   pub symbols : List (List ℕ)
   pub result : ℕ
-
-abbrev pub nowhere : Label
-nowhere = record { name = []; line = 0; item = 0; holds = [] }
 
 -- the number of the item behind a label
 abbrev pub target : App → Frame → ℕ → ℕ
