@@ -1,8 +1,7 @@
 use Rattle.std.proofs.Common.{arith, ◌+◌, ◌*◌, ◌≡◌, ◌∙◌, ap, get_or, drop}
-use Rattle.oil_lex.specs.Bytes.{digit_value, value_from}
-use Rattle.oil_lex.specs.Tokens.{capped}
-use Rattle.oil_lex.proofs.Values.{value_step}
-use Rattle.oil_lex.proofs.pieces.value.Goals as goal
+use Rattle.text_pieces.specs.Digits.{digit_value, value_from, capped}
+use Rattle.text_pieces.proofs.Values.{value_step}
+use Rattle.text_pieces.proofs.numerals.value.Goals as goal
 
 pub loop-digit-preserved : goal.loop-digit-preserved
 loop-digit-preserved c =

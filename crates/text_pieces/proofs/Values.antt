@@ -4,8 +4,7 @@ use Rattle.std.proofs.Math.Seq.{drop-cons}
 use Rattle.std.proofs.lemmas.Bool.{cases_lt}
 use Rattle.std.proofs.Math.Nat.{mul-le-mul_left}
 use Rattle.std.proofs.Common.{inl, inr}
-use Rattle.oil_lex.specs.Bytes.{value_from, digit_value}
-use Rattle.oil_lex.specs.Tokens.{capped}
+use Rattle.text_pieces.specs.Digits.{value_from, digit_value, capped}
 
 more : (b x : ℕ) → 0 < b → x ≤ b * x
 more b x h = grind (arith, mul-le-mul_left)
