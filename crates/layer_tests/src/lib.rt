@@ -13,8 +13,6 @@ mod rv32_machine_tests;
 #[cfg(test)]
 mod sloth_io_tests;
 #[cfg(test)]
-mod sloth_refusal_tests;
-#[cfg(test)]
 mod sloth_region_tests;
 #[cfg(test)]
 mod trace_text_tests;
