@@ -1,12 +1,12 @@
 use Rattle.std.proofs.Common.{◌%◌, get_or, refl}
 use Rattle.std.specs.Prelude.{ltb, leb, eqb, set, replicate}
 use Rattle.std.proofs.lemmas.Bool.{ltb-true, leb-true, eqb-true}
-use Rattle.layer_tests.proofs.Every.{every_at}
-use Rattle.layer_tests.proofs.small_kernel.small_map.Goals as goal
+use Rattle.rv32_words.proofs.Every.{every_at}
+use Rattle.rv32_words.proofs.kernel.map.Goals as goal
 
 pub returns-clause-reach : goal.returns-clause-reach
 returns-clause-reach c =
-    let handlers = set (replicate 32 0x8000_04b8) 0 0x8000_04bc in
+    let handlers = set (set (set (replicate 32 0x8000_0548) 0 0x8000_0600) 1 0x8000_0800) 2 0x800f_fffc in
     record {
       long = refl;
       aligned = λ k h. eqb-true (get_or handlers k 0 % 4) 0 (every_at (λ x. eqb (x % 4) 0) handlers refl k h);
