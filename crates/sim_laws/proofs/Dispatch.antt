@@ -170,21 +170,23 @@ module _ (b : Build) (image : Image) (kernel : Kernel b image) where
               let same : op.Serve h.jumps.call ≡ op.Serve a.call = sym h.jumps.is ∙ a.is in
               let call : h.jumps.call ≡ a.call = cc in
               stretch (terminate_stretches b view arrivals count state s t kernel.fits setting after_boot stands (record {
-                none = none;
-                opening = record {
-                  current = run.current;
-                  free = q.free;
-                  frame = p.frame;
-                  outer = p.outer;
-                  frames = p.frames;
-                  inside = p.inside;
-                  block = a;
-                  calls = ap (λ (c : Call). c.service) (sym call) ∙ h.ends;
+                opens = record {
+                  none = none;
+                  opening = record {
+                    current = run.current;
+                    free = q.free;
+                    frame = p.frame;
+                    outer = p.outer;
+                    frames = p.frames;
+                    inside = p.inside;
+                    block = a;
+                    calls = ap (λ (c : Call). c.service) (sym call) ∙ h.ends;
+                  };
+                  block = subst (λ (c : Call). HasTerminateTask b view c.object) call h.block;
+                  not_fresh = not_fresh;
+                  bytes = bounded.core.bytes;
                 };
-                in_place = subst (λ (c : Call). HasTerminateTask b view c.object) call h.block;
                 holds_nothing = (plain.each t).held;
-                not_fresh = not_fresh;
-                bytes = bounded.core.bytes;
               })))
               (kernel.items p.frame.func p.frame.item p.inside)
 

@@ -17,7 +17,7 @@ use Rattle.sim_laws.specs.Kernel.{Computes, Ends}
 
 -- the items of the task code stand in the image, among the code of what is built, and the marks rise
 pub record HasItems (b : Build) (image : Image) : Type 0 where
-  pub in_place : ItemsInPlace image b.app
+  pub in_place : ItemsInPlace image b.config b.app
   pub places : in_place.places ≡ b.places
   pub memory : image.memory ≡ b.memory
   pub size : length b.memory ≤ 0x20_0000
