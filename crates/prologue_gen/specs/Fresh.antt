@@ -60,4 +60,6 @@ pub record Entered (task level first place frame words : ℕ) (touched : List �
 -- Code of a prologue: with the jump of the vector word, at most 75 + words instructions lead to its effect, whatever lines arrive.
 pub record Enters (task level first frame words : ℕ) (code : List InstrKind) : Type 0 where
   pub size : length code ≡ 74 + words
-  pub runs : (offset place : ℕ) (core : Core) → first % 4 ≡ 0 → MayEnter offset task place frame words code core → Masked (75 + words) (at (vector task) core) (WithArrivals (Entered task level first place frame words) (at (vector task) core))
+  pub runs :
+      (offset place : ℕ) (core : Core) → first % 4 ≡ 0 → MayEnter offset task place frame words code core
+      → Masked (75 + words) (at (vector task) core) (WithArrivals (Entered task level first place frame words) (at (vector task) core))

@@ -8,4 +8,3 @@ pub mod Chaining
 pub mod Taking
 pub mod Serving
 pub mod Busy
-pub mod Sizes

@@ -16,11 +16,15 @@ pub record MayTake (offset resource : ℕ) (code : List InstrKind) (core : Core)
   pub is_resource : resource ≤ 32
   pub level : core.ilevel < 256
 
+-- the core at at least a ceiling, with the level that ran saved for the resource
+abbrev pub raised_to : ℕ → ℕ → Core → Core
+raised_to resource ceiling core = record core { ilevel = max core.ilevel ceiling; ram = with_word core.ram (saved resource) core.ilevel }
+
 -- The level that ran is saved, and then at least the resource's ceiling runs; the status is E_OK.
 pub record Taken (resource ceiling : ℕ) (touched : List ℕ) (start end : State) : Type 0 where
   pub touches : touched ≡ []
   pub status : slice_index end.core.registers a0 ≡ E_OK
-  pub back : WentBack a0 (record start.core { ilevel = max start.core.ilevel ceiling; ram = with_word start.core.ram (saved resource) start.core.ilevel }) start end
+  pub back : WentBack a0 (raised_to resource ceiling start.core) start end
 
 -- Code of GetResource: its first instruction masks, and at most 10 more lead to its effect, whatever lines arrive.
 pub record Takes (resource ceiling : ℕ) (code : List InstrKind) : Type 0 where

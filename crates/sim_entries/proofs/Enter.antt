@@ -114,7 +114,7 @@ module _ (b : Build) (state end : State) (s : System) (t place : ℕ) (fits : Fi
   new = ram.new old four rest zeros place t frame k.fixed.ram refl refl few30 sp.behind sp.aligned sp.inside frame_room.3 frame_inside apart_frame small_four small_rest (zeros_small words)
 
   ram_is : end.core.ram ≡ new
-  ram_is = effect.ram
+  ram_is = effect.left.ram
 
   word_is : (j : ℕ) → j < 4 → word_at new (place + 4 * j) ≡ slice_index four j
   word_is = ram.word_is old four rest zeros place t frame k.fixed.ram refl refl few30 sp.behind sp.aligned sp.inside frame_room.3 frame_inside apart_frame small_four small_rest (zeros_small words)
@@ -149,15 +149,15 @@ module _ (b : Build) (state end : State) (s : System) (t place : ℕ) (fits : Fi
 
   machine : EntryMachine b state end t
   machine = record {
-    registers = effect.registers ∙ sym k.fixed.registers;
-    zero = effect.zero ∙ sym k.fixed.zero;
-    level = effect.running;
-    pending = effect.pending;
-    enabled = effect.enabled;
-    levels = effect.levels;
-    controller = effect.controller;
-    open_to_lines = effect.opened;
-    previous = effect.previous;
+    registers = effect.left.registers ∙ sym k.fixed.registers;
+    zero = effect.left.zero ∙ sym k.fixed.zero;
+    level = effect.left.running;
+    pending = effect.left.pending;
+    enabled = effect.left.enabled;
+    levels = effect.left.levels;
+    controller = effect.left.controller;
+    open_to_lines = effect.left.opened;
+    previous = effect.left.previous;
   }
 
   context : Context b end.core.ram t own (thread_of end) frame

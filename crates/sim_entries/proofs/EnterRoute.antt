@@ -141,7 +141,7 @@ module _ (b : Build) (view : View) (arrivals : List Arrival) (setting : IsSettin
 
     route : Entering arrivals (74 + words) count state Effect
     route =
-        entering arrivals (74 + words) count state Effect (λ touched from last e. e.opened)
+        entering arrivals (74 + words) count state Effect (λ touched from last e. e.left.opened)
         (ap (λ o. (enter o now).core.mie) taken) runs
 
     abbrev all_touched : List ℕ

@@ -72,7 +72,7 @@ module _ (b : Build) (state : State) (s : System) (t : ℕ) (called : Task) (pla
     among = let v = k.tidy.tasks in let h = here.declared in omega arith
 
     mem : EndRam old new t (word_at old (place + 8)) (word_at old (place + 12))
-    mem = subst (λ x. EndRam old x t (word_at old (place + 8)) (word_at old (place + 12))) (sym eff.ram)
+    mem = subst (λ x. EndRam old x t (word_at old (place + 8)) (word_at old (place + 12))) (sym eff.left.ram)
         (end_ram old t (word_at old (place + 8)) (word_at old (place + 12)) k.fixed.ram few30 (word_below old (place + 8) may.is_served.bytes) (word_below old (place + 12) may.is_served.bytes))
 
     resume_zero : word_at old (resume t) ≡ 0
@@ -88,8 +88,8 @@ module _ (b : Build) (state : State) (s : System) (t : ℕ) (called : Task) (pla
     own_line =
         let f = k.fixed.pending in
         let g = few30 in (
-          ap (λ l. slice_index l t) eff.pending ∙ get_or-set_same state.core.pending t 0 0 (omega arith),
-          ap (λ l. slice_index l t) eff.enabled
+          ap (λ l. slice_index l t) eff.left.pending ∙ get_or-set_same state.core.pending t 0 0 (omega arith),
+          ap (λ l. slice_index l t) eff.left.enabled
               ∙ line_active (task s t).state (slice_index state.core.pending t) (slice_index state.core.enabled t) here.active (k.lines.each t here.declared),
         )
 
@@ -108,18 +108,18 @@ module _ (b : Build) (state : State) (s : System) (t : ℕ) (called : Task) (pla
         let f = k.fixed in
         record {
           link = may.below;
-          left = record { ram = refl; current = mem.current_word; link = mem.link_word; x2 = eff.x2; loaded = eff.loaded; pc = eff.pc; level = eff.running };
+          left = record { ram = refl; current = mem.current_word; link = mem.link_word; x2 = eff.x2; loaded = eff.loaded; pc = eff.pc; level = eff.left.running };
           long = mem.long ∙ sym f.ram;
-          registers = eff.registers ∙ sym f.registers;
-          zero = eff.zero ∙ sym f.zero;
-          levels = eff.levels;
-          controller = eff.controller;
-          open_to_lines = eff.opened;
-          previous = eff.previous;
-          lengths = (ap length eff.pending ∙ length-set state.core.pending t 0, ap length eff.enabled);
+          registers = eff.left.registers ∙ sym f.registers;
+          zero = eff.left.zero ∙ sym f.zero;
+          levels = eff.left.levels;
+          controller = eff.left.controller;
+          open_to_lines = eff.left.opened;
+          previous = eff.left.previous;
+          lengths = (ap length eff.left.pending ∙ length-set state.core.pending t 0, ap length eff.left.enabled);
           own_line = own_line;
-          other_pending = λ l n. ap (λ q. slice_index q l) eff.pending ∙ get_or-set_other state.core.pending t l 0 0 n;
-          other_enabled = λ l n. ap (λ q. slice_index q l) eff.enabled;
+          other_pending = λ l n. ap (λ q. slice_index q l) eff.left.pending ∙ get_or-set_other state.core.pending t l 0 0 n;
+          other_enabled = λ l n. ap (λ q. slice_index q l) eff.left.enabled;
           idle = λ i x y. mem.high i x;
           elsewhere = λ i h. let g = fits.elsewhere i h in mem.high i (omega arith);
           others = λ u h n a i x y. let g = fits.from u h in mem.high i (omega arith);

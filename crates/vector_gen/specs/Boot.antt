@@ -42,6 +42,10 @@ pub record MayBoot (offset : ℕ) (code : List InstrKind) (core : Core) : Type 0
   pub levels : length core.levels ≡ 32
   pub can_run : CanRun offset code core
 
+-- a core at the level that was to be gone back to, with the lines' bytes of another
+abbrev pub with_lines_of : Core → Core → Core
+with_lines_of lines core = record core { ilevel = core.plevel; pending = lines.pending; enabled = lines.enabled; levels = lines.levels }
+
 -- Each task's line has its level, is enabled, and is pending where the task is autostarted. All other lines' bytes, and all
 -- of RAM, stay. The idle loop is next, with interrupts open, at the level that was to be gone back to.
 pub record Booted (tasks : List TaskDecl) (levels : List ℕ) (idle : ℕ) (touched : List ℕ) (start end : State) : Type 0 where
@@ -51,15 +55,19 @@ pub record Booted (tasks : List TaskDecl) (levels : List ℕ) (idle : ℕ) (touc
   pub enabled : (line : ℕ) → line < length tasks → slice_index end.core.enabled line ≡ 1
   pub other_enabled : (line : ℕ) → length tasks ≤ line → slice_index end.core.enabled line ≡ slice_index start.core.enabled line
   pub raised : (line : ℕ) (d : TaskDecl) → line < length tasks → (slice_index_or tasks line d).autostart ≡ true → slice_index end.core.pending line ≡ 1
-  pub unraised : (line : ℕ) (d : TaskDecl) → line < length tasks → (slice_index_or tasks line d).autostart ≡ false → slice_index end.core.pending line ≡ slice_index start.core.pending line
+  pub unraised :
+      (line : ℕ) (d : TaskDecl) → line < length tasks → (slice_index_or tasks line d).autostart ≡ false
+      → slice_index end.core.pending line ≡ slice_index start.core.pending line
   pub other_pending : (line : ℕ) → length tasks ≤ line → slice_index end.core.pending line ≡ slice_index start.core.pending line
   pub lines : (length end.core.pending ≡ 32) × (length end.core.enabled ≡ 32) × (length end.core.levels ≡ 32)
   pub pc : end.pc ≡ idle
-  pub left : LeftAs (record start.core { ilevel = start.core.plevel; pending = end.core.pending; enabled = end.core.enabled; levels = end.core.levels }) end.core
+  pub left : LeftAs (with_lines_of end.core start.core) end.core
   pub x2 : slice_index end.core.registers 2 ≡ 0x8000_0000 + (idle_context + context_bytes)
   pub kept : (i : ℕ) → 5 ≤ i → slice_index end.core.registers i ≡ slice_index start.core.registers i
 
 -- Code of boot: at most 130 instructions lead to its effect, whatever lines arrive.
 pub record Boots (tasks : List TaskDecl) (levels : List ℕ) (idle : ℕ) (code : List InstrKind) : Type 0 where
   pub size : length code ≤ 10 + 4 * length tasks
-  pub runs : (offset : ℕ) (core : Core) → idle % 4 ≡ 0 → MayBoot offset code core → Masked 130 (at offset core) (WithArrivals (Booted tasks levels idle) (at offset core))
+  pub runs :
+      (offset : ℕ) (core : Core) → idle % 4 ≡ 0 → MayBoot offset code core
+      → Masked 130 (at offset core) (WithArrivals (Booted tasks levels idle) (at offset core))

@@ -13,5 +13,7 @@ idle_mark address = record { address = address; kind = mark.Idle; a = 0; b = 0; 
 -- One word, which in place goes back to itself and changes nothing: it never masks, and touches no line.
 pub record Idles (code : List InstrKind) : Type 0 where
   pub word : length code ≡ 1
-  pub stays : (offset : ℕ) (core : Core) → offset % 4 ≡ 0 → offset + 4 ≤ 0x20_0000 → InPlace core.ram offset code → step (at offset core) ≡ Going (at offset core)
+  pub stays :
+      (offset : ℕ) (core : Core) → offset % 4 ≡ 0 → offset + 4 ≤ 0x20_0000 → InPlace core.ram offset code
+      → step (at offset core) ≡ Going (at offset core)
   pub untouched : (offset : ℕ) (core : Core) → InPlace core.ram offset code → touched (at offset core) ≡ None
