@@ -36,6 +36,7 @@ cut_off opened (step ∷ steps) =
 
 -- ---- the rule of the cut, said of its pieces
 
+-- the steps of a piece
 abbrev pub steps_of : Piece → List Step
 steps_of (Outside step) = step ∷ []
 steps_of (Stretch steps) = steps
@@ -59,6 +60,7 @@ pub record IsWhole (steps : List Step) : Type 0 where
   pub masked : AllMasked front
   pub ends : last.enabled_after ≡ true
 
+-- a step outside the stretches, or a whole stretch
 abbrev pub IsPiece : Piece → Type 0
 IsPiece (Outside step) = begins step ≡ false
 IsPiece (Stretch steps) = IsWhole steps
@@ -85,10 +87,12 @@ abbrev pub GoesOn : Bool → List Step → Type 0
 GoesOn enabled [] = Unit {0}
 GoesOn enabled (step ∷ steps) = (step.enabled_before ≡ enabled) × GoesOn step.enabled_after steps
 
+-- the first step has the count 0
 abbrev pub StartsAtZero : List Step → Type 0
 StartsAtZero [] = Unit {0}
 StartsAtZero (step ∷ steps) = step.count ≡ 0
 
+-- each step finds interrupts masked
 abbrev pub AllFindMasked : List Step → Type 0
 AllFindMasked [] = Unit {0}
 AllFindMasked (step ∷ steps) = (step.enabled_before ≡ false) × AllFindMasked steps
