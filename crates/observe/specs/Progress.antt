@@ -7,7 +7,7 @@ use Rattle.sloth_base.specs.Arrivals.{NeverFalls}
 use Rattle.observe.specs.declared.observer.Observer.{Observer}
 use Rattle.observe.specs.Pieces.{begins, cut_off}
 use Rattle.observe.specs.Observe.{View, mark_at, outside_events, stretch_event, stamp, admit, masked_from, observe}
-use Rattle.observe.specs.Touched.{was_touched, noted, AreLines, Tells}
+use Rattle.observe.specs.Touched.{was_touched, noted, Tells}
 
 -- an observer without its references, its view and its list of arrivals
 pub record Progress : Type 0 where
@@ -103,7 +103,7 @@ passed p step = record p { expected = p.expected + 1; coming = behind step.count
 -- after the first step of a stretch
 abbrev pub begun : Progress → Step → Progress
 begun p step = record (passed p step) {
-  touched = replicate 32 0;
+  touched = replicate 256 0;
   inside = if step.enabled_before then behind step.count p.coming else p.coming;
   found = if step.enabled_before then here step.count p.coming else [];
 }
@@ -155,7 +155,6 @@ IsOpen arrivals p (Some first) (step ∷ steps) = (first ≡ step) × IsStretch 
 -- what is kept after these steps, when these events have been told
 pub record FedProgress (view : View) (arrivals : List Arrival) (p : Progress) (steps : List Step) (events : List Stamped) : Type 0 where
   pub ordered : NeverFalls 0 arrivals
-  pub lines : AreLines arrivals
   pub told : events ++ left_over view p ≡ observe view arrivals steps
   pub expected : p.expected ≡ length steps
   pub coming : p.coming ≡ from p.expected arrivals

@@ -9,7 +9,6 @@ use Rattle.sloth_base.specs.declared.event.Arrival.{Arrival}
 use Rattle.sloth_base.specs.declared.event.Stamped.{Stamped}
 use Rattle.sloth_base.specs.declared.step.Step.{Step}
 use Rattle.observe.specs.Observe.{observe, view_of_image}
-use Rattle.observe.specs.Touched.{AreLines}
 use Rattle.observe.specs.Progress.{Fed, remaining, view_of, arrivals_of, expected_of, from, here, behind}
 use Rattle.observe.specs.declared.observer.Observer.{Observer}
 use Rattle.observe.proofs.Moments.{here-from, behind-from}
@@ -18,7 +17,7 @@ use Rattle.rv32_machine.specs.Start.{start}
 use Rattle.rv32_machine.specs.Advance.{Outcome, Goes, advance}
 use Rattle.rv32_machine.specs.Run.{Moment, moment, moment_of, arrived, run, run_from, steps_of, state_after}
 use Rattle.sim_induction.specs.Sound.{events_of}
-use Rattle.sloth_cli.specs.Runner.{Stands, Adds, IsRunning, given, sloth_state, run_steps}
+use Rattle.sloth_cli.specs.Runner.{AreLines, Stands, Adds, IsRunning, given, sloth_state, run_steps}
 use Rattle.sloth_cli.specs.declared.runner.Runner.{Runner}
 use Rattle.rv32_machine.proofs.Runs.{after_more, run_more}
 use Rattle.std.proofs.lemmas.List.Elements.{All-take, All-drop}
