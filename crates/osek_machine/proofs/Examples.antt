@@ -24,8 +24,9 @@ full priority autostart resources events = record { name = []; priority = priori
 abbrev non_preemptable : (priority : ℕ) (autostart : Bool) (resources : List ℕ) → TaskDecl
 non_preemptable priority autostart resources = record (full priority autostart resources 0) { non = true }
 
+-- two resources, and RES_SCHEDULER
 abbrev system : List TaskDecl → Config
-system tasks = record { tasks = tasks; resources = []; events = []; res_scheduler = true }
+system tasks = record { tasks = tasks; resources = [] ∷ [] ∷ []; events = []; res_scheduler = true }
 
 abbrev body : (task : ℕ) (items : List Op) (labels : List ℕ) → Func
 body task items labels = record {
@@ -201,3 +202,75 @@ non_preemptive_ceiling_runs = refl
 
 non_preemptive_ceiling-preempted_after_the_release : non_preemptive_ceiling (event.Boot ∷ event.Enter 0 ∷ event.Call 0 service.GetResource 0 ∷ event.Call 0 service.ActivateTask 0 ∷ event.Call 0 service.ReleaseResource 0 ∷ event.Enter 2 ∷ event.Left 0 service.TerminateTask ∷ event.Enter 2 ∷ event.Left 2 service.TerminateTask ∷ event.Idle ∷ []) ≡ false
 non_preemptive_ceiling-preempted_after_the_release = refl
+
+-- ---- what is not there
+
+-- one item, which is no service, and the end of the task
+abbrev single : Op → ℕ → Bool
+single operation result = accepts (system (full 1 true [] 0 ∷ []))
+    (code (body 0 (operation ∷ serve service.TerminateTask 0 0 ∷ []) (1 ∷ []) ∷ []) ((0 ∷ []) ∷ []))
+    (event.Boot ∷ event.Enter 0 ∷ event.Run 0 0 0 result ∷ event.Left 0 service.TerminateTask ∷ event.Idle ∷ [])
+
+label-runs : single (op.Jump 0) 0 ≡ true
+label-runs = refl
+
+label-not_there : single (op.Jump 1) 0 ≡ false
+label-not_there = refl
+
+label-not_there_in_a_branch_that_is_not_taken : single (op.Branch branch.Bne 0 0 1) 0 ≡ false
+label-not_there_in_a_branch_that_is_not_taken = refl
+
+register-runs : single (op.AluImm imm.Addi 29 5 (pos 1)) 1 ≡ true
+register-runs = refl
+
+register-stack_pointer : single (op.AluImm imm.Addi 5 2 (pos 1)) 1 ≡ false
+register-stack_pointer = refl
+
+register-scratch : single (op.Lui 30 1) 4096 ≡ false
+register-scratch = refl
+
+data-runs : single (op.Load width.Byte 5 0 0) 0 ≡ true
+data-runs = refl
+
+data-outside : single (op.Load width.Byte 5 0 1) 0 ≡ false
+data-outside = refl
+
+function-not_there : single (op.Invoke 1) 0 ≡ false
+function-not_there = refl
+
+-- a service with status 0, and the end of the task
+abbrev called : Service → ℕ → Bool
+called s object = accepts (system (full 1 true [] 0 ∷ full 2 false [] 0 ∷ [])) (code (body 0 (serve s object 0 ∷ serve service.TerminateTask 0 0 ∷ []) [] ∷ []) [])
+    (event.Boot ∷ event.Enter 0 ∷ event.Call 0 s 0 ∷ [])
+
+task-runs : called service.ActivateTask 1 ≡ true
+task-runs = refl
+
+task-not_there : called service.ActivateTask 2 ≡ false
+task-not_there = refl
+
+resource-runs : called service.GetResource 1 ≡ true
+resource-runs = refl
+
+resource-not_there : called service.GetResource 2 ≡ false
+resource-not_there = refl
+
+resource-not_held : called service.ReleaseResource 0 ≡ false
+resource-not_held = refl
+
+-- the second task has no body
+body-not_there : accepts (system (full 1 true [] 0 ∷ full 2 false [] 0 ∷ [])) (code (body 0 (serve service.ActivateTask 1 0 ∷ []) [] ∷ []) [])
+    (event.Boot ∷ event.Enter 0 ∷ event.Call 0 service.ActivateTask 0 ∷ event.Enter 1 ∷ []) ≡ false
+body-not_there = refl
+
+-- Resources are released in the reverse order of their takings.
+abbrev releases : (first second : ℕ) → Bool
+releases first second = accepts (system (full 1 true (0 ∷ 1 ∷ []) 0 ∷ []))
+    (code (body 0 (serve service.GetResource 0 0 ∷ serve service.GetResource 1 0 ∷ serve service.ReleaseResource first 0 ∷ serve service.ReleaseResource second 0 ∷ []) [] ∷ []) [])
+    (event.Boot ∷ event.Enter 0 ∷ event.Call 0 service.GetResource 0 ∷ event.Call 0 service.GetResource 0 ∷ event.Call 0 service.ReleaseResource 0 ∷ event.Call 0 service.ReleaseResource 0 ∷ [])
+
+releases-in_reverse : releases 1 0 ≡ true
+releases-in_reverse = refl
+
+releases-in_the_order_taken : releases 0 1 ≡ false
+releases-in_the_order_taken = refl

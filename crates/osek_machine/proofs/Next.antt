@@ -14,11 +14,11 @@ use Rattle.sloth_base.specs.declared.event.Event.TheVariants as event
 use Rattle.sloth_base.specs.declared.service.Service.{Service}
 use Rattle.sloth_base.specs.declared.service.Service.TheVariants as service
 use Rattle.osek_machine.specs.declared.state.TaskState.TheVariants as mode
-use Rattle.osek_machine.specs.State.{Frame, Task, System, task}
-use Rattle.sloth_base.specs.Functions.{function}
+use Rattle.osek_machine.specs.State.{Frame, Task, System, task, body_of}
+use Rattle.sloth_base.specs.Named.{function}
 use Rattle.osek_machine.specs.Priority.{IsDue, is_active}
 use Rattle.osek_machine.specs.Meaning.{meaning, on_some}
-use Rattle.osek_machine.specs.Services.{Outcome, GoesOn, Leaves, outcome}
+use Rattle.osek_machine.specs.Services.{is_there, Outcome, GoesOn, Leaves, outcome}
 use Rattle.osek_machine.specs.Steps.{settled, IsAt, Executes, Serves, OsekStep}
 use Rattle.osek_machine.specs.Next.{is_ready, is_due, is_top, all_below, operation_of, operation_at, meaning_of, is_position, served, going_on_with, leaving, executed, answer_to, next_state}
 use Rattle.osek_machine.proofs.Tests.{Decides-is_ready, Decides-is_active, Decides-is_due, Decides-is_top, some_one, if_true_some, if_true_is, on_some_from, on_some_is}
@@ -81,34 +81,38 @@ pub same_code : (a b : Service) → code_of a ≡ code_of b → a ≡ b
 same_code a b e = sym (by_code a) ∙ (ap (λ n. get_or all_services n service.ActivateTask) e ∙ by_code b)
 
 -- the call that a served operation is
-record IsCall (s : Service) (caller : ℕ) (before : System) (operation : Op) (answer : Outcome) : Type 0 where
+record IsCall (config : Config) (s : Service) (caller : ℕ) (before : System) (operation : Op) (answer : Outcome) : Type 0 where
   call : Call
   serve : operation ≡ op.Serve call
   same : call.service ≡ s
+  names : is_there config (task before caller).held s call.object ≡ true
   is : outcome s call.object call.mask caller before ≡ answer
 
-call_of : (s : Service) (caller : ℕ) (before : System) (operation : Op) (answer : Outcome) → served s caller before operation ≡ Some answer → IsCall s caller before operation answer
-call_of s caller before (op.Serve call) answer e =
-    let h = if_true_some (code_of call.service == code_of s) _ answer e in
-    record { call = call; serve = refl; same = same_code call.service s (eqb-true _ _ h.0); is = some_one _ _ h.1 }
-call_of s caller before (op.Alu k a b c) answer e = absurd cc
-call_of s caller before (op.AluImm k a b c) answer e = absurd cc
-call_of s caller before (op.Lui a b) answer e = absurd cc
-call_of s caller before (op.Li a b) answer e = absurd cc
-call_of s caller before (op.FrameLoad a b) answer e = absurd cc
-call_of s caller before (op.FrameStore a b) answer e = absurd cc
-call_of s caller before (op.Load w a b c) answer e = absurd cc
-call_of s caller before (op.Store w a b c) answer e = absurd cc
-call_of s caller before (op.LoadAt w a b c d) answer e = absurd cc
-call_of s caller before (op.StoreAt w a b c d) answer e = absurd cc
-call_of s caller before (op.Branch k a b c) answer e = absurd cc
-call_of s caller before (op.Jump a) answer e = absurd cc
-call_of s caller before (op.Invoke a) answer e = absurd cc
-call_of s caller before op.Return answer e = absurd cc
+call_of : (config : Config) (s : Service) (caller : ℕ) (before : System) (operation : Op) (answer : Outcome) → served config s caller before operation ≡ Some answer
+    → IsCall config s caller before operation answer
+call_of config s caller before (op.Serve call) answer e =
+    let h = if_true_some ((code_of call.service == code_of s) && is_there config (task before caller).held s call.object) _ answer e in
+    let both = and_parts _ _ h.0 in
+    record { call = call; serve = refl; same = same_code call.service s (eqb-true _ _ both.0); names = both.1; is = some_one _ _ h.1 }
+call_of config s caller before (op.Alu k a b c) answer e = absurd cc
+call_of config s caller before (op.AluImm k a b c) answer e = absurd cc
+call_of config s caller before (op.Lui a b) answer e = absurd cc
+call_of config s caller before (op.Li a b) answer e = absurd cc
+call_of config s caller before (op.FrameLoad a b) answer e = absurd cc
+call_of config s caller before (op.FrameStore a b) answer e = absurd cc
+call_of config s caller before (op.Load w a b c) answer e = absurd cc
+call_of config s caller before (op.Store w a b c) answer e = absurd cc
+call_of config s caller before (op.LoadAt w a b c d) answer e = absurd cc
+call_of config s caller before (op.StoreAt w a b c d) answer e = absurd cc
+call_of config s caller before (op.Branch k a b c) answer e = absurd cc
+call_of config s caller before (op.Jump a) answer e = absurd cc
+call_of config s caller before (op.Invoke a) answer e = absurd cc
+call_of config s caller before op.Return answer e = absurd cc
 
-served_is : (s : Service) (caller : ℕ) (before : System) (call : Call) (answer : Outcome) → call.service ≡ s
-    → outcome s call.object call.mask caller before ≡ answer → served s caller before (op.Serve call) ≡ Some answer
-served_is s caller before call answer same is = if_true_is _ _ answer (eq-eqb _ _ (ap code_of same)) (ap Some is)
+served_is : (config : Config) (s : Service) (caller : ℕ) (before : System) (call : Call) (answer : Outcome) → call.service ≡ s
+    → is_there config (task before caller).held s call.object ≡ true → outcome s call.object call.mask caller before ≡ answer
+    → served config s caller before (op.Serve call) ≡ Some answer
+served_is config s caller before call answer same names is = if_true_is _ _ answer (and_from _ _ (eq-eqb _ _ (ap code_of same)) names) (ap Some is)
 
 module _ (config : Config) (app : App) where
   pub serves_of : (t : ℕ) (s : Service) (before : System) (answer : Outcome) → answer_to config app t s before ≡ Some answer
@@ -116,8 +120,8 @@ module _ (config : Config) (app : App) where
   serves_of t s before answer e =
       let top = if_true_some (before.booted && is_top config before before.fresh t) _ answer e in
       let both = and_parts _ _ top.0 in
-      let found = on_some_from (operation_at app (task before t)) (served s t before) answer top.1 in
-      let call = call_of s t before found.0 answer found.2 in
+      let found = on_some_from (operation_at app (task before t)) (served config s t before) answer top.1 in
+      let call = call_of config s t before found.0 answer found.2 in
       let P : Op → Type 0 = λ o. operation_at app (task before t) ≡ Some o in (
         both.0,
         record {
@@ -125,6 +129,7 @@ module _ (config : Config) (app : App) where
           call = call.call;
           at = at_of app before t (op.Serve call.call) (subst P call.serve found.1);
           same = call.same;
+          names = call.names;
           is = call.is;
         },
       )
@@ -133,8 +138,8 @@ module _ (config : Config) (app : App) where
       → answer_to config app t s before ≡ Some answer
   serves_is t s before answer booted h =
       if_true_is _ _ answer (and_from _ _ booted ((Decides-is_top config before before.fresh t).1 h.top))
-      (on_some_is _ (served s t before) (op.Serve h.call) (Some answer) (at_is app before t (op.Serve h.call) h.at)
-      (served_is s t before h.call answer h.same h.is))
+      (on_some_is _ (served config s t before) (op.Serve h.call) (Some answer) (at_is app before t (op.Serve h.call) h.at)
+      (served_is config s t before h.call answer h.same h.names h.is))
 
 -- ---- items
 
@@ -215,10 +220,16 @@ module _ (config : Config) (app : App) (s next : System) where
       let both = and_parts _ _ b.0 in
       (both.0, (Decides-ltb t (length config.tasks)).0 both.1, sym (some_one _ _ b.1))
   step_of (event.Enter t) h =
-      let b = if_true_some (s.booted && (is_top config s [] t && is_ready (task s t).state)) _ next h in
+      let b = if_true_some (s.booted && (is_top config s [] t && (is_ready (task s t).state && ltb (body_of app.funcs t) (length app.funcs)))) _ next h in
       let both = and_parts _ _ b.0 in
       let two = and_parts _ _ both.1 in
-      (both.0, (Decides-is_top config s [] t).0 two.0, (Decides-is_ready (task s t).state).0 two.1, sym (some_one _ _ b.1))
+      let three = and_parts _ _ two.1 in (
+        both.0,
+        (Decides-is_top config s [] t).0 two.0,
+        (Decides-is_ready (task s t).state).0 three.0,
+        (Decides-ltb (body_of app.funcs t) (length app.funcs)).0 three.1,
+        sym (some_one _ _ b.1),
+      )
   step_of (event.Run t func item result) h =
       let b = if_true_some (s.booted && (is_top config s [] t && is_position func item (task s t).frames)) _ next h in
       let both = and_parts _ _ b.0 in
@@ -252,8 +263,10 @@ module _ (config : Config) (app : App) (s next : System) where
       if_true_is _ _ next (and_from _ _ h.0 ((Decides-ltb t (length config.tasks)).1 h.1)) (ap Some (sym h.2))
   step_is (event.Enter t) h =
       if_true_is _ _ next
-      (and_from _ _ h.0 (and_from _ _ ((Decides-is_top config s [] t).1 h.1) ((Decides-is_ready (task s t).state).1 h.2)))
-      (ap Some (sym h.3))
+      (and_from _ _ h.0
+      (and_from _ _ ((Decides-is_top config s [] t).1 h.1)
+      (and_from _ _ ((Decides-is_ready (task s t).state).1 h.2) ((Decides-ltb (body_of app.funcs t) (length app.funcs)).1 h.3))))
+      (ap Some (sym h.4))
   step_is (event.Run t func item result) h =
       let e = executes_is config app t func item result s next h.1 in
       if_true_is _ _ next (and_from _ _ h.0 (and_from _ _ e.0 e.1)) e.2

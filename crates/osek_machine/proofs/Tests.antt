@@ -9,8 +9,7 @@ use Rattle.osek_machine.specs.declared.state.TaskState.TheVariants as mode
 use Rattle.osek_machine.specs.State.{System, task}
 use Rattle.osek_machine.specs.Priority.{rank, is_in, is_active, IsDue, IsTop}
 use Rattle.osek_machine.specs.Next.{is_ready, is_due, all_below, yields_to, is_top}
-use Rattle.osek_machine.specs.Meaning.{on_some}
-use Rattle.osek_machine.specs.Next.{if_true}
+use Rattle.osek_machine.specs.Meaning.{on_some, if_true}
 
 pub itself : (b : Bool) → Decides b (b ≡ true)
 itself b = (λ e. e, λ e. e)

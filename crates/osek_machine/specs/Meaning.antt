@@ -1,13 +1,17 @@
 -- What an item of task code does to registers, frames and data. No address occurs.
-use Rattle.std.specs.Prelude.{ℕ, zero, suc, ◌+◌, ◌-◌, ◌*◌, ◌/◌, ◌%◌, ◌^◌, List, [], ◌∷◌, ◌++◌, cond, leb, ltb, ◌&&◌, Option, Some, None, get_or, set, length, take, drop, bit_and}
+use Rattle.std.specs.Prelude.{ℕ, zero, suc, ◌+◌, ◌-◌, ◌*◌, ◌/◌, ◌%◌, ◌^◌, ◌==◌, List, [], ◌∷◌, ◌++◌, Bool, true, false, cond, leb, ltb, ◌&&◌, ◌||◌, Option, Some, None, get_or, set, length, take, drop, bit_and, slice_get}
+use Rattle.std.specs.List.{list_all}
 use Rattle.sloth_base.specs.Arithmetic.{complement, size_of, extended, register_result, number_result, branch_holds}
 use Rattle.sloth_base.specs.declared.app.App.{App}
-use Rattle.sloth_base.specs.declared.app.Label.{Label}
 use Rattle.sloth_base.specs.declared.app.Op.{Op}
 use Rattle.sloth_base.specs.declared.app.Op.TheVariants as op
 use Rattle.sloth_base.specs.declared.app.Width.{Width}
 use Rattle.osek_machine.specs.State.{Frame, entry_frame}
-use Rattle.sloth_base.specs.Functions.{function}
+use Rattle.sloth_base.specs.Named.{function}
+
+-- the registers of task code: x0, and x5 to x29
+abbrev pub is_own : ℕ → Bool
+is_own r = (r == 0) || (leb 5 r && ltb r 30)
 
 -- x0 is 0; the list holds x5 to x29
 abbrev pub register : List ℕ → ℕ → ℕ
@@ -58,14 +62,6 @@ pub record Meant : Type 0 where
   pub symbols : List (List ℕ)
   pub result : ℕ
 
--- what stands in the place of a label that is not there
-abbrev pub nowhere : Label
-nowhere = record { name = []; line = 0; item = 0; holds = [] }
-
--- the number of the item behind a label
-abbrev pub target : App → Frame → ℕ → ℕ
-target app frame label = (get_or (function app frame.func).labels label nowhere).item
-
 -- the frame behind its item
 abbrev pub going_on : Frame → Frame
 going_on frame = record frame { item = frame.item + 1 }
@@ -79,6 +75,14 @@ returned (caller ∷ outer) = Some (going_on caller ∷ outer)
 abbrev pub on_some : {A B : Type 0} → Option A → (A → Option B) → Option B
 on_some None go = None
 on_some (Some a) go = go a
+
+abbrev pub if_true : {A : Type 0} → Bool → Option A → Option A
+if_true true a = a
+if_true false a = None
+
+-- the number of the item behind a label of the function
+abbrev pub target : App → Frame → ℕ → Option ℕ
+target app frame label = on_some (slice_get (function app frame.func).labels label) (λ found. Some found.item)
 
 -- a new value in rd
 abbrev pub writes : ℕ → ℕ → List ℕ → Frame → List Frame → List (List ℕ) → Option Meant
@@ -105,36 +109,58 @@ stores w rs y offset registers frame outer symbols =
       result = register registers rs;
     }))
 
--- The innermost frame executes an item that is no service. An item that lies outside its frame or the data has no meaning.
-abbrev pub meaning : App → Op → List ℕ → Frame → List Frame → List (List ℕ) → Option Meant
-meaning app (op.Alu kind rd rs1 rs2) x frame outer symbols =
+-- the innermost frame executes an item that is no service
+abbrev pub execution : App → Op → List ℕ → Frame → List Frame → List (List ℕ) → Option Meant
+execution app (op.Alu kind rd rs1 rs2) x frame outer symbols =
     writes rd (register_result kind (register x rs1) (register x rs2)) x frame outer symbols
-meaning app (op.AluImm kind rd rs1 number) x frame outer symbols =
+execution app (op.AluImm kind rd rs1 number) x frame outer symbols =
     writes rd (number_result kind (register x rs1) (complement number)) x frame outer symbols
-meaning app (op.Lui rd number) x frame outer symbols = writes rd (number * 4096) x frame outer symbols
-meaning app (op.Li rd value) x frame outer symbols = writes rd value x frame outer symbols
-meaning app (op.FrameLoad rd word) x frame outer symbols =
-    cond (ltb word (length frame.words)) (writes rd (get_or frame.words word 0) x frame outer symbols) None
-meaning app (op.FrameStore rs word) x frame outer symbols =
-    cond (ltb word (length frame.words))
+execution app (op.Lui rd number) x frame outer symbols = writes rd (number * 4096) x frame outer symbols
+execution app (op.Li rd value) x frame outer symbols = writes rd value x frame outer symbols
+execution app (op.FrameLoad rd word) x frame outer symbols =
+    if_true (ltb word (length frame.words)) (writes rd (get_or frame.words word 0) x frame outer symbols)
+execution app (op.FrameStore rs word) x frame outer symbols =
+    if_true (ltb word (length frame.words))
     (Some (record {
       registers = x;
       frames = record frame { item = frame.item + 1; words = set frame.words word (register x rs) } ∷ outer;
       symbols = symbols;
       result = register x rs;
     }))
-    None
-meaning app (op.Load w rd y offset) x frame outer symbols = loads w rd y offset x frame outer symbols
-meaning app (op.Store w rs y offset) x frame outer symbols = stores w rs y offset x frame outer symbols
-meaning app (op.LoadAt w rd y index mask) x frame outer symbols = loads w rd y (bit_and (register x index) mask) x frame outer symbols
-meaning app (op.StoreAt w rs y index mask) x frame outer symbols = stores w rs y (bit_and (register x index) mask) x frame outer symbols
-meaning app (op.Branch kind rs1 rs2 label) x frame outer symbols =
-    goes_to (cond (branch_holds kind (register x rs1) (register x rs2)) (target app frame label) (frame.item + 1)) x frame outer symbols
-meaning app (op.Jump label) x frame outer symbols = goes_to (target app frame label) x frame outer symbols
-meaning app (op.Invoke f) x frame outer symbols =
-    cond (ltb f (length app.funcs))
+execution app (op.Load w rd y offset) x frame outer symbols = loads w rd y offset x frame outer symbols
+execution app (op.Store w rs y offset) x frame outer symbols = stores w rs y offset x frame outer symbols
+execution app (op.LoadAt w rd y index mask) x frame outer symbols = loads w rd y (bit_and (register x index) mask) x frame outer symbols
+execution app (op.StoreAt w rs y index mask) x frame outer symbols = stores w rs y (bit_and (register x index) mask) x frame outer symbols
+execution app (op.Branch kind rs1 rs2 label) x frame outer symbols =
+    on_some (target app frame label) (λ item.
+    goes_to (cond (branch_holds kind (register x rs1) (register x rs2)) item (frame.item + 1)) x frame outer symbols)
+execution app (op.Jump label) x frame outer symbols = on_some (target app frame label) (λ item. goes_to item x frame outer symbols)
+execution app (op.Invoke f) x frame outer symbols =
+    if_true (ltb f (length app.funcs))
     (Some (record { registers = x; frames = entry_frame app f ∷ frame ∷ outer; symbols = symbols; result = 0 }))
-    None
-meaning app op.Return x frame outer symbols =
+execution app op.Return x frame outer symbols =
     on_some (returned outer) (λ frames. Some (record { registers = x; frames = frames; symbols = symbols; result = 0 }))
-meaning app (op.Serve call) x frame outer symbols = None
+execution app (op.Serve call) x frame outer symbols = None
+
+-- the registers that an item names
+abbrev pub registers_of : Op → List ℕ
+registers_of (op.Alu kind rd rs1 rs2) = rd ∷ rs1 ∷ rs2 ∷ []
+registers_of (op.AluImm kind rd rs1 number) = rd ∷ rs1 ∷ []
+registers_of (op.Lui rd number) = rd ∷ []
+registers_of (op.Li rd value) = rd ∷ []
+registers_of (op.FrameLoad rd word) = rd ∷ []
+registers_of (op.FrameStore rs word) = rs ∷ []
+registers_of (op.Load w rd y offset) = rd ∷ []
+registers_of (op.Store w rs y offset) = rs ∷ []
+registers_of (op.LoadAt w rd y index mask) = rd ∷ index ∷ []
+registers_of (op.StoreAt w rs y index mask) = rs ∷ index ∷ []
+registers_of (op.Branch kind rs1 rs2 label) = rs1 ∷ rs2 ∷ []
+registers_of (op.Jump label) = []
+registers_of (op.Invoke f) = []
+registers_of op.Return = []
+registers_of (op.Serve call) = []
+
+-- An item has a meaning where all that it names is there: registers of task code, words of its frame, bytes of the data,
+-- labels of its function, functions.
+abbrev pub meaning : App → Op → List ℕ → Frame → List Frame → List (List ℕ) → Option Meant
+meaning app operation x frame outer symbols = if_true (list_all is_own (registers_of operation)) (execution app operation x frame outer symbols)

@@ -8,14 +8,13 @@ use Rattle.sloth_base.specs.declared.app.Op.TheVariants as op
 use Rattle.sloth_base.specs.declared.event.Event.{Event}
 use Rattle.sloth_base.specs.declared.event.Event.TheVariants as event
 use Rattle.sloth_base.specs.declared.service.Service.{Service}
-use Rattle.sloth_base.specs.declared.service.Service.TheVariants as service
 use Rattle.osek_machine.specs.declared.state.TaskState.{TaskState}
 use Rattle.osek_machine.specs.declared.state.TaskState.TheVariants as mode
-use Rattle.osek_machine.specs.State.{Frame, Task, System, task, with_task, declaration}
-use Rattle.sloth_base.specs.Functions.{function}
+use Rattle.osek_machine.specs.State.{Frame, Task, System, task, with_task, declaration, body_of}
+use Rattle.sloth_base.specs.Named.{function}
 use Rattle.osek_machine.specs.Priority.{rank, is_in, is_active}
-use Rattle.osek_machine.specs.Meaning.{Meant, meaning, on_some}
-use Rattle.osek_machine.specs.Services.{Outcome, GoesOn, Leaves, outcome, entered}
+use Rattle.osek_machine.specs.Meaning.{Meant, meaning, on_some, if_true}
+use Rattle.osek_machine.specs.Services.{is_there, Outcome, GoesOn, Leaves, outcome, entered}
 use Rattle.osek_machine.specs.Steps.{settled, autostarted, admitted}
 
 -- a task is Ready
@@ -43,11 +42,6 @@ abbrev pub is_top : Config → System → List ℕ → ℕ → Bool
 is_top config s others t =
     ltb t (length config.tasks) && (is_due s t && (not (is_in t others) && all_below (length config.tasks) (yields_to config s others t)))
 
--- what there is, where a test holds
-abbrev pub if_true : {A : Type 0} → Bool → Option A → Option A
-if_true true a = a
-if_true false a = None
-
 -- the next operation of a task with these frames
 abbrev pub operation_of : App → List Frame → Option Op
 operation_of app [] = None
@@ -69,23 +63,25 @@ abbrev pub is_position : ℕ → ℕ → List Frame → Bool
 is_position func item [] = false
 is_position func item (frame ∷ outer) = (frame.func == func) && (frame.item == item)
 
--- the outcome of the service that an operation is, where it is this one
-abbrev pub served : Service → ℕ → System → Op → Option Outcome
-served s caller before (op.Serve call) = if_true (code_of call.service == code_of s) (Some (outcome s call.object call.mask caller before))
-served s caller before (op.Alu k a b c) = None
-served s caller before (op.AluImm k a b c) = None
-served s caller before (op.Lui a b) = None
-served s caller before (op.Li a b) = None
-served s caller before (op.FrameLoad a b) = None
-served s caller before (op.FrameStore a b) = None
-served s caller before (op.Load w a b c) = None
-served s caller before (op.Store w a b c) = None
-served s caller before (op.LoadAt w a b c d) = None
-served s caller before (op.StoreAt w a b c d) = None
-served s caller before (op.Branch k a b c) = None
-served s caller before (op.Jump a) = None
-served s caller before (op.Invoke a) = None
-served s caller before op.Return = None
+-- the outcome of the service that an operation is, where it is this one, and what it names is there
+abbrev pub served : Config → Service → ℕ → System → Op → Option Outcome
+served config s caller before (op.Serve call) =
+    if_true ((code_of call.service == code_of s) && is_there config (task before caller).held s call.object)
+    (Some (outcome s call.object call.mask caller before))
+served config s caller before (op.Alu k a b c) = None
+served config s caller before (op.AluImm k a b c) = None
+served config s caller before (op.Lui a b) = None
+served config s caller before (op.Li a b) = None
+served config s caller before (op.FrameLoad a b) = None
+served config s caller before (op.FrameStore a b) = None
+served config s caller before (op.Load w a b c) = None
+served config s caller before (op.Store w a b c) = None
+served config s caller before (op.LoadAt w a b c d) = None
+served config s caller before (op.StoreAt w a b c d) = None
+served config s caller before (op.Branch k a b c) = None
+served config s caller before (op.Jump a) = None
+served config s caller before (op.Invoke a) = None
+served config s caller before op.Return = None
 
 -- the state after an outcome that goes on with this status
 abbrev pub going_on_with : ℕ → Outcome → Option System
@@ -105,14 +101,15 @@ executed t result s meant = if_true (meant.result == result)
 -- the outcome of a call of this service by this task, where that is its next item
 abbrev pub answer_to : Config → App → ℕ → Service → System → Option Outcome
 answer_to config app t s before =
-    if_true (before.booted && is_top config before before.fresh t) (on_some (operation_at app (task before t)) (served s t before))
+    if_true (before.booted && is_top config before before.fresh t) (on_some (operation_at app (task before t)) (served config s t before))
 
 -- the state after an event, where it may come
 abbrev pub next_state : Config → App → Event → System → Option System
 next_state config app event.Boot s = if_true (not s.booted) (Some (settled (record s { tasks = autostarted config.tasks s.tasks; booted = true })))
 next_state config app (event.Admit t) s = if_true (s.booted && ltb t (length config.tasks)) (Some (admitted t s))
 next_state config app (event.Enter t) s =
-    if_true (s.booted && (is_top config s [] t && is_ready (task s t).state)) (Some (settled (entered config app t s)))
+    if_true (s.booted && (is_top config s [] t && (is_ready (task s t).state && ltb (body_of app.funcs t) (length app.funcs))))
+    (Some (settled (entered config app t s)))
 next_state config app (event.Run t func item result) s =
     if_true (s.booted && (is_top config s [] t && is_position func item (task s t).frames))
     (on_some (operation_at app (task s t)) (λ operation. on_some (meaning_of app operation (task s t) (task s t).frames s) (executed t result s)))

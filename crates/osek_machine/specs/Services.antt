@@ -1,10 +1,11 @@
 -- What the services do (OSEK OS 2.2.3, sections 13.2, 13.4 and 13.5).
-use Rattle.std.specs.Prelude.{ℕ, ◌-◌, ◌==◌, List, [], ◌∷◌, ◌++◌, true, false, cond, set, bit_and, bit_or}
+use Rattle.std.specs.Prelude.{ℕ, ◌-◌, ◌==◌, List, [], ◌∷◌, ◌++◌, Bool, true, false, cond, length, ltb, set, bit_and, bit_or}
 use Rattle.sloth_base.specs.declared.config.Config.{Config}
 use Rattle.sloth_base.specs.declared.app.App.{App}
 use Rattle.sloth_base.specs.declared.service.Service.{Service}
 use Rattle.sloth_base.specs.declared.service.Service.TheVariants as service
 use Rattle.sloth_base.specs.Status.{E_OK, E_OS_LIMIT, E_OS_STATE}
+pub use Rattle.app_rules.specs.Code.{without_last}
 use Rattle.osek_machine.specs.declared.state.TaskState.{TaskState}
 use Rattle.osek_machine.specs.declared.state.TaskState.TheVariants as mode
 use Rattle.osek_machine.specs.State.{Frame, Task, System, task, with_task, zero_registers, declaration, body_of, entry_frame}
@@ -56,12 +57,6 @@ ended t s = with_task s t (record (task s t) { state = mode.Suspended; registers
 abbrev pub waits : ℕ → Task → Task
 waits mask t = record t { state = mode.Waiting mask; frames = moved t.frames; raised = false }
 
--- the list without its last number
-abbrev pub without_last : List ℕ → List ℕ
-without_last [] = []
-without_last (x ∷ []) = []
-without_last (x ∷ y ∷ ys) = x ∷ without_last (y ∷ ys)
-
 -- ---- events
 
 -- a task that waits for one of these set events is Ready
@@ -79,6 +74,37 @@ with_events s t events = with_task s t (record (task s t) { events = events })
 abbrev pub set_events : ℕ → ℕ → System → System
 set_events t mask s =
     let events = bit_or (task s t).events mask in woken (task s t).state events t (with_events s t events)
+
+-- ---- what a service names
+
+-- a task by its number
+abbrev pub is_task : Config → ℕ → Bool
+is_task config t = ltb t (length config.tasks)
+
+-- a resource by its number; that of RES_SCHEDULER is 32
+abbrev pub is_resource : Config → ℕ → Bool
+is_resource config r = cond (r == 32) config.res_scheduler (ltb r (length config.resources))
+
+-- the resource that was taken last of those that are held
+abbrev pub is_last : ℕ → List ℕ → Bool
+is_last r [] = false
+is_last r (x ∷ []) = x == r
+is_last r (x ∷ y ∷ ys) = is_last r (y ∷ ys)
+
+-- the task or resource that a service names is there; what is released was taken last
+abbrev pub is_there : Config → (held : List ℕ) → Service → (object : ℕ) → Bool
+is_there config held service.ActivateTask t = is_task config t
+is_there config held service.TerminateTask object = true
+is_there config held service.ChainTask t = is_task config t
+is_there config held service.Schedule object = true
+is_there config held service.GetTaskID object = true
+is_there config held service.GetTaskState t = is_task config t
+is_there config held service.GetResource r = is_resource config r
+is_there config held service.ReleaseResource r = is_last r held
+is_there config held service.SetEvent t = is_task config t
+is_there config held service.ClearEvent object = true
+is_there config held service.GetEvent t = is_task config t
+is_there config held service.WaitEvent object = true
 
 -- ---- outcomes
 

@@ -1,11 +1,9 @@
 -- The state of the abstract machine: tasks, their registers, frames, events and resources, and the data.
-use Rattle.std.specs.Prelude.{ℕ, suc, List, [], ◌∷◌, Bool, false, cond, None, get_or, set, map, replicate}
+use Rattle.std.specs.Prelude.{ℕ, ◌<◌, List, [], Bool, false, length, get_or, set, map, replicate}
 use Rattle.sloth_base.specs.declared.config.Config.{Config}
-use Rattle.sloth_base.specs.declared.config.TaskDecl.{TaskDecl}
 use Rattle.sloth_base.specs.declared.app.App.{App}
-use Rattle.sloth_base.specs.declared.app.Func.{Func}
-use Rattle.sloth_base.specs.Functions.{function}
-use Rattle.sloth_base.specs.Options.{is_number}
+pub use Rattle.sloth_base.specs.Named.{undeclared, declaration, body_of}
+use Rattle.sloth_base.specs.Named.{function}
 use Rattle.osek_machine.specs.declared.state.TaskState.{TaskState}
 use Rattle.osek_machine.specs.declared.state.TaskState.TheVariants as mode
 
@@ -57,20 +55,9 @@ task s t = get_or s.tasks t sleeping
 abbrev pub with_task : System → ℕ → Task → System
 with_task s t new = record s { tasks = set s.tasks t new }
 
--- ---- what is declared
-
--- what stands in the place of a declaration that is not there
-abbrev pub undeclared : TaskDecl
-undeclared = record { name = []; priority = 0; extended = false; non = false; autostart = false; resources = []; events = 0 }
-
--- a task's declaration
-abbrev pub declaration : Config → ℕ → TaskDecl
-declaration config t = get_or config.tasks t undeclared
-
--- the number of a task's body
-abbrev pub body_of : List Func → ℕ → ℕ
-body_of [] t = 0
-body_of (f ∷ rest) t = cond (is_number t f.task) 0 (suc (body_of rest t))
+-- a task has a body
+abbrev pub HasBody : App → ℕ → Type 0
+HasBody app t = body_of app.funcs t < length app.funcs
 
 -- a function as it is entered
 abbrev pub entry_frame : App → ℕ → Frame

@@ -10,11 +10,11 @@ use Rattle.sloth_base.specs.declared.event.Event.{Event}
 use Rattle.sloth_base.specs.declared.event.Event.TheVariants as event
 use Rattle.sloth_base.specs.declared.service.Service.{Service}
 use Rattle.osek_machine.specs.declared.state.TaskState.TheVariants as mode
-use Rattle.osek_machine.specs.State.{Frame, Task, System, task, with_task, declaration}
-use Rattle.sloth_base.specs.Functions.{function}
+use Rattle.osek_machine.specs.State.{Frame, Task, System, task, with_task, declaration, HasBody}
+use Rattle.sloth_base.specs.Named.{function}
 use Rattle.osek_machine.specs.Priority.{IsTop, IsDue}
 use Rattle.osek_machine.specs.Meaning.{Meant, meaning}
-use Rattle.osek_machine.specs.Services.{if_suspended, activated, Outcome, GoesOn, Leaves, outcome, entered}
+use Rattle.osek_machine.specs.Services.{if_suspended, activated, is_there, Outcome, GoesOn, Leaves, outcome, entered}
 
 -- every event but an admit empties `fresh`
 abbrev pub settled : System → System
@@ -58,6 +58,7 @@ pub record Serves (config : Config) (app : App) (t : ℕ) (served : Service) (s 
   pub call : Call
   pub at : IsAt app s t (op.Serve call)
   pub same : call.service ≡ served
+  pub names : is_there config (task s t).held served call.object ≡ true
   pub is : outcome served call.object call.mask t s ≡ answer
 
 -- the next state after an event
@@ -66,7 +67,7 @@ OsekStep config app event.Boot s next =
     (s.booted ≡ false) × (next ≡ settled (record s { tasks = autostarted config.tasks s.tasks; booted = true }))
 OsekStep config app (event.Admit t) s next = (s.booted ≡ true) × (t < length config.tasks) × (next ≡ admitted t s)
 OsekStep config app (event.Enter t) s next =
-    (s.booted ≡ true) × IsTop config s [] t × ((task s t).state ≡ mode.Ready) × (next ≡ settled (entered config app t s))
+    (s.booted ≡ true) × IsTop config s [] t × ((task s t).state ≡ mode.Ready) × HasBody app t × (next ≡ settled (entered config app t s))
 OsekStep config app (event.Run t func item result) s next = (s.booted ≡ true) × Executes config app t func item result s next
 OsekStep config app (event.Call t served status) s next =
     (s.booted ≡ true) × ((after : System) × Serves config app t served s (GoesOn status after) × (next ≡ settled after))

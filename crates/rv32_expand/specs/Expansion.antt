@@ -2,7 +2,7 @@
 use Rattle.std.specs.Prelude.{ℕ, zero, suc, ◌+◌, ◌*◌, ◌/◌, ◌%◌, ◌^◌, ℤ, pos, ◌-ℤ◌, neg_ℤ, List, [], ◌∷◌, ◌++◌, length, get_or}
 use Rattle.sloth_base.specs.ServiceCodes.{code_of}
 use Rattle.sloth_base.specs.declared.app.App.{App}
-use Rattle.sloth_base.specs.Functions.{function}
+use Rattle.sloth_base.specs.Named.{function, label_of, operation}
 use Rattle.sloth_base.specs.declared.app.Call.{Call}
 use Rattle.sloth_base.specs.declared.app.Op.{Op}
 use Rattle.sloth_base.specs.declared.app.Op.TheVariants as op
@@ -42,7 +42,7 @@ distance from to = pos to -ℤ pos from
 -- the address of the item behind a label
 abbrev pub label_address : App → Places → ℕ → ℕ → ℕ
 label_address app places func label =
-    item_address places func (get_or (function app func).labels label (record { name = []; line = 0; item = 0; holds = [] })).item
+    item_address places func (label_of (function app func) label).item
 
 -- ---- one instruction
 
@@ -169,10 +169,6 @@ expanded app places func address (op.Invoke callee) = calls address (function ap
 expanded app places func address op.Return =
     Lw 31 2 (pos (4 * (function app func).frame_words)) ∷ Addi 2 2 (pos (4 + 4 * (function app func).frame_words)) ∷ Jalr 0 31 (pos 12) ∷ []
 expanded app places func address (op.Serve call) = served places call address
-
--- the item of a function
-abbrev pub operation : App → ℕ → ℕ → Op
-operation app func index = (get_or (function app func).items index (record { line = 0; op = op.Return })).op
 
 -- those of an item of a function
 abbrev pub expansion : App → Places → (func index : ℕ) → List InstrKind

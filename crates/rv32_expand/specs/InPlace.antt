@@ -2,6 +2,7 @@
 use Rattle.std.specs.Prelude.{ℕ, ◌+◌, ◌-◌, ◌*◌, ◌<◌, ◌≡◌, ◌∷◌, List, [], map, length, get_or, All, Contains, Some}
 use Rattle.sloth_base.specs.ServiceCodes.{code_of}
 use Rattle.sloth_base.specs.declared.app.App.{App}
+use Rattle.sloth_base.specs.declared.config.Config.{Config}
 use Rattle.sloth_base.specs.declared.app.Op.{Op}
 use Rattle.sloth_base.specs.declared.app.Op.TheVariants as op
 use Rattle.sloth_base.specs.declared.image.Image.{Image}
@@ -12,8 +13,8 @@ use Rattle.sloth_base.specs.declared.places.Places.{Places}
 use Rattle.rv32_instr.specs.Encode.{Encode}
 use Rattle.rv32_instr.specs.Ram.{word_at}
 use Rattle.rv32_instr.specs.declared.InstrKind.{InstrKind}
-use Rattle.rv32_expand.specs.Expansion.{operation, expansion, item_address}
-use Rattle.sloth_base.specs.Functions.{function}
+use Rattle.rv32_expand.specs.Expansion.{expansion, item_address}
+use Rattle.sloth_base.specs.Named.{operation, function}
 
 -- the register of an item's result: its destination, a store's source, or x0
 abbrev pub result_register : Op → ℕ
@@ -69,7 +70,8 @@ abbrev pub IsBodyName : App → ℕ → List ℕ → Type 0
 IsBodyName app task name = (func : ℕ) × (func < length app.funcs) × ((function app func).task ≡ Some task) × ((function app func).name ≡ name)
 
 -- With one list of addresses for all items, symbols and service blocks. A mark's address is its own, so that an item has one mark.
-pub record ItemsInPlace (image : Image) (app : App) : Type 0 where
+-- The image has the name of each function and of each task, and no other.
+pub record ItemsInPlace (image : Image) (config : Config) (app : App) : Type 0 where
   pub places : Places
   pub code : (func index : ℕ) → IsItem app func index
       → CodeAt image.memory (item_address places func index) (expansion app places func index)
@@ -80,4 +82,5 @@ pub record ItemsInPlace (image : Image) (app : App) : Type 0 where
   pub marked : (func index : ℕ) → IsItem app func index → Contains image.marks (item_mark app places func index)
   pub only : All (λ mark. IsOfItem mark.kind (IsItem app mark.b mark.c × (mark ≡ item_mark app places mark.b mark.c))) image.marks
   pub functions : image.funcs ≡ map (λ f. f.name) app.funcs
-  pub tasks : (task : ℕ) → task < length image.tasks → IsBodyName app task (get_or image.tasks task [])
+  pub tasks : image.tasks ≡ map (λ d. d.name) config.tasks
+  pub bodies : (task : ℕ) → task < length image.tasks → IsBodyName app task (get_or image.tasks task [])

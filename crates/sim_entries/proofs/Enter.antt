@@ -1,7 +1,10 @@
 -- The law of the entry of a task that starts anew.
 use Rattle.std.proofs.Common.{◌≡◌, ℕ, ◌+◌, ◌-◌, ◌*◌, ◌%◌, ◌<◌, ◌≤◌, List, [], ◌∷◌, length, refl, sym, ap, ◌∙◌, subst, arith, ⊎_elim, inl, inr, Some}
 use Rattle.std.specs.Prelude.{◌⊎◌, slice_index, replicate}
-use Rattle.std.proofs.lemmas.List.{length-replicate}
+use Rattle.std.proofs.lemmas.Bool.{cases_lt}
+use Rattle.std.proofs.lemmas.List.{length-replicate, get_or_past}
+use Rattle.sloth_base.specs.declared.app.App.{App}
+use Rattle.sloth_base.specs.declared.app.Func.{Func}
 use Rattle.sloth_base.specs.declared.event.Event.TheVariants as event
 use Rattle.sloth_base.specs.Machine.{State}
 use Rattle.sloth_base.specs.Choose.{choose}
@@ -10,7 +13,7 @@ use Rattle.rv32_routine.specs.Pieces.{registers_from}
 use Rattle.rv32_routine.proofs.Words.{word_below}
 use Rattle.osek_machine.specs.declared.state.TaskState.TheVariants as mode
 use Rattle.osek_machine.specs.State.{Task, System, task, with_task, declaration, body_of, entry_frame, zero_registers}
-use Rattle.sloth_base.specs.Functions.{function}
+use Rattle.sloth_base.specs.Named.{function, missing}
 use Rattle.osek_machine.specs.Priority.{is_active}
 use Rattle.osek_machine.specs.Services.{starts, entered}
 use Rattle.osek_machine.specs.Steps.{OsekStep, settled}
@@ -29,6 +32,14 @@ use Rattle.sim_entries.specs.Range.{Sane}
 use Rattle.sim_entries.specs.Entries.{EntersAnew, StandsAlone, first_words}
 use Rattle.sim_entries.proofs.Spot.{registers_at, registers_small, zeros_small, zero_at, context_words, words_small, stored_apart}
 use Rattle.sim_entries.proofs.EntryRam as ram
+
+-- a function that has items is there
+there : (app : App) (f : ℕ) → 0 < length (function app f).items → f < length app.funcs
+there app f h =
+    ⊎_elim
+    (λ (l : f < length app.funcs). l)
+    (λ (l : length app.funcs ≤ f). let e = ap (λ (g : Func). length g.items) (get_or_past app.funcs f missing l) in absurd (omega arith))
+    (cases_lt f (length app.funcs))
 
 module _ (b : Build) (state end : State) (s : System) (t place : ℕ) (fits : Fits b) (k : Stands b state s) (sane : Sane state)
     (e : choose state.core ≡ Some t) (fresh : (task s t).frames ≡ []) (has_item : 0 < length (function b.app (body_of b.app.funcs t)).items) (alone : StandsAlone b s t)
@@ -182,4 +193,4 @@ module _ (b : Build) (state end : State) (s : System) (t place : ℕ) (fits : Fi
 
   -- The entry is a step of the abstract machine, and the states stand.
   pub enter_law : OsekStep b.config b.app (event.Enter t) s (settled (entered b.config b.app t s)) × Stands b end (settled (entered b.config b.app t s))
-  enter_law = ((k.tidy.booted, taken_top b state s k few t e, ready, refl), subst (λ x. Stands b end x) is_next stands)
+  enter_law = ((k.tidy.booted, taken_top b state s k few t e, ready, there b.app (body_of b.app.funcs t) has_item, refl), subst (λ x. Stands b end x) is_next stands)

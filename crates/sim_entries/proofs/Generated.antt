@@ -12,7 +12,7 @@ use Rattle.sloth_region.specs.declared.map.Map.{Map}
 use Rattle.rv32_instr.specs.declared.InstrKind.{InstrKind}
 use Rattle.rv32_expand.specs.Expansion.{item_address}
 use Rattle.osek_machine.specs.State.{declaration, undeclared, body_of}
-use Rattle.sloth_base.specs.Functions.{function, missing}
+use Rattle.sloth_base.specs.Named.{function, missing}
 use Rattle.osek_machine.specs.Priority.{greatest, highest}
 use Rattle.prologue_gen.specs.Fresh.{Enters}
 use Rattle.prologue_gen.specs.Places.{EntersTask, frame_at, first_item}

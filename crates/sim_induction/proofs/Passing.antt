@@ -88,7 +88,7 @@ active_one t u s a f =
     differs : (s : System) (t u : ℕ) → t ≡ u → (task s u).state ≡ mode.Active → (task s t).state ≡ mode.Suspended → ⊥
     differs s t u x a e = let q : (task s u).state ≡ mode.Suspended = subst (λ v. (task s v).state ≡ mode.Suspended) x e in cc
 
-not_suspended : (x : TaskState) → x ≡ mode.Active → x ≡ mode.Suspended → ⊥
+pub not_suspended : (x : TaskState) → x ≡ mode.Active → x ≡ mode.Suspended → ⊥
 not_suspended x a e = cc
 
 ready_not_suspended : (x : TaskState) → x ≡ mode.Ready → x ≡ mode.Suspended → ⊥

@@ -85,14 +85,13 @@ pub record Masking (arrivals : List Arrival) (most k : ℕ) (m : State) (Effect 
   pub trace : Trace
   pub end : State
   pub steps : Steps more (k + 1) (lines_at arrivals) next trace end
-  pub ends : end.core.mie ≡ true
   pub last : State
   pub effect : Effect (touched_lines trace) (state_arrive (early trace) (arrived arrivals k m)) last
   pub late_behind : end ≡ state_arrive (late trace) last
 
-pub masking : (arrivals : List Arrival) (most k : ℕ) (m : State) (Effect : List ℕ → State → State → Type 0) → Opens Effect → line_to_take (arrived arrivals k m) ≡ None
+pub masking : (arrivals : List Arrival) (most k : ℕ) (m : State) (Effect : List ℕ → State → State → Type 0) → line_to_take (arrived arrivals k m) ≡ None
     → FromOpening most (arrived arrivals k m) Effect → Masking arrivals most k m Effect
-masking arrivals most k m Effect opens none h =
+masking arrivals most k m Effect none h =
     let n = arrived arrivals k m in
     let g = going (step n) (λ first. (first.core.mie ≡ false) × Masked most first (WithArrivals Effect n)) h in
     let r = masked_run most (k + 1) (lines_at arrivals) g.0 (WithArrivals Effect n) g.2.1 in
@@ -105,7 +104,6 @@ masking arrivals most k m Effect opens none h =
       trace = r.2;
       end = r.3;
       steps = r.4;
-      ends = ends_open Effect opens n r.2 r.3 r.5;
       last = r.5.0;
       effect = r.5.1;
       late_behind = r.5.2;

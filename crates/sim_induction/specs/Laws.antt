@@ -1,8 +1,9 @@
 -- What is asked of a piece of generated code, for each kind of piece of a run.
-use Rattle.std.specs.Prelude.{ℕ, suc, ◌+◌, ◌<◌, ◌≤◌, ◌≡◌, List, [], ◌∷◌, ◌++◌, map, true, false}
+use Rattle.std.specs.Prelude.{ℕ, suc, ◌+◌, ◌==◌, ◌<◌, ◌≤◌, ◌≡◌, List, [], ◌∷◌, ◌++◌, map, true, false, cond, slice_index}
 use Rattle.sloth_base.specs.declared.event.Event.{Event}
 use Rattle.sloth_base.specs.declared.event.Event.TheVariants as event
 use Rattle.sloth_base.specs.declared.event.Stamped.{Stamped}
+use Rattle.sloth_base.specs.declared.service.Service.{Service}
 use Rattle.sloth_base.specs.declared.step.Step.{Step}
 use Rattle.sloth_base.specs.Machine.{State}
 use Rattle.sloth_base.specs.Take.{entered}
@@ -24,6 +25,12 @@ use Rattle.sim_induction.specs.Admits.{Setting, lines_at, with_admits, admit_eve
 abbrev pub seen_at : Setting → ℕ → State → State → Step
 seen_at given count state next = seen count (arrived given.arrivals count state) next
 
+-- the event of a service: a call with the status in a0, where its caller still runs; else the caller left
+abbrev pub served_event : (task : ℕ) → Service → State → Event
+served_event t served end =
+    cond (t + 1 == word_at end.core.ram 0) (event.Call t served (slice_index end.core.registers 10)) (event.Left t served)
+
+-- each of these touched lines is one of the lines
 abbrev pub AreOneOf : List ℕ → List ℕ → Type 0
 AreOneOf lines [] = Unit {0}
 AreOneOf lines (touched ∷ more) = IsOneOf lines touched × AreOneOf lines more

@@ -16,7 +16,8 @@ use Rattle.rv32_instr.specs.Ram.{word_at}
 use Rattle.rv32_instr.specs.Execute.{Going, step, touched}
 use Rattle.rv32_machine.specs.Run.{arrived}
 use Rattle.rv32_routine.specs.Place.{at, InPlace}
-use Rattle.rv32_expand.specs.Expansion.{item_address, operation}
+use Rattle.rv32_expand.specs.Expansion.{item_address}
+use Rattle.sloth_base.specs.Named.{operation}
 use Rattle.rv32_expand.specs.InPlace.{result_register, mark_of, item_mark}
 use Rattle.observe.specs.Observe.{View, mark_at, task_of, outside_events, events_of_kind}
 use Rattle.osek_machine.specs.State.{System}

@@ -1,6 +1,8 @@
 -- What an instruction of an item computes is what the item means.
-use Rattle.std.proofs.Common.{◌≡◌, ℕ, ◌-◌, ◌*◌, ℤ, pos, negsuc, List, [], ◌∷◌, refl, sym, ap, ◌∙◌, subst, arith}
-use Rattle.std.specs.Prelude.{slice_index, int_lt, if◌then◌else◌}
+use Rattle.std.proofs.Common.{◌≡◌, ℕ, ◌-◌, ◌*◌, ℤ, pos, negsuc, List, [], ◌∷◌, Bool, true, false, inl, inr, ltb, refl, sym, ap, ◌∙◌, subst, arith}
+use Rattle.std.specs.Prelude.{slice_index, int_lt, if◌then◌else◌, ◌==◌, ◌&&◌, ◌||◌}
+use Rattle.std.specs.List.{list_all}
+use Rattle.std.proofs.lemmas.Bool.{and_from, le-leb, lt-ltb}
 use Rattle.std.proofs.lemmas.Int.{ints}
 use Rattle.sloth_base.specs.declared.app.App.{App}
 use Rattle.sloth_base.specs.declared.app.Op.{Op}
@@ -20,7 +22,7 @@ use Rattle.rv32_instr.proofs.Words.{signed_pos, signed_neg}
 use Rattle.rv32_expand.specs.Expansion.{register_operation, number_operation, expanded}
 use Rattle.rv32_expand.specs.InPlace.{result_register}
 use Rattle.osek_machine.specs.State.{Frame}
-use Rattle.osek_machine.specs.Meaning.{register, writes, meaning}
+use Rattle.osek_machine.specs.Meaning.{is_own, register, if_true, writes, execution, registers_of, meaning}
 use Rattle.sim_items.specs.Place.{IsOwn, IsNumber, IsComputed}
 
 -- a signed number and its word
@@ -60,6 +62,30 @@ number_value imm.Srli rd rs1 number pc x h =
 number_value imm.Srai rd rs1 number pc x h =
     subst (λ z. effect (number_operation imm.Srai rd rs1 z) pc x ≡ Write rd (number_result imm.Srai (slice_index x rs1) (complement z))) (sym h.1) refl
 
+-- ---- an item that names registers of task code has a meaning
+
+own_test : (r : ℕ) → IsOwn r → is_own r ≡ true
+own_test r (inl e) = ap is_own e
+own_test r (inr h) =
+    ap (λ x. (r == 0) || (x && ltb r 30)) (le-leb 5 r h.0) ∙ ap (λ x. (r == 0) || x) (lt-ltb r 30 h.1) ∙ or_true (r == 0)
+  where
+    or_true : (x : Bool) → (x || true) ≡ true
+    or_true true = refl
+    or_true false = refl
+
+abbrev AreOwn : List ℕ → Type 0
+AreOwn [] = Unit {0}
+AreOwn (r ∷ rs) = IsOwn r × AreOwn rs
+
+own_tests : (rs : List ℕ) → AreOwn rs → list_all is_own rs ≡ true
+own_tests [] h = refl
+own_tests (r ∷ rs) h = and_from _ _ (own_test r h.0) (own_tests rs h.1)
+
+own_meaning : (app : App) (operation : Op) (x : List ℕ) (frame : Frame) (outer : List Frame) (symbols : List (List ℕ)) → AreOwn (registers_of operation)
+    → meaning app operation x frame outer symbols ≡ execution app operation x frame outer symbols
+own_meaning app operation x frame outer symbols h =
+    ap (λ v. if_true v (execution app operation x frame outer symbols)) (own_tests (registers_of operation) h)
+
 -- One instruction, which writes a value to a register of task code, and the item means the same.
 pub record Computed (app : App) (places : Places) (func address : ℕ) (operation : Op) (core own : List ℕ) : Type 0 where
   pub rd : ℕ
@@ -81,7 +107,8 @@ computed app places func address (op.Alu kind rd rs1 rs2) core own agree h = rec
   expands = refl;
   effect_is = λ pc. register_value kind rd rs1 rs2 pc core;
   means = λ frame outer symbols.
-      ap (λ v. writes rd (register_result kind v (register own rs2)) own frame outer symbols) (sym (agree rs1 h.1))
+      own_meaning app (op.Alu kind rd rs1 rs2) own frame outer symbols (h.0, (h.1, (h.2, tt)))
+      ∙ ap (λ v. writes rd (register_result kind v (register own rs2)) own frame outer symbols) (sym (agree rs1 h.1))
       ∙ ap (λ v. writes rd (register_result kind (slice_index core rs1) v) own frame outer symbols) (sym (agree rs2 h.2));
   result = refl;
 }
@@ -92,7 +119,9 @@ computed app places func address (op.AluImm kind rd rs1 number) core own agree h
   kind = number_operation kind rd rs1 number;
   expands = refl;
   effect_is = λ pc. number_value kind rd rs1 number pc core h.2;
-  means = λ frame outer symbols. ap (λ v. writes rd (number_result kind v (complement number)) own frame outer symbols) (sym (agree rs1 h.1));
+  means = λ frame outer symbols.
+      own_meaning app (op.AluImm kind rd rs1 number) own frame outer symbols (h.0, (h.1, tt))
+      ∙ ap (λ v. writes rd (number_result kind v (complement number)) own frame outer symbols) (sym (agree rs1 h.1));
   result = refl;
 }
 computed app places func address (op.Lui rd number) core own agree h = record {
@@ -102,7 +131,7 @@ computed app places func address (op.Lui rd number) core own agree h = record {
   kind = Lui rd number;
   expands = refl;
   effect_is = λ pc. refl;
-  means = λ frame outer symbols. refl;
+  means = λ frame outer symbols. own_meaning app (op.Lui rd number) own frame outer symbols (h.0, tt);
   result = refl;
 }
 computed app places func address (op.Li rd value) core own agree h = absurd h

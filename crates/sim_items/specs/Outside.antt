@@ -12,7 +12,8 @@ use Rattle.rv32_instr.specs.declared.InstrKind.{InstrKind}
 use Rattle.rv32_instr.specs.declared.InstrKind.TheVariants.{Jal}
 use Rattle.rv32_instr.specs.Ram.{word_at}
 use Rattle.rv32_machine.specs.Run.{arrived}
-use Rattle.rv32_expand.specs.Expansion.{item_address, block_address, mask_of, distance, operation}
+use Rattle.rv32_expand.specs.Expansion.{item_address, block_address, mask_of, distance}
+use Rattle.sloth_base.specs.Named.{operation}
 use Rattle.rv32_expand.specs.InPlace.{item_mark}
 use Rattle.observe.specs.Observe.{View, mark_at}
 use Rattle.vector_gen.specs.Idle.{Idles}

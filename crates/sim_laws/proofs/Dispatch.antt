@@ -12,11 +12,11 @@ use Rattle.sloth_base.specs.Machine.{State}
 use Rattle.rv32_machine.specs.Run.{arrived}
 use Rattle.rv32_routine.specs.Trace.{Trace, late}
 use Rattle.rv32_instr.specs.declared.InstrKind.{InstrKind}
-use Rattle.rv32_expand.specs.Expansion.{item_address, operation, expansion, expanded, mask_of}
+use Rattle.rv32_expand.specs.Expansion.{item_address, expansion, expanded, mask_of}
+use Rattle.sloth_base.specs.Named.{operation, function}
 use Rattle.observe.specs.Observe.{View, view_of_image}
 use Rattle.osek_machine.specs.declared.state.TaskState.TheVariants as mode
 use Rattle.osek_machine.specs.State.{System, task}
-use Rattle.sloth_base.specs.Functions.{function}
 use Rattle.osek_machine.specs.Priority.{is_in, is_active}
 use Rattle.sim_induction.specs.Admits.{IsSetting, lines_at, with_admits}
 use Rattle.sim_induction.specs.Advances.{Advances}
@@ -171,21 +171,23 @@ module _ (b : Build) (image : Image) (kernel : Kernel b image) where
               let same : op.Serve h.jumps.call ≡ op.Serve a.call = sym h.jumps.is ∙ a.is in
               let call : h.jumps.call ≡ a.call = cc in
               stretch (terminate_stretches b view arrivals count state s t kernel.fits setting after_boot stands (record {
-                none = none;
-                opening = record {
-                  current = run.current;
-                  free = q.free;
-                  frame = p.frame;
-                  outer = p.outer;
-                  frames = p.frames;
-                  inside = p.inside;
-                  block = a;
-                  calls = ap (λ (c : Call). c.service) (sym call) ∙ h.ends;
+                opens = record {
+                  none = none;
+                  opening = record {
+                    current = run.current;
+                    free = q.free;
+                    frame = p.frame;
+                    outer = p.outer;
+                    frames = p.frames;
+                    inside = p.inside;
+                    block = a;
+                    calls = ap (λ (c : Call). c.service) (sym call) ∙ h.ends;
+                  };
+                  block = subst (λ (c : Call). HasTerminateTask b view c.object) call h.block;
+                  not_fresh = not_fresh;
+                  bytes = bounded.core.bytes;
                 };
-                in_place = subst (λ (c : Call). HasTerminateTask b view c.object) call h.block;
                 holds_nothing = (plain.each t).held;
-                not_fresh = not_fresh;
-                bytes = bounded.core.bytes;
               })))
               (kernel.items p.frame.func p.frame.item p.inside)
 

@@ -12,7 +12,7 @@ use Rattle.sloth_base.specs.declared.event.Event.{Event}
 use Rattle.sloth_base.specs.declared.event.Event.TheVariants as event
 use Rattle.sloth_base.specs.declared.service.Service.{Service}
 use Rattle.sloth_base.specs.declared.service.Service.TheVariants as service
-use Rattle.rv32_expand.specs.Expansion.{operation}
+use Rattle.sloth_base.specs.Named.{operation}
 use Rattle.osek_machine.specs.declared.state.TaskState.{TaskState}
 use Rattle.osek_machine.specs.declared.state.TaskState.TheVariants as mode
 use Rattle.osek_machine.specs.State.{Frame, Task, System, task, with_task, sleeping, zero_registers, declaration, opening}
@@ -120,7 +120,7 @@ plain_stays config app only (event.Enter t) s next h k =
     let own = task s t in
     let p = k.each t in
     let g = starts_held app t own.frames own in
-    subst (IsPlain config) (sym h.3)
+    subst (IsPlain config) (sym h.4)
     (moved_plain config s t (record (starts app t own.frames own) { state = mode.Active; raised = (declaration config t).non }) s.symbols h.0 h.1.declared k
     (record { held = g.0 ∙ p.held; free = g.1 ∙ p.free; anew = λ e. clash e }))
 plain_stays config app only (event.Run t func item result) s next h k =

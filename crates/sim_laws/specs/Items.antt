@@ -6,10 +6,10 @@ use Rattle.sloth_base.specs.declared.app.Call.{Call}
 use Rattle.sloth_base.specs.declared.app.Op.TheVariants as op
 use Rattle.sloth_base.specs.declared.service.Service.TheVariants as service
 use Rattle.rv32_instr.specs.Range.{Even}
-use Rattle.rv32_expand.specs.Expansion.{item_address, block_address, distance, operation, expansion}
+use Rattle.rv32_expand.specs.Expansion.{item_address, block_address, distance, expansion}
+use Rattle.sloth_base.specs.Named.{operation, function}
 use Rattle.rv32_expand.specs.InPlace.{IsItem, ItemsInPlace}
 use Rattle.observe.specs.Observe.{AreAscending, mark_at, view_of_image}
-use Rattle.sloth_base.specs.Functions.{function}
 use Rattle.sim_relation.specs.Build.{Build}
 use Rattle.sim_items.specs.Place.{IsComputed}
 use Rattle.sim_services.specs.Stretch.{HasTerminateTask}
@@ -17,7 +17,7 @@ use Rattle.sim_laws.specs.Kernel.{Computes, Ends}
 
 -- the items of the task code stand in the image, among the code of what is built, and the marks rise
 pub record HasItems (b : Build) (image : Image) : Type 0 where
-  pub in_place : ItemsInPlace image b.app
+  pub in_place : ItemsInPlace image b.config b.app
   pub places : in_place.places ≡ b.places
   pub memory : image.memory ≡ b.memory
   pub size : length b.memory ≤ 0x20_0000

@@ -1,7 +1,8 @@
 -- Code that stands in the image stands in RAM, and the word at 0x80000000 names the first of the stack.
-use Rattle.std.proofs.Common.{◌≡◌, ℕ, ◌+◌, ◌*◌, ◌<◌, ◌≤◌, List, [], ◌∷◌, length, ap, ◌∙◌, arith, inl, true}
+use Rattle.std.proofs.Common.{◌≡◌, ℕ, ◌+◌, ◌*◌, ◌<◌, ◌≤◌, List, [], ◌∷◌, length, ap, ◌∙◌, subst, arith, inl, true}
 use Rattle.std.specs.Prelude.{slice_index}
 use Rattle.sloth_base.specs.Machine.{State}
+use Rattle.sloth_region.specs.Layout.{cur}
 use Rattle.rv32_instr.specs.declared.InstrKind.{InstrKind}
 use Rattle.rv32_instr.specs.Table.{Decode}
 use Rattle.rv32_instr.specs.Ram.{word_at}
@@ -11,6 +12,8 @@ use Rattle.osek_machine.specs.State.{System}
 use Rattle.sim_relation.specs.Build.{Build, Fits}
 use Rattle.sim_relation.specs.Context.{Running}
 use Rattle.sim_relation.specs.Placed.{IsPlaced}
+use Rattle.sim_relation.specs.Stands.{Stands, IsActive, AreActive}
+use Rattle.sim_relation.proofs.Tops.{falling_head}
 
 pub in_place-agree : (old new : List ℕ) (code : List InstrKind) (offset : ℕ) → ((i : ℕ) → offset ≤ i → i < offset + 4 * length code → slice_index new i ≡ slice_index old i)
     → InPlace old offset code → InPlace new offset code
@@ -28,7 +31,13 @@ placed_in b ram offset code same p = in_place-agree b.memory ram code offset (λ
 pub code_behind : (b : Build) (offset : ℕ) (code : List InstrKind) → Fits b → 0 < length code → IsPlaced b offset code → 1024 ≤ offset
 code_behind b offset code fits some p = fits.elsewhere offset (inl (p.is_code offset (omega arith) (omega arith)))
 
-pub first_by_word : (b : Build) (state : State) (s : System) (t : ℕ) (stack : List ℕ) → Running b state s stack → word_at state.core.ram 0 ≡ t + 1
+pub first_by_word : (b : Build) (state : State) (s : System) (t : ℕ) (stack : List ℕ) → Running b state s stack → word_at state.core.ram cur ≡ t + 1
     → (below : List ℕ) × (stack ≡ t ∷ below)
 first_by_word b state s t [] run h = let a = run.current in absurd (omega arith)
 first_by_word b state s t (u ∷ below) run h = let a = run.current in let e : u ≡ t = omega arith in (below, ap (λ v. v ∷ below) e)
+
+-- it is Active
+pub active_by_word : (b : Build) (state : State) (s : System) (t : ℕ) → Stands b state s → word_at state.core.ram cur ≡ t + 1 → IsActive b s t
+active_by_word b state s t k h =
+    let f = first_by_word b state s t k.stack k.running h in
+    falling_head b s t f.0 (subst (AreActive b s) f.1 k.active).falling

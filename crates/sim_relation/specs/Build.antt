@@ -5,9 +5,9 @@ use Rattle.sloth_base.specs.declared.app.App.{App}
 use Rattle.sloth_base.specs.declared.places.Places.{Places}
 use Rattle.sloth_base.specs.declared.app.Call.{Call}
 use Rattle.sloth_base.specs.declared.app.Op.TheVariants as op
-use Rattle.rv32_expand.specs.Expansion.{item_address, block_address, operation}
+use Rattle.rv32_expand.specs.Expansion.{item_address, block_address}
+use Rattle.sloth_base.specs.Named.{operation, function}
 use Rattle.osek_machine.specs.State.{declaration, body_of}
-use Rattle.sloth_base.specs.Functions.{function}
 use Rattle.osek_machine.specs.Priority.{highest}
 use Rattle.sloth_base.specs.PriorityLevels.{level_of}
 

@@ -5,7 +5,7 @@ use Rattle.sloth_region.specs.Layout.{cur, below_word, resume, idle_context}
 use Rattle.rv32_instr.specs.Ram.{word_at}
 use Rattle.rv32_expand.specs.Expansion.{item_address}
 use Rattle.osek_machine.specs.State.{Frame, Task, System, task}
-use Rattle.sloth_base.specs.Functions.{function}
+use Rattle.sloth_base.specs.Named.{function}
 use Rattle.sim_induction.specs.Mirror.{priority_of}
 use Rattle.sloth_base.specs.PriorityLevels.{level_of}
 use Rattle.sim_relation.specs.Build.{Build}

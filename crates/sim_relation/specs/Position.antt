@@ -8,9 +8,9 @@ use Rattle.sloth_base.specs.declared.app.Op.{Op}
 use Rattle.sloth_base.specs.declared.app.Op.TheVariants as op
 use Rattle.sloth_region.specs.Layout.{context_bytes}
 use Rattle.rv32_instr.specs.Ram.{word_at}
-use Rattle.rv32_expand.specs.Expansion.{item_address, symbol_address, block_address, label_address, mask_of, operation, expansion}
+use Rattle.rv32_expand.specs.Expansion.{item_address, symbol_address, block_address, label_address, mask_of, expansion}
+use Rattle.sloth_base.specs.Named.{operation, function}
 use Rattle.osek_machine.specs.State.{Frame, Task}
-use Rattle.sloth_base.specs.Functions.{function}
 use Rattle.osek_machine.specs.Meaning.{register}
 use Rattle.sim_relation.specs.Build.{Build, start_level}
 

@@ -1,3 +1,4 @@
 pub mod EndRam
+pub mod ServiceStretch
 pub mod Terminate
 pub mod TerminateStretch

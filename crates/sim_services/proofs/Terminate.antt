@@ -1,11 +1,11 @@
 -- TerminateTask is a step, and the relation stands behind it.
-use Rattle.std.proofs.Common.{◌≡◌, ℕ, ◌+◌, ◌<◌, List, [], ◌∷◌, length, refl, sym, ap, ◌∙◌, subst, arith, false}
+use Rattle.std.proofs.Common.{◌≡◌, ℕ, ◌+◌, ◌<◌, List, [], ◌∷◌, length, refl, sym, ap, ◌∙◌, subst, arith, inl, false}
 use Rattle.std.specs.Prelude.{slice_index}
 use Rattle.std.proofs.lemmas.List.{get_or-set_same, get_or-set_other, length-set}
 use Rattle.sloth_base.specs.declared.event.Event.TheVariants as event
 use Rattle.sloth_base.specs.declared.service.Service.TheVariants as service
 use Rattle.sloth_base.specs.Machine.{State}
-use Rattle.sloth_region.specs.Layout.{resume}
+use Rattle.sloth_region.specs.Layout.{cur, resume}
 use Rattle.rv32_instr.specs.Ram.{word_at}
 use Rattle.rv32_routine.proofs.Words.{word_below}
 use Rattle.service_gen.specs.TerminateTask.{Terminated}
@@ -15,23 +15,32 @@ use Rattle.osek_machine.specs.Priority.{is_active}
 use Rattle.osek_machine.specs.Services.{ended}
 use Rattle.osek_machine.specs.Steps.{OsekStep, IsAt, settled}
 use Rattle.sloth_base.specs.declared.app.Op.TheVariants as op
+use Rattle.sim_induction.specs.Laws.{AreOneOf}
+use Rattle.sim_induction.proofs.Passing.{not_suspended}
+use Rattle.sim_induction.proofs.Stretched.{shows_left}
 use Rattle.sim_relation.specs.Build.{Build, Fits}
 use Rattle.sim_relation.specs.Context.{RunsTask, Running}
 use Rattle.sim_relation.specs.ServiceWords.{ServiceWords, HeldWords, base_priority}
 use Rattle.sim_relation.specs.Stands.{Stands, IsActive, AreActive, IsLineOf}
 use Rattle.sim_relation.specs.Moves.{TaskLeave}
-use Rattle.sim_relation.proofs.Placed.{first_by_word}
+use Rattle.sim_relation.proofs.Parts.{this_task}
+use Rattle.sim_relation.proofs.Placed.{first_by_word, active_by_word}
 use Rattle.sim_relation.proofs.Tops.{falling_head}
 use Rattle.sim_relation.proofs.Leaving.{leave_stands}
 use Rattle.sim_relation.proofs.TaskSteps.{active_resumes}
 use Rattle.sim_relation.proofs.TaskMoves.{line_active}
+use Rattle.sim_services.specs.Opening.{AtOpening}
+use Rattle.sim_services.specs.Served.{Answers}
 use Rattle.sim_services.specs.Laws.{MayEnd}
 use Rattle.sim_services.proofs.EndRam.{EndRam, end_ram}
 
-module _ (b : Build) (state : State) (s : System) (t place : ℕ) (touched : List ℕ) (end : State) (fits : Fits b)
-    (may : MayEnd b state s t place) (eff : Terminated t place touched state end) where
+module _ (b : Build) (state : State) (s : System) (t : ℕ) (called : Task) (place : ℕ) (touched : List ℕ) (end : State) (fits : Fits b)
+    (may : MayEnd b state s t called place) (eff : Terminated t place touched state end) where
   abbrev k : Stands b state s
-  k = may.stands
+  k = may.is_served.stands
+
+  abbrev opening : AtOpening b state t called service.TerminateTask
+  opening = may.is_served.opening
 
   abbrev old : List ℕ
   old = state.core.ram
@@ -64,10 +73,16 @@ module _ (b : Build) (state : State) (s : System) (t place : ℕ) (touched : Lis
 
     mem : EndRam old new t (word_at old (place + 8)) (word_at old (place + 12))
     mem = subst (λ x. EndRam old x t (word_at old (place + 8)) (word_at old (place + 12))) (sym eff.ram)
-        (end_ram old t (word_at old (place + 8)) (word_at old (place + 12)) k.fixed.ram few30 (word_below old (place + 8) may.bytes) (word_below old (place + 12) may.bytes))
+        (end_ram old t (word_at old (place + 8)) (word_at old (place + 12)) k.fixed.ram few30 (word_below old (place + 8) may.is_served.bytes) (word_below old (place + 12) may.is_served.bytes))
 
     resume_zero : word_at old (resume t) ≡ 0
     resume_zero = active_resumes b old t (task s t) (is_active (task s t).state) (task s t).frames (ap is_active here.active) (k.words t here.declared).resumption
+
+    held_nil : (task s t).held ≡ []
+    held_nil = ap (λ (o : Task). o.held) may.is_served.own_is ∙ may.holds_nothing
+
+    free : (task s t).owed ≡ false
+    free = ap (λ (o : Task). o.owed) may.is_served.own_is ∙ opening.free
 
     own_line : IsLineOf own.state (slice_index end.core.pending t) (slice_index end.core.enabled t)
     own_line =
@@ -84,7 +99,7 @@ module _ (b : Build) (state : State) (s : System) (t place : ℕ) (touched : Lis
       event_mask = mem.events;
       wait_mask = tt;
       resumption = mem.named (resume t) (omega arith) (omega arith) (λ a. omega arith) (λ a. omega arith) (λ a. omega arith) ∙ resume_zero;
-      held = subst (λ (l : List ℕ). HeldWords b new (base_priority b t own) l) (sym may.holds_nothing) tt;
+      held = subst (λ (l : List ℕ). HeldWords b new (base_priority b t own) l) (sym held_nil) tt;
     }
 
     leave : TaskLeave b state end s t own place
@@ -113,7 +128,7 @@ module _ (b : Build) (state : State) (s : System) (t place : ℕ) (touched : Lis
           at_rest = refl;
           tidy = record {
             registers = refl;
-            at_rest = λ a. (may.holds_nothing, may.opening.free, refl);
+            at_rest = λ a. (held_nil, free, refl);
             asleep = λ a. (refl, refl);
             few = (v.each t here.declared).few;
           };
@@ -122,15 +137,15 @@ module _ (b : Build) (state : State) (s : System) (t place : ℕ) (touched : Lis
     stands_behind : Stands b end next
     stands_behind = leave_stands b state end s k fits t below stack_is own place leave
 
-    abbrev is_at : IsAt b.app s t (op.Serve may.opening.block.call)
+    abbrev is_at : IsAt b.app s t (op.Serve opening.block.call)
     is_at = record {
       active = here.active;
-      free = may.opening.free;
-      frame = may.opening.frame;
-      outer = may.opening.outer;
-      frames = may.opening.frames;
-      inside = may.opening.inside;
-      next = may.opening.block.is;
+      free = free;
+      frame = opening.frame;
+      outer = opening.outer;
+      frames = ap (λ (o : Task). o.frames) may.is_served.own_is ∙ opening.frames;
+      inside = opening.inside;
+      next = opening.block.is;
     }
 
     step_is : OsekStep b.config b.app (event.Left t service.TerminateTask) s next
@@ -138,13 +153,24 @@ module _ (b : Build) (state : State) (s : System) (t place : ℕ) (touched : Lis
       k.tidy.booted,
       (
         ended t s,
-        record { top = may.top; call = may.opening.block.call; at = is_at; same = may.opening.calls; is = refl },
+        record { top = may.is_served.top; call = opening.block.call; at = is_at; same = opening.calls; names = refl; is = refl },
         refl,
       ),
     )
 
-    both : OsekStep b.config b.app (event.Left t service.TerminateTask) s next × Stands b end next
-    both = (step_is, stands_behind)
+    -- the task does not run any more
+    elsewhere : word_at end.core.ram cur ≡ t + 1 → ⊥
+    elsewhere now = not_suspended (task next t).state (active_by_word b end next t stands_behind now).active (ap (λ (o : Task). o.state) (this_task s t own among))
 
-  pub terminate_ends : OsekStep b.config b.app (event.Left t service.TerminateTask) s next × Stands b end next
-  terminate_ends = let f = first_by_word b state s t k.stack k.running may.opening.current in both f.0 f.1
+    answer : Answers b s t service.TerminateTask touched end
+    answer = record {
+      one = t;
+      other = t;
+      touches = subst (AreOneOf (t ∷ t ∷ [])) (sym eff.touches) (inl refl, tt);
+      after = next;
+      step_is = subst (λ what. OsekStep b.config b.app what s next) (sym (shows_left t service.TerminateTask end elsewhere)) step_is;
+      stands = stands_behind;
+    }
+
+  pub terminate_ends : Answers b s t service.TerminateTask touched end
+  terminate_ends = let f = first_by_word b state s t k.stack k.running opening.current in answer f.0 f.1

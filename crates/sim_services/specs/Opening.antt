@@ -1,21 +1,63 @@
 -- Where a task's service begins.
-use Rattle.std.specs.Prelude.{ℕ, ◌+◌, ◌<◌, ◌≡◌, false, List, ◌∷◌, length}
+use Rattle.std.specs.Prelude.{ℕ, ◌+◌, ◌<◌, ◌≡◌, false, List, ◌∷◌, length, Some, None}
+use Rattle.sloth_base.specs.declared.image.Mark.{Mark}
+use Rattle.sloth_base.specs.declared.image.MarkKind.TheVariants as kind
 use Rattle.sloth_base.specs.declared.service.Service.{Service}
-use Rattle.sloth_base.specs.Machine.{State}
+use Rattle.sloth_base.specs.Choose.{choose}
+use Rattle.sloth_base.specs.Machine.{Core, State}
 use Rattle.sloth_region.specs.Layout.{cur}
+use Rattle.rv32_instr.specs.declared.InstrKind.{InstrKind}
 use Rattle.rv32_instr.specs.Ram.{word_at}
-use Rattle.osek_machine.specs.State.{Frame, System, task}
-use Rattle.sloth_base.specs.Functions.{function}
+use Rattle.rv32_routine.specs.Kernel.{IsBelow}
+use Rattle.rv32_expand.specs.Expansion.{block_address}
+use Rattle.service_gen.specs.Back.{CanGoBack}
+use Rattle.observe.specs.Observe.{View, mark_at}
+use Rattle.sloth_base.specs.ServiceCodes.{service_of}
+use Rattle.osek_machine.specs.State.{Frame, Task, System, task}
+use Rattle.sloth_base.specs.Named.{function}
+use Rattle.osek_machine.specs.Priority.{is_in}
+use Rattle.sim_relation.specs.Bounds.{AreBelow}
 use Rattle.sim_relation.specs.Build.{Build}
+use Rattle.sim_relation.specs.Placed.{IsPlaced}
 use Rattle.sim_relation.specs.Position.{thread_of, AtBlock}
 
--- the running task stands at the opening mark of the block of its next item, a call of the service
-pub record AtOpening (b : Build) (state : State) (s : System) (t : ℕ) (service : Service) : Type 0 where
+-- the running task, whose record is `own`, stands at the opening mark of the block of its next item, a call of the service
+pub record AtOpening (b : Build) (state : State) (t : ℕ) (own : Task) (served : Service) : Type 0 where
   pub current : word_at state.core.ram cur ≡ t + 1
-  pub free : (task s t).owed ≡ false
+  pub free : own.owed ≡ false
   pub frame : Frame
   pub outer : List Frame
-  pub frames : (task s t).frames ≡ frame ∷ outer
+  pub frames : own.frames ≡ frame ∷ outer
   pub inside : frame.item < length (function b.app frame.func).items
   pub block : AtBlock b frame (thread_of state)
-  pub calls : block.call.service ≡ service
+  pub calls : block.call.service ≡ served
+
+-- the block of a service with its object stands in the image, with its mark, and its code is as a contract of the generator says
+pub record HasBlock (b : Build) (view : View) (served : Service) (object : ℕ) (Contract : List InstrKind → Type 0) : Type 0 where
+  pub code : List InstrKind
+  pub serves : Contract code
+  pub offset : ℕ
+  pub is : block_address b.places served object ≡ 0x8000_0000 + offset
+  pub placed : IsPlaced b offset code
+  pub mark : Mark
+  pub marked : mark_at view (0x8000_0000 + offset) ≡ Some mark
+  pub opens : mark.kind ≡ kind.Opening
+  pub calls : service_of mark.a ≡ Some served
+
+-- What holds at a service's opening mark, with the arrivals of the count: no line is taken, and the service's block stands in the
+-- image. The contract is that of the block for an object.
+pub record OpensService (b : Build) (view : View) (state : State) (s : System) (t : ℕ) (served : Service) (Contract : ℕ → List InstrKind → Type 0) : Type 0 where
+  pub none : choose state.core ≡ None
+  pub opening : AtOpening b state t (task s t) served
+  pub block : HasBlock b view served opening.block.call.object (Contract opening.block.call.object)
+  pub not_fresh : is_in t s.fresh ≡ false
+  pub bytes : AreBelow 256 state.core.ram
+
+-- What the contracts of service blocks ask of the machine there: the code at an offset can run and go back to the running task,
+-- below which the context at `place` is the next.
+pub record CanServe (offset : ℕ) (code : List InstrKind) (t place : ℕ) (core : Core) : Type 0 where
+  pub goes_back : CanGoBack offset code core
+  pub level : core.ilevel < 256
+  pub current : word_at core.ram cur ≡ t + 1
+  pub is_task : t < 30
+  pub below : IsBelow place core

@@ -3,6 +3,7 @@ use Rattle.std.proofs.Common.{◌≡◌, ◌≤◌, ◌<◌, ◌+◌, ◌-◌, �
 use Rattle.std.specs.Prelude.{negsuc, All, Contains}
 use Rattle.std.proofs.lemmas.List.Elements.{All-cons, All-nil}
 use Rattle.sloth_base.specs.declared.app.App.{App}
+use Rattle.sloth_base.specs.declared.config.Config.{Config}
 use Rattle.sloth_base.specs.declared.app.Func.{Func}
 use Rattle.sloth_base.specs.declared.image.Image.{Image}
 use Rattle.sloth_base.specs.declared.image.Mark.{Mark}
@@ -23,7 +24,7 @@ use Rattle.sloth_build.proofs.Memories.{memory_length}
 use Rattle.sloth_build.proofs.Pieces.{items_written}
 
 module _ (name : List ℕ) (rd rs1 : ℕ) (imm : ℤ) (image : Image) (k : Kernel) (p : ArePlaced k) (r : AreInRange k) (its : k.items ≡ items_block rd rs1 imm)
-    (memory_is : image.memory ≡ kernel_memory k) (marks_are : image.marks ≡ kernel_marks rd) (tasks_are : image.tasks ≡ name ∷ []) (funcs_are : image.funcs ≡ name ∷ []) where
+    (memory_is : image.memory ≡ kernel_memory k) (marks_are : image.marks ≡ kernel_marks rd) (tasks_are : image.tasks ≡ name ∷ []) (funcs_are : image.funcs ≡ name ∷ []) (config : Config) (named : map (λ d. d.name) config.tasks ≡ name ∷ []) where
   abbrev app : App
   app = one_body name rd rs1 imm
 
@@ -72,7 +73,7 @@ module _ (name : List ℕ) (rd rs1 : ℕ) (imm : ℤ) (image : Image) (k : Kerne
   task_name zero l = (0, omega arith, refl, refl)
   task_name (suc task) l = absurd (omega arith)
 
-  in_place : ItemsInPlace image app
+  in_place : ItemsInPlace image config app
   in_place = record {
     places = places;
     code = each (λ func index. CodeAt image.memory (item_address places func index) (expansion app places func index)) (words.0, tt) (words.1.0, tt);
@@ -86,10 +87,12 @@ module _ (name : List ℕ) (rd rs1 : ℕ) (imm : ℤ) (image : Image) (k : Kerne
         (subst (λ ms. Contains ms (mark_of 0x8000_06b0 kind.Jump 1 1)) (sym marks_are) (3, omega arith, refl));
     only = subst (λ ms. All (λ mark. IsOfItem mark.kind (IsItem app mark.b mark.c × (mark ≡ item_mark app places mark.b mark.c))) ms) (sym marks_are) only;
     functions = funcs_are;
-    tasks = subst (λ ts. (task : ℕ) → task < length ts → IsBodyName app task (get_or ts task [])) (sym tasks_are) task_name;
+    tasks = tasks_are ∙ sym named;
+    bodies = subst (λ ts. (task : ℕ) → task < length ts → IsBodyName app task (get_or ts task [])) (sym tasks_are) task_name;
   }
 
 pub items_of : (code : App) (name : List ℕ) (rd rs1 : ℕ) (imm : ℤ) → code ≡ one_body name rd rs1 imm → (image : Image) (k : Kernel) → ArePlaced k → AreInRange k → k.items ≡ items_block rd rs1 imm
-    → image.memory ≡ kernel_memory k → image.marks ≡ kernel_marks rd → image.tasks ≡ name ∷ [] → image.funcs ≡ name ∷ [] → ItemsInPlace image code
-items_of code name rd rs1 imm e image k p r its memory_is marks_are tasks_are funcs_are =
-    subst (λ (a : App). ItemsInPlace image a) (sym e) (in_place name rd rs1 imm image k p r its memory_is marks_are tasks_are funcs_are)
+    → image.memory ≡ kernel_memory k → image.marks ≡ kernel_marks rd → image.tasks ≡ name ∷ [] → image.funcs ≡ name ∷ []
+    → (config : Config) → map (λ d. d.name) config.tasks ≡ name ∷ [] → ItemsInPlace image config code
+items_of code name rd rs1 imm e image k p r its memory_is marks_are tasks_are funcs_are config named =
+    subst (λ (a : App). ItemsInPlace image config a) (sym e) (in_place name rd rs1 imm image k p r its memory_is marks_are tasks_are funcs_are config named)

@@ -123,7 +123,7 @@ fn generate(
     requires range { (add.rd < 32) × (add.rs1 < 32) × Signed 12 add.imm }
     requires own { IsOwn add.rd × IsOwn add.rs1 }
     ensures sound { IfOk result (λ generated. Sound config.now generated.app generated.image) }
-    ensures items { IfOk result (λ generated. ItemsInPlace generated.image generated.app) }
+    ensures items { IfOk result (λ generated. ItemsInPlace generated.image config.now generated.app) }
     ensures app { IfOk result (λ generated. generated.app ≡ one_body task.now.name add.rd add.rs1 add.imm) }
     ensures format { IfOk result (λ generated. InFormat generated.image) }
     ensures tasks { IfOk result (λ generated. generated.image.tasks ≡ task.now.name ∷ []) }
@@ -140,7 +140,7 @@ pub fn build(alloc: Global, oil: &[u8], src: &[u8]) -> Result<Built, BuildError>
     ensures accepted { IfOk result (λ built. Accepted oil.now src.now built.config built.app) }
     ensures in_range { IfOk result (λ built. InRange built.config) }
     ensures sound { IfOk result (λ built. Sound built.config built.app built.image) }
-    ensures items { IfOk result (λ built. ItemsInPlace built.image built.app) }
+    ensures items { IfOk result (λ built. ItemsInPlace built.image built.config built.app) }
     ensures format { IfOk result (λ built. InFormat built.image) }
     ensures tasks { IfOk result (λ built. built.image.tasks ≡ map (λ t. t.name) built.config.tasks) }
     ensures functions { IfOk result (λ built. built.image.funcs ≡ map (λ f. f.name) built.app.funcs) }

@@ -69,7 +69,7 @@ pub fn image(
     requires range { (add.rd < 32) × (add.rs1 < 32) × Signed 12 add.imm }
     requires own { IsOwn add.rd × IsOwn add.rs1 }
     ensures sound { IfOk result (λ image. Sound config.now app.now image) }
-    ensures items { IfOk result (λ image. ItemsInPlace image app.now) }
+    ensures items { IfOk result (λ image. ItemsInPlace image config.now app.now) }
     ensures format { IfOk result InFormat }
     ensures tasks { IfOk result (λ image. image.tasks ≡ task.now.name ∷ []) }
     ensures functions { IfOk result (λ image. image.funcs ≡ task.now.name ∷ []) }

@@ -84,14 +84,14 @@ pub record IsBuilt (old mid : Files) (c : Command) (bytes text : List ℕ) : Typ
   pub image : Image
   pub accepted : IsAccepted old c config app
   pub sound : Sound config app image
-  pub items : ItemsInPlace image app
+  pub items : ItemsInPlace image config app
   pub is_image : ImageText bytes image
   pub text_is : text ≡ done_text image c.run
   pub kept : KeepsFiles old mid
 
 -- the image of accepted texts was built of the inputs
 pub built-of : (old mid : Files) (c : Command) (config : Config) (app : App) (image : Image) (oil src arr : List ℕ)
-    → AreInputs old c oil src arr → arr ≡ [] → Accepted oil src config app → Sound config app image → ItemsInPlace image app → InFormat image → KeepsFiles old mid
+    → AreInputs old c oil src arr → arr ≡ [] → Accepted oil src config app → Sound config app image → ItemsInPlace image config app → InFormat image → KeepsFiles old mid
     → IsBuilt old mid c (image_bytes image) (done_text image c.run)
 built-of old mid c config app image oil src arr inputs none accepted sound items format kept = record {
   config = config;

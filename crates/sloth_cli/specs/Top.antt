@@ -91,7 +91,7 @@ pub record IsDone (old new : Files) (c : Command) (text : List ℕ) : Type 0 whe
   -- every run of the image, whatever lines arrive, is one of the abstract scheduler
   pub sound : Sound config app image
   -- the items of the task code stand in the image, each behind its mark
-  pub items : ItemsInPlace image app
+  pub items : ItemsInPlace image config app
   pub bytes : List ℕ
   pub is_image : ImageText bytes image
   pub written : IsWritten old new c.img bytes

@@ -119,7 +119,7 @@ fn judge(alloc: Global, inputs: &Inputs) -> Result<Built, Failure>
     requires { length inputs.now.oil.items ≤ 4194304 }
     ensures accepted { IfOk result (λ built. Accepted inputs.now.oil.items inputs.now.src.items built.config built.app) }
     ensures sound { IfOk result (λ built. Sound built.config built.app built.image) }
-    ensures items { IfOk result (λ built. ItemsInPlace built.image built.app) }
+    ensures items { IfOk result (λ built. ItemsInPlace built.image built.config built.app) }
     ensures format { IfOk result (λ built. InFormat built.image) }
     ensures none { OnOk result (inputs.now.arr.items ≡ []) }
     ensures err { IfErr result (λ failure. JudgeFailed failure inputs.now.oil.items inputs.now.src.items inputs.now.arr.items) }

@@ -1,4 +1,4 @@
-use Rattle.std.proofs.Common.{◌∙◌, ap, sym, length, [], ◌∷◌, refl}
+use Rattle.std.proofs.Common.{◌∙◌, ap, sym, length, List, [], ◌∷◌, map, refl}
 use Rattle.sloth_base.specs.declared.config.TaskDecl.{TaskDecl}
 use Rattle.rv32_instr.specs.declared.block.Block.{Block}
 use Rattle.sloth_build.specs.Form.{one_body}
@@ -45,3 +45,4 @@ returns-clause-items c =
     (c.from_vec.ensures ∙ c.in_ok-memory.ensures)
     (c.from_vec-2.ensures ∙ c.in_ok-marks.ensures ∙ are_marks kernel _ _ _ c.in_ok-kernel.ensures.places c.in_ok-kernel.ensures.items)
     (c.in_ok-names.ensures ∙ ap (λ n. n ∷ []) c.bytes.ensures) (c.in_ok-names-2.ensures ∙ ap (λ n. n ∷ []) c.bytes-2.ensures)
+    c.args.config.now (ap (λ (ts : List TaskDecl). map (λ (d : TaskDecl). d.name) ts) c.requires.one.0.is ∙ ap (λ (t : TaskDecl). t.name ∷ []) c.requires.one.1)

@@ -1,0 +1,3 @@
+pub mod AppRange
+pub mod Code
+pub mod WellFormed

@@ -1,0 +1,191 @@
+-- From its opening mark on, a service is a stretch of a run, whatever lines arrive: its contract and its own law are all that is asked.
+use Rattle.std.proofs.Common.{◌≡◌, ℕ, ◌+◌, ◌*◌, ◌%◌, ◌<◌, ◌≤◌, List, [], ◌∷◌, length, sym, ap, ◌∙◌, subst, arith, None, cond}
+use Rattle.std.specs.Prelude.{slice_index}
+use Rattle.sloth_base.specs.declared.event.Arrival.{Arrival}
+use Rattle.sloth_base.specs.declared.service.Service.{Service}
+use Rattle.sloth_base.specs.Choose.{choose}
+use Rattle.sloth_base.specs.Machine.{State}
+use Rattle.sloth_base.specs.Arrive.{state_arrive}
+use Rattle.sloth_base.specs.Take.{line_to_take, enter, entered}
+use Rattle.rv32_instr.specs.declared.InstrKind.{InstrKind}
+use Rattle.rv32_instr.specs.declared.InstrKind.TheVariants.{Csrrci}
+use Rattle.rv32_instr.specs.Execute.{touched, touched_by}
+use Rattle.rv32_machine.specs.Run.{arrived}
+use Rattle.rv32_routine.specs.Masked.{FromOpening}
+use Rattle.rv32_routine.specs.Place.{at, InPlace}
+use Rattle.rv32_routine.specs.Trace.{touched_lines, early, late}
+use Rattle.rv32_routine.proofs.Machine.{touched_at}
+use Rattle.rv32_expand.specs.Expansion.{block_address, item_address, expansion}
+use Rattle.observe.specs.Observe.{View, mark_at}
+use Rattle.osek_machine.specs.State.{Task, System, task}
+use Rattle.osek_machine.specs.Priority.{IsTop}
+use Rattle.osek_machine.specs.Steps.{OsekStep}
+use Rattle.sim_induction.specs.Admits.{IsSetting, lines_at, with_admits, AllBelow}
+use Rattle.sim_induction.specs.Laws.{StretchLaw, served_event}
+use Rattle.sim_induction.specs.Mirror.{priority_of}
+use Rattle.sim_induction.proofs.Passing.{not_suspended, kept_admits, still_top}
+use Rattle.sim_induction.proofs.Routes.{Masking, masking}
+use Rattle.sim_induction.proofs.Schedule.{below_moments}
+use Rattle.sim_induction.proofs.Stretched.{service_law}
+use Rattle.sim_induction.proofs.Traces.{below_trace}
+use Rattle.sim_relation.specs.Build.{Build, Fits}
+use Rattle.sim_relation.specs.Context.{RunsTask, Running}
+use Rattle.sim_relation.specs.Placed.{setting_of}
+use Rattle.sim_relation.specs.Stands.{Stands, IsActive, AreActive}
+use Rattle.sim_relation.proofs.Arrive.{stands_arrived}
+use Rattle.sim_relation.proofs.Below.{is_below}
+use Rattle.sim_relation.proofs.Choice.{running_top}
+use Rattle.sim_relation.proofs.Levels.{level_of-few}
+use Rattle.sim_relation.proofs.Placed.{placed_in, code_behind, first_by_word}
+use Rattle.sim_relation.proofs.Tops.{falling_head}
+use Rattle.sim_services.specs.Opening.{AtOpening, OpensService, CanServe}
+use Rattle.sim_services.specs.Served.{IsServed, Answers, ServiceLaw}
+use Rattle.sim_services.specs.Stretch.{Stretches}
+
+module _ (b : Build) (view : View) (arrivals : List Arrival) (count : ℕ) (state : State) (s : System) (t : ℕ) (served : Service) (Contract : ℕ → List InstrKind → Type 0)
+    (fits : Fits b) (setting : IsSetting (setting_of b view arrivals)) (after_boot : 0 < count) (stands : Stands b state s)
+    (opens : OpensService b view (arrived arrivals count state) (with_admits (lines_at arrivals count) s) t served Contract)
+    (masks : (rest : List InstrKind) × (opens.block.code ≡ Csrrci 0 8 0x300 ∷ rest)) where
+  abbrev n : State
+  n = arrived arrivals count state
+
+  abbrev s1 : System
+  s1 = with_admits (lines_at arrivals count) s
+
+  abbrev op : AtOpening b n t (task s1 t) served
+  op = opens.opening
+
+  abbrev code : List InstrKind
+  code = opens.block.code
+
+  abbrev offset : ℕ
+  offset = opens.block.offset
+
+  few : length b.config.tasks ≤ 32
+  few = let f = fits.few_tasks in omega arith
+
+  all_below : (i : ℕ) → AllBelow (length b.config.tasks) (lines_at arrivals i)
+  all_below i = below_moments (length b.config.tasks) i (i + 1) arrivals setting.lines
+
+  k : Stands b n s1
+  k = stands_arrived b (lines_at arrivals count) state s few (all_below count) stands
+
+  none : line_to_take n ≡ None
+  none = ap (λ m. cond m (choose n.core) None) stands.fixed.open_to_lines ∙ opens.none
+
+  pc_is : n.pc ≡ 0x8000_0000 + offset
+  pc_is = op.block.pc
+      ∙ ap (λ v. block_address b.places v op.block.call.object) op.calls
+      ∙ opens.block.is
+
+  n_is : n ≡ at offset n.core
+  n_is = ap (λ p. record { pc = p; core = n.core }) pc_is
+
+  placed : InPlace n.core.ram offset code
+  placed = placed_in b n.core.ram offset code k.fixed.code opens.block.placed
+
+  back : slice_index n.core.registers 31 % 4 ≡ 0
+  back =
+      let a = fits.items op.frame.func op.frame.item in
+      ap (λ x. x % 4) op.block.returns
+      ∙ (let e : (item_address b.places op.frame.func op.frame.item + 4 * length (expansion b.app b.places op.frame.func op.frame.item)) % 4 ≡ 0 = omega arith in e)
+
+  untouched : touched (entered n) ≡ None
+  unfolding touched_by
+  untouched =
+      let c : InPlace n.core.ram offset (Csrrci 0 8 0x300 ∷ masks.0) = subst (InPlace n.core.ram offset) masks.1 placed in
+      ap (λ o. touched (enter o n)) none ∙ ap touched n_is ∙ touched_at offset n.core (Csrrci 0 8 0x300) c.0
+
+  module _ (below : List ℕ) (stack_is : k.stack ≡ t ∷ below) where
+    active : AreActive b s1 (t ∷ below)
+    active = subst (AreActive b s1) stack_is k.active
+
+    run : RunsTask b n s1 t below
+    run = subst (Running b n s1) stack_is k.running
+
+    here : IsActive b s1 t
+    here = falling_head b s1 t below active.falling
+
+    top : IsTop b.config s1 [] t
+    top = running_top b n s1 k few opens.none t below stack_is
+
+    serves_from : (place : ℕ) × CanServe offset code t place n.core
+    serves_from =
+        let f = k.fixed in
+        let h = here.declared in
+        let g = fits.few_tasks in
+        let l = run.level in
+        let m = level_of-few b.config (priority_of b.config s1 t) in (
+          run.next,
+          record {
+            goes_back = record {
+              can_run = record {
+                controller = f.controller;
+                registers = f.registers;
+                zero = f.zero;
+                lines = f.pending;
+                aligned = opens.block.placed.aligned;
+                behind = code_behind b offset code fits (subst (λ (c : List InstrKind). 0 < length c) (sym masks.1) (omega arith)) opens.block.placed;
+                inside = opens.block.placed.inside;
+                placed = placed;
+              };
+              previous = f.previous;
+              back = back;
+            };
+            level = omega arith;
+            current = op.current;
+            is_task = omega arith;
+            below = is_below b n s1 t below fits active run;
+          },
+        )
+
+    module _ (most : ℕ) (short : most ≤ 159) (Effect : List ℕ → State → State → Type 0) (law : ServiceLaw b n t (task s1 t) served Effect) (e : Masking arrivals most count state Effect) where
+      in_range : AllBelow (length b.config.tasks) (early e.trace) × AllBelow (length b.config.tasks) (late e.trace)
+      in_range = below_trace (length b.config.tasks) e.more (count + 1) (lines_at arrivals) e.next e.trace e.end all_below e.steps
+
+      abbrev s2 : System
+      s2 = with_admits (early e.trace) s1
+
+      is_served : IsServed b (state_arrive (early e.trace) n) s2 t (task s1 t) served
+      is_served = record {
+        stands = stands_arrived b (early e.trace) n s1 few in_range.0 k;
+        own_is = kept_admits (early e.trace) t s1 (not_suspended (task s1 t).state here.active);
+        opening = record {
+          current = op.current;
+          free = op.free;
+          frame = op.frame;
+          outer = op.outer;
+          frames = op.frames;
+          inside = op.inside;
+          block = op.block;
+          calls = op.calls;
+        };
+        top = still_top b.config s1 t (early e.trace) top here.active opens.not_fresh;
+        bytes = opens.bytes;
+      }
+
+      a : Answers b s2 t served (touched_lines e.trace) e.last
+      a = law (early e.trace) (touched_lines e.trace) s2 e.last is_served e.effect
+
+      stretch : StretchLaw (setting_of b view arrivals) (Stands b) count state s e.next e.trace e.end
+      stretch =
+          service_law (setting_of b view arrivals) setting (Stands b) count state s t served opens.block.mark most Effect
+          after_boot stands.fixed.open_to_lines none
+          (ap (λ o. mark_at view (enter o n).pc) none ∙ ap (mark_at view) pc_is ∙ opens.block.marked) opens.block.opens opens.block.calls
+          (let v = setting.tasks in let h = here.declared in omega arith) op.current
+          stands.tidy.booted top here.active e short (ap (λ (x : State). x.core.mie) e.late_behind ∙ a.stands.fixed.open_to_lines) untouched a.one a.other a.touches
+          a.after
+          (subst (λ (x : State). OsekStep b.config b.app (served_event t served x) s2 a.after) (sym e.late_behind) a.step_is)
+          (stands_arrived b (late e.trace) e.last a.after few in_range.1 a.stands)
+
+  -- the machine is as the service's contract asks
+  pub can_serve : (place : ℕ) × CanServe offset code t place n.core
+  can_serve = let f = first_by_word b n s1 t k.stack k.running op.current in serves_from f.0 f.1
+
+  -- where the block has its effect from there on, and the service its law, it is a stretch
+  pub service_stretches : (most : ℕ) → most ≤ 159 → (Effect : List ℕ → State → State → Type 0) → FromOpening most (at offset n.core) Effect
+      → ServiceLaw b n t (task s1 t) served Effect → Stretches b view arrivals count state s
+  service_stretches most short Effect runs law =
+      let f = first_by_word b n s1 t k.stack k.running op.current in
+      let e = masking arrivals most count state Effect none (subst (λ m. FromOpening most m Effect) (sym n_is) runs) in
+      (e.next, e.trace, e.end, stretch f.0 f.1 most short Effect law e)

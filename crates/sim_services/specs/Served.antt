@@ -1,0 +1,37 @@
+-- What is asked of each service: its law, said without arrivals.
+use Rattle.std.specs.Prelude.{ℕ, ◌≡◌, List, [], ◌∷◌}
+use Rattle.sloth_base.specs.declared.service.Service.{Service}
+use Rattle.sloth_base.specs.Arrive.{state_arrive}
+use Rattle.sloth_base.specs.Machine.{State}
+use Rattle.osek_machine.specs.State.{Task, System, task}
+use Rattle.osek_machine.specs.Priority.{IsTop}
+use Rattle.osek_machine.specs.Steps.{OsekStep}
+use Rattle.sim_induction.specs.Laws.{AreOneOf, served_event}
+use Rattle.sim_relation.specs.Bounds.{AreBelow}
+use Rattle.sim_relation.specs.Build.{Build}
+use Rattle.sim_relation.specs.Stands.{Stands}
+use Rattle.sim_services.specs.Opening.{AtOpening}
+
+-- The running task, whose record is `own`, stands at the service's opening mark, and is the top task but for those that arrived
+-- since the last event.
+pub record IsServed (b : Build) (state : State) (s : System) (t : ℕ) (own : Task) (served : Service) : Type 0 where
+  pub stands : Stands b state s
+  pub own_is : task s t ≡ own
+  pub opening : AtOpening b state t own served
+  pub top : IsTop b.config s s.fresh t
+  pub bytes : AreBelow 256 state.core.ram
+
+-- The service touches at most two lines, its event is a step of the abstract scheduler, and the states at its end are related.
+pub record Answers (b : Build) (s : System) (t : ℕ) (served : Service) (touched : List ℕ) (end : State) : Type 0 where
+  pub one : ℕ
+  pub other : ℕ
+  pub touches : AreOneOf (one ∷ other ∷ []) touched
+  pub after : System
+  pub step_is : OsekStep b.config b.app (served_event t served end) s after
+  pub stands : Stands b end after
+
+-- A service's own law: where the task is served from this state on, with any early arrivals, the effect is the answer.
+abbrev pub ServiceLaw : Build → State → ℕ → Task → Service → (List ℕ → State → State → Type 0) → Type 0
+ServiceLaw b state t own served Effect =
+    (lines touched : List ℕ) (s : System) (end : State) → IsServed b (state_arrive lines state) s t own served
+    → Effect touched (state_arrive lines state) end → Answers b s t served touched end
