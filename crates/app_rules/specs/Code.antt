@@ -58,6 +58,7 @@ ReachesPause app f = (g : ℕ) × (i : ℕ) × (s : Service) × (object : ℕ) �
 
 -- ---- paths
 
+-- a service that never returns
 abbrev pub ends_for_good : Service → Bool
 ends_for_good service.TerminateTask = true
 ends_for_good _ = false
@@ -88,6 +89,7 @@ Path f i (k ∷ between) j = GoesOn f i k × Path f k between j
 
 -- ---- held resources
 
+-- a number is in a list
 abbrev pub is_in : ℕ → List ℕ → Bool
 is_in x [] = false
 is_in x (y ∷ ys) = (y == x) || is_in x ys
@@ -98,11 +100,13 @@ is_last r [] = false
 is_last r (x ∷ []) = x == r
 is_last r (x ∷ y ∷ ys) = is_last r (y ∷ ys)
 
+-- the list without its last number
 abbrev pub without_last : List ℕ → List ℕ
 without_last [] = []
 without_last (x ∷ []) = []
 without_last (x ∷ y ∷ ys) = x ∷ without_last (y ∷ ys)
 
+-- the held resources behind a service that names this one
 abbrev pub held_behind : Service → ℕ → List ℕ → List ℕ
 held_behind service.GetResource r held = held ++ r ∷ []
 held_behind service.ReleaseResource r held = without_last held

@@ -79,6 +79,7 @@ LeavesWrongly f (op.Serve call) = Ends call.service × (f.task ≡ None)
 LeavesWrongly f op.Return = (t : ℕ) × (f.task ≡ Some t)
 LeavesWrongly f _ = ⊥
 
+-- a task lists a resource
 abbrev pub Lists : TaskDecl → ℕ → Type 0
 Lists task r = is_in r task.resources ≡ true
 
@@ -94,6 +95,7 @@ IsUnlisted config app f r = (r ≢ 32) × ((t : ℕ) × TaskReaches app t f × �
 abbrev pub IsLacked : Config → App → ℕ → ℕ → Type 0
 IsLacked config app f mask = (t : ℕ) × TaskReaches app t f × ¬ (HasEvents (declaration config t) mask)
 
+-- a function uses a service with what its tasks do not have
 abbrev pub Misuses : Config → App → ℕ → Service → (object mask : ℕ) → Type 0
 Misuses config app f service.GetResource r mask = IsUnlisted config app f r
 Misuses config app f service.ReleaseResource r mask = IsUnlisted config app f r
@@ -111,6 +113,7 @@ UsesUndeclared config app f _ = ⊥
 
 -- ---- faults
 
+-- the resources that are held before an item
 abbrev pub held_before : App → ℕ → ℕ → List ℕ
 held_before app f i = held_at (function app f) i
 
@@ -133,6 +136,7 @@ pub data Differs (f : Func) (k : ℕ) : Type 0 where
   falling_in : is_entered f k ≡ true → (label_of f k).holds ≢ held_entering f k → Differs f k
   at_begin : (label_of f k).item ≡ 0 → (label_of f k).holds ≢ [] → Differs f k
 
+-- a fault of the task source on a line
 abbrev pub at_line : ℕ → Code → Refusal
 at_line line c = record { part = part.Src; line = line; code = c }
 
@@ -152,6 +156,7 @@ RuleFault config app r = (f : ℕ) × (f < length app.funcs) × BodyFault config
 pub data CycleFault (app : App) : Refusal → Type 0 where
   on_cycle : (f : ℕ) (between : List ℕ) → CallChain app f between f → CycleFault app (at_line (function app f).line code.V1)
 
+-- task code that keeps every rule
 pub record WellFormed (config : Config) (app : App) : Type 0 where
   pub in_range : AppInRange config app
   pub no_cycle : NoFault (CycleFault app)

@@ -1,7 +1,6 @@
 -- The events of a run.
 use Rattle.std.specs.Prelude.{ℕ, ◌+◌, ◌-◌, ◌==◌, nat_lt, nat_le, Bool, false, not, ◌&&◌, if◌then◌else◌, List, [], ◌∷◌, ◌++◌, map, filter, length, Option, Some, None, slice_index, find}
 use Rattle.std.specs.List.{flat_map, list_any}
-use Rattle.std.specs.List.Sorted.{IsStrictlyIncreasing}
 use Rattle.sloth_base.specs.declared.service.Service.{Service}
 use Rattle.sloth_base.specs.declared.image.Image.{Image}
 use Rattle.sloth_base.specs.declared.image.Mark.{Mark}
@@ -31,10 +30,6 @@ abbrev pub view_of_image : Image → View
 view_of_image image = view_from image.marks (length image.tasks)
 
 -- ---- tasks, services and marks
-
--- the addresses of the marks rise
-abbrev pub AreAscending : List Mark → Type 0
-AreAscending marks = IsStrictlyIncreasing (map (λ mark. mark.address) marks)
 
 -- the number of no task
 abbrev pub NO_TASK : ℕ

@@ -15,7 +15,8 @@ pub struct ImageView<'a> {
 }
 
 impl<'a> Model for ImageView<'a> {
-    ghost use Rattle.observe.specs.Observe.{View, view_from, AreAscending};
+    ghost use Rattle.observe.specs.Observe.{View, view_from};
+    ghost use Rattle.sloth_base.specs.ImageRange.{AreAscending};
 
     ghost Value = { View };
 

@@ -1,7 +1,8 @@
 //! An observer that is fed one step at a time.
 ghost use Rattle.std.specs.Prelude.{◌≡◌, ◌<◌, ◌≤◌, ◌+◌, ◌++◌, ◌∷◌, [], true, List, length, take_while, nat_le, IfSome, IfNone, OnSome, IsOk, IfOk, IsNone, ◌↔◌};
 ghost use Rattle.observe.specs.Pieces.{begins};
-ghost use Rattle.observe.specs.Observe.{admit, observe, view_of_image, AreAscending};
+ghost use Rattle.observe.specs.Observe.{admit, observe, view_of_image};
+ghost use Rattle.sloth_base.specs.ImageRange.{AreAscending};
 
 use crate::image_view::ImageView;
 use crate::touched::{skip_early, skip_late};

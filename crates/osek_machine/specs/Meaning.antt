@@ -76,6 +76,7 @@ abbrev pub on_some : {A B : Type 0} → Option A → (A → Option B) → Option
 on_some None go = None
 on_some (Some a) go = go a
 
+-- what there is, where a test holds
 abbrev pub if_true : {A : Type 0} → Bool → Option A → Option A
 if_true true a = a
 if_true false a = None

@@ -45,6 +45,7 @@ pub record HasNotChained (task own : ℕ) (touched : List ℕ) (start end : Stat
   pub kept : (i : ℕ) → 5 ≤ i → i ≢ 10 → slice_index end.core.registers i ≡ slice_index start.core.registers i
   pub ram : end.core.ram ≡ start.core.ram
 
+-- what ChainTask does
 abbrev pub Chained : ℕ → ℕ → ℕ → List ℕ → State → State → Type 0
 Chained task own place touched start end = HasChained task own place touched start end ⊎ HasNotChained task own touched start end
 

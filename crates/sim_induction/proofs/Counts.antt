@@ -9,7 +9,7 @@ use Rattle.sloth_base.specs.Arrivals.{moments}
 use Rattle.osek_machine.specs.InTime.{is_admit, admitted_task, admits_at, arrivals_at}
 use Rattle.sloth_base.specs.Options.{is_number}
 use Rattle.sim_induction.specs.Admits.{admit_event}
-use Rattle.sim_induction.specs.Advances.{EachEvent}
+use Rattle.std.specs.List.{AllByRecursion}
 
 pub admits-cons : (i t : ℕ) (e : Stamped) (a : List Stamped) → admits_at i t (e ∷ a) ≡ cond (is_number t (admitted_task e.event) && (e.stamp.at == i)) 1 0 + admits_at i t a
 admits-cons i t e a = sum_by-cons (λ (e : Stamped). cond (is_number t (admitted_task e.event) && (e.stamp.at == i)) 1 0) e a
@@ -37,7 +37,7 @@ no_task i t at n (Some u) h = cc
 pub other_counts : (i t : ℕ) (e : Stamped) (a : List Stamped) → is_admit e ≡ false → admits_at i t (e ∷ a) ≡ admits_at i t a
 other_counts i t e a h = admits-cons i t e a ∙ no_task i t e.stamp.at (admits_at i t a) (admitted_task e.event) h
 
-pub others_count : (i t : ℕ) (a : List Stamped) → EachEvent (λ e. is_admit e ≡ false) a → admits_at i t a ≡ 0
+pub others_count : (i t : ℕ) (a : List Stamped) → AllByRecursion (λ e. is_admit e ≡ false) a → admits_at i t a ≡ 0
 others_count i t [] h = refl
 others_count i t (e ∷ a) h = other_counts i t e a h.0 ∙ others_count i t a h.1
 

@@ -19,6 +19,7 @@ pub record Runs (config : Config) (s : System) (t : ℕ) : Type 0 where
   pub active : (task s t).state ≡ mode.Active
   pub is_greatest : (u : ℕ) → u < length config.tasks → (task s u).state ≡ mode.Active → priority_of config s u ≤ priority_of config s t
 
+-- the controller's bytes, the running level and the word at 0x80000000 say what the system is
 pub record Mirror (config : Config) (core : Core) (s : System) : Type 0 where
   pub suspended : (t : ℕ) → t < length config.tasks → (task s t).state ≡ mode.Suspended
       → (slice_index core.enabled t ≡ 1) × (slice_index core.pending t ≡ 0)

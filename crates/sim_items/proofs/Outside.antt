@@ -1,6 +1,6 @@
 -- Instructions outside the stretches.
 use Rattle.std.proofs.Common.{◌≡◌, ℕ, ◌+◌, ◌-◌, ◌<◌, ◌≤◌, List, [], ◌∷◌, length, refl, sym, ap, ◌∙◌, subst, arith, Some, None, cond, nat_le}
-use Rattle.std.specs.Prelude.{◌&&◌, slice_index, IfSome}
+use Rattle.std.specs.Prelude.{◌&&◌, slice_index, IfSome, Contains}
 use Rattle.std.proofs.lemmas.Bool.{lt-ltb, le-leb}
 use Rattle.sloth_base.specs.declared.app.Op.{Op}
 use Rattle.sloth_base.specs.declared.app.Op.TheVariants as op
@@ -23,7 +23,6 @@ use Rattle.observe.specs.Observe.{View, mark_at, task_of, outside_events, events
 use Rattle.osek_machine.specs.State.{System}
 use Rattle.osek_machine.specs.Priority.{IsTop}
 use Rattle.osek_machine.specs.Steps.{settled}
-use Rattle.sim_induction.specs.Short.{IsOneOf}
 use Rattle.sim_induction.specs.Admits.{Setting, lines_at, with_admits}
 use Rattle.sim_induction.specs.Laws.{OutsideLaw, Shows, seen_at}
 use Rattle.sim_induction.proofs.Routes.{begins_none}
@@ -90,7 +89,7 @@ module _ (b : Build) (view : View) (arrivals : List Arrival) (progress : State �
   one_instruction next mark whats after goes quiet marked shown shows rises related = record {
     goes = ap (λ o. step (enter o n)) none ∙ goes;
     outside = begins_none count n next here.after_boot none related.fixed.open_to_lines;
-    untouched = subst (λ o. IfSome o (IsOneOf [])) (sym (ap (λ o. touched (enter o n)) none ∙ quiet)) tt;
+    untouched = subst (λ o. IfSome o (Contains [])) (sym (ap (λ o. touched (enter o n)) none ∙ quiet)) tt;
     whats = whats;
     whats_are = ap (λ o. outside_events (mark_at view (enter o n).pc) view (seen_at given count state next)) none
         ∙ ap (λ m. outside_events m view (seen_at given count state next)) marked ∙ shown;

@@ -9,7 +9,8 @@ use Rattle.rv32_instr.specs.Range.{Even}
 use Rattle.rv32_expand.specs.Expansion.{item_address, block_address, distance, expansion}
 use Rattle.sloth_base.specs.Named.{operation, function}
 use Rattle.rv32_expand.specs.InPlace.{IsItem, ItemsInPlace}
-use Rattle.observe.specs.Observe.{AreAscending, mark_at, view_of_image}
+use Rattle.observe.specs.Observe.{mark_at, view_of_image}
+use Rattle.sloth_base.specs.ImageRange.{AreAscending}
 use Rattle.sim_relation.specs.Build.{Build}
 use Rattle.sim_items.specs.Place.{IsComputed}
 use Rattle.sim_services.specs.Stretch.{HasTerminateTask}

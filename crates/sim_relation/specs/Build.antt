@@ -11,6 +11,7 @@ use Rattle.osek_machine.specs.State.{declaration, body_of}
 use Rattle.osek_machine.specs.Priority.{highest}
 use Rattle.sloth_base.specs.PriorityLevels.{level_of}
 
+-- the configuration, the task code, and where all of it stands in the image
 pub record Build : Type 0 where
   pub config : Config
   pub app : App

@@ -44,6 +44,7 @@ Chain b ram s (t ∷ below) place =
 
 -- ---- what runs
 
+-- the machine runs a task, below which these are Active
 pub record RunsTask (b : Build) (state : State) (s : System) (t : ℕ) (below : List ℕ) : Type 0 where
   pub level : state.core.ilevel ≡ level_of b.config (priority_of b.config s t)
   pub current : word_at state.core.ram cur ≡ t + 1
@@ -53,6 +54,7 @@ pub record RunsTask (b : Build) (state : State) (s : System) (t : ℕ) (below : 
   pub link : word_at state.core.ram below_word ≡ 0x8000_0000 + next
   pub chain : Chain b state.core.ram s below next
 
+-- the machine runs the idle loop
 pub record RunsIdle (b : Build) (state : State) : Type 0 where
   pub level : state.core.ilevel ≡ 0
   pub current : word_at state.core.ram cur ≡ 0

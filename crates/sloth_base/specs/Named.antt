@@ -11,6 +11,7 @@ use Rattle.sloth_base.specs.declared.app.Op.TheVariants as op
 use Rattle.sloth_base.specs.declared.app.Symbol.{Symbol}
 use Rattle.sloth_base.specs.Options.{is_number}
 
+-- what stands in the place of a task that is not declared
 abbrev pub undeclared : TaskDecl
 undeclared = record { name = []; priority = 0; extended = false; non = false; autostart = false; resources = []; events = 0 }
 
@@ -18,21 +19,27 @@ undeclared = record { name = []; priority = 0; extended = false; non = false; au
 abbrev pub declaration : Config → ℕ → TaskDecl
 declaration config t = get_or config.tasks t undeclared
 
+-- what stands in the place of a function that is not there
 abbrev pub missing : Func
 missing = record { name = []; line = 0; task = None; frame_words = 0; items = []; labels = [] }
 
+-- a function by its number
 abbrev pub function : App → ℕ → Func
 function app f = get_or app.funcs f missing
 
+-- what stands in the place of a label that is not there
 abbrev pub nowhere : Label
 nowhere = record { name = []; line = 0; item = 0; holds = [] }
 
+-- a label of a function
 abbrev pub label_of : Func → ℕ → Label
 label_of f k = get_or f.labels k nowhere
 
+-- what stands in the place of an item that is not there
 abbrev pub no_item : Item
 no_item = record { line = 0; op = op.Return }
 
+-- an item of a function
 abbrev pub item_of : Func → ℕ → Item
 item_of f i = get_or f.items i no_item
 
@@ -40,6 +47,7 @@ item_of f i = get_or f.items i no_item
 abbrev pub operation : App → ℕ → ℕ → Op
 operation app f i = (item_of (function app f) i).op
 
+-- what stands in the place of a symbol that is not there
 abbrev pub no_symbol : Symbol
 no_symbol = record { name = []; bytes = [] }
 

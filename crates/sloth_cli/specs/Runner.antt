@@ -36,6 +36,7 @@ run_steps image arrivals n = steps_of (run n arrivals (start image))
 abbrev pub run_text : Image → List Arrival → Form → ℕ → List ℕ
 run_text image arrivals form n = text_in image form (events_of image arrivals n)
 
+-- how a run ends, by where it stopped
 abbrev pub end_of : Option Stopping → RunEnd
 end_of None = ends.Whole
 end_of (Some stopping) = ends.Stopped stopping.pc stopping.stop
@@ -59,9 +60,11 @@ pub record Draining (image : Image) (form : Form) (idle : Bool) (o0 : Observer) 
 
 -- ---- a runner
 
+-- the state of the machine that runs
 abbrev pub sloth_state : Machine SlothBus → State
 sloth_state machine = state (λ bus. bus) machine
 
+-- the image that it runs
 abbrev pub image_of : Runner → Image
 image_of runner = runner.image.now
 
@@ -69,6 +72,7 @@ image_of runner = runner.image.now
 abbrev pub given : Runner → List Arrival
 given runner = arrivals_of runner.observer
 
+-- the number of instructions that it has done
 abbrev pub count_of : Runner → ℕ
 count_of runner = runner.count
 
@@ -77,7 +81,7 @@ abbrev pub AreLines : List Arrival → Type 0
 AreLines arrivals = All (λ arrival. arrival.line < 32) arrivals
 
 -- k instructions are done, and all their finished events were handed out
-pub record Stands (runner : Runner) (image : Image) (k : ℕ) : Type 0 where
+pub record HasDone (runner : Runner) (image : Image) (k : ℕ) : Type 0 where
   pub format : InFormat image
   pub lines : AreLines runner.coming.now
   pub view : view_of runner.observer ≡ view_of_image image
@@ -91,7 +95,7 @@ pub record Stands (runner : Runner) (image : Image) (k : ℕ) : Type 0 where
 
 -- between two instructions
 abbrev pub IsRunning : Runner → Type 0
-IsRunning runner = Stands runner runner.image.now runner.count
+IsRunning runner = HasDone runner runner.image.now runner.count
 
 -- it has run nothing
 abbrev pub IsFresh : Runner → Type 0
