@@ -22,6 +22,7 @@ RunTo arrivals (suc n) count state steps end =
     (step : Step) × (next : State) × (moment arrivals count state ≡ Goes step next)
     × ((rest : List Step) × (steps ≡ step ∷ rest) × RunTo arrivals n (count + 1) next rest end)
 
+-- each event
 abbrev pub EachEvent : (Stamped → Type 0) → List Stamped → Type 0
 EachEvent P [] = Unit {0}
 EachEvent P (e ∷ events) = P e × EachEvent P events

@@ -22,6 +22,7 @@ pub record Runs (config : Config) (s : System) (t : ℕ) : Type 0 where
 abbrev pub level_of : Config → ℕ → ℕ
 level_of config priority = count_by (λ d. nat_le d.priority priority) config.tasks
 
+-- the levels, lines and the running task are those of the system
 pub record Mirror (config : Config) (core : Core) (s : System) : Type 0 where
   pub suspended : (t : ℕ) → t < length config.tasks → (task s t).state ≡ mode.Suspended
       → (slice_index core.enabled t ≡ 1) × (slice_index core.pending t ≡ 0)

@@ -5,6 +5,7 @@ use Rattle.sloth_base.specs.declared.step.Step.{Step}
 use Rattle.observe.specs.Pieces.{Piece, Outside, Stretch, pieces, cut_off}
 use Rattle.observe.specs.Observe.{View, mark_at, outside_events}
 
+-- a line is one of these
 abbrev pub IsOneOf : List ℕ → ℕ → Type 0
 IsOneOf [] line = ⊥
 IsOneOf (l ∷ lines) line = (line ≡ l) ⊎ IsOneOf lines line
@@ -19,10 +20,12 @@ abbrev pub IsShortAt : Bool → List Step → Type 0
 IsShortAt true steps = (length steps ≤ 400) × All (TouchesOnly []) steps
 IsShortAt false steps = (length steps ≤ 160) × ((one other : ℕ) × All (TouchesOnly (one ∷ other ∷ [])) steps)
 
+-- the steps of a stretch, which is boot where the first has count 0
 abbrev pub IsShort : List Step → Type 0
 IsShort [] = Unit {0}
 IsShort (first ∷ more) = IsShortAt (first.count == 0) (first ∷ more)
 
+-- a piece of a run
 abbrev pub IsShortPiece : Piece → Type 0
 IsShortPiece (Outside step) = TouchesOnly [] step
 IsShortPiece (Stretch steps) = IsShort steps
@@ -32,6 +35,7 @@ abbrev pub passed_by : List Event → ℕ → ℕ
 passed_by [] before = before + 1
 passed_by (event ∷ events) before = 0
 
+-- the same behind a piece
 abbrev pub passed : View → Piece → ℕ → ℕ
 passed view (Outside step) before = passed_by (outside_events (mark_at view step.pc) view step) before
 passed view (Stretch steps) before = 0
@@ -41,6 +45,7 @@ abbrev pub HasShortGaps : View → ℕ → List Piece → Type 0
 HasShortGaps view before [] = Unit {0}
 HasShortGaps view before (piece ∷ rest) = (passed view piece before ≤ 40) × HasShortGaps view (passed view piece before) rest
 
+-- the pieces of these steps are short, and so are the gaps between events
 pub record Short (view : View) (steps : List Step) : Type 0 where
   pub finished : All IsShortPiece (pieces [] steps)
   pub cut : IsShort (cut_off [] steps)

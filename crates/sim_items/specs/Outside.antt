@@ -42,6 +42,7 @@ GoesOutside b view arrivals progress count state s = (next : State) × OutsideLa
 
 -- ---- an item that computes on registers and numbers
 
+-- it is an instruction outside the stretches
 abbrev pub ComputedItemsGoOn : Type 0
 ComputedItemsGoOn = (b : Build) (view : View) (arrivals : List Arrival) (progress : State → System → ℕ) (count : ℕ) (state : State) (s : System) (t : ℕ)
     → At b view arrivals count state s → (here : AtItem b (arrived arrivals count state) (with_admits (lines_at arrivals count) s) t)
@@ -85,6 +86,7 @@ pub record HasIdle (b : Build) (view : View) : Type 0 where
   pub marked : mark_at view b.idle ≡ Some mark
   pub shows : mark.kind ≡ kind.Idle
 
+-- it stays, and shows Idle
 abbrev pub IdleGoesOn : Type 0
 IdleGoesOn = (b : Build) (view : View) (arrivals : List Arrival) (progress : State → System → ℕ) (count : ℕ) (state : State) (s : System)
     → At b view arrivals count state s → word_at state.core.ram cur ≡ 0 → HasIdle b view → GoesOutside b view arrivals progress count state s

@@ -24,6 +24,7 @@ pub record IsPlainTask (own : Task) : Type 0 where
   pub free : own.owed ≡ false
   pub anew : is_active own.state ≡ false → own.frames ≡ []
 
+-- each task is so, those before the start have no frames, and those that arrived since the last event are Ready
 pub record IsPlain (config : Config) (s : System) : Type 0 where
   pub tasks : length s.tasks ≡ length config.tasks
   pub each : (t : ℕ) → IsPlainTask (task s t)

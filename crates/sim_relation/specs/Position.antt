@@ -19,6 +19,7 @@ pub record Thread : Type 0 where
   pub x2 : ℕ
   pub x : ℕ → ℕ
 
+-- of the machine
 abbrev pub thread_of : State → Thread
 thread_of state = record { pc = state.pc; x2 = slice_index state.core.registers 2; x = λ i. slice_index state.core.registers i }
 
@@ -50,6 +51,7 @@ OuterAt b ram (frame ∷ outer) place top =
     (word_at ram place ≡ return_address b frame) × (length frame.words ≡ (function b.app frame.func).frame_words)
     × AreWords ram (place + 4) frame.words × OuterAt b ram outer (place + 4 + 4 * length frame.words) top
 
+-- the frames stand from `place` up to `top`: the innermost one's words, and then the outer ones
 abbrev pub FramesAt : Build → List ℕ → Frame → List Frame → (place top : ℕ) → Type 0
 FramesAt b ram frame outer place top =
     (length frame.words ≡ (function b.app frame.func).frame_words)
@@ -155,6 +157,7 @@ pub record Returning (b : Build) (ram : List ℕ) (top : ℕ) (own : Task) (fram
   pub here : (th.pc ≡ item_address b.places frame.func frame.item + 4) × FramesAt b ram frame outer place top
       ⊎ (th.pc ≡ item_address b.places frame.func frame.item + 8) × FramesAt b ram caller rest place top
 
+-- where a task stands
 pub record Position (b : Build) (ram : List ℕ) (t : ℕ) (own : Task) (th : Thread) (place : ℕ) : Type 0 where
   pub frame : Frame
   pub outer : List Frame

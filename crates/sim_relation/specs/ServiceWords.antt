@@ -10,6 +10,7 @@ use Rattle.sim_induction.specs.Mirror.{level_of}
 use Rattle.sim_relation.specs.Build.{Build}
 use Rattle.sim_relation.specs.Context.{Resumes}
 
+-- 1 where the task is Active
 abbrev pub active_word : TaskState → ℕ
 active_word state = cond (is_active state) 1 0
 
@@ -30,6 +31,7 @@ HeldWords b ram priority (r ∷ held) =
 abbrev pub base_priority : Build → ℕ → Task → ℕ
 base_priority b t own = max (declaration b.config t).priority (cond own.raised (highest b.config) 0)
 
+-- what the service words say of a task
 pub record ServiceWords (b : Build) (ram : List ℕ) (t : ℕ) (own : Task) : Type 0 where
   pub activity : word_at ram (active t) ≡ active_word own.state
   pub event_mask : word_at ram (events t) ≡ own.events
