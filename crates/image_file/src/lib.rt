@@ -1,5 +1,11 @@
 //! The image file: a memory image, its marks and its names as bytes.
 #![tactic(auto)]
 
+pub mod fault;
+mod header;
 pub mod laws;
+mod marks;
+mod names;
+mod numbers;
+pub mod read;
 pub mod write;

@@ -1,7 +1,8 @@
 -- The bytes of OIL text by their classes.
-use Rattle.std.specs.Prelude.{ℕ, ◌+◌, ◌-◌, ◌*◌, Bool, if◌then◌else◌, ◌||◌, ◌&&◌, ◌==◌, not, nat_le, List, [], ◌∷◌}
+use Rattle.std.specs.Prelude.{ℕ, Bool, if◌then◌else◌, ◌||◌, ◌&&◌, ◌==◌, not, [], ◌∷◌}
 use Rattle.std.specs.List.{list_any}
-use Rattle.std.specs.Char.{is_ascii_digit, is_ascii_alphabetic, is_ascii_hexdigit, is_ascii_alphanumeric}
+use Rattle.std.specs.Char.{is_ascii_digit, is_ascii_alphabetic, is_ascii_hexdigit}
+use Rattle.sloth_base.specs.ImageRange.{continues_word}
 use Rattle.oil_lex.specs.declared.bytes.Class.{Class}
 use Rattle.oil_lex.specs.declared.bytes.Class.TheVariants as class
 
@@ -25,7 +26,7 @@ class_of b =
 
 -- letters, digits and _
 unfoldable pub is_word_byte : ℕ → Bool
-is_word_byte b = is_ascii_alphanumeric b || (b == 95)
+is_word_byte b = continues_word b
 
 unfoldable pub is_digit : ℕ → Bool
 is_digit b = is_ascii_digit b
@@ -39,12 +40,3 @@ is_quoted b = not (b == 34) && not (b == 10)
 
 unfoldable pub is_not_lf : ℕ → Bool
 is_not_lf b = not (b == 10)
-
--- the value of a digit, decimal or hexadecimal of either case
-unfoldable pub digit_value : ℕ → ℕ
-digit_value b = if nat_le 97 b then b - 87 else (if nat_le 65 b then b - 55 else b - 48)
-
--- the value of digits behind those of value v
-abbrev pub value_from : ℕ → ℕ → List ℕ → ℕ
-value_from base v [] = v
-value_from base v (d ∷ ds) = value_from base (base * v + digit_value d) ds

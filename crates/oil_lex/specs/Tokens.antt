@@ -1,5 +1,5 @@
 -- What the pieces of a text mean: its tokens and its faults.
-use Rattle.std.specs.Prelude.{◌≡◌, ℕ, ◌+◌, ◌==◌, List, [], ◌∷◌, ◌++◌, min, count_by, drop, ◌⊎◌}
+use Rattle.std.specs.Prelude.{◌≡◌, ℕ, ◌+◌, ◌==◌, List, [], ◌∷◌, ◌++◌, count_by, drop, ◌⊎◌}
 use Rattle.sloth_base.specs.declared.refusal.Part.TheVariants.{Oil}
 use Rattle.sloth_base.specs.declared.refusal.Code.TheVariants as code
 use Rattle.sloth_base.specs.declared.refusal.Refusal.{Refusal}
@@ -12,7 +12,7 @@ use Rattle.oil_lex.specs.declared.pieces.Meaning.{Meaning}
 use Rattle.oil_lex.specs.declared.pieces.Meaning.TheVariants.{Nothing, IsToken, IsFault}
 use Rattle.oil_lex.specs.declared.pieces.PieceKind.{PieceKind}
 use Rattle.oil_lex.specs.declared.pieces.PieceKind.TheVariants as kind
-use Rattle.oil_lex.specs.Bytes.{value_from}
+use Rattle.text_pieces.specs.Digits.{value_from, capped}
 use Rattle.oil_lex.specs.Pieces.{Piece, Cut}
 
 -- how many lines end in these bytes
@@ -27,10 +27,6 @@ pub record Lexeme : Type 0 where
 
 abbrev pub lexeme : Token → Lexeme
 lexeme t = record { kind = t.kind; line = t.line; bytes = t.span.now }
-
--- the lesser of a value and 4,294,967,296
-abbrev pub capped : ℕ → ℕ
-capped v = min v 4294967296
 
 -- what a piece means: a token, a fault, or neither
 abbrev pub meaning : PieceKind → List ℕ → Meaning

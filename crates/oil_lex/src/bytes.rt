@@ -2,9 +2,11 @@
 
 ghost use Rattle.std.specs.Prelude.{◌≡◌, ◌<◌, ◌≤◌, length, IsTrue};
 ghost use Rattle.std.specs.List.{prefix_len};
-ghost use Rattle.oil_lex.specs.Bytes.{class_of, digit_value};
+ghost use Rattle.oil_lex.specs.Bytes.{class_of};
 ghost use Rattle.oil_lex.specs.Pieces.{begins_hex, closes};
 ghost use Rattle.oil_lex.specs.Front.{passes, comment_length};
+
+use text_pieces::bytes::continues_word;
 
 /// What a byte begins.
 #[derive(Clone, Copy)]
@@ -63,7 +65,7 @@ fn passes(run: Run, byte: u8) -> bool
     ensures { result ≡ passes run byte }
 {
     match run {
-        Run::WordBytes => byte.is_ascii_alphanumeric() || byte == b'_',
+        Run::WordBytes => continues_word(byte),
         Run::Digits => byte.is_ascii_digit(),
         Run::HexDigits => byte.is_ascii_hexdigit(),
         Run::Quoted => byte != b'"' && byte != b'\n',
@@ -115,20 +117,4 @@ pub fn begins_hex(text: &[u8]) -> bool
         && text[0] == b'0'
         && (text[1] == b'x' || text[1] == b'X')
         && text[2].is_ascii_hexdigit()
-}
-
-/// The value of a digit, decimal or hexadecimal.
-#[tactic(auto, unfolding(crate::specs::Bytes::digit_value))]
-pub fn digit_value(byte: u8) -> u64
-    ensures value { result ≡ digit_value byte }
-    ensures small { result < 256 }
-{
-    let digit = u64::from(byte);
-    if byte >= b'a' {
-        digit - 87
-    } else if byte >= b'A' {
-        digit - 55
-    } else {
-        digit.saturating_sub(48)
-    }
 }

@@ -1,12 +1,11 @@
 //! What the pieces of a text mean.
 
-ghost use Rattle.std.specs.Prelude.{◌≡◌, ◌<◌, ◌≤◌, length};
-ghost use Rattle.oil_lex.specs.Bytes.{value_from};
-ghost use Rattle.oil_lex.specs.Tokens.{meaning, capped, line_ends};
+ghost use Rattle.std.specs.Prelude.{◌≡◌, ◌≤◌, length};
+ghost use Rattle.oil_lex.specs.Tokens.{meaning, line_ends};
 
-use crate::bytes::digit_value;
 use crate::kinds::TokenKind;
 use sloth_base::refusal::Code;
+use text_pieces::numerals::value;
 
 /// What a piece of a text is.
 #[derive(Clone, Copy)]
@@ -33,23 +32,6 @@ pub enum Meaning {
     Nothing,
     IsToken(TokenKind),
     IsFault(Code),
-}
-
-/// A number's kind says no greater value.
-const CAP: u64 = 4_294_967_296;
-
-/// The value of digits in a base, or the cap if that is less.
-fn value(digits: &[u8], base: u64) -> u64
-    requires some { 0 < base }
-    requires few { base ≤ 16 }
-    ensures { result ≡ capped (value_from base 0 digits.now) }
-{
-    let mut value = 0;
-    for digit in digits {
-        let next = value * base + digit_value(*digit);
-        value = next.min(CAP);
-    }
-    value
 }
 
 /// What a piece of these bytes means.

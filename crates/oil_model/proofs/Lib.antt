@@ -1,4 +1,3 @@
-pub mod Found
 pub mod Tests
 pub mod Names
 pub mod FirstNumbers

@@ -1,12 +1,10 @@
--- A case of a fault.
-use Rattle.std.specs.Prelude.{◌≡◌, ℕ, Bool, true}
+-- A case of a fault of an OIL text.
+use Rattle.std.specs.Prelude.{ℕ, Bool}
 use Rattle.sloth_base.specs.declared.refusal.Part.TheVariants.{Oil}
 use Rattle.sloth_base.specs.declared.refusal.Code.{Code}
 use Rattle.sloth_base.specs.declared.refusal.Refusal.{Refusal}
-
-abbrev pub at : ℕ → Code → Refusal
-at line code = record { part = Oil; line = line; code = code }
+use Rattle.sloth_refusal.specs.Cases.{CaseOf}
 
 -- The test says that there is a fault of this code on this line, and it is r.
 abbrev pub Case : Bool → ℕ → Code → Refusal → Type 0
-Case test line code r = (test ≡ true) × (r ≡ at line code)
+Case test line code r = CaseOf Oil test line code r

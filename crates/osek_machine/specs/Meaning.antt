@@ -7,6 +7,7 @@ use Rattle.sloth_base.specs.declared.app.Op.{Op}
 use Rattle.sloth_base.specs.declared.app.Op.TheVariants as op
 use Rattle.sloth_base.specs.declared.app.Width.{Width}
 use Rattle.sloth_base.specs.declared.app.Width.TheVariants as width
+pub use Rattle.app_rules.specs.Code.{size}
 use Rattle.osek_machine.specs.State.{Frame, function, entry_frame}
 
 -- the registers of task code: x0, and x5 to x29
@@ -28,13 +29,6 @@ seen_in zero value = 0
 seen_in (suc r) value = value
 
 -- ---- data: little-endian numbers in the bytes of a symbol
-
-abbrev pub size : Width → ℕ
-size width.Byte = 1
-size width.Half = 2
-size width.Word = 4
-size width.ByteU = 1
-size width.HalfU = 2
 
 abbrev pub number_of : List ℕ → ℕ
 number_of [] = 0

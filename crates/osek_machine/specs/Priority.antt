@@ -1,7 +1,8 @@
 -- Priorities, the priority ceiling protocol, and the task that is due (OSEK OS 2.2.3, sections 4.5, 4.6 and 8.6).
-use Rattle.std.specs.Prelude.{ℕ, ◌+◌, ◌*◌, ◌<◌, ◌≤◌, ◌≡◌, ◌⊎◌, ◌==◌, ◌||◌, List, [], ◌∷◌, Bool, true, false, cond, length, map, filter, max}
+use Rattle.std.specs.Prelude.{ℕ, ◌+◌, ◌*◌, ◌<◌, ◌≤◌, ◌≡◌, ◌⊎◌, ◌==◌, List, [], ◌∷◌, Bool, true, false, cond, length, map, filter, max}
 use Rattle.sloth_base.specs.declared.config.Config.{Config}
 use Rattle.sloth_base.specs.declared.config.TaskDecl.{TaskDecl}
+pub use Rattle.app_rules.specs.Code.{is_in}
 use Rattle.osek_machine.specs.declared.state.TaskState.{TaskState}
 use Rattle.osek_machine.specs.declared.state.TaskState.TheVariants as mode
 use Rattle.osek_machine.specs.State.{Task, System, task, declaration}
@@ -10,10 +11,6 @@ use Rattle.osek_machine.specs.State.{Task, System, task, declaration}
 abbrev pub greatest : List ℕ → ℕ
 greatest [] = 0
 greatest (x ∷ xs) = max x (greatest xs)
-
-abbrev pub is_in : ℕ → List ℕ → Bool
-is_in x [] = false
-is_in x (y ∷ ys) = (y == x) || is_in x ys
 
 -- the highest task priority of the configuration
 abbrev pub highest : Config → ℕ

@@ -4,6 +4,7 @@ use Rattle.sloth_base.specs.declared.config.Config.{Config}
 use Rattle.sloth_base.specs.declared.app.App.{App}
 use Rattle.sloth_base.specs.declared.service.Service.{Service}
 use Rattle.sloth_base.specs.declared.service.Service.TheVariants as service
+pub use Rattle.app_rules.specs.Code.{without_last}
 use Rattle.osek_machine.specs.declared.state.TaskState.{TaskState}
 use Rattle.osek_machine.specs.declared.state.TaskState.TheVariants as mode
 use Rattle.osek_machine.specs.State.{Frame, Task, System, task, with_task, zero_registers, declaration, body_of, entry_frame}
@@ -50,11 +51,6 @@ ended t s = with_task s t (record (task s t) { state = mode.Suspended; registers
 -- the caller waits for one of these events, and gives its internal resource back
 abbrev pub waits : ℕ → Task → Task
 waits mask t = record t { state = mode.Waiting mask; frames = moved t.frames; raised = false }
-
-abbrev pub without_last : List ℕ → List ℕ
-without_last [] = []
-without_last (x ∷ []) = []
-without_last (x ∷ y ∷ ys) = x ∷ without_last (y ∷ ys)
 
 -- ---- events
 

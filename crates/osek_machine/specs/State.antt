@@ -1,9 +1,8 @@
 -- The state of the abstract machine: tasks, their registers, frames, events and resources, and the data.
-use Rattle.std.specs.Prelude.{ℕ, suc, ◌==◌, ◌<◌, List, [], ◌∷◌, Bool, false, cond, Option, Some, None, length, get_or, set, map, replicate}
+use Rattle.std.specs.Prelude.{ℕ, ◌<◌, List, [], Bool, false, length, get_or, set, map, replicate}
 use Rattle.sloth_base.specs.declared.config.Config.{Config}
-use Rattle.sloth_base.specs.declared.config.TaskDecl.{TaskDecl}
 use Rattle.sloth_base.specs.declared.app.App.{App}
-use Rattle.sloth_base.specs.declared.app.Func.{Func}
+pub use Rattle.app_rules.specs.Named.{undeclared, declaration, missing, function, is_body_of, body_of}
 use Rattle.osek_machine.specs.declared.state.TaskState.{TaskState}
 use Rattle.osek_machine.specs.declared.state.TaskState.TheVariants as mode
 
@@ -49,30 +48,6 @@ task s t = get_or s.tasks t sleeping
 
 abbrev pub with_task : System → ℕ → Task → System
 with_task s t new = record s { tasks = set s.tasks t new }
-
--- ---- what is declared
-
-abbrev pub undeclared : TaskDecl
-undeclared = record { name = []; priority = 0; extended = false; non = false; autostart = false; resources = []; events = 0 }
-
--- a task's declaration
-abbrev pub declaration : Config → ℕ → TaskDecl
-declaration config t = get_or config.tasks t undeclared
-
-abbrev pub missing : Func
-missing = record { name = []; line = 0; task = None; frame_words = 0; items = []; labels = [] }
-
-abbrev pub function : App → ℕ → Func
-function app f = get_or app.funcs f missing
-
-abbrev pub is_body_of : ℕ → Option ℕ → Bool
-is_body_of t None = false
-is_body_of t (Some u) = u == t
-
--- the number of a task's body
-abbrev pub body_of : List Func → ℕ → ℕ
-body_of [] t = 0
-body_of (f ∷ rest) t = cond (is_body_of t f.task) 0 (suc (body_of rest t))
 
 -- a task has a body
 abbrev pub HasBody : App → ℕ → Type 0

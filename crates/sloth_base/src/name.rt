@@ -1,5 +1,6 @@
 //! Names of tasks, resources, events, functions, symbols and labels.
-ghost use Rattle.std.specs.Prelude.{◌≡◌, IfOk};
+ghost use Rattle.std.specs.Prelude.{◌≡◌, ◌↔◌, IsTrue, IfOk};
+ghost use Rattle.sloth_base.specs.ImageRange.{begins_word, continues_word, IsName};
 
 use crate::memory::NoMemory;
 use std::alloc::Global;
@@ -34,4 +35,31 @@ impl Name {
     {
         self.vec.as_slice()
     }
+}
+
+// A letter or `_`.
+fn begins_word(byte: u8) -> bool
+    ensures { result ≡ begins_word byte }
+{
+    byte.is_ascii_alphabetic() || byte == b'_'
+}
+
+// A letter, a digit or `_`.
+fn continues_word(byte: u8) -> bool
+    ensures { result ≡ continues_word byte }
+{
+    byte.is_ascii_alphanumeric() || byte == b'_'
+}
+
+/// Whether the bytes are a name: a letter or `_`, and then letters, digits and `_`; at most 64 bytes.
+pub fn is_name(bytes: &[u8]) -> bool
+    ensures { IsTrue result ↔ IsName bytes.now }
+{
+    let Some((first, rest)) = bytes.split_first() else {
+        return false;
+    };
+    if !begins_word(*first) || bytes.len() > 64 {
+        return false;
+    }
+    rest.iter().all(|byte| continues_word(*byte))
 }

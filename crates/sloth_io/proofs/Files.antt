@@ -3,7 +3,7 @@ use Rattle.std.proofs.Common.{◌≡◌, ◌≢◌, ◌<◌, ◌⊎◌, ℕ, zer
 use Rattle.std.specs.Str.{bytes_eq}
 use Rattle.std.proofs.Math.ListN.{set}
 use Rattle.std.proofs.lemmas.Slice.Eq.{bytes_eq-Decides}
-use Rattle.sloth_io.specs.MemStore.{IsPlace, bytes_named, file_named, file_of, has_space, written}
+use Rattle.sloth_io.specs.MemStore.{IsPlace, bytes_named, file_named, file_of, has_space, space_named, written}
 use Rattle.sloth_io.specs.declared.mem_store.MemFile.{MemFile}
 use Rattle.sloth_io.specs.declared.mem_store.Slot.{Slot}
 
@@ -85,3 +85,25 @@ pub as_replaced : (name bytes old new : List ℕ) (space kept : ℕ) (done : Boo
     → mem_file name new kept ≡ cond done (mem_file name bytes space) (mem_file name old space)
 as_replaced name bytes old new space kept true e q = rw (e, q) refl
 as_replaced name bytes old new space kept false e q = rw (e, q) refl
+
+-- a write changes no file's space
+pub space_named-written : (name bytes other : List ℕ) (files : List MemFile)
+    → space_named other (written name bytes files) ≡ space_named other files
+space_named-written name bytes other [] = refl
+space_named-written name bytes other (f ∷ fs) =
+    elim (either (bytes_eq f.name name)) [
+      | inl on ↦
+          rw on (
+          elim (either (bytes_eq f.name other)) [
+            | inl is ↦ rw is refl
+            | inr not_it ↦ rw not_it refl
+          ]
+          )
+      | inr off ↦
+          rw off (
+          elim (either (bytes_eq f.name other)) [
+            | inl is ↦ rw is refl
+            | inr not_it ↦ rw not_it (space_named-written name bytes other fs)
+          ]
+          )
+    ]

@@ -1,5 +1,9 @@
 -- Counts of faults, which never fall and end at 2^64 - 1.
-use Rattle.std.specs.Prelude.{ℕ, ◌≡◌, ◌+◌, ◌≤◌, ◌<◌, min}
+use Rattle.std.specs.Prelude.{ℕ, ◌≡◌, ◌+◌, ◌≤◌, ◌<◌, min, Bool, if◌then◌else◌}
+
+-- the count after a call: one higher where the call is counted, but for its last value
+abbrev pub counted : Bool → ℕ → ℕ
+counted call count = if call then min (count + 1) 18446744073709551615 else count
 
 -- the count has risen, or stands at its last value
 abbrev pub Rose : ℕ → ℕ → Type 0

@@ -1,5 +1,5 @@
 -- Files of the system.
-use Rattle.std.specs.Prelude.{◌≡◌, ◌≤◌, ℕ, List, ◌++◌, length, None, false}
+use Rattle.std.specs.Prelude.{◌≡◌, ◌≤◌, ◌<◌, ℕ, List, ◌++◌, length, None, false}
 use Rattle.sloth_io.specs.Store.{Files}
 use Rattle.sloth_io.specs.declared.file_store.FileStore.{FileStore}
 
@@ -7,7 +7,9 @@ use Rattle.sloth_io.specs.declared.file_store.FileStore.{FileStore}
 abbrev pub untold : ℕ → ℕ → ℕ → Files
 untold failed_reads overlong_reads failed_writes = record {
   tells = false;
+  sure = false;
   holds = λ _. None;
+  space = λ _. None;
   failed_reads = failed_reads;
   overlong_reads = overlong_reads;
   failed_writes = failed_writes;
@@ -17,6 +19,14 @@ untold failed_reads overlong_reads failed_writes = record {
 abbrev pub shown : {R : Type 0} → FileStore R → Files
 shown store = untold store.failed_reads store.overlong_reads store.failed_writes
 
--- at most `limit` bytes stand behind the old ones
-abbrev pub ReadsOn : ℕ → List ℕ → List ℕ → Type 0
-ReadsOn limit old new = (bytes : List ℕ) × (new ≡ old ++ bytes) × (length bytes ≤ limit)
+-- some bytes stand behind the old ones
+abbrev pub Extends : List ℕ → List ℕ → Type 0
+Extends old new = (bytes : List ℕ) × (new ≡ old ++ bytes)
+
+-- they are at most `limit`
+abbrev pub ExtendsWithin : ℕ → List ℕ → List ℕ → Type 0
+ExtendsWithin limit old new = (bytes : List ℕ) × (new ≡ old ++ bytes) × (length bytes ≤ limit)
+
+-- they are more than `limit`
+abbrev pub ExtendsBeyond : ℕ → List ℕ → List ℕ → Type 0
+ExtendsBeyond limit old new = (bytes : List ℕ) × (new ≡ old ++ bytes) × (limit < length bytes)

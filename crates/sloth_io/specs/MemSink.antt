@@ -1,10 +1,25 @@
 -- A sink in memory.
-use Rattle.std.specs.Prelude.{◌≡◌, ◌+◌, ◌==◌, ◌&&◌, ℕ, min, List, [], ◌∷◌, ◌++◌, length, take, Option, Some, None, Bool, if◌then◌else◌, nat_le, is_none}
+use Rattle.std.specs.Prelude.{◌≡◌, ◌+◌, ◌==◌, ◌&&◌, ℕ, min, List, [], ◌∷◌, ◌++◌, length, take}
+use Rattle.std.specs.Prelude.{Option, Some, None, Bool, if◌then◌else◌, nat_le, is_none}
+use Rattle.sloth_io.specs.Sink.{Output}
 use Rattle.sloth_io.specs.declared.mem_sink.MemSink.{MemSink}
 
 -- the bytes that a sink took
 abbrev pub taken_by : MemSink → List ℕ
 taken_by sink = sink.buffer.bytes.items
+
+-- how many bytes it takes before a call fails, where no call is to fail for its number
+abbrev pub told_space : ℕ → List (ℕ × ℕ) → Option ℕ
+told_space space [] = Some space
+told_space space (_ ∷ _) = None
+
+-- what the sink shows
+abbrev pub shown : MemSink → Output
+shown sink = record {
+  taken = Some (taken_by sink);
+  space = told_space sink.buffer.space sink.fails.items;
+  faults = sink.faults;
+}
 
 -- how many bytes the call of this number takes before it fails, by the first pair of that number
 abbrev pub limit_of : ℕ → List (ℕ × ℕ) → Option ℕ
@@ -15,6 +30,7 @@ limit_of call (pair ∷ rest) = if pair.0 == call then Some pair.1 else limit_of
 abbrev pub next_call : MemSink → ℕ
 next_call sink = min (sink.calls + 1) 4294967295
 
+-- how many bytes the next call takes before it fails, if it is to fail
 abbrev pub next_limit : MemSink → Option ℕ
 next_limit sink = limit_of (next_call sink) sink.fails.items
 

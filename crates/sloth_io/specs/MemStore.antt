@@ -1,11 +1,12 @@
 -- A store in memory.
-use Rattle.std.specs.Prelude.{◌≡◌, ◌+◌, ◌==◌, ◌&&◌, ℕ, zero, suc, min, not, List, [], ◌∷◌, length, map, Option, Some, None, Bool, true, false, if◌then◌else◌, nat_le, nat_lt}
+use Rattle.std.specs.Prelude.{◌≡◌, ◌+◌, ◌==◌, ◌&&◌, ℕ, zero, suc, min, not, List, [], ◌∷◌, length, map}
+use Rattle.std.specs.Prelude.{Option, Some, None, Bool, true, false, if◌then◌else◌, nat_lt}
 use Rattle.std.specs.List.{list_any}
 use Rattle.std.specs.Option.{option_map}
 use Rattle.std.specs.Str.{bytes_eq}
-use Rattle.sloth_io.specs.Store.{Files}
+use Rattle.sloth_io.specs.Store.{Files, fits}
 use Rattle.sloth_io.specs.declared.store.StoreFault.{StoreFault}
-use Rattle.sloth_io.specs.declared.store.StoreFault.TheVariants.{Failed, TooLong}
+use Rattle.sloth_io.specs.declared.store.StoreFault.TheVariants.{Failed, TooLong, Memory}
 use Rattle.sloth_io.specs.declared.mem_store.MemStore.{MemStore}
 use Rattle.sloth_io.specs.declared.mem_store.MemFile.{MemFile}
 use Rattle.sloth_io.specs.declared.mem_store.Slot.{Slot}
@@ -33,13 +34,13 @@ written name bytes [] = []
 written name bytes (file ∷ rest) =
     if bytes_eq file.name name then record file { bytes = bytes } ∷ rest else file ∷ written name bytes rest
 
--- there is a file of the name, with space for so many bytes
-abbrev pub fits_file : Option MemFile → ℕ → Bool
-fits_file None size = false
-fits_file (Some file) size = nat_le size file.space
+-- how many bytes it can hold
+abbrev pub space_named : List ℕ → List MemFile → Option ℕ
+space_named name files = option_map (λ file. file.space) (file_named name files)
 
+-- there is a file of the name, with space for so many bytes
 abbrev pub has_space : List ℕ → ℕ → List MemFile → Bool
-has_space name size files = fits_file (file_named name files) size
+has_space name size files = fits (space_named name files) size
 
 -- the number of the next call, counted from 1 over reads and writes
 abbrev pub next_call : MemStore → ℕ
@@ -49,14 +50,27 @@ next_call store = min (store.calls + 1) 4294967295
 abbrev pub fails_next : MemStore → Bool
 fails_next store = list_any (λ call. call == next_call store) store.fails.items
 
--- why the next read is refused, but for want of memory
+-- why a file is not read, for what it holds
 abbrev pub length_fault : Option (List ℕ) → ℕ → Option StoreFault
 length_fault None limit = Some Failed
 length_fault (Some bytes) limit = if nat_lt limit (length bytes) then Some TooLong else None
 
+-- why the next read of a file is refused, but for want of memory
 abbrev pub read_fault : MemStore → List ℕ → ℕ → Option StoreFault
 read_fault store name limit =
     if fails_next store then Some Failed else length_fault (bytes_named name (files_of store)) limit
+
+-- the read is refused as too long
+abbrev pub is_too_long : Option StoreFault → Bool
+is_too_long None = false
+is_too_long (Some Failed) = false
+is_too_long (Some TooLong) = true
+is_too_long (Some Memory) = false
+
+-- no call is to fail
+abbrev pub is_sure : List ℕ → Bool
+is_sure [] = true
+is_sure (_ ∷ _) = false
 
 -- the next write is done
 abbrev pub writes_next : MemStore → List ℕ → ℕ → Bool
@@ -66,7 +80,9 @@ writes_next store name size = not (fails_next store) && has_space name size (fil
 abbrev pub shown : MemStore → Files
 shown store = record {
   tells = true;
+  sure = is_sure store.fails.items;
   holds = λ name. bytes_named name (files_of store);
+  space = λ name. space_named name (files_of store);
   failed_reads = store.failed_reads;
   overlong_reads = store.overlong_reads;
   failed_writes = store.failed_writes;

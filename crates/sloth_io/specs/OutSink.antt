@@ -1,7 +1,8 @@
 -- Standard output.
-use Rattle.std.specs.Prelude.{ℕ}
+use Rattle.std.specs.Prelude.{None}
+use Rattle.sloth_io.specs.Sink.{Output}
 use Rattle.sloth_io.specs.declared.out_sink.OutSink.{OutSink}
 
--- how many calls have failed
-abbrev pub faults_of : {P : Type 0} → OutSink P → ℕ
-faults_of sink = sink.faults
+-- what standard output shows: how many calls have failed
+abbrev pub shown : {P : Type 0} → OutSink P → Output
+shown sink = record { taken = None; space = None; faults = sink.faults }

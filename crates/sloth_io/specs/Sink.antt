@@ -1,11 +1,32 @@
--- What a sink takes.
-use Rattle.std.specs.Prelude.{◌≡◌, ℕ, List, ◌++◌, Option, Some, None}
+-- What a sink shows, and what it takes.
+use Rattle.std.specs.Prelude.{◌≡◌, ◌+◌, ◌<◌, ℕ, min, List, ◌++◌, length, Option, Some, None}
 
--- what a sink holds after a piece more; one that does not tell goes on so
-abbrev pub gains : Option (List ℕ) → List ℕ → Option (List ℕ)
-gains None piece = None
-gains (Some taken) piece = Some (taken ++ piece)
+-- the bytes taken, where the sink tells them; how many it takes before a call fails, where it tells that; and how many calls have failed
+pub record Output : Type 0 where
+  pub taken : Option (List ℕ)
+  pub space : Option ℕ
+  pub faults : ℕ
 
--- it took some first part of a piece
-abbrev pub GainsPart : Option (List ℕ) → Option (List ℕ) → List ℕ → Type 0
-GainsPart old new piece = (part rest : List ℕ) × (piece ≡ part ++ rest) × (new ≡ gains old part)
+-- the bytes taken after a piece more; a sink that does not tell them goes on so
+abbrev pub longer : Option (List ℕ) → List ℕ → Option (List ℕ)
+longer None piece = None
+longer (Some taken) piece = Some (taken ++ piece)
+
+-- what a sink shows after a piece more: nothing else has changed
+abbrev pub gains : Output → List ℕ → Output
+gains old piece = record { taken = longer old.taken piece; space = old.space; faults = old.faults }
+
+-- one failed call is counted
+abbrev pub fails : Output → Output
+fails old = record { taken = old.taken; space = old.space; faults = min (old.faults + 1) 18446744073709551615 }
+
+-- there is no space for a piece; nothing is said of a sink that does not tell its space
+abbrev pub HasNoSpace : Option (List ℕ) → Option ℕ → List ℕ → Type 0
+HasNoSpace taken None piece = Unit {0}
+HasNoSpace None (Some space) piece = Unit {0}
+HasNoSpace (Some taken) (Some space) piece = space < length taken + length piece
+
+-- a call failed: the sink took some first part of a piece, for which it has no space where it tells its space
+abbrev pub GainsPart : Output → Output → List ℕ → Type 0
+GainsPart old new piece =
+    (part rest : List ℕ) × (piece ≡ part ++ rest) × (new ≡ fails (gains old part)) × HasNoSpace old.taken old.space piece

@@ -1,11 +1,14 @@
 -- What a store shows, and what its calls do.
-use Rattle.std.specs.Prelude.{◌≡◌, ◌≢◌, ◌≤◌, ◌<◌, ◌⊎◌, ℕ, List, ◌++◌, length, Option, Some, None, Bool, IsTrue}
+use Rattle.std.specs.Prelude.{◌≡◌, ◌≢◌, ◌≤◌, ◌<◌, ◌⊎◌, ℕ, List, ◌++◌, length, Option, Some, None, Bool, false, IsTrue, nat_le}
 use Rattle.sloth_io.specs.Counts.{Rose}
 
--- what each named file holds, where the store tells that, and three counts
+-- What each named file holds, where the store tells that, and three counts. A sure store has no call that is to fail: what its
+-- files hold, their space and want of memory are the only causes.
 pub record Files : Type 0 where
   pub tells : Bool
+  pub sure : Bool
   pub holds : List ℕ → Option (List ℕ)
+  pub space : List ℕ → Option ℕ
   pub failed_reads : ℕ
   pub overlong_reads : ℕ
   pub failed_writes : ℕ
@@ -13,14 +16,18 @@ pub record Files : Type 0 where
 -- a read changes no file, and not the count of failed writes
 pub record KeepsFiles (old new : Files) : Type 0 where
   pub tells : new.tells ≡ old.tells
+  pub sure : new.sure ≡ old.sure
   pub holds : (name : List ℕ) → new.holds name ≡ old.holds name
+  pub space : (name : List ℕ) → new.space name ≡ old.space name
   pub failed_reads : old.failed_reads ≤ new.failed_reads
   pub overlong_reads : old.overlong_reads ≤ new.overlong_reads
   pub failed_writes : new.failed_writes ≡ old.failed_writes
 
--- a write changes none of the counts of reads
+-- a write changes no file's space, and none of the counts of reads
 pub record KeepsReads (old new : Files) : Type 0 where
   pub tells : new.tells ≡ old.tells
+  pub sure : new.sure ≡ old.sure
+  pub space : (name : List ℕ) → new.space name ≡ old.space name
   pub failed_reads : new.failed_reads ≡ old.failed_reads
   pub overlong_reads : new.overlong_reads ≡ old.overlong_reads
   pub failed_writes : old.failed_writes ≤ new.failed_writes
@@ -30,15 +37,26 @@ abbrev pub Appends : Files → List ℕ → ℕ → List ℕ → List ℕ → Ty
 Appends files name limit old new =
     (bytes : List ℕ) × (new ≡ old ++ bytes) × (length bytes ≤ limit) × (IsTrue files.tells → files.holds name ≡ Some bytes)
 
--- a read failed, or the store tells that there is no such file
+-- a read failed in a store that is not sure, or the store tells that there is no such file
 abbrev pub IsMissing : Files → Files → List ℕ → Type 0
-IsMissing old new name = Rose old.failed_reads new.failed_reads ⊎ (IsTrue old.tells × (old.holds name ≡ None))
+IsMissing old new name =
+    (Rose old.failed_reads new.failed_reads × (old.sure ≡ false)) ⊎ (IsTrue old.tells × (old.holds name ≡ None))
 
 -- an overlong read is counted; where the store tells its files, this one is there and longer than `limit`
 abbrev pub IsTooLong : Files → Files → List ℕ → ℕ → Type 0
 IsTooLong old new name limit =
     Rose old.overlong_reads new.overlong_reads
     × (IsTrue old.tells → (bytes : List ℕ) × (old.holds name ≡ Some bytes) × (limit < length bytes))
+
+-- there is space for so many bytes
+abbrev pub fits : Option ℕ → ℕ → Bool
+fits None size = false
+fits (Some space) size = nat_le size space
+
+-- a failed write of so many bytes is counted; a sure store has no space for them in the file
+abbrev pub IsUnwritten : Files → Files → List ℕ → ℕ → Type 0
+IsUnwritten old new name size =
+    Rose old.failed_writes new.failed_writes × (IsTrue old.sure → fits (old.space name) size ≡ false)
 
 -- the file holds these bytes
 abbrev pub Holds : Files → List ℕ → List ℕ → Type 0

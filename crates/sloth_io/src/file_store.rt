@@ -1,6 +1,6 @@
 //! The system's files.
-ghost use Rattle.std.specs.Prelude.{◌≡◌, false};
-ghost use Rattle.sloth_io.specs.FileStore.{ReadsOn, shown, untold};
+ghost use Rattle.std.specs.Prelude.{◌≡◌, OnOk};
+ghost use Rattle.sloth_io.specs.FileStore.{Extends, ExtendsBeyond, ExtendsWithin, shown, untold};
 
 use crate::store::{Store, StoreFault};
 use std::fs;
@@ -30,14 +30,16 @@ impl<'a, R: Files> FileStore<'a, R> {
     }
 }
 
-// Reads to the end of the file, or until it is longer than the limit. A read of nothing is the end.
+// Reads to the end of the file, or until more bytes than the limit were taken. A read of nothing is the end.
 fn read_whole<R: Files>(
     rt: &R,
     name: &str,
     limit: usize,
     into: &mut Vec<u8>,
 ) -> Result<(), StoreFault>
-    ensures { ReadsOn limit into.old.items into.new.items }
+    ensures ok { OnOk result (ExtendsWithin limit into.old.items into.new.items) }
+    ensures too_long { result ≡ Err StoreFault.TooLong → ExtendsBeyond limit into.old.items into.new.items }
+    ensures front { Extends into.old.items into.new.items }
 {
     let Ok(mut file) = fs::open(rt, name) else {
         return Err(StoreFault::Failed);
@@ -51,11 +53,11 @@ fn read_whole<R: Files>(
         if count == 0 {
             return Ok(());
         }
-        if count > left {
-            return Err(StoreFault::TooLong);
-        }
         if into.extend_from_slice(&buffer[..count]).is_err() {
             return Err(StoreFault::Memory);
+        }
+        if count > left {
+            return Err(StoreFault::TooLong);
         }
         left -= count;
     }

@@ -1,7 +1,7 @@
 //! A sink in memory.
-ghost use Rattle.std.specs.Prelude.{◌≡◌, ◌≤◌, IfOk, OnErr, OnOk, Some, is_ok, if◌then◌else◌};
-ghost use Rattle.sloth_io.specs.Counts.{Rose};
-ghost use Rattle.sloth_io.specs.MemSink.{IsCalled, IsFresh, limit_of, taken_by, taken_next, takes_next};
+ghost use Rattle.std.specs.Prelude.{◌≡◌, ◌≤◌, IfOk, OnErr, OnOk, is_ok, is_err, if◌then◌else◌};
+ghost use Rattle.sloth_io.specs.Counts.{counted};
+ghost use Rattle.sloth_io.specs.MemSink.{IsCalled, IsFresh, limit_of, shown, taken_by, taken_next, takes_next};
 ghost use Rattle.sloth_io.specs.Sink.{gains, GainsPart};
 
 use crate::buffer::Buffer;
@@ -55,19 +55,17 @@ impl MemSink {
 }
 
 impl Sink for MemSink {
-    ghost taken = { λ sink. Some (taken_by sink) };
-
-    ghost faults = { λ sink. sink.faults };
+    ghost seen = { λ sink. shown sink };
 
     fn put(&mut self, piece: &[u8]) -> Result<(), SinkFault>
-        ensures ok { OnOk result (Some (taken_by self.new) ≡ gains (Some (taken_by self.old)) piece.now) }
-        ensures err { OnErr result (GainsPart (Some (taken_by self.old)) (Some (taken_by self.new)) piece.now) }
-        ensures failed { OnErr result (Rose self.old.faults self.new.faults) }
+        ensures ok { OnOk result (shown self.new ≡ gains (shown self.old) piece.now) }
+        ensures err { OnErr result (GainsPart (shown self.old) (shown self.new) piece.now) }
         ensures never_falls { self.old.faults ≤ self.new.faults }
 
         // It fails exactly at the calls that are to fail, and where there is no space for the piece.
         ensures done { is_ok result ≡ takes_next self.old piece.now }
         ensures taken { taken_by self.new ≡ taken_next self.old piece.now }
+        ensures faults { self.new.faults ≡ counted (is_err result) self.old.faults }
         ensures called { IsCalled self.old self.new }
     {
         self.calls = self.calls.saturating_add(1);

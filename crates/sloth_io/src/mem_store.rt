@@ -1,9 +1,11 @@
 //! A store in memory.
-ghost use Rattle.std.specs.Prelude.{◌≡◌, ◌≢◌, ◌≤◌, ◌<◌, List, Option, None, Some, OnErr, OnOk, length, map, IfOk, IfSome, IfNone, IsOkUnless, MatchOption, All, is_ok, if◌then◌else◌};
+ghost use Rattle.std.specs.Prelude.{◌≡◌, ◌≢◌, ◌≤◌, ◌<◌, List, Option, None, Some, length, map, All};
+ghost use Rattle.std.specs.Prelude.{OnErr, OnOk, IfOk, IfSome, IfNone, IsOkUnless, MatchOption, is_ok, is_err, if◌then◌else◌};
 ghost use Rattle.std.specs.List.{AllPairs};
-ghost use Rattle.sloth_io.specs.Counts.{Rose};
-ghost use Rattle.sloth_io.specs.MemStore.{IsFresh, next_call, bytes_named, fails_next, file_named, file_of, files_of, has_space, IsCalled, IsPlace, read_fault, shown, writes_next, written};
-ghost use Rattle.sloth_io.specs.Store.{Appends, IsMissing, IsTooLong, Holds, KeepsOthers, KeepsFiles, KeepsReads};
+ghost use Rattle.sloth_io.specs.Counts.{counted};
+ghost use Rattle.sloth_io.specs.MemStore.{IsFresh, next_call, bytes_named, fails_next, file_named, file_of, files_of, has_space, IsCalled};
+ghost use Rattle.sloth_io.specs.MemStore.{IsPlace, is_too_long, read_fault, shown, writes_next, written};
+ghost use Rattle.sloth_io.specs.Store.{Appends, IsMissing, IsTooLong, IsUnwritten, Holds, KeepsOthers, KeepsFiles, KeepsReads};
 
 use crate::buffer::Buffer;
 use crate::store::{Store, StoreFault};
@@ -143,10 +145,15 @@ impl Store for MemStore {
         ensures too_long { result ≡ Err StoreFault.TooLong →
             IsTooLong (shown self.old) (shown self.new) name.now limit }
         ensures keeps { KeepsFiles (shown self.old) (shown self.new) }
+        ensures failed_reads { result ≢ Err StoreFault.Failed → self.new.failed_reads ≡ self.old.failed_reads }
+        ensures overlong_reads { result ≢ Err StoreFault.TooLong → self.new.overlong_reads ≡ self.old.overlong_reads }
 
         // It refuses exactly the calls that are to fail, files that are not there and files that are too long.
         ensures refused { MatchOption (read_fault self.old name.now limit)
             (IsOkUnless result StoreFault.Memory) (λ fault. result ≡ Err fault) }
+        ensures counted_failed { self.new.failed_reads ≡ counted (fails_next self.old) self.old.failed_reads }
+        ensures counted_overlong { self.new.overlong_reads ≡
+            counted (is_too_long (read_fault self.old name.now limit)) self.old.overlong_reads }
         ensures called { IsCalled self.old self.new }
         ensures files { files_of self.new ≡ files_of self.old }
     {
@@ -169,13 +176,15 @@ impl Store for MemStore {
 
     fn write(&mut self, name: &str, bytes: &[u8]) -> Result<(), StoreFault>
         ensures ok { OnOk result (Holds (shown self.new) name.now bytes.now) }
-        ensures failed { OnErr result (Rose self.old.failed_writes self.new.failed_writes) }
+        ensures failed { OnErr result (IsUnwritten (shown self.old) (shown self.new) name.now (length bytes.now)) }
         ensures only_failed { OnErr result (result ≡ Err StoreFault.Failed) }
         ensures others { KeepsOthers (shown self.old) (shown self.new) name.now }
         ensures keeps { KeepsReads (shown self.old) (shown self.new) }
+        ensures failed_writes { OnOk result (self.new.failed_writes ≡ self.old.failed_writes) }
 
         // It fails exactly at the calls that are to fail, and where there is no file with space for the bytes.
         ensures done { is_ok result ≡ writes_next self.old name.now (length bytes.now) }
+        ensures counted_failed { self.new.failed_writes ≡ counted (is_err result) self.old.failed_writes }
         ensures called { IsCalled self.old self.new }
         ensures files { files_of self.new ≡
             (if is_ok result then written name.now bytes.now (files_of self.old) else files_of self.old) }

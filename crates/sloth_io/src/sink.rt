@@ -1,7 +1,6 @@
 //! Where lines are printed.
-ghost use Rattle.std.specs.Prelude.{◌≡◌, ◌≤◌, ℕ, List, Option, OnErr, OnOk};
-ghost use Rattle.sloth_io.specs.Counts.{Rose};
-ghost use Rattle.sloth_io.specs.Sink.{gains, GainsPart};
+ghost use Rattle.std.specs.Prelude.{◌≡◌, ◌≤◌, OnErr, OnOk};
+ghost use Rattle.sloth_io.specs.Sink.{Output, gains, GainsPart};
 
 use thiserror::Error;
 
@@ -14,16 +13,12 @@ pub enum SinkFault {
 
 /// Where bytes go. A sink may tell what it took, and counts its faults.
 pub trait Sink {
-    /// The bytes taken so far, where the sink tells them.
-    ghost taken: { Self → Option (List ℕ) };
+    /// What the sink took and how much more it takes, where it tells that, and its count.
+    ghost seen: { Self → Output };
 
-    /// How many calls have failed.
-    ghost faults: { Self → ℕ };
-
-    /// Takes a piece; on a failure, some first part of it.
+    /// Takes a piece; on a failure, some first part of it. A failed call alone is counted.
     fn put(&mut self, piece: &[u8]) -> Result<(), SinkFault>
-        ensures ok { OnOk result (taken self.new ≡ gains (taken self.old) piece.now) }
-        ensures err { OnErr result (GainsPart (taken self.old) (taken self.new) piece.now) }
-        ensures failed { OnErr result (Rose (faults self.old) (faults self.new)) }
-        ensures never_falls { faults self.old ≤ faults self.new };
+        ensures ok { OnOk result (seen self.new ≡ gains (seen self.old) piece.now) }
+        ensures err { OnErr result (GainsPart (seen self.old) (seen self.new) piece.now) }
+        ensures never_falls { (seen self.old).faults ≤ (seen self.new).faults };
 }

@@ -1,7 +1,6 @@
 //! Named files.
-ghost use Rattle.std.specs.Prelude.{◌≡◌, OnErr, OnOk};
-ghost use Rattle.sloth_io.specs.Counts.{Rose};
-ghost use Rattle.sloth_io.specs.Store.{Files, Appends, IsMissing, IsTooLong, Holds, KeepsOthers, KeepsFiles, KeepsReads};
+ghost use Rattle.std.specs.Prelude.{◌≡◌, ◌≢◌, OnErr, OnOk, length};
+ghost use Rattle.sloth_io.specs.Store.{Files, Appends, IsMissing, IsTooLong, IsUnwritten, Holds, KeepsOthers, KeepsFiles, KeepsReads};
 
 use thiserror::Error;
 
@@ -27,13 +26,20 @@ pub trait Store {
         ensures err { OnErr result (into.new.items ≡ into.old.items) }
         ensures failed { result ≡ Err StoreFault.Failed → IsMissing (seen self.old) (seen self.new) name.now }
         ensures too_long { result ≡ Err StoreFault.TooLong → IsTooLong (seen self.old) (seen self.new) name.now limit }
-        ensures keeps { KeepsFiles (seen self.old) (seen self.new) };
+        ensures keeps { KeepsFiles (seen self.old) (seen self.new) }
+
+        // Only a failed read may be counted as failed, and only one that is too long as overlong.
+        ensures failed_reads { result ≢ Err StoreFault.Failed → (seen self.new).failed_reads ≡ (seen self.old).failed_reads }
+        ensures overlong_reads { result ≢ Err StoreFault.TooLong → (seen self.new).overlong_reads ≡ (seen self.old).overlong_reads };
 
     /// Makes a file hold exactly these bytes. After a failure that file may hold anything.
     fn write(&mut self, name: &str, bytes: &[u8]) -> Result<(), StoreFault>
         ensures ok { OnOk result (Holds (seen self.new) name.now bytes.now) }
-        ensures failed { OnErr result (Rose (seen self.old).failed_writes (seen self.new).failed_writes) }
+        ensures failed { OnErr result (IsUnwritten (seen self.old) (seen self.new) name.now (length bytes.now)) }
         ensures only_failed { OnErr result (result ≡ Err StoreFault.Failed) }
         ensures others { KeepsOthers (seen self.old) (seen self.new) name.now }
-        ensures keeps { KeepsReads (seen self.old) (seen self.new) };
+        ensures keeps { KeepsReads (seen self.old) (seen self.new) }
+
+        // Only a failed write is counted.
+        ensures failed_writes { OnOk result ((seen self.new).failed_writes ≡ (seen self.old).failed_writes) };
 }

@@ -1,2 +1,3 @@
 pub mod Order
 pub mod Search
+pub mod Cases

@@ -5,7 +5,8 @@ use Rattle.sloth_refusal.proofs.Kept.{both_are}
 use Rattle.oil_model.specs.Cases.{Case}
 use Rattle.oil_model.specs.Objects.{is_use, number_of}
 use Rattle.oil_model.specs.TaskFaults.{is_taken, repeats_priority, shares_bit}
-use Rattle.oil_model.proofs.Found.{case_found}
+use Rattle.sloth_base.specs.declared.refusal.Part.TheVariants.{Oil}
+use Rattle.sloth_refusal.proofs.Cases.{case_found}
 use Rattle.oil_model.proofs.task_faults.task_fault.Goals as goal
 
 pub returns : goal.returns

@@ -1,0 +1,118 @@
+-- A place, as the format draws it, is read as what it is.
+use Rattle.std.proofs.Common.{◌≡◌, ℕ, ℤ, ◌-◌, ◌<◌, Bool, true, false, List, [], ◌∷◌, ◌++◌, length, reverse, refl, ap, arith, sym, ◌∙◌, Some, append_assoc}
+use Rattle.std.specs.Prelude.{◌==◌, codes, slice_index}
+use Rattle.std.proofs.lemmas.List.{append-nil, reverse-append, length-reverse}
+use Rattle.sloth_base.specs.ImageRange.{continues_word}
+use Rattle.asm_lines.specs.declared.operands.Operand.{Operand}
+use Rattle.asm_lines.specs.declared.operands.Operand.TheVariants.{Direct}
+use Rattle.text_pieces.specs.Bytes.{is_name, has}
+use Rattle.asm_lines.specs.Bytes.{is_blank, trim}
+use Rattle.asm_lines.specs.Numbers.{number}
+use Rattle.asm_lines.specs.Registers.{register}
+use Rattle.asm_lines.specs.Operands.{before, behind, small_of, direct, direct_at, indexed, indexed_at, frame_operand, in_brackets, bracketed, place}
+use Rattle.asm_lines.specs.Grammar.{Blanks, starts_bare, Bare, IsPlace, is_alone, is_offset, is_indexed, is_frame}
+use Rattle.asm_lines.proofs.Trims.{trim_is}
+use Rattle.asm_lines.proofs.Cuts.{lacks, has_here, has_in, before_is, behind_is, last_is, but_last}
+use Rattle.asm_lines.proofs.Parts.{is_number_byte, name_bytes, number_bytes, number_some, register_bytes, register_some, bare_of}
+
+name_bare : (n : List ℕ) → is_name n ≡ true → Bare n
+name_bare n h = bare_of continues_word refl refl n (name_bytes n h)
+
+number_bare : (k : List ℕ) (z : ℤ) → number k ≡ Some z → Bare k
+number_bare k z h = bare_of is_number_byte refl refl k (number_bytes k z h)
+
+register_bare : (r : List ℕ) (x : ℕ) → register r ≡ Some x → Bare r
+register_bare r x h = bare_of continues_word refl refl r (register_bytes r x h)
+
+name_lacks : (c : ℕ) → continues_word c ≡ false → (n : List ℕ) → is_name n ≡ true → has c n ≡ false
+name_lacks c f n h = lacks continues_word c f n (name_bytes n h)
+
+number_lacks : (c : ℕ) → is_number_byte c ≡ false → (k : List ℕ) (z : ℤ) → number k ≡ Some z → has c k ≡ false
+number_lacks c f k z h = lacks is_number_byte c f k (number_bytes k z h)
+
+blanks_lack : (c : ℕ) → is_blank c ≡ false → (a : List ℕ) → Blanks a → has c a ≡ false
+blanks_lack c f a h = lacks is_blank c f a h
+
+has_cons : (c d : ℕ) (t : List ℕ) → (d == c) ≡ false → has c t ≡ false → has c (d ∷ t) ≡ false
+unfolding has
+has_cons c d t e h = rw e h
+
+trim_of : (a x b : List ℕ) → Blanks a → Blanks b → Bare x → trim (a ++ (x ++ b)) ≡ x
+trim_of a x b h g w = trim_is (a ++ (x ++ b)) x (record { before = a; behind = b; blanks_before = h; blanks_behind = g; text = refl; bare = w })
+
+trim_left : (x b : List ℕ) → Blanks b → Bare x → trim (x ++ b) ≡ x
+trim_left x b g w = trim_of [] x b refl g w
+
+trim_right : (a x : List ℕ) → Blanks a → Bare x → trim (a ++ x) ≡ x
+trim_right a x h w = ap (λ y. trim (a ++ y)) (sym (append-nil x)) ∙ trim_of a x [] h refl w
+
+alone : (f : Bool) (n : List ℕ) → is_name n ≡ true → has 91 n ≡ false → has 43 n ≡ false → place f n ≡ Direct n 0
+unfolding place
+alone f n h p q = rw (p, q, h) refl
+
+plus : (f : Bool) (t n k : List ℕ) (z : ℤ) → has 91 t ≡ false → has 43 t ≡ true → trim (before 43 t) ≡ n → trim (behind 43 t) ≡ k → is_name n ≡ true → number k ≡ Some z
+    → place f t ≡ direct_at n (small_of (Some z))
+unfolding place
+plus f t n k z p q a b h e =
+    rw (p, q) (ap (λ y. direct y (small_of (number (trim (behind 43 t))))) a ∙ (ap (λ y. direct n (small_of (number y))) b ∙ rw (h, e) refl))
+
+bracket : (f : Bool) (n x : List ℕ) → has 91 n ≡ false → place f (n ++ 91 ∷ (x ++ 93 ∷ [])) ≡ in_brackets f n (trim x)
+unfolding place bracketed
+bracket f n x h =
+    let r = x ++ 93 ∷ [] in
+    let t = n ++ 91 ∷ r in
+    let last : (slice_index r (length r - 1) == 93) ≡ true = ap (λ b. b == 93) (last_is x 93) in
+    let cut : bracketed f n r ≡ in_brackets f n (trim x) = rw last (ap (λ y. in_brackets f n (trim y)) (but_last x 93)) in
+    rw (has_here 91 n r refl) (ap (λ y. bracketed f y (behind 91 t)) (before_is 91 n r refl h) ∙ (ap (bracketed f n) (behind_is 91 n r refl h) ∙ cut))
+
+with_mask : (f : Bool) (n t r m : List ℕ) (x : ℕ) (z : ℤ) → has 38 t ≡ true → trim (before 38 t) ≡ r → trim (behind 38 t) ≡ m → is_name n ≡ true → register r ≡ Some x → number m ≡ Some z
+    → in_brackets f n t ≡ indexed_at n (Some x) (small_of (Some z))
+unfolding in_brackets
+with_mask f n t r m x z p a b h e g =
+    rw p (ap (λ y. indexed n (register y) (small_of (number (trim (behind 38 t))))) a ∙ (ap (λ y. indexed n (register r) (small_of (number y))) b ∙ rw (h, e, g) refl))
+
+in_frame : (f : Bool) (k : List ℕ) (z : ℤ) → f ≡ true → has 38 k ≡ false → number k ≡ Some z → in_brackets f (codes "frame") k ≡ frame_operand (small_of (Some z))
+unfolding in_brackets
+in_frame f k z e p g = rw (p, e, g) refl
+
+front_on : (x y : List ℕ) → 0 < length x → starts_bare x ≡ true → starts_bare (x ++ y) ≡ true
+front_on [] y l h = absurd (omega arith)
+front_on (b ∷ x) y l h = h
+
+end_on : (y x : List ℕ) → 0 < length x → starts_bare (reverse x) ≡ true → starts_bare (reverse (y ++ x)) ≡ true
+end_on y x l h = let n = length-reverse x in ap starts_bare (reverse-append y x) ∙ front_on (reverse x) (reverse y) (omega (arith, n)) h
+
+long : (y x : List ℕ) → 0 < length x → 0 < length (y ++ x)
+long [] x l = l
+long (b ∷ y) x l = omega arith
+
+pub place_made : (f : Bool) (t : List ℕ) (o : Operand) → IsPlace f t o → place f t ≡ o
+place_made f t o (is_alone n h) = alone f n h (name_lacks 91 refl n h) (name_lacks 43 refl n h)
+place_made f t o (is_offset n a b k z h ha hb hk) =
+    let e : n ++ (a ++ 43 ∷ (b ++ k)) ≡ (n ++ a) ++ 43 ∷ (b ++ k) = sym (append_assoc n a (43 ∷ (b ++ k))) in
+    let lack = has_in 43 n a (name_lacks 43 refl n h) (blanks_lack 43 refl a ha) in
+    plus f (n ++ (a ++ 43 ∷ (b ++ k))) n k z
+    (has_in 91 n (a ++ 43 ∷ (b ++ k)) (name_lacks 91 refl n h)
+    (has_in 91 a (43 ∷ (b ++ k)) (blanks_lack 91 refl a ha) (has_cons 91 43 (b ++ k) refl (has_in 91 b k (blanks_lack 91 refl b hb) (number_lacks 91 refl k z hk)))))
+    (ap (has 43) e ∙ has_here 43 (n ++ a) (b ++ k) refl)
+    (ap (λ y. trim (before 43 y)) e ∙ (ap trim (before_is 43 (n ++ a) (b ++ k) refl lack) ∙ trim_left n a ha (name_bare n h)))
+    (ap (λ y. trim (behind 43 y)) e ∙ (ap trim (behind_is 43 (n ++ a) (b ++ k) refl lack) ∙ trim_right b k hb (number_bare k z hk))) h hk
+place_made f t o (is_indexed n a r b c m d x z h ha hb hc hd hr hm) =
+    let y = r ++ (b ++ 38 ∷ (c ++ m)) in
+    let e : a ++ (r ++ (b ++ 38 ∷ (c ++ (m ++ (d ++ 93 ∷ []))))) ≡ (a ++ (y ++ d)) ++ 93 ∷ [] = simp append_assoc in
+    let lm = number_some m z hm in
+    let bm = number_bare m z hm in
+    let bare : Bare y = record {
+      front = front_on r (b ++ 38 ∷ (c ++ m)) (register_some r x hr) (register_bare r x hr).front;
+      end = end_on r (b ++ 38 ∷ (c ++ m)) (long b (38 ∷ (c ++ m)) (omega arith)) (end_on b (38 ∷ (c ++ m)) (omega arith) (end_on (38 ∷ c) m lm bm.end));
+    } in
+    let g : y ≡ (r ++ b) ++ 38 ∷ (c ++ m) = sym (append_assoc r b (38 ∷ (c ++ m))) in
+    let lack = has_in 38 r b (lacks continues_word 38 refl r (register_bytes r x hr)) (blanks_lack 38 refl b hb) in
+    ap (λ v. place f (n ++ 91 ∷ v)) e ∙ (bracket f n (a ++ (y ++ d)) (name_lacks 91 refl n h) ∙ (ap (in_brackets f n) (trim_of a y d ha hd bare)
+    ∙ with_mask f n y r m x z (ap (has 38) g ∙ has_here 38 (r ++ b) (c ++ m) refl)
+    (ap (λ v. trim (before 38 v)) g ∙ (ap trim (before_is 38 (r ++ b) (c ++ m) refl lack) ∙ trim_left r b hb (register_bare r x hr)))
+    (ap (λ v. trim (behind 38 v)) g ∙ (ap trim (behind_is 38 (r ++ b) (c ++ m) refl lack) ∙ trim_right c m hc bm)) h hr hm))
+place_made f t o (is_frame a k b z e ha hb hk) =
+    let g : a ++ (k ++ (b ++ 93 ∷ [])) ≡ (a ++ (k ++ b)) ++ 93 ∷ [] = simp append_assoc in
+    ap (λ v. place f (codes "frame" ++ 91 ∷ v)) g ∙ (bracket f (codes "frame") (a ++ (k ++ b)) (lacks continues_word 91 refl (codes "frame") refl)
+    ∙ (ap (in_brackets f (codes "frame")) (trim_of a k b ha hb (number_bare k z hk)) ∙ in_frame f k z e (number_lacks 38 refl k z hk) hk))

@@ -1,0 +1,9 @@
+pub mod Bytes
+pub mod Lines
+pub mod Numbers
+pub mod Registers
+pub mod Table
+pub mod Operands
+pub mod SourceLines
+pub mod Faults
+pub mod Grammar

@@ -1,0 +1,19 @@
+//! Reads task source line by line: what each line is, and the least fault of the lines.
+#![tactic(auto)]
+
+mod bytes;
+mod cutting;
+mod laws;
+mod numerals;
+mod operands;
+mod reader;
+mod registers;
+mod rules;
+mod source_line;
+mod table;
+
+pub use laws::{lines_are_parts, one_number, one_place, one_remains, one_shape, register_rows};
+pub use operands::Operand;
+pub use reader::read;
+pub use source_line::SourceLine;
+pub use table::Mnemonic;

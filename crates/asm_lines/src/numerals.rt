@@ -1,0 +1,83 @@
+//! Numbers of task source.
+ghost use Rattle.std.specs.Prelude.{◌≡◌, ◌<◌, ◌≤◌, ◌^◌, ℕ, ℤ, pos, ◌==◌, slice_index, length, IfSome, IsTrue};
+ghost use Rattle.std.specs.List.{list_all};
+ghost use Rattle.std.specs.Char.{is_ascii_digit, is_ascii_hexdigit};
+ghost use Rattle.text_pieces.specs.Digits.{digit_value, value_from, capped};
+ghost use Rattle.asm_lines.specs.Numbers.{is_hexadecimal, magnitude, signed, number, is_within};
+
+use text_pieces::bytes::after;
+use text_pieces::numerals::value;
+
+fn are_digits(text: &[u8]) -> bool
+    ensures { result ≡ list_all is_ascii_digit text.now }
+{
+    text.iter().all(|byte| byte.is_ascii_digit())
+}
+
+fn are_hex_digits(text: &[u8]) -> bool
+    ensures { result ≡ list_all is_ascii_hexdigit text.now }
+{
+    text.iter().all(|byte| byte.is_ascii_hexdigit())
+}
+
+// Whether `0x` stands in front.
+fn is_hexadecimal(text: &[u8]) -> bool
+    ensures { result ≡ is_hexadecimal text.now }
+{
+    text.len() > 1 && text[0] == b'0' && text[1] == b'x'
+}
+
+// The number of the digits, in the base that stands in front.
+#[tactic(auto, unfolding(crate::specs::Numbers::magnitude))]
+fn magnitude(text: &[u8]) -> Option<u64>
+    ensures value { result ≡ magnitude text.now }
+    ensures small { IfSome result (λ n. n ≤ 4294967296) }
+{
+    if is_hexadecimal(text) {
+        let digits = after(text, 2);
+        if digits.is_empty() || !are_hex_digits(digits) {
+            return None;
+        }
+        return Some(value(digits, 16));
+    }
+    if text.is_empty() || !are_digits(text) {
+        return None;
+    }
+    Some(value(text, 10))
+}
+
+fn signed(is_negative: bool, magnitude: Option<u64>) -> Option<i64>
+    requires { IfSome magnitude (λ n. n ≤ 4294967296) }
+    ensures { result ≡ signed is_negative magnitude }
+{
+    let Some(magnitude) = magnitude else {
+        return None;
+    };
+    let n = magnitude as i64;
+    if is_negative { Some(-n) } else { Some(n) }
+}
+
+// Whether `-` stands in front.
+fn is_negative(text: &[u8]) -> bool
+    ensures { result ≡ (slice_index text.now 0 == 45) }
+{
+    !text.is_empty() && text[0] == b'-'
+}
+
+/// The number that this text is.
+#[tactic(auto, unfolding(crate::specs::Numbers::number))]
+pub fn number(text: &[u8]) -> Option<i64>
+    ensures { result ≡ number text.now }
+{
+    if is_negative(text) {
+        signed(true, magnitude(after(text, 1)))
+    } else {
+        signed(false, magnitude(text))
+    }
+}
+
+pub fn is_within(low: i64, high: i64, n: i64) -> bool
+    ensures { result ≡ is_within low high n }
+{
+    n >= low && n <= high
+}

@@ -1,0 +1,211 @@
+//! Operands by their forms.
+ghost use Rattle.std.specs.Prelude.{◌≡◌, ◌==◌, IfOk};
+ghost use Rattle.asm_lines.specs.Operands.{small_of, register_operand, number_operand, frame_operand, name_operand, direct, indexed, in_brackets, bracketed, place, bytes_operand, read_operand};
+ghost use Rattle.hex.specs.Hex.{decode_of};
+
+use crate::bytes::trim;
+use crate::numerals::{is_within, number};
+use crate::registers::register;
+use crate::table::Form;
+use hex::{FromHexError, decode};
+use sloth_base::list::List;
+use sloth_base::memory::NoMemory;
+use sloth_base::name::Name;
+use sloth_base::numbers::Reg;
+use std::alloc::Global;
+use text_pieces::bytes::{after, before, behind, front, has, is_name, same};
+
+/// What an operand is.
+#[derive(Drop)]
+pub enum Operand {
+    /// It has another form.
+    Wrong,
+    /// A number in it is out of its range.
+    Outside,
+    Register(Reg),
+    Number(i64),
+    Name(Name),
+    /// A word of the frame.
+    Frame(u32),
+    /// A byte of a symbol.
+    Direct { name: Name, offset: u32 },
+    /// The byte of a symbol that a register names, under a mask.
+    Indexed { name: Name, index: Reg, mask: u32 },
+    /// Bytes in hexadecimal digits.
+    Bytes(List<u8>),
+}
+
+// A number from 0 to 65,535.
+#[derive(Clone, Copy)]
+pub enum Small {
+    NoNumber,
+    TooFar,
+    Is(u32),
+}
+
+fn small_of(number: Option<i64>) -> Small
+    ensures { result ≡ small_of number }
+{
+    match number {
+        None => Small::NoNumber,
+        Some(n) => {
+            if n >= 0 && n <= 65_535 {
+                Small::Is(n as u32)
+            } else {
+                Small::TooFar
+            }
+        },
+    }
+}
+
+fn register_operand(register: Option<Reg>) -> Operand
+    ensures { result ≡ register_operand register }
+{
+    match register {
+        None => Operand::Wrong,
+        Some(register) => Operand::Register(register),
+    }
+}
+
+fn number_operand(low: i64, high: i64, number: Option<i64>) -> Operand
+    ensures { result ≡ number_operand low high number }
+{
+    match number {
+        None => Operand::Wrong,
+        Some(n) => {
+            if is_within(low, high, n) {
+                Operand::Number(n)
+            } else {
+                Operand::Outside
+            }
+        },
+    }
+}
+
+fn frame_operand(word: Small) -> Operand
+    ensures { result ≡ frame_operand word }
+{
+    match word {
+        Small::NoNumber => Operand::Wrong,
+        Small::TooFar => Operand::Outside,
+        Small::Is(k) => Operand::Frame(k),
+    }
+}
+
+fn name_operand(alloc: Global, text: &[u8]) -> Result<Operand, NoMemory>
+    ensures { IfOk result (λ o. o ≡ name_operand text.now) }
+{
+    if !is_name(text) {
+        return Ok(Operand::Wrong);
+    }
+    let name = Name::new(alloc, text)?;
+    Ok(Operand::Name(name))
+}
+
+fn direct(alloc: Global, name: &[u8], offset: Small) -> Result<Operand, NoMemory>
+    ensures { IfOk result (λ o. o ≡ direct name.now offset) }
+{
+    if !is_name(name) {
+        return Ok(Operand::Wrong);
+    }
+    match offset {
+        Small::NoNumber => Ok(Operand::Wrong),
+        Small::TooFar => Ok(Operand::Outside),
+        Small::Is(offset) => {
+            let name = Name::new(alloc, name)?;
+            Ok(Operand::Direct { name, offset })
+        },
+    }
+}
+
+fn indexed(alloc: Global, name: &[u8], index: Option<Reg>, mask: Small) -> Result<Operand, NoMemory>
+    ensures { IfOk result (λ o. o ≡ indexed name.now index mask) }
+{
+    if !is_name(name) {
+        return Ok(Operand::Wrong);
+    }
+    let Some(index) = index else {
+        return Ok(Operand::Wrong);
+    };
+    match mask {
+        Small::NoNumber => Ok(Operand::Wrong),
+        Small::TooFar => Ok(Operand::Outside),
+        Small::Is(mask) => {
+            let name = Name::new(alloc, name)?;
+            Ok(Operand::Indexed { name, index, mask })
+        },
+    }
+}
+
+// With this text between its brackets.
+#[tactic(auto, unfolding(crate::specs::Operands::in_brackets))]
+fn in_brackets(
+    alloc: Global,
+    in_frame: bool,
+    name: &[u8],
+    inside: &[u8],
+) -> Result<Operand, NoMemory>
+    ensures { IfOk result (λ o. o ≡ in_brackets in_frame name.now inside.now) }
+{
+    if has(inside, b'&') {
+        let index = register(trim(before(inside, b'&')));
+        let mask = small_of(number(trim(behind(inside, b'&'))));
+        return indexed(alloc, name, index, mask);
+    }
+    if in_frame && same(name, b"frame") {
+        return Ok(frame_operand(small_of(number(inside))));
+    }
+    Ok(Operand::Wrong)
+}
+
+// `NAME[..]`
+#[tactic(auto, unfolding(crate::specs::Operands::bracketed))]
+fn bracketed(alloc: Global, in_frame: bool, name: &[u8], rest: &[u8]) -> Result<Operand, NoMemory>
+    ensures { IfOk result (λ o. o ≡ bracketed in_frame name.now rest.now) }
+{
+    if rest.is_empty() || rest[rest.len() - 1] != b']' {
+        return Ok(Operand::Wrong);
+    }
+    in_brackets(alloc, in_frame, name, trim(front(rest, rest.len() - 1)))
+}
+
+#[tactic(auto, unfolding(crate::specs::Operands::place))]
+fn place(alloc: Global, in_frame: bool, text: &[u8]) -> Result<Operand, NoMemory>
+    ensures { IfOk result (λ o. o ≡ place in_frame text.now) }
+{
+    if has(text, b'[') {
+        return bracketed(alloc, in_frame, before(text, b'['), behind(text, b'['));
+    }
+    if has(text, b'+') {
+        return direct(
+            alloc,
+            trim(before(text, b'+')),
+            small_of(number(trim(behind(text, b'+')))),
+        );
+    }
+    direct(alloc, text, Small::Is(0))
+}
+
+fn bytes_operand(alloc: Global, text: &[u8]) -> Result<Operand, NoMemory>
+    ensures { IfOk result (λ o. o ≡ bytes_operand (decode_of text.now)) }
+{
+    match decode(alloc, text) {
+        Ok(bytes) => Ok(Operand::Bytes(List::from_vec(bytes))),
+        Err(FromHexError::OutOfMemory) => Err(NoMemory),
+        Err(_) => Ok(Operand::Wrong),
+    }
+}
+
+/// The operand that a text is, where one of this form is wanted.
+pub fn read_operand(alloc: Global, form: Form, text: &[u8]) -> Result<Operand, NoMemory>
+    ensures { IfOk result (λ o. o ≡ read_operand form text.now) }
+{
+    match form {
+        Form::Register => Ok(register_operand(register(text))),
+        Form::Number { low, high } => Ok(number_operand(low, high, number(text))),
+        Form::Name => name_operand(alloc, text),
+        Form::Place => place(alloc, false, text),
+        Form::WordPlace => place(alloc, true, text),
+        Form::Bytes => bytes_operand(alloc, text),
+    }
+}

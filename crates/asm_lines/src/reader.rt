@@ -1,0 +1,57 @@
+//! Reads task source.
+ghost use Rattle.std.specs.Prelude.{◌≡◌, ◌<◌, ◌≤◌, ◌+◌, length, map, IfOk, IfErr, OnOk};
+ghost use Rattle.sloth_refusal.specs.Order.{ErrorIs, NoFault};
+ghost use Rattle.text_pieces.specs.Names.{now};
+ghost use Rattle.asm_lines.specs.Lines.{without_returns};
+ghost use Rattle.asm_lines.specs.SourceLines.{source_line};
+ghost use Rattle.asm_lines.specs.Faults.{source_lines, SourceFault, TextFault};
+
+use crate::cutting::{line_of, split};
+use crate::rules::source_fault;
+use crate::source_line::{SourceLine, source_line};
+use sloth_base::list::List;
+use sloth_base::memory::NoMemory;
+use sloth_base::refusal::BuildError;
+use std::alloc::Global;
+use text_pieces::growth::push;
+
+// What the line of each part is.
+fn read_parts(alloc: Global, parts: &[&[u8]]) -> Result<Vec<SourceLine>, NoMemory>
+    ensures { IfOk result (λ read. read.items ≡ map source_line (without_returns (map now parts.now))) }
+{
+    let mut read = Vec::new(alloc);
+    for (n, part) in parts.iter().enumerate() {
+        let line = line_of(*part, n + 1 == parts.len());
+        let line = source_line(alloc, line)?;
+        push(&mut read, line)?;
+    }
+    Ok(read)
+}
+
+// What the lines of a text are.
+#[tactic(auto, unfolding(crate::specs::Lines::lines))]
+fn read_lines(alloc: Global, text: &[u8]) -> Result<List<SourceLine>, NoMemory>
+    ensures { IfOk result (λ read. read ≡ source_lines text.now) }
+{
+    let parts = split(alloc, text, b'\n')?;
+    let read = read_parts(alloc, parts.as_slice())?;
+    Ok(List::from_vec(read))
+}
+
+/// What the lines of a task source are, or its least fault: A1 for a line that is no statement, or one out of place; A2 for an
+/// unknown statement; A3 for a wrong operand; A4 for a number out of range. The text has at most 4,294,967,294 bytes.
+pub fn read(alloc: Global, text: &[u8]) -> Result<List<SourceLine>, BuildError>
+    requires { length text.now < 4294967295 }
+    ensures lines { IfOk result (λ read. read ≡ source_lines text.now) }
+    ensures none { OnOk result (NoFault (TextFault text.now)) }
+    ensures refused { IfErr result (λ error. ErrorIs (TextFault text.now) error) }
+{
+    let read = match read_lines(alloc, text) {
+        Ok(read) => read,
+        Err(_) => return Err(BuildError::Memory),
+    };
+    match source_fault(read.items()) {
+        None => Ok(read),
+        Some(fault) => Err(BuildError::Refused(fault)),
+    }
+}

@@ -1,0 +1,363 @@
+//! The statements of task source: their words, and the forms of their operands.
+ghost use Rattle.std.specs.Prelude.{◌≡◌};
+ghost use Rattle.std.specs.Str.{bytes_eq};
+ghost use Rattle.asm_lines.specs.Table.{alu_of, imm_of, shift_of, load_of, store_of, branch_of, service_of, plain_of, mnemonic_of, service_takes, takes, place_form, form_of, is_outer, opens, closes};
+
+use text_pieces::bytes::same;
+use sloth_base::app::{AluKind, BranchKind, ImmKind, Width};
+use sloth_base::service::Service;
+
+/// A statement by its first word.
+#[derive(Clone, Copy, Debug, PartialEq, Eq)]
+pub enum Mnemonic {
+    Data,
+    Task,
+    Func,
+    End,
+    Label,
+    Alu(AluKind),
+    Imm(ImmKind),
+    Shift(ImmKind),
+    Lui,
+    Li,
+    Move,
+    Nop,
+    Load(Width),
+    Store(Width),
+    Branch(BranchKind),
+    Jump,
+    Invoke,
+    Return,
+    Serve(Service),
+}
+
+/// What an operand may be.
+#[derive(Clone, Copy)]
+pub enum Form {
+    Register,
+    Number { low: i64, high: i64 },
+    Name,
+    /// A place in a symbol.
+    Place,
+    /// A place in a symbol, or a word of the frame.
+    WordPlace,
+    Bytes,
+}
+
+#[tactic(auto, unfolding(crate::specs::Table::alu_of))]
+fn alu_of(word: &[u8]) -> Option<AluKind>
+    ensures { result ≡ alu_of word.now }
+{
+    if same(word, b"add") {
+        Some(AluKind::Add)
+    } else if same(word, b"sub") {
+        Some(AluKind::Sub)
+    } else if same(word, b"sll") {
+        Some(AluKind::Sll)
+    } else if same(word, b"slt") {
+        Some(AluKind::Slt)
+    } else if same(word, b"sltu") {
+        Some(AluKind::Sltu)
+    } else if same(word, b"xor") {
+        Some(AluKind::Xor)
+    } else if same(word, b"srl") {
+        Some(AluKind::Srl)
+    } else if same(word, b"sra") {
+        Some(AluKind::Sra)
+    } else if same(word, b"or") {
+        Some(AluKind::Or)
+    } else if same(word, b"and") {
+        Some(AluKind::And)
+    } else {
+        None
+    }
+}
+
+#[tactic(auto, unfolding(crate::specs::Table::imm_of))]
+fn imm_of(word: &[u8]) -> Option<ImmKind>
+    ensures { result ≡ imm_of word.now }
+{
+    if same(word, b"addi") {
+        Some(ImmKind::Addi)
+    } else if same(word, b"slti") {
+        Some(ImmKind::Slti)
+    } else if same(word, b"sltiu") {
+        Some(ImmKind::Sltiu)
+    } else if same(word, b"xori") {
+        Some(ImmKind::Xori)
+    } else if same(word, b"ori") {
+        Some(ImmKind::Ori)
+    } else if same(word, b"andi") {
+        Some(ImmKind::Andi)
+    } else {
+        None
+    }
+}
+
+#[tactic(auto, unfolding(crate::specs::Table::shift_of))]
+fn shift_of(word: &[u8]) -> Option<ImmKind>
+    ensures { result ≡ shift_of word.now }
+{
+    if same(word, b"slli") {
+        Some(ImmKind::Slli)
+    } else if same(word, b"srli") {
+        Some(ImmKind::Srli)
+    } else if same(word, b"srai") {
+        Some(ImmKind::Srai)
+    } else {
+        None
+    }
+}
+
+#[tactic(auto, unfolding(crate::specs::Table::load_of))]
+fn load_of(word: &[u8]) -> Option<Width>
+    ensures { result ≡ load_of word.now }
+{
+    if same(word, b"lb") {
+        Some(Width::Byte)
+    } else if same(word, b"lh") {
+        Some(Width::Half)
+    } else if same(word, b"lw") {
+        Some(Width::Word)
+    } else if same(word, b"lbu") {
+        Some(Width::ByteU)
+    } else if same(word, b"lhu") {
+        Some(Width::HalfU)
+    } else {
+        None
+    }
+}
+
+#[tactic(auto, unfolding(crate::specs::Table::store_of))]
+fn store_of(word: &[u8]) -> Option<Width>
+    ensures { result ≡ store_of word.now }
+{
+    if same(word, b"sb") {
+        Some(Width::Byte)
+    } else if same(word, b"sh") {
+        Some(Width::Half)
+    } else if same(word, b"sw") {
+        Some(Width::Word)
+    } else {
+        None
+    }
+}
+
+#[tactic(auto, unfolding(crate::specs::Table::branch_of))]
+fn branch_of(word: &[u8]) -> Option<BranchKind>
+    ensures { result ≡ branch_of word.now }
+{
+    if same(word, b"beq") {
+        Some(BranchKind::Beq)
+    } else if same(word, b"bne") {
+        Some(BranchKind::Bne)
+    } else if same(word, b"blt") {
+        Some(BranchKind::Blt)
+    } else if same(word, b"bge") {
+        Some(BranchKind::Bge)
+    } else if same(word, b"bltu") {
+        Some(BranchKind::Bltu)
+    } else if same(word, b"bgeu") {
+        Some(BranchKind::Bgeu)
+    } else {
+        None
+    }
+}
+
+#[tactic(auto, unfolding(crate::specs::Table::service_of))]
+fn service_of(word: &[u8]) -> Option<Service>
+    ensures { result ≡ service_of word.now }
+{
+    if same(word, b"ActivateTask") {
+        Some(Service::ActivateTask)
+    } else if same(word, b"TerminateTask") {
+        Some(Service::TerminateTask)
+    } else if same(word, b"ChainTask") {
+        Some(Service::ChainTask)
+    } else if same(word, b"Schedule") {
+        Some(Service::Schedule)
+    } else if same(word, b"GetTaskID") {
+        Some(Service::GetTaskID)
+    } else if same(word, b"GetTaskState") {
+        Some(Service::GetTaskState)
+    } else if same(word, b"GetResource") {
+        Some(Service::GetResource)
+    } else if same(word, b"ReleaseResource") {
+        Some(Service::ReleaseResource)
+    } else if same(word, b"SetEvent") {
+        Some(Service::SetEvent)
+    } else if same(word, b"ClearEvent") {
+        Some(Service::ClearEvent)
+    } else if same(word, b"GetEvent") {
+        Some(Service::GetEvent)
+    } else if same(word, b"WaitEvent") {
+        Some(Service::WaitEvent)
+    } else {
+        None
+    }
+}
+
+#[tactic(auto, unfolding(crate::specs::Table::plain_of))]
+fn plain_of(word: &[u8]) -> Option<Mnemonic>
+    ensures { result ≡ plain_of word.now }
+{
+    if same(word, b"data") {
+        Some(Mnemonic::Data)
+    } else if same(word, b"task") {
+        Some(Mnemonic::Task)
+    } else if same(word, b"func") {
+        Some(Mnemonic::Func)
+    } else if same(word, b"end") {
+        Some(Mnemonic::End)
+    } else if same(word, b"label") {
+        Some(Mnemonic::Label)
+    } else if same(word, b"lui") {
+        Some(Mnemonic::Lui)
+    } else if same(word, b"li") {
+        Some(Mnemonic::Li)
+    } else if same(word, b"mv") {
+        Some(Mnemonic::Move)
+    } else if same(word, b"nop") {
+        Some(Mnemonic::Nop)
+    } else if same(word, b"j") {
+        Some(Mnemonic::Jump)
+    } else if same(word, b"call") {
+        Some(Mnemonic::Invoke)
+    } else if same(word, b"ret") {
+        Some(Mnemonic::Return)
+    } else {
+        None
+    }
+}
+
+/// The statement that a word begins.
+#[tactic(auto, unfolding(crate::specs::Table::mnemonic_of))]
+pub fn mnemonic_of(word: &[u8]) -> Option<Mnemonic>
+    ensures { result ≡ mnemonic_of word.now }
+{
+    if let Some(kind) = alu_of(word) {
+        return Some(Mnemonic::Alu(kind));
+    }
+    if let Some(kind) = imm_of(word) {
+        return Some(Mnemonic::Imm(kind));
+    }
+    if let Some(kind) = shift_of(word) {
+        return Some(Mnemonic::Shift(kind));
+    }
+    if let Some(kind) = load_of(word) {
+        return Some(Mnemonic::Load(kind));
+    }
+    if let Some(kind) = store_of(word) {
+        return Some(Mnemonic::Store(kind));
+    }
+    if let Some(kind) = branch_of(word) {
+        return Some(Mnemonic::Branch(kind));
+    }
+    if let Some(kind) = service_of(word) {
+        return Some(Mnemonic::Serve(kind));
+    }
+    plain_of(word)
+}
+
+fn service_takes(service: Service, count: usize) -> bool
+    ensures { result ≡ service_takes service count }
+{
+    match service {
+        Service::TerminateTask | Service::Schedule | Service::GetTaskID => count == 0,
+        Service::SetEvent => count >= 2,
+        Service::ClearEvent | Service::WaitEvent => count >= 1,
+        Service::ActivateTask
+        | Service::ChainTask
+        | Service::GetTaskState
+        | Service::GetResource
+        | Service::ReleaseResource
+        | Service::GetEvent => count == 1,
+    }
+}
+
+/// Whether a statement may have so many operands.
+pub fn takes(mnemonic: Mnemonic, count: usize) -> bool
+    ensures { result ≡ takes mnemonic count }
+{
+    match mnemonic {
+        Mnemonic::Data => count == 2 || count == 3,
+        Mnemonic::Task | Mnemonic::Func => count == 1 || count == 2,
+        Mnemonic::End | Mnemonic::Nop | Mnemonic::Return => count == 0,
+        Mnemonic::Label => count >= 1,
+        Mnemonic::Alu(_) | Mnemonic::Imm(_) | Mnemonic::Shift(_) | Mnemonic::Branch(_) => {
+            count == 3
+        },
+        Mnemonic::Lui | Mnemonic::Li | Mnemonic::Move | Mnemonic::Load(_) | Mnemonic::Store(_) => {
+            count == 2
+        },
+        Mnemonic::Jump | Mnemonic::Invoke => count == 1,
+        Mnemonic::Serve(service) => service_takes(service, count),
+    }
+}
+
+fn number_form(low: i64, high: i64) -> Form
+    ensures { result ≡ Form.Number low high }
+{
+    Form::Number { low, high }
+}
+
+fn place_form(width: Width) -> Form
+    ensures { result ≡ place_form width }
+{
+    match width {
+        Width::Word => Form::WordPlace,
+        Width::Byte | Width::Half | Width::ByteU | Width::HalfU => Form::Place,
+    }
+}
+
+/// The form of the operand at this place, from 0.
+pub fn form_of(mnemonic: Mnemonic, place: usize) -> Form
+    ensures { result ≡ form_of mnemonic place }
+{
+    match mnemonic {
+        Mnemonic::Data if place == 1 => number_form(1, 65_535),
+        Mnemonic::Data if place == 2 => Form::Bytes,
+        Mnemonic::Task | Mnemonic::Func if place > 0 => number_form(0, 65_535),
+        Mnemonic::Alu(_) | Mnemonic::Move => Form::Register,
+        Mnemonic::Imm(_) | Mnemonic::Shift(_) | Mnemonic::Branch(_) if place < 2 => Form::Register,
+        Mnemonic::Imm(_) => number_form(-2048, 2047),
+        Mnemonic::Shift(_) => number_form(0, 31),
+        Mnemonic::Lui | Mnemonic::Li | Mnemonic::Load(_) | Mnemonic::Store(_) if place == 0 => {
+            Form::Register
+        },
+        Mnemonic::Lui => number_form(0, 1_048_575),
+        Mnemonic::Li => number_form(-2_147_483_648, 4_294_967_295),
+        Mnemonic::Load(width) | Mnemonic::Store(width) => place_form(width),
+        _ => Form::Name,
+    }
+}
+
+/// Whether the statement stands outside bodies.
+pub fn is_outer(mnemonic: Mnemonic) -> bool
+    ensures { result ≡ is_outer mnemonic }
+{
+    match mnemonic {
+        Mnemonic::Data | Mnemonic::Task | Mnemonic::Func => true,
+        _ => false,
+    }
+}
+
+/// Whether the statement opens a body.
+pub fn opens(mnemonic: Mnemonic) -> bool
+    ensures { result ≡ opens mnemonic }
+{
+    match mnemonic {
+        Mnemonic::Task | Mnemonic::Func => true,
+        _ => false,
+    }
+}
+
+/// Whether the statement closes a body.
+pub fn closes(mnemonic: Mnemonic) -> bool
+    ensures { result ≡ closes mnemonic }
+{
+    match mnemonic {
+        Mnemonic::End => true,
+        _ => false,
+    }
+}

@@ -1,0 +1,32 @@
+-- How a file fails, from where a part of it does.
+use Rattle.std.proofs.Common.{ℕ, List, ◌≡◌, Option, None, Some, Err, refl}
+use Rattle.std.specs.Prelude.{Bool, true, false, IfNone}
+use Rattle.std.specs.Option.{ok_or}
+use Rattle.std.specs.Bool.{then_some}
+use Rattle.image_file.specs.Parts.{HasParts, Parts}
+use Rattle.image_file.specs.Faults.{Fails, HasMagic}
+use Rattle.image_file.specs.Reading.{NamesFail, NoNames}
+use Rattle.image_file.specs.declared.fault.ImageFault.{ImageFault}
+use Rattle.image_file.specs.declared.fault.ImageFault.TheVariants as fault
+use Rattle.image_file.specs.declared.fault.ImageError.{ImageError}
+use Rattle.image_file.specs.declared.fault.ImageError.TheVariants as failure
+
+-- names that are missing are a fault, where without them there are no parts
+pub names_fail : (f : ImageError) (file : List ℕ) (at count : ℕ) → HasMagic file
+    → (NoNames file at count → (p : Parts) (rest : List ℕ) → ¬ (HasParts file p rest)) → NamesFail f file at count → Fails f file
+names_fail (failure.Fault fault.I1) file at count magic none h = absurd h
+names_fail (failure.Fault fault.I2) file at count magic none h = (magic, none h)
+names_fail (failure.Fault fault.I3) file at count magic none h = absurd h
+names_fail (failure.Fault fault.I4) file at count magic none h = absurd h
+names_fail (failure.Fault fault.I5) file at count magic none h = absurd h
+names_fail failure.Memory file at count magic none h = h
+
+-- what `ok_or` passed on as an error is the fault, and there was nothing
+pub missing : {T : Type 0} {P : Type 0} (found : Option T) (wanted told : ImageFault) → Err told ≡ ok_or found wanted → IfNone found P → P × (told ≡ wanted)
+missing None wanted told same none = (none, cc)
+missing (Some x) wanted told same none = absurd (cc)
+
+-- nothing is given where the test fails
+pub none_unless : {T : Type 0} {P : Type 0} (test : Bool) (x : T) → (test ≡ false → P) → IfNone (then_some test x) P
+none_unless true x fails = tt
+none_unless false x fails = fails refl

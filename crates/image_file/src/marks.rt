@@ -1,0 +1,104 @@
+//! Marks in a file: twelve bytes each.
+ghost use Rattle.std.specs.Prelude.{◌≡◌, ◌≢◌, ◌≤◌, ◌+◌, ◌*◌, IfOk, IfErr, IfSome, IfNone, Decides, length};
+ghost use Rattle.image_file.specs.ImageText.{kind_number};
+ghost use Rattle.image_file.specs.Faults.{AreAscending};
+ghost use Rattle.image_file.specs.Reading.{MarkStands, NoMark, MarksStand, MarksFail};
+ghost use Rattle.sloth_base.specs.ImageRange.{AreFields, IsMark};
+ghost use Rattle.sloth_base.specs.declared.image.MarkKind.{MarkKind as KindOfMark};
+
+use crate::fault::{ImageError, ImageFault};
+use crate::numbers::{u16_at, u32_at};
+use sloth_base::image::{Mark, MarkKind};
+use std::alloc::Global;
+
+/// So many marks from `at` on, of an image of so many functions and bytes of memory.
+pub fn read_marks(
+    alloc: Global,
+    bytes: &[u8],
+    at: usize,
+    count: usize,
+    funcs: usize,
+    size: usize,
+) -> Result<Vec<Mark>, ImageError>
+    requires short { count ≤ 16384 }
+    requires within { at + count * 12 ≤ length bytes.now }
+    requires few { funcs ≤ 64 }
+    requires fits { size ≤ 2097152 }
+    ensures read { IfOk result (λ marks. MarksStand bytes.now at funcs size marks.items) }
+    ensures counted { IfOk result (λ marks. length marks.items ≡ count) }
+    ensures failed { IfErr result (λ failure. MarksFail failure bytes.now at count funcs size) }
+{
+    let mut marks = Vec::new(alloc);
+    for i in 0..count {
+        marks.push(mark_at(bytes, at + i * 12, funcs, size).ok_or(ImageFault::I3)?)?;
+    }
+    Ok(marks)
+}
+
+// The mark that stands at `at`.
+fn mark_at(bytes: &[u8], at: usize, funcs: usize, size: usize) -> Option<Mark>
+    requires within { at + 12 ≤ length bytes.now }
+    requires few { funcs ≤ 64 }
+    requires fits { size ≤ 2097152 }
+    ensures some { IfSome result (λ mark. MarkStands bytes.now at funcs size mark) }
+    ensures none { IfNone result (NoMark bytes.now at funcs size) }
+{
+    let kind = kind_of(bytes[at + 4])?;
+    let mark = Mark {
+        address: u32_at(bytes, at),
+        kind,
+        a: bytes[at + 5],
+        b: u16_at(bytes, at + 6),
+        c: u32_at(bytes, at + 8),
+    };
+    is_mark(&mark, funcs, size).then_some(mark)
+}
+
+// The kind of mark that has a number.
+fn kind_of(number: u8) -> Option<MarkKind>
+    ensures some { IfSome result (λ kind. kind_number kind ≡ number) }
+    ensures none { IfNone result ((kind : KindOfMark) → kind_number kind ≢ number) }
+{
+    match number {
+        0 => Some(MarkKind::Item),
+        1 => Some(MarkKind::Jump),
+        2 => Some(MarkKind::Opening),
+        3 => Some(MarkKind::Idle),
+        4 => Some(MarkKind::Back),
+        _ => None,
+    }
+}
+
+// The mark is on a word of the memory and its fields are in range.
+fn is_mark(mark: &Mark, funcs: usize, size: usize) -> bool
+    requires { size ≤ 2097152 }
+    ensures { Decides result (IsMark funcs size mark.now) }
+{
+    mark.address % 4 == 0
+        && mark.address >= 0x8000_0000
+        && mark.address as usize - 0x8000_0000 < size
+        && are_fields(mark, funcs)
+}
+
+fn are_fields(mark: &Mark, funcs: usize) -> bool
+    ensures { Decides result (AreFields funcs mark.now.kind mark.now.a mark.now.b mark.now.c) }
+{
+    match mark.kind {
+        MarkKind::Item => mark.a < 32 && (mark.b as usize) < funcs && mark.c <= 4095,
+        MarkKind::Jump => mark.a <= 11 && (mark.b as usize) < funcs && mark.c <= 4095,
+        MarkKind::Opening => mark.a <= 11 && mark.b == 0 && mark.c == 0,
+        MarkKind::Idle | MarkKind::Back => mark.a == 0 && mark.b == 0 && mark.c == 0,
+    }
+}
+
+/// Whether their addresses rise strictly.
+pub fn are_ascending(marks: &[Mark]) -> bool
+    ensures { Decides result (AreAscending marks.now) }
+{
+    for i in 1..marks.len() {
+        if marks[i].address <= marks[i - 1].address {
+            return false;
+        }
+    }
+    true
+}

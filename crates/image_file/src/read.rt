@@ -1,0 +1,115 @@
+//! Reading an image.
+ghost use Rattle.std.specs.Prelude.{◌⊎◌, ◌≡◌, IfOk, IfErr};
+ghost use Rattle.image_file.specs.ImageText.{ImageText};
+ghost use Rattle.image_file.specs.Faults.{Fails, Faulty, HasMagic};
+ghost use Rattle.image_file.specs.Reading.{HasOutline, HasSizes};
+ghost use Rattle.sloth_base.specs.declared.image.Image.{Image as ImageOf};
+ghost use Rattle.image_file.specs.declared.fault.ImageFault.{ImageFault as FaultOf};
+ghost use Rattle.image_file.specs.declared.fault.ImageError.TheVariants as failed_by;
+
+use crate::fault::{ImageError, ImageFault};
+use crate::header::{HEADER, Sizes, has_magic, read_sizes};
+use crate::marks::{are_ascending, read_marks};
+use crate::names::{are_names, read_names};
+use sloth_base::image::Image;
+use sloth_base::list::List;
+use sloth_base::name::Name;
+use std::alloc::Global;
+
+/// The image of a file, or the file's first fault.
+pub fn read_image(alloc: Global, bytes: &[u8]) -> Result<Image, ImageError>
+    ensures read { IfOk result (λ image. ImageText bytes.now image) }
+    ensures failed { IfErr result (λ failure. Fails failure bytes.now) }
+    ensures refuses_no_image { IfErr result (λ failure. (image : ImageOf) → ImageText bytes.now image → failure ≡ failed_by.Memory) }
+    ensures tells_the_fault { IfErr result (λ failure. (fault : FaultOf) → Faulty fault bytes.now →
+        (failure ≡ failed_by.Fault fault) ⊎ (failure ≡ failed_by.Memory)) }
+    ensures reads_no_fault { IfOk result (λ image. (fault : FaultOf) → ¬ (Faulty fault bytes.now)) }
+{
+    read_whole(alloc, bytes)
+}
+
+// The image, or what is wrong.
+fn read_whole(alloc: Global, bytes: &[u8]) -> Result<Image, ImageError>
+    ensures read { IfOk result (λ image. ImageText bytes.now image) }
+    ensures failed { IfErr result (λ failure. Fails failure bytes.now) }
+{
+    let outline = read_outline(alloc, bytes)?;
+    read_contents(alloc, bytes, outline)
+}
+
+// The names of a file, and where the memory begins, which the marks follow.
+#[derive(Drop)]
+struct Outline {
+    tasks: Vec<Name>,
+    funcs: Vec<Name>,
+    memory: usize,
+    size: usize,
+    count: usize,
+}
+
+// The parts of a file.
+fn read_outline(alloc: Global, bytes: &[u8]) -> Result<Outline, ImageError>
+    ensures read { IfOk result (λ outline. HasOutline bytes.now outline.tasks.items outline.funcs.items outline.memory outline.size outline.count) }
+    ensures failed { IfErr result (λ failure. Fails failure bytes.now) }
+{
+    if !has_magic(bytes) {
+        return Err(ImageFault::I1.into());
+    }
+    let sizes = read_sizes(bytes).ok_or(ImageFault::I2)?;
+    read_body(alloc, bytes, &sizes)
+}
+
+// Names, memory and marks, behind a header with these numbers.
+fn read_body(alloc: Global, bytes: &[u8], sizes: &Sizes) -> Result<Outline, ImageError>
+    requires magic { HasMagic bytes.now }
+    requires sizes { HasSizes bytes.now sizes.now.tasks sizes.now.funcs sizes.now.memory sizes.now.marks }
+    ensures read { IfOk result (λ outline. HasOutline bytes.now outline.tasks.items outline.funcs.items outline.memory outline.size outline.count) }
+    ensures failed { IfErr result (λ failure. Fails failure bytes.now) }
+{
+    let tasks = read_names(alloc, bytes, HEADER, sizes.tasks)?;
+    let funcs = read_names(alloc, bytes, tasks.end, sizes.funcs)?;
+    let memory = funcs.end;
+    if bytes.len() - memory < sizes.memory + sizes.marks * 12 {
+        return Err(ImageFault::I2.into());
+    }
+    Ok(Outline {
+        tasks: tasks.names,
+        funcs: funcs.names,
+        memory,
+        size: sizes.memory,
+        count: sizes.marks,
+    })
+}
+
+// The image of these parts, or what is wrong with them.
+fn read_contents(alloc: Global, bytes: &[u8], outline: Outline) -> Result<Image, ImageError>
+    requires { HasOutline bytes.now outline.tasks.items outline.funcs.items outline.memory outline.size outline.count }
+    ensures read { IfOk result (λ image. ImageText bytes.now image) }
+    ensures failed { IfErr result (λ failure. Fails failure bytes.now) }
+{
+    if !are_names(&outline.tasks) || !are_names(&outline.funcs) {
+        return Err(ImageFault::I3.into());
+    }
+    let place = outline.memory + outline.size;
+    let marks = read_marks(
+        alloc,
+        bytes,
+        place,
+        outline.count,
+        outline.funcs.len(),
+        outline.size,
+    )?;
+    if !are_ascending(&marks) {
+        return Err(ImageFault::I4.into());
+    }
+    if bytes.len() > place + outline.count * 12 {
+        return Err(ImageFault::I5.into());
+    }
+    let memory = Vec::from_slice(alloc, &bytes[outline.memory..place])?;
+    Ok(Image {
+        tasks: List::from_vec(outline.tasks),
+        funcs: List::from_vec(outline.funcs),
+        memory: List::from_vec(memory),
+        marks: List::from_vec(marks),
+    })
+}

@@ -1,0 +1,29 @@
+#!/bin/sh
+# Writes the files `stdin` and `stdout` from `instructions.s` and `words.s` with the GNU assembler for RISC-V (in Debian,
+# binutils-riscv64-unknown-elf). The gate needs neither this script nor the assembler.
+cd "$(dirname "$0")" || exit 1
+object=$(mktemp) || exit 1
+
+assemble() {
+    riscv64-unknown-elf-as -march=rv32i_zicsr -mabi=ilp32 -o "$object" "$1" || exit 1
+}
+
+# The words of a section, each on a line.
+words_of() {
+    riscv64-unknown-elf-objcopy -O binary -j "$1" "$object" /dev/stdout | od -An -v -tx4 -w4 | tr -d ' '
+}
+
+assemble instructions.s
+words_of .text >stdin
+sed -n 's/^.*#= //p' instructions.s | sed 's/^none .*/none/' | paste -d ' ' stdin - |
+    sed 's/^\([0-9a-f]*\) \([A-Z].*\)/\1 \1 \2/' >stdout
+
+assemble words.s
+sed -n -e 's/^#: /text /p' -e 's/^ *\.section \(\.[a-z0-9]*\),.*/words \1/p' words.s |
+    while read -r what rest; do
+        case $what in
+            text) echo "$rest" ;;
+            words) words_of "$rest" ;;
+        esac
+    done >>stdout
+rm -f "$object"

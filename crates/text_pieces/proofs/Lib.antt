@@ -1,0 +1,4 @@
+pub mod Numbering
+pub mod Places
+pub mod Tests
+pub mod Values

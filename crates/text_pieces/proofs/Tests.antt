@@ -1,0 +1,92 @@
+-- Tests, and what passes them in a list or in a set.
+use Rattle.std.proofs.Common.{◌≡◌, ◌∙◌, ⊎_elim, ◌⊎◌, inl, inr, Bool, true, false, cond, List, [], ◌∷◌, ◌++◌, refl, ap, sym, true≢false}
+use Rattle.std.specs.Prelude.{◌||◌, ◌&&◌, not}
+use Rattle.std.specs.List.{list_any}
+use Rattle.std.proofs.lemmas.List.Folds.{list_any-append}
+use Rattle.indexmap.specs.IndexSet.{insert_key}
+
+pub and_true : (a b : Bool) → a ≡ true → b ≡ true → (a && b) ≡ true
+and_true true b e f = f
+and_true false b e f = cc
+
+pub or_right_true : (a b : Bool) → b ≡ true → (a || b) ≡ true
+or_right_true true b e = refl
+or_right_true false b e = e
+
+pub or_left_true : (a b : Bool) → a ≡ true → (a || b) ≡ true
+or_left_true true b e = refl
+or_left_true false b e = cc
+
+pub or_split : (a b : Bool) → (a || b) ≡ true → (a ≡ true) ⊎ (b ≡ true)
+or_split true b e = inl refl
+or_split false b e = inr e
+
+pub or_left : (a b : Bool) → (a || b) ≡ false → a ≡ false
+or_left true b e = cc
+or_left false b e = refl
+
+pub or_right : (a b : Bool) → (a || b) ≡ false → b ≡ false
+or_right true b e = cc
+or_right false b e = e
+
+pub or_absorbs : (a b : Bool) → (b ≡ true → a ≡ true) → (a || b) ≡ a
+or_absorbs true b f = refl
+or_absorbs false true f = sym (f refl)
+or_absorbs false false f = refl
+
+pub and_swap : (a b : Bool) → (a && b) ≡ (b && a)
+and_swap true true = refl
+and_swap true false = refl
+and_swap false true = refl
+and_swap false false = refl
+
+pub and_left : (a b : Bool) → (a && b) ≡ true → a ≡ true
+and_left true b e = refl
+and_left false b e = cc
+
+pub and_right : (a b : Bool) → (a && b) ≡ true → b ≡ true
+and_right true b e = e
+and_right false b e = cc
+
+pub or_nothing : (b : Bool) → (b || false) ≡ b
+or_nothing true = refl
+or_nothing false = refl
+
+module _ {X : Type 0} (p q : X → Bool) where
+  -- what one test passes another does
+  pub any_implies : ((x : X) → p x ≡ true → q x ≡ true) → (xs : List X) → list_any p xs ≡ true → list_any q xs ≡ true
+  any_implies f [] h = cc
+  any_implies f (x ∷ xs) h =
+      ⊎_elim (λ e. or_left_true (q x) (list_any q xs) (f x e)) (λ e. or_right_true (q x) (list_any q xs) (any_implies f xs e)) (or_split (p x) (list_any p xs) h)
+
+  -- one passes, and none that fails the other test
+  pub any_but : (xs : List X) → list_any p xs ≡ false → list_any q xs ≡ true → list_any (λ x. not (p x) && q x) xs ≡ true
+  any_but [] n h = cc
+  any_but (x ∷ xs) n h = by (p x) refl (any_but xs)
+    where
+      by : (b : Bool) → p x ≡ b → (list_any p xs ≡ false → list_any q xs ≡ true → list_any (λ y. not (p y) && q y) xs ≡ true) → list_any (λ y. not (p y) && q y) (x ∷ xs) ≡ true
+      by true e again = absurd (true≢false (sym (ap (λ c. c || list_any p xs) e) ∙ n))
+      by false e again =
+          let rest : list_any p xs ≡ false = sym (ap (λ c. c || list_any p xs) e) ∙ n in
+          ⊎_elim
+          (λ t. or_left_true (not (p x) && q x) _ (and_true (not (p x)) (q x) (ap not e) t))
+          (λ t. or_right_true (not (p x) && q x) _ (again rest t))
+          (or_split (q x) (list_any q xs) h)
+
+pub any_none : {X : Type 0} (p : X → Bool) → ((x : X) → p x ≡ false) → (xs : List X) → list_any p xs ≡ false
+any_none p f [] = refl
+any_none p f (x ∷ xs) = ap (λ b. b || list_any p xs) (f x) ∙ any_none p f xs
+
+module _ {X : Type 0} (p : X → Bool) where
+  pub any_push : (xs : List X) (x : X) → list_any p (xs ++ x ∷ []) ≡ (list_any p xs || p x)
+  any_push xs x = list_any-append p xs (x ∷ []) ∙ ap (λ b. list_any p xs || b) (or_nothing (p x))
+
+  -- a test that an inserted key and its equals pass alike
+  pub any_insert : (eq : X → X → Bool) (x : X) → ((y : X) → eq x y ≡ true → p y ≡ p x) → (xs : List X) → list_any p (insert_key eq xs x) ≡ (list_any p xs || p x)
+  any_insert eq x alike xs = by (list_any (eq x) xs) refl
+    where
+      by : (b : Bool) → list_any (eq x) xs ≡ b → list_any p (insert_key eq xs x) ≡ (list_any p xs || p x)
+      by true e =
+          ap (λ b. list_any p (cond b xs (xs ++ x ∷ []))) e
+          ∙ sym (or_absorbs (list_any p xs) (p x) (λ t. any_implies (eq x) p (λ y h. alike y h ∙ t) xs e))
+      by false e = ap (λ b. list_any p (cond b xs (xs ++ x ∷ []))) e ∙ any_push xs x
