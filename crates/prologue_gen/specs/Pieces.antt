@@ -4,7 +4,7 @@ use Rattle.sloth_region.specs.Layout.{cur, active, below_word, context_bytes, co
 use Rattle.rv32_instr.specs.declared.csr.TheConstants.{MEPC, PLEVEL}
 use Rattle.rv32_instr.specs.declared.InstrKind.{InstrKind}
 use Rattle.rv32_instr.specs.declared.InstrKind.TheVariants.{Lui, Addi, Lw, Sw, Csrrs, Csrrw, Csrrwi, Mret}
-use Rattle.rv32_routine.specs.Constant.{hi, lo}
+use Rattle.sloth_base.specs.Arithmetic.{hi, lo}
 use Rattle.rv32_routine.specs.Pieces.{saves, clears, clears_words}
 
 -- what the CSRs say goes into the context at x1; leaves 0x80000000 in x4
@@ -20,12 +20,15 @@ saves_words =
 abbrev pub saves_context : List InstrKind
 saves_context = Addi 1 2 (neg_ℤ (pos context_bytes)) ∷ (saves 27 5 1 ++ (saves_csrs ++ saves_words))
 
+-- the task is the running one and Active, and its level is that of the entry
 abbrev pub marks_active : ℕ → ℕ → List InstrKind
 marks_active task level =
     Addi 3 0 (pos (task + 1)) ∷ Sw 4 3 (pos cur) ∷ Addi 3 0 (pos 1) ∷ Sw 4 3 (pos (active task)) ∷ Csrrwi 0 level PLEVEL ∷ []
 
+-- x2 is the task's frame, and its first item is where the entry goes to
 abbrev pub begins : ℕ → ℕ → List InstrKind
 begins frame first = Lui 2 (hi frame) ∷ Addi 2 2 (lo frame) ∷ Lui 3 (hi first) ∷ Addi 3 3 (lo first) ∷ Csrrw 0 3 MEPC ∷ []
 
+-- a start with a frame of zero words and zero registers
 abbrev pub starts_anew : ℕ → ℕ → ℕ → List InstrKind
 starts_anew frame words first = begins frame first ++ (clears_words words 0 2 ++ (clears 25 5 ++ Mret ∷ []))

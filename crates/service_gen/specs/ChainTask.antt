@@ -40,6 +40,7 @@ pub record HasNotChained (task own : ℕ) (touched : List ℕ) (start end : Stat
   pub status : slice_index end.core.registers a0 ≡ E_OS_LIMIT
   pub back : WentBack a0 start.core start end
 
+-- what ChainTask does
 abbrev pub Chained : ℕ → ℕ → ℕ → List ℕ → State → State → Type 0
 Chained task own place touched start end = HasChained task own place touched start end ⊎ HasNotChained task own touched start end
 

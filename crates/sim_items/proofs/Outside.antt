@@ -1,6 +1,6 @@
 -- Instructions outside the stretches.
 use Rattle.std.proofs.Common.{◌≡◌, ℕ, ◌+◌, ◌-◌, ◌<◌, ◌≤◌, List, [], ◌∷◌, length, refl, sym, ap, ◌∙◌, subst, arith, Some, None, cond, nat_le}
-use Rattle.std.specs.Prelude.{◌&&◌, slice_index, IfSome}
+use Rattle.std.specs.Prelude.{◌&&◌, slice_index, IfSome, Contains}
 use Rattle.std.proofs.lemmas.Bool.{lt-ltb, le-leb}
 use Rattle.sloth_base.specs.declared.app.Op.{Op}
 use Rattle.sloth_base.specs.declared.app.Op.TheVariants as op
@@ -12,17 +12,18 @@ use Rattle.sloth_base.specs.declared.event.Arrival.{Arrival}
 use Rattle.sloth_base.specs.Choose.{choose}
 use Rattle.sloth_base.specs.Machine.{State}
 use Rattle.sloth_base.specs.Take.{line_to_take, enter}
+use Rattle.sloth_region.specs.Layout.{cur}
 use Rattle.rv32_instr.specs.Ram.{word_at}
 use Rattle.rv32_instr.specs.Execute.{Going, step, touched}
 use Rattle.rv32_machine.specs.Run.{arrived}
 use Rattle.rv32_routine.specs.Place.{at, InPlace}
-use Rattle.rv32_expand.specs.Expansion.{item_address, operation}
+use Rattle.rv32_expand.specs.Expansion.{item_address}
+use Rattle.sloth_base.specs.Named.{operation}
 use Rattle.rv32_expand.specs.InPlace.{result_register, mark_of, item_mark}
 use Rattle.observe.specs.Observe.{View, mark_at, task_of, outside_events, events_of_kind}
 use Rattle.osek_machine.specs.State.{System}
 use Rattle.osek_machine.specs.Priority.{IsTop}
 use Rattle.osek_machine.specs.Steps.{settled}
-use Rattle.sim_induction.specs.Short.{IsOneOf}
 use Rattle.sim_induction.specs.Admits.{Setting, lines_at, with_admits}
 use Rattle.sim_induction.specs.Laws.{OutsideLaw, Shows, seen_at}
 use Rattle.sim_induction.proofs.Routes.{begins_none}
@@ -89,7 +90,7 @@ module _ (b : Build) (view : View) (arrivals : List Arrival) (progress : State �
   one_instruction next mark whats after goes quiet marked shown shows rises related = record {
     goes = ap (λ o. step (enter o n)) none ∙ goes;
     outside = begins_none count n next here.after_boot none related.fixed.open_to_lines;
-    untouched = subst (λ o. IfSome o (IsOneOf [])) (sym (ap (λ o. touched (enter o n)) none ∙ quiet)) tt;
+    untouched = subst (λ o. IfSome o (Contains [])) (sym (ap (λ o. touched (enter o n)) none ∙ quiet)) tt;
     whats = whats;
     whats_are = ap (λ o. outside_events (mark_at view (enter o n).pc) view (seen_at given count state next)) none
         ∙ ap (λ m. outside_events m view (seen_at given count state next)) marked ∙ shown;
@@ -109,7 +110,7 @@ module _ (b : Build) (view : View) (arrivals : List Arrival) (progress : State �
     runs = computed_run b n s1 t here.fits now item top is one
 
     abbrev shown_as : Mark → Event
-    shown_as m = event.Run (task_of view.tasks (word_at n.core.ram 0)) m.b m.c (slice_index runs.next.core.registers m.a)
+    shown_as m = event.Run (task_of view.tasks (word_at n.core.ram cur)) m.b m.c (slice_index runs.next.core.registers m.a)
 
     shown : events_of_kind (item_mark b.app b.places item.frame.func item.frame.item).kind view (item_mark b.app b.places item.frame.func item.frame.item) (seen_at given count state runs.next)
         ≡ event.Run t item.frame.func item.frame.item (slice_index runs.next.core.registers (result_register (operation b.app item.frame.func item.frame.item))) ∷ []
@@ -128,7 +129,7 @@ module _ (b : Build) (view : View) (arrivals : List Arrival) (progress : State �
     )
 
   -- the idle loop
-  module _ (idle_word : word_at state.core.ram 0 ≡ 0) (idle : HasIdle b view) where
+  module _ (idle_word : word_at state.core.ram cur ≡ 0) (idle : HasIdle b view) where
     empty : now.stack ≡ []
     empty = by now.stack refl
       where

@@ -1,6 +1,6 @@
 -- TerminateTask is a step, and the relation stands behind it.
 use Rattle.std.proofs.Common.{◌≡◌, ℕ, ◌+◌, ◌<◌, List, [], ◌∷◌, length, refl, sym, ap, ◌∙◌, subst, arith, inl, false}
-use Rattle.std.specs.Prelude.{slice_index}
+use Rattle.std.specs.Prelude.{slice_index, Contains}
 use Rattle.std.proofs.lemmas.List.{get_or-set_same, get_or-set_other, length-set}
 use Rattle.sloth_base.specs.declared.event.Event.TheVariants as event
 use Rattle.sloth_base.specs.declared.service.Service.TheVariants as service
@@ -15,7 +15,7 @@ use Rattle.osek_machine.specs.Priority.{is_active}
 use Rattle.osek_machine.specs.Services.{ended}
 use Rattle.osek_machine.specs.Steps.{OsekStep, IsAt, settled}
 use Rattle.sloth_base.specs.declared.app.Op.TheVariants as op
-use Rattle.sim_induction.specs.Laws.{AreOneOf}
+use Rattle.std.specs.List.{AllByRecursion}
 use Rattle.sim_induction.proofs.Passing.{not_suspended}
 use Rattle.sim_induction.proofs.Stretched.{shows_left}
 use Rattle.sim_relation.specs.Build.{Build, Fits}
@@ -23,12 +23,11 @@ use Rattle.sim_relation.specs.Context.{RunsTask, Running}
 use Rattle.sim_relation.specs.ServiceWords.{ServiceWords, HeldWords, base_priority}
 use Rattle.sim_relation.specs.Stands.{Stands, IsActive, AreActive, IsLineOf}
 use Rattle.sim_relation.specs.Moves.{TaskLeave}
-use Rattle.sim_relation.proofs.Parts.{this_task}
+use Rattle.sim_relation.proofs.Parts.{this_task, line_active}
 use Rattle.sim_relation.proofs.Placed.{first_by_word, active_by_word}
 use Rattle.sim_relation.proofs.Tops.{falling_head}
 use Rattle.sim_relation.proofs.Leaving.{leave_stands}
 use Rattle.sim_relation.proofs.TaskSteps.{active_resumes}
-use Rattle.sim_relation.proofs.TaskMoves.{line_active}
 use Rattle.sim_services.specs.Opening.{AtOpening}
 use Rattle.sim_services.specs.Served.{Answers}
 use Rattle.sim_services.specs.Laws.{MayEnd}
@@ -96,7 +95,7 @@ module _ (b : Build) (state : State) (s : System) (t : ℕ) (called : Task) (pla
     own_words : ServiceWords b new t own
     own_words = let g = few30 in record {
       activity = mem.activity;
-      event_mask = mem.events;
+      event_mask = mem.event_mask;
       wait_mask = tt;
       resumption = mem.named (resume t) (omega arith) (omega arith) (λ a. omega arith) (λ a. omega arith) (λ a. omega arith) ∙ resume_zero;
       held = subst (λ (l : List ℕ). HeldWords b new (base_priority b t own) l) (sym held_nil) tt;
@@ -109,14 +108,17 @@ module _ (b : Build) (state : State) (s : System) (t : ℕ) (called : Task) (pla
         record {
           link = may.below;
           left = record { ram = refl; current = mem.current_word; link = mem.link_word; x2 = eff.x2; loaded = eff.loaded; pc = eff.pc; level = eff.left.running };
-          long = mem.long ∙ sym f.ram;
-          registers = eff.left.registers ∙ sym f.registers;
-          zero = eff.left.zero ∙ sym f.zero;
-          levels = eff.left.levels;
-          controller = eff.left.controller;
-          open_to_lines = eff.left.opened;
-          previous = eff.left.previous;
-          lengths = (ap length eff.left.pending ∙ length-set state.core.pending t 0, ap length eff.left.enabled);
+          machine = record {
+            ram = mem.long ∙ sym f.ram;
+            registers = eff.left.registers ∙ sym f.registers;
+            zero = eff.left.zero ∙ sym f.zero;
+            pending = ap length eff.left.pending ∙ length-set state.core.pending t 0;
+            enabled = ap length eff.left.enabled;
+            levels = eff.left.levels;
+            controller = eff.left.controller;
+            open_to_lines = eff.left.opened;
+            previous = eff.left.previous;
+          };
           own_line = own_line;
           other_pending = λ l n. ap (λ q. slice_index q l) eff.left.pending ∙ get_or-set_other state.core.pending t l 0 0 n;
           other_enabled = λ l n. ap (λ q. slice_index q l) eff.left.enabled;
@@ -166,7 +168,7 @@ module _ (b : Build) (state : State) (s : System) (t : ℕ) (called : Task) (pla
     answer = record {
       one = t;
       other = t;
-      touches = subst (AreOneOf (t ∷ t ∷ [])) (sym eff.touches) (inl refl, tt);
+      touches = subst (AllByRecursion (Contains (t ∷ t ∷ []))) (sym eff.touches) ((0, (omega arith), refl), tt);
       after = next;
       step_is = subst (λ what. OsekStep b.config b.app what s next) (sym (shows_left t service.TerminateTask end elsewhere)) step_is;
       stands = stands_behind;

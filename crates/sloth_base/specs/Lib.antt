@@ -9,3 +9,6 @@ pub mod Arrive
 pub mod Arithmetic
 pub mod ServiceCodes
 pub mod Status
+pub mod Named
+pub mod PriorityLevels
+pub mod Options
