@@ -25,12 +25,11 @@ use Rattle.osek_machine.specs.Steps.{IsAt, Executes}
 use Rattle.sim_relation.specs.Build.{Build, Fits}
 use Rattle.sim_relation.specs.Position.{thread_of}
 use Rattle.sim_relation.specs.Context.{Context}
-use Rattle.sim_relation.specs.Stands.{Stands, AreActive}
+use Rattle.sim_relation.specs.Stands.{Stands}
 use Rattle.sim_relation.specs.DataStands.{DataStands}
 use Rattle.sim_relation.specs.Moves.{moved_to, TaskStep, SameMachine}
 use Rattle.sim_relation.proofs.AtItem.{position_first}
-use Rattle.sim_relation.proofs.Placed.{first_by_word}
-use Rattle.sim_relation.proofs.Tops.{falling_head}
+use Rattle.sim_relation.proofs.Placed.{first_by_word, active_by_word}
 use Rattle.sim_relation.proofs.TaskSteps.{task_steps}
 use Rattle.sim_items.specs.Place.{AtItem, HasInstruction, IsOwn, IsComputed}
 use Rattle.sim_items.specs.Laws.{IsOneInstruction, RunsItem}
@@ -120,7 +119,7 @@ module _ (b : Build) (state : State) (s : System) (t : ℕ) (fits : Fits b) (k :
       sym (own_register own.registers r (omega arith) ∙ here.context.registers (r - 5) (omega arith) ∙ ap (λ v. slice_index state.core.registers v) e)
 
   value : Computed b.app b.places frame.func address this state.core.registers own.registers
-  value = computed b.app b.places frame.func address this state.core.registers own.registers agree is
+  value = computed b.app b.places frame.func address state.core.registers own.registers agree this is
 
   -- the rest over the parts of this record
   module _ (v : Computed b.app b.places frame.func address this state.core.registers own.registers) where
@@ -194,7 +193,7 @@ module _ (b : Build) (state : State) (s : System) (t : ℕ) (fits : Fits b) (k :
         })
 
     active_is : (task s t).state ≡ mode.Active
-    active_is = let f = first_by_word b state s t k.stack k.running here.current in (falling_head b s t f.0 (subst (AreActive b s) f.1 k.active).falling).active
+    active_is = (active_by_word b state s t k here.current).active
 
     task_step : TaskStep b state next s t own_now s.symbols
     task_step = record {

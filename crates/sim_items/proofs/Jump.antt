@@ -7,6 +7,7 @@ use Rattle.std.proofs.lemmas.Int.{ints}
 use Rattle.std.proofs.lemmas.List.{get_or-set_same, get_or-set_other, length-set, set-get_or}
 use Rattle.sloth_base.specs.declared.event.Arrival.{Arrival}
 use Rattle.sloth_base.specs.Machine.{State}
+use Rattle.sloth_region.specs.Layout.{cur}
 use Rattle.rv32_instr.specs.declared.InstrKind.{InstrKind}
 use Rattle.rv32_instr.specs.declared.InstrKind.TheVariants.{Jal}
 use Rattle.rv32_instr.specs.Ram.{word_at}
@@ -16,12 +17,10 @@ use Rattle.rv32_routine.specs.Place.{at}
 use Rattle.rv32_routine.proofs.Machine.{Here, step_at, touched_at, jump_at}
 use Rattle.rv32_expand.specs.Expansion.{item_address, block_address, mask_of, distance, expanded, expansion}
 use Rattle.observe.specs.Observe.{View, mark_at, events_of_kind}
-use Rattle.osek_machine.specs.declared.state.TaskState.{TaskState}
-use Rattle.osek_machine.specs.declared.state.TaskState.TheVariants as mode
 use Rattle.osek_machine.specs.State.{Task, System, task, sleeping}
 use Rattle.sim_induction.specs.Admits.{lines_at}
 use Rattle.sim_induction.specs.Laws.{seen_at}
-use Rattle.sim_induction.proofs.Passing.{kept_admits}
+use Rattle.sim_induction.proofs.Passing.{not_suspended, kept_admits}
 use Rattle.sim_relation.specs.Build.{Build}
 use Rattle.sim_relation.specs.Stands.{Stands, AreActive}
 use Rattle.sim_relation.specs.Moves.{moved_to, TaskStep}
@@ -43,9 +42,6 @@ at_start address count h =
 at_none : (address count pc : ℕ) → (pc < address) ⊎ (address + 4 * count ≤ pc) → passed_at address count pc ≡ 40
 at_none address count pc (inl h) = ap (λ b. cond b ((pc - address) / 4) 40) (and_left _ _ (lt-leb address pc h))
 at_none address count pc (inr h) = ap (λ b. cond b ((pc - address) / 4) 40) (and_right _ _ (le-ltb pc (address + 4 * count) h))
-
-not_suspended : (x : TaskState) → x ≡ mode.Active → x ≡ mode.Suspended → ⊥
-not_suspended x a e = cc
 
 -- a jump by the distance arrives
 arrives : (from to : ℕ) → from < 4294967296 → to < 4294967296 → plus from (distance from to) ≡ to
@@ -179,16 +175,16 @@ module _ (b : Build) (view : View) (arrivals : List Arrival) (count : ℕ) (stat
       (task_steps b n next s1 now here.fits t found.0 found.1 (task s1 t) s1.symbols step_of))
 
   -- the task's frames, found by the word at 0x80000000, before and behind the arrivals of the count
-  frames_of : (task s (word_at state.core.ram 0 - 1)).frames ≡ item.frame ∷ item.outer
+  frames_of : (task s (word_at state.core.ram cur - 1)).frames ≡ item.frame ∷ item.outer
   frames_of =
-      let e : word_at state.core.ram 0 - 1 ≡ t = let c = item.current in omega arith in
+      let e : word_at state.core.ram cur - 1 ≡ t = let c = item.current in omega arith in
       let f = first_by_word b state s t here.stands.stack here.stands.running item.current in
       let a = (falling_head b s t f.0 (subst (AreActive b s) f.1 here.stands.active).falling).active in
       ap (λ v. (task s v).frames) e ∙ sym (ap (λ v. v.frames) (kept_admits (lines_at arrivals count) t s (not_suspended (task s t).state a))) ∙ item.frames
 
-  frames_next : (task s1 (word_at n.core.ram 0 - 1)).frames ≡ item.frame ∷ item.outer
+  frames_next : (task s1 (word_at n.core.ram cur - 1)).frames ≡ item.frame ∷ item.outer
   frames_next =
-      let e : word_at n.core.ram 0 - 1 ≡ t = let c = item.current in omega arith in
+      let e : word_at n.core.ram cur - 1 ≡ t = let c = item.current in omega arith in
       ap (λ v. (task s1 v).frames) e ∙ item.frames
 
   abbrev size : ℕ

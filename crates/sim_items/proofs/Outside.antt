@@ -12,6 +12,7 @@ use Rattle.sloth_base.specs.declared.event.Arrival.{Arrival}
 use Rattle.sloth_base.specs.Choose.{choose}
 use Rattle.sloth_base.specs.Machine.{State}
 use Rattle.sloth_base.specs.Take.{line_to_take, enter}
+use Rattle.sloth_region.specs.Layout.{cur}
 use Rattle.rv32_instr.specs.Ram.{word_at}
 use Rattle.rv32_instr.specs.Execute.{Going, step, touched}
 use Rattle.rv32_machine.specs.Run.{arrived}
@@ -109,7 +110,7 @@ module _ (b : Build) (view : View) (arrivals : List Arrival) (progress : State �
     runs = computed_run b n s1 t here.fits now item top is one
 
     abbrev shown_as : Mark → Event
-    shown_as m = event.Run (task_of view.tasks (word_at n.core.ram 0)) m.b m.c (slice_index runs.next.core.registers m.a)
+    shown_as m = event.Run (task_of view.tasks (word_at n.core.ram cur)) m.b m.c (slice_index runs.next.core.registers m.a)
 
     shown : events_of_kind (item_mark b.app b.places item.frame.func item.frame.item).kind view (item_mark b.app b.places item.frame.func item.frame.item) (seen_at given count state runs.next)
         ≡ event.Run t item.frame.func item.frame.item (slice_index runs.next.core.registers (result_register (operation b.app item.frame.func item.frame.item))) ∷ []
@@ -128,7 +129,7 @@ module _ (b : Build) (view : View) (arrivals : List Arrival) (progress : State �
     )
 
   -- the idle loop
-  module _ (idle_word : word_at state.core.ram 0 ≡ 0) (idle : HasIdle b view) where
+  module _ (idle_word : word_at state.core.ram cur ≡ 0) (idle : HasIdle b view) where
     empty : now.stack ≡ []
     empty = by now.stack refl
       where

@@ -24,6 +24,7 @@ use Rattle.rv32_expand.specs.InPlace.{result_register}
 use Rattle.osek_machine.specs.State.{Frame}
 use Rattle.osek_machine.specs.Meaning.{is_own, register, if_true, writes, execution, registers_of, meaning}
 use Rattle.sim_items.specs.Place.{IsOwn, IsNumber, IsComputed}
+use Rattle.sim_items.proofs.Cases.{computed_cases}
 
 -- a signed number and its word
 signed_word : (z : ℤ) → Signed 12 z → signed 32 (complement z) ≡ z
@@ -96,52 +97,52 @@ pub record Computed (app : App) (places : Places) (func address : ℕ) (operatio
   pub means : (frame : Frame) (outer : List Frame) (symbols : List (List ℕ)) → meaning app operation own frame outer symbols ≡ writes rd value own frame outer symbols
   pub result : result_register operation ≡ rd
 
-pub computed : (app : App) (places : Places) (func address : ℕ) (operation : Op) (core own : List ℕ) → ((r : ℕ) → IsOwn r → slice_index core r ≡ register own r)
-    → IsComputed operation → Computed app places func address operation core own
-computed app places func address (op.Alu kind rd rs1 rs2) core own agree h = record {
-  rd = rd;
-  is_own = h.0;
-  value = register_result kind (slice_index core rs1) (slice_index core rs2);
-  kind = register_operation kind rd rs1 rs2;
-  expands = refl;
-  effect_is = λ pc. register_value kind rd rs1 rs2 pc core;
-  means = λ frame outer symbols.
-      own_meaning app (op.Alu kind rd rs1 rs2) own frame outer symbols (h.0, (h.1, (h.2, tt)))
-      ∙ ap (λ v. writes rd (register_result kind v (register own rs2)) own frame outer symbols) (sym (agree rs1 h.1))
-      ∙ ap (λ v. writes rd (register_result kind (slice_index core rs1) v) own frame outer symbols) (sym (agree rs2 h.2));
-  result = refl;
-}
-computed app places func address (op.AluImm kind rd rs1 number) core own agree h = record {
-  rd = rd;
-  is_own = h.0;
-  value = number_result kind (slice_index core rs1) (complement number);
-  kind = number_operation kind rd rs1 number;
-  expands = refl;
-  effect_is = λ pc. number_value kind rd rs1 number pc core h.2;
-  means = λ frame outer symbols.
-      own_meaning app (op.AluImm kind rd rs1 number) own frame outer symbols (h.0, (h.1, tt))
-      ∙ ap (λ v. writes rd (number_result kind v (complement number)) own frame outer symbols) (sym (agree rs1 h.1));
-  result = refl;
-}
-computed app places func address (op.Lui rd number) core own agree h = record {
-  rd = rd;
-  is_own = h.0;
-  value = number * 4096;
-  kind = Lui rd number;
-  expands = refl;
-  effect_is = λ pc. refl;
-  means = λ frame outer symbols. own_meaning app (op.Lui rd number) own frame outer symbols (h.0, tt);
-  result = refl;
-}
-computed app places func address (op.Li rd value) core own agree h = absurd h
-computed app places func address (op.FrameLoad rd word) core own agree h = absurd h
-computed app places func address (op.FrameStore rs word) core own agree h = absurd h
-computed app places func address (op.Load width rd symbol offset) core own agree h = absurd h
-computed app places func address (op.Store width rs symbol offset) core own agree h = absurd h
-computed app places func address (op.LoadAt width rd symbol index mask) core own agree h = absurd h
-computed app places func address (op.StoreAt width rs symbol index mask) core own agree h = absurd h
-computed app places func address (op.Branch kind rs1 rs2 label) core own agree h = absurd h
-computed app places func address (op.Jump label) core own agree h = absurd h
-computed app places func address (op.Invoke callee) core own agree h = absurd h
-computed app places func address op.Return core own agree h = absurd h
-computed app places func address (op.Serve call) core own agree h = absurd h
+-- ---- the three
+
+module _ (app : App) (places : Places) (func address : ℕ) (core own : List ℕ) (agree : (r : ℕ) → IsOwn r → slice_index core r ≡ register own r) where
+  abbrev Here : Op → Type 0
+  Here operation = Computed app places func address operation core own
+
+  of_registers : (kind : AluKind) (rd rs1 rs2 : ℕ) → IsComputed (op.Alu kind rd rs1 rs2) → Here (op.Alu kind rd rs1 rs2)
+  of_registers kind rd rs1 rs2 h = record {
+    rd = rd;
+    is_own = h.0;
+    value = register_result kind (slice_index core rs1) (slice_index core rs2);
+    kind = register_operation kind rd rs1 rs2;
+    expands = refl;
+    effect_is = λ pc. register_value kind rd rs1 rs2 pc core;
+    means = λ frame outer symbols.
+        own_meaning app (op.Alu kind rd rs1 rs2) own frame outer symbols (h.0, (h.1, (h.2, tt)))
+        ∙ ap (λ v. writes rd (register_result kind v (register own rs2)) own frame outer symbols) (sym (agree rs1 h.1))
+        ∙ ap (λ v. writes rd (register_result kind (slice_index core rs1) v) own frame outer symbols) (sym (agree rs2 h.2));
+    result = refl;
+  }
+
+  of_number : (kind : ImmKind) (rd rs1 : ℕ) (number : ℤ) → IsComputed (op.AluImm kind rd rs1 number) → Here (op.AluImm kind rd rs1 number)
+  of_number kind rd rs1 number h = record {
+    rd = rd;
+    is_own = h.0;
+    value = number_result kind (slice_index core rs1) (complement number);
+    kind = number_operation kind rd rs1 number;
+    expands = refl;
+    effect_is = λ pc. number_value kind rd rs1 number pc core h.2;
+    means = λ frame outer symbols.
+        own_meaning app (op.AluImm kind rd rs1 number) own frame outer symbols (h.0, (h.1, tt))
+        ∙ ap (λ v. writes rd (number_result kind v (complement number)) own frame outer symbols) (sym (agree rs1 h.1));
+    result = refl;
+  }
+
+  of_upper : (rd number : ℕ) → IsComputed (op.Lui rd number) → Here (op.Lui rd number)
+  of_upper rd number h = record {
+    rd = rd;
+    is_own = h.0;
+    value = number * 4096;
+    kind = Lui rd number;
+    expands = refl;
+    effect_is = λ pc. refl;
+    means = λ frame outer symbols. own_meaning app (op.Lui rd number) own frame outer symbols (h.0, tt);
+    result = refl;
+  }
+
+  pub computed : (operation : Op) → IsComputed operation → Here operation
+  computed = computed_cases Here of_registers of_number of_upper

@@ -38,6 +38,7 @@ use Rattle.sim_entries.proofs.EnterRoute.{enter_advances}
 use Rattle.sim_items.specs.Place.{AtItem, IsComputed}
 use Rattle.sim_items.specs.Outside.{setting_of, At, GoesOutside}
 use Rattle.sim_items.specs.Progress.{progress_in}
+use Rattle.sim_items.proofs.Cases.{computed_cases}
 use Rattle.sim_items.proofs.Outside.{item_outside, idle_outside}
 use Rattle.sim_items.proofs.Jump.{jump_outside}
 use Rattle.sim_services.specs.Stretch.{HasTerminateTask}
@@ -48,21 +49,8 @@ use Rattle.sim_laws.specs.Plain.{IsPlain}
 
 -- an item that computes has one instruction
 pub one_long : (app : App) (places : Places) (func address : ℕ) (o : Op) → IsComputed o → length (expanded app places func address o) ≡ 1
-one_long app places func address (op.Alu kind rd rs1 rs2) h = refl
-one_long app places func address (op.AluImm kind rd rs1 number) h = refl
-one_long app places func address (op.Lui rd number) h = refl
-one_long app places func address (op.Li rd value) h = absurd h
-one_long app places func address (op.FrameLoad rd word) h = absurd h
-one_long app places func address (op.FrameStore rs word) h = absurd h
-one_long app places func address (op.Load width rd symbol offset) h = absurd h
-one_long app places func address (op.Store width rs symbol offset) h = absurd h
-one_long app places func address (op.LoadAt width rd symbol index mask) h = absurd h
-one_long app places func address (op.StoreAt width rs symbol index mask) h = absurd h
-one_long app places func address (op.Branch kind rs1 rs2 label) h = absurd h
-one_long app places func address (op.Jump label) h = absurd h
-one_long app places func address (op.Invoke callee) h = absurd h
-one_long app places func address op.Return h = absurd h
-one_long app places func address (op.Serve call) h = absurd h
+one_long app places func address =
+    computed_cases (λ o. length (expanded app places func address o) ≡ 1) (λ kind rd rs1 rs2 h. refl) (λ kind rd rs1 number h. refl) (λ rd number h. refl)
 
 longer : (code : List InstrKind) (last : InstrKind) → code ≡ [] → length (code ++ last ∷ []) ≡ 1
 longer code last e = ap (λ c. length (c ++ last ∷ [])) e

@@ -27,6 +27,7 @@ use Rattle.observe.specs.Observe.{mark_at, view_of_image}
 use Rattle.sloth_base.specs.ImageRange.{AreAscending}
 use Rattle.sim_relation.specs.Build.{Build}
 use Rattle.sim_items.specs.Place.{IsOwn, IsNumber, IsComputed}
+use Rattle.sim_items.proofs.Cases.{computed_cases}
 use Rattle.sim_laws.specs.Kernel.{Computes, Ends}
 use Rattle.sim_laws.specs.Items.{HasItems, CallsTerminateTask}
 use Rattle.sim_laws.proofs.Dispatch.{one_long}
@@ -100,41 +101,17 @@ head_is : (x y : InstrKind) → x ∷ [] ≡ y ∷ [] → x ≡ y
 head_is x y e = cc
 
 code_fits : (app : App) (places : Places) (func address : ℕ) (o : Op) → IsComputed o → (kind : InstrKind) → expanded app places func address o ≡ kind ∷ [] → InRange kind
-code_fits app places func address (op.Alu k rd rs1 rs2) h kind e =
-    subst InRange (head_is (register_operation k rd rs1 rs2) kind e) (register_fits k rd rs1 rs2 (own_small rd h.0) (own_small rs1 h.1) (own_small rs2 h.2))
-code_fits app places func address (op.AluImm k rd rs1 number) h kind e =
-    subst InRange (head_is (number_operation k rd rs1 number) kind e) (number_fits k rd rs1 number (own_small rd h.0) (own_small rs1 h.1) h.2)
-code_fits app places func address (op.Lui rd number) h kind e = subst InRange (head_is (Lui rd number) kind e) (own_small rd h.0, h.1)
-code_fits app places func address (op.Li rd value) h kind e = absurd h
-code_fits app places func address (op.FrameLoad rd word) h kind e = absurd h
-code_fits app places func address (op.FrameStore rs word) h kind e = absurd h
-code_fits app places func address (op.Load width rd symbol offset) h kind e = absurd h
-code_fits app places func address (op.Store width rs symbol offset) h kind e = absurd h
-code_fits app places func address (op.LoadAt width rd symbol index mask) h kind e = absurd h
-code_fits app places func address (op.StoreAt width rs symbol index mask) h kind e = absurd h
-code_fits app places func address (op.Branch k rs1 rs2 label) h kind e = absurd h
-code_fits app places func address (op.Jump label) h kind e = absurd h
-code_fits app places func address (op.Invoke callee) h kind e = absurd h
-code_fits app places func address op.Return h kind e = absurd h
-code_fits app places func address (op.Serve call) h kind e = absurd h
+code_fits app places func address =
+    computed_cases (λ o. (kind : InstrKind) → expanded app places func address o ≡ kind ∷ [] → InRange kind)
+    (λ k rd rs1 rs2 h kind e.
+    subst InRange (head_is (register_operation k rd rs1 rs2) kind e) (register_fits k rd rs1 rs2 (own_small rd h.0) (own_small rs1 h.1) (own_small rs2 h.2)))
+    (λ k rd rs1 number h kind e. subst InRange (head_is (number_operation k rd rs1 number) kind e) (number_fits k rd rs1 number (own_small rd h.0) (own_small rs1 h.1) h.2))
+    (λ rd number h kind e. subst InRange (head_is (Lui rd number) kind e) (own_small rd h.0, h.1))
 
 -- the mark of an item has the item's last address
-mark_address : (o : Op) (address func index : ℕ) → IsComputed o → (mark_of o address func index).address ≡ address
-mark_address (op.Alu k rd rs1 rs2) address func index h = refl
-mark_address (op.AluImm k rd rs1 number) address func index h = refl
-mark_address (op.Lui rd number) address func index h = refl
-mark_address (op.Li rd value) address func index h = absurd h
-mark_address (op.FrameLoad rd word) address func index h = absurd h
-mark_address (op.FrameStore rs word) address func index h = absurd h
-mark_address (op.Load width rd symbol offset) address func index h = absurd h
-mark_address (op.Store width rs symbol offset) address func index h = absurd h
-mark_address (op.LoadAt width rd symbol i mask) address func index h = absurd h
-mark_address (op.StoreAt width rs symbol i mask) address func index h = absurd h
-mark_address (op.Branch k rs1 rs2 label) address func index h = absurd h
-mark_address (op.Jump label) address func index h = absurd h
-mark_address (op.Invoke callee) address func index h = absurd h
-mark_address op.Return address func index h = absurd h
-mark_address (op.Serve call) address func index h = absurd h
+mark_address : (address func index : ℕ) (o : Op) → IsComputed o → (mark_of o address func index).address ≡ address
+mark_address address func index =
+    computed_cases (λ o. (mark_of o address func index).address ≡ address) (λ kind rd rs1 rs2 h. refl) (λ kind rd rs1 number h. refl) (λ rd number h. refl)
 
 -- ---- an item that computes
 
@@ -176,7 +153,7 @@ item_computes b image func item h is computed more =
         more = more;
         adjacent = let a = stands.adjacent (record { declared = is.declared; inside = more }) in omega arith;
       };
-      marked = ap (mark_at (view_of_image image)) (sym (mark_address (operation b.app func item) (last_address b.app b.places func item) func item computed ∙ last)) ∙ marked;
+      marked = ap (mark_at (view_of_image image)) (sym (mark_address (last_address b.app b.places func item) func item (operation b.app func item) computed ∙ last)) ∙ marked;
     }
 
 -- ---- the call of TerminateTask

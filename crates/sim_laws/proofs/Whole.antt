@@ -8,6 +8,7 @@ use Rattle.sloth_base.specs.declared.app.Item.{Item}
 use Rattle.sloth_base.specs.declared.app.Op.TheVariants as op
 use Rattle.sloth_base.specs.Arrivals.{moments}
 use Rattle.sloth_base.specs.Machine.{State}
+use Rattle.sloth_region.specs.Layout.{cur}
 use Rattle.rv32_instr.specs.Ram.{word_at}
 use Rattle.rv32_machine.specs.Start.{start}
 use Rattle.rv32_routine.specs.Trace.{late}
@@ -130,7 +131,7 @@ module _ (b : Build) (image : Image) (kernel : Kernel b image) where
         (λ count state h. arrive_fits (lines_at arrivals count) state h)
         (λ state s w. w.base.tidy.booted)
         (λ state s w. mirror_of b state s w.base)
-        (λ state s w. in_frames state.pc (task s (word_at state.core.ram 0 - 1)).frames)
+        (λ state s w. in_frames state.pc (task s (word_at state.core.ram cur - 1)).frames)
 
     booting : BootLaw (setting_of b view arrivals) R (start image)
     booting =

@@ -1,4 +1,5 @@
-//! The laws together: every run of a kernel in place is one of the abstract scheduler.
+//! The laws together: every run of a kernel in place (`specs/Kernel`) is one of the abstract scheduler, and what the
+//! generators' contracts say of the code makes such a kernel (`specs/Generated`, `specs/Items`).
 #![tactic(auto)]
 
 ghost use Rattle.sim_laws.specs.Bounded.{BoundsStay};

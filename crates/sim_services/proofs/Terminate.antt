@@ -23,12 +23,11 @@ use Rattle.sim_relation.specs.Context.{RunsTask, Running}
 use Rattle.sim_relation.specs.ServiceWords.{ServiceWords, HeldWords, base_priority}
 use Rattle.sim_relation.specs.Stands.{Stands, IsActive, AreActive, IsLineOf}
 use Rattle.sim_relation.specs.Moves.{TaskLeave}
-use Rattle.sim_relation.proofs.Parts.{this_task}
+use Rattle.sim_relation.proofs.Parts.{this_task, line_active}
 use Rattle.sim_relation.proofs.Placed.{first_by_word, active_by_word}
 use Rattle.sim_relation.proofs.Tops.{falling_head}
 use Rattle.sim_relation.proofs.Leaving.{leave_stands}
 use Rattle.sim_relation.proofs.TaskSteps.{active_resumes}
-use Rattle.sim_relation.proofs.TaskMoves.{line_active}
 use Rattle.sim_services.specs.Opening.{AtOpening}
 use Rattle.sim_services.specs.Served.{Answers}
 use Rattle.sim_services.specs.Laws.{MayEnd}
@@ -96,7 +95,7 @@ module _ (b : Build) (state : State) (s : System) (t : ℕ) (called : Task) (pla
     own_words : ServiceWords b new t own
     own_words = let g = few30 in record {
       activity = mem.activity;
-      event_mask = mem.events;
+      event_mask = mem.event_mask;
       wait_mask = tt;
       resumption = mem.named (resume t) (omega arith) (omega arith) (λ a. omega arith) (λ a. omega arith) (λ a. omega arith) ∙ resume_zero;
       held = subst (λ (l : List ℕ). HeldWords b new (base_priority b t own) l) (sym held_nil) tt;
@@ -109,14 +108,17 @@ module _ (b : Build) (state : State) (s : System) (t : ℕ) (called : Task) (pla
         record {
           link = may.below;
           left = record { ram = refl; current = mem.current_word; link = mem.link_word; x2 = eff.x2; loaded = eff.loaded; pc = eff.pc; level = eff.running };
-          long = mem.long ∙ sym f.ram;
-          registers = eff.registers ∙ sym f.registers;
-          zero = eff.zero ∙ sym f.zero;
-          levels = eff.levels;
-          controller = eff.controller;
-          open_to_lines = eff.opened;
-          previous = eff.previous;
-          lengths = (ap length eff.pending ∙ length-set state.core.pending t 0, ap length eff.enabled);
+          machine = record {
+            ram = mem.long ∙ sym f.ram;
+            registers = eff.registers ∙ sym f.registers;
+            zero = eff.zero ∙ sym f.zero;
+            pending = ap length eff.pending ∙ length-set state.core.pending t 0;
+            enabled = ap length eff.enabled;
+            levels = eff.levels;
+            controller = eff.controller;
+            open_to_lines = eff.opened;
+            previous = eff.previous;
+          };
           own_line = own_line;
           other_pending = λ l n. ap (λ q. slice_index q l) eff.pending ∙ get_or-set_other state.core.pending t l 0 0 n;
           other_enabled = λ l n. ap (λ q. slice_index q l) eff.enabled;

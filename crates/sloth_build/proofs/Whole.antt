@@ -106,7 +106,7 @@ module _ (config : Config) (name : List ℕ) (rd rs1 : ℕ) (imm : ℤ) (one : l
     ends = refl;
     block = record {
       code = k.terminate_task.code;
-      terminates = is.terminates;
+      serves = is.terminates;
       offset = 0x5e4;
       is = refl;
       placed = terminate_task_placed k p config app r;
