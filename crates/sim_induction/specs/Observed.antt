@@ -1,5 +1,6 @@
 -- The trace of a stretch, told from what is seen of its steps.
 use Rattle.std.specs.Prelude.{ℕ, ◌+◌, ◌<◌, ◌≡◌, List, [], ◌∷◌, ◌++◌, filter, not, length, map}
+use Rattle.std.specs.List.{AllByRecursion}
 use Rattle.sloth_base.specs.declared.event.Arrival.{Arrival}
 use Rattle.sloth_base.specs.declared.step.Step.{Step}
 use Rattle.sloth_base.specs.Arrivals.{moments, NeverFalls}
@@ -19,8 +20,7 @@ AreFrom count (step ∷ steps) = (step.count ≡ count) × AreFrom (count + 1) s
 
 -- the steps are of counts below this one
 abbrev pub AreBefore : ℕ → List Step → Type 0
-AreBefore count [] = Unit {0}
-AreBefore count (step ∷ steps) = (step.count < count) × AreBefore count steps
+AreBefore count steps = AllByRecursion (λ step. step.count < count) steps
 
 -- The arrivals inside a stretch that come before a step which touches their line are the early ones of its trace, and the others
 -- the late ones. The first steps of the stretch, in `done`, found no arrival with MIE 0.
