@@ -32,4 +32,5 @@ pub record IsTraced (arrivals : List Arrival) (count : ℕ) (done steps : List S
 
 -- the arrivals inside a stretch are parted as its trace says
 abbrev pub StretchesAreTraced : Type 0
-StretchesAreTraced = (arrivals : List Arrival) → NeverFalls 0 arrivals → (count : ℕ) (done steps : List Step) → AreBefore count done → AreFrom count steps → IsTraced arrivals count done steps
+StretchesAreTraced = (arrivals : List Arrival) → NeverFalls 0 arrivals → (count : ℕ) (done steps : List Step) → AreBefore count done → AreFrom count steps
+    → IsTraced arrivals count done steps

@@ -22,12 +22,11 @@ use Rattle.sim_induction.specs.Admits.{lines_at}
 use Rattle.sim_induction.specs.Laws.{seen_at}
 use Rattle.sim_induction.proofs.Passing.{not_suspended, kept_admits}
 use Rattle.sim_relation.specs.Build.{Build}
-use Rattle.sim_relation.specs.Stands.{Stands, AreActive}
+use Rattle.sim_relation.specs.Stands.{Stands, IsActive}
 use Rattle.sim_relation.specs.Moves.{moved_to, TaskStep}
 use Rattle.sim_relation.proofs.Arrive.{stands_fresh}
 use Rattle.sim_relation.proofs.TaskSteps.{task_steps}
-use Rattle.sim_relation.proofs.Placed.{first_by_word}
-use Rattle.sim_relation.proofs.Tops.{falling_head}
+use Rattle.sim_relation.proofs.Placed.{first_by_word, active_by_word}
 use Rattle.sim_items.specs.Place.{AtItem}
 use Rattle.sim_items.specs.Outside.{At, GoesOutside, JumpsToService}
 use Rattle.sim_items.specs.Progress.{passed_at, passed_in, progress_in}
@@ -105,6 +104,9 @@ module _ (b : Build) (view : View) (arrivals : List Arrival) (count : ℕ) (stat
   found : (below : List ℕ) × (now.stack ≡ t ∷ below)
   found = first_by_word b n s1 t now.stack now.running item.current
 
+  here_now : IsActive b s1 t
+  here_now = active_by_word b n s1 t now item.current
+
   -- the jump is all of the item
   one : length (expansion b.app b.places item.frame.func item.frame.item) ≡ 1
   one = ap (λ o. length (expanded b.app b.places item.frame.func address o)) jump.is
@@ -136,11 +138,11 @@ module _ (b : Build) (view : View) (arrivals : List Arrival) (count : ℕ) (stat
         low = λ i x y. refl;
         code = λ i h. refl;
         others = λ u h m a i x y. refl;
-        active = (falling_head b s1 t found.0 (subst (AreActive b s1) found.1 now.active).falling).active;
+        active = here_now.active;
         events = refl;
         held = refl;
         raised = refl;
-        registers = (now.tidy.each t (falling_head b s1 t found.0 (subst (AreActive b s1) found.1 now.active).falling).declared).registers;
+        registers = (now.tidy.each t here_now.declared).registers;
         place = item.place;
         context = record {
           x2 = get_or-set_other r 31 2 link 0 (λ e. omega arith) ∙ item.context.x2;
@@ -178,8 +180,7 @@ module _ (b : Build) (view : View) (arrivals : List Arrival) (count : ℕ) (stat
   frames_of : (task s (word_at state.core.ram cur - 1)).frames ≡ item.frame ∷ item.outer
   frames_of =
       let e : word_at state.core.ram cur - 1 ≡ t = let c = item.current in omega arith in
-      let f = first_by_word b state s t here.stands.stack here.stands.running item.current in
-      let a = (falling_head b s t f.0 (subst (AreActive b s) f.1 here.stands.active).falling).active in
+      let a = (active_by_word b state s t here.stands item.current).active in
       ap (λ v. (task s v).frames) e ∙ sym (ap (λ v. v.frames) (kept_admits (lines_at arrivals count) t s (not_suspended (task s t).state a))) ∙ item.frames
 
   frames_next : (task s1 (word_at n.core.ram cur - 1)).frames ≡ item.frame ∷ item.outer

@@ -1,9 +1,7 @@
 -- Instructions outside the stretches.
-use Rattle.std.proofs.Common.{◌≡◌, ℕ, ◌+◌, ◌-◌, ◌<◌, ◌≤◌, List, [], ◌∷◌, length, refl, sym, ap, ◌∙◌, subst, arith, Some, None, cond, nat_le}
-use Rattle.std.specs.Prelude.{◌&&◌, slice_index, IfSome}
-use Rattle.std.proofs.lemmas.Bool.{lt-ltb, le-leb}
+use Rattle.std.proofs.Common.{◌≡◌, ℕ, ◌+◌, ◌<◌, ◌≤◌, List, [], ◌∷◌, length, refl, sym, ap, ◌∙◌, subst, arith, Some, None, cond}
+use Rattle.std.specs.Prelude.{slice_index, IfSome}
 use Rattle.sloth_base.specs.declared.app.Op.{Op}
-use Rattle.sloth_base.specs.declared.app.Op.TheVariants as op
 use Rattle.sloth_base.specs.declared.image.Mark.{Mark}
 use Rattle.sloth_base.specs.declared.image.MarkKind.TheVariants as kind
 use Rattle.sloth_base.specs.declared.event.Event.{Event}
@@ -18,7 +16,7 @@ use Rattle.rv32_instr.specs.Execute.{Going, step, touched}
 use Rattle.rv32_machine.specs.Run.{arrived}
 use Rattle.rv32_routine.specs.Place.{at, InPlace}
 use Rattle.rv32_expand.specs.Expansion.{item_address, operation}
-use Rattle.rv32_expand.specs.InPlace.{result_register, mark_of, item_mark}
+use Rattle.rv32_expand.specs.InPlace.{result_register, mark_of, item_mark, last_address}
 use Rattle.observe.specs.Observe.{View, mark_at, task_of, outside_events, events_of_kind}
 use Rattle.osek_machine.specs.State.{System}
 use Rattle.osek_machine.specs.Priority.{IsTop}
@@ -28,41 +26,25 @@ use Rattle.sim_induction.specs.Admits.{Setting, lines_at, with_admits}
 use Rattle.sim_induction.specs.Laws.{OutsideLaw, Shows, seen_at}
 use Rattle.sim_induction.proofs.Routes.{begins_none}
 use Rattle.sim_induction.proofs.Schedule.{below_moments}
+use Rattle.sim_induction.proofs.Stretched.{task_is}
 use Rattle.sim_relation.specs.Build.{Build}
 use Rattle.sim_relation.specs.Context.{Running, RunsIdle}
 use Rattle.sim_relation.specs.Stands.{Stands}
 use Rattle.sim_relation.proofs.Arrive.{stands_arrived, stands_fresh}
 use Rattle.sim_relation.proofs.Placed.{placed_in, first_by_word}
 use Rattle.sim_relation.proofs.Choice.{running_top, none_due}
+use Rattle.sim_items.proofs.Cases.{computed_cases}
 use Rattle.sim_items.specs.Place.{AtItem, IsComputed}
 use Rattle.sim_items.specs.Laws.{IsOneInstruction, RunsItem}
 use Rattle.sim_relation.specs.Placed.{setting_of}
 use Rattle.sim_items.specs.Outside.{At, GoesOutside, HasIdle}
 use Rattle.sim_items.proofs.Computed.{computed_run}
 
-task_is : (tasks t : ℕ) → t < tasks → task_of tasks (t + 1) ≡ t
-task_is tasks t l =
-    let one : t + 1 - 1 ≡ t = omega arith in
-    ap (λ b. cond (b && nat_le (t + 1) tasks) (t + 1 - 1) 4294967295) (lt-ltb 0 (t + 1) (omega arith))
-    ∙ ap (λ b. cond b (t + 1 - 1) 4294967295) (le-leb (t + 1) tasks (omega arith)) ∙ one
-
 -- the mark of such an item shows its Run event
-mark_shows : (o : Op) (address func index : ℕ) → IsComputed o → mark_of o address func index ≡ record { address = address; kind = kind.Item; a = result_register o; b = func; c = index }
-mark_shows (op.Alu kind rd rs1 rs2) address func index h = refl
-mark_shows (op.AluImm kind rd rs1 number) address func index h = refl
-mark_shows (op.Lui rd number) address func index h = refl
-mark_shows (op.Li rd value) address func index h = absurd h
-mark_shows (op.FrameLoad rd word) address func index h = absurd h
-mark_shows (op.FrameStore rs word) address func index h = absurd h
-mark_shows (op.Load width rd symbol offset) address func index h = absurd h
-mark_shows (op.Store width rs symbol offset) address func index h = absurd h
-mark_shows (op.LoadAt width rd symbol index mask) address func i h = absurd h
-mark_shows (op.StoreAt width rs symbol index mask) address func i h = absurd h
-mark_shows (op.Branch kind rs1 rs2 label) address func index h = absurd h
-mark_shows (op.Jump label) address func index h = absurd h
-mark_shows (op.Invoke callee) address func index h = absurd h
-mark_shows op.Return address func index h = absurd h
-mark_shows (op.Serve call) address func index h = absurd h
+pub mark_shows : (address func index : ℕ) (o : Op) → IsComputed o → mark_of o address func index ≡ record { address = address; kind = kind.Item; a = result_register o; b = func; c = index }
+mark_shows address func index =
+    computed_cases (λ o. mark_of o address func index ≡ record { address = address; kind = kind.Item; a = result_register o; b = func; c = index })
+    (λ kind rd rs1 rs2 h. refl) (λ kind rd rs1 number h. refl) (λ rd number h. refl)
 
 module _ (b : Build) (view : View) (arrivals : List Arrival) (progress : State → System → ℕ) (count : ℕ) (state : State) (s : System) (here : At b view arrivals count state s) where
   abbrev pub n : State
@@ -117,7 +99,7 @@ module _ (b : Build) (view : View) (arrivals : List Arrival) (progress : State �
     shown =
         let l : t < view.tasks = let v = here.setting.tasks in let h = top.declared in omega arith in
         ap (λ m. events_of_kind m.kind view m (seen_at given count state runs.next))
-        (mark_shows (operation b.app item.frame.func item.frame.item) _ item.frame.func item.frame.item is)
+        (mark_shows (last_address b.app b.places item.frame.func item.frame.item) item.frame.func item.frame.item (operation b.app item.frame.func item.frame.item) is)
         ∙ ap (λ u. event.Run u item.frame.func item.frame.item (slice_index runs.next.core.registers (result_register (operation b.app item.frame.func item.frame.item))) ∷ [])
         (ap (task_of view.tasks) item.current ∙ task_is view.tasks t l)
 

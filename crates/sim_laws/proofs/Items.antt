@@ -27,6 +27,7 @@ use Rattle.osek_machine.specs.State.{function}
 use Rattle.sim_relation.specs.Build.{Build}
 use Rattle.sim_items.specs.Place.{IsOwn, IsNumber, IsComputed}
 use Rattle.sim_items.proofs.Cases.{computed_cases}
+use Rattle.sim_items.proofs.Outside.{mark_shows}
 use Rattle.sim_laws.specs.Kernel.{Computes, Ends}
 use Rattle.sim_laws.specs.Items.{HasItems, CallsTerminateTask}
 use Rattle.sim_laws.proofs.Dispatch.{one_long}
@@ -107,11 +108,6 @@ code_fits app places func address =
     (λ k rd rs1 number h kind e. subst InRange (head_is (number_operation k rd rs1 number) kind e) (number_fits k rd rs1 number (own_small rd h.0) (own_small rs1 h.1) h.2))
     (λ rd number h kind e. subst InRange (head_is (Lui rd number) kind e) (own_small rd h.0, h.1))
 
--- the mark of an item has the item's last address
-mark_address : (address func index : ℕ) (o : Op) → IsComputed o → (mark_of o address func index).address ≡ address
-mark_address address func index =
-    computed_cases (λ o. (mark_of o address func index).address ≡ address) (λ kind rd rs1 rs2 h. refl) (λ kind rd rs1 number h. refl) (λ rd number h. refl)
-
 -- ---- an item that computes
 
 record ItemStands (b : Build) (image : Image) (places : Places) (func item : ℕ) : Type 0 where
@@ -152,7 +148,7 @@ item_computes b image func item h is computed more =
         more = more;
         adjacent = let a = stands.adjacent (record { declared = is.declared; inside = more }) in omega arith;
       };
-      marked = ap (mark_at (view_of_image image)) (sym (mark_address (last_address b.app b.places func item) func item (operation b.app func item) computed ∙ last)) ∙ marked;
+      marked = ap (mark_at (view_of_image image)) (sym (ap (λ (m : Mark). m.address) (mark_shows (last_address b.app b.places func item) func item (operation b.app func item) computed) ∙ last)) ∙ marked;
     }
 
 -- ---- the call of TerminateTask
