@@ -2,7 +2,7 @@
 use Rattle.std.specs.Prelude.{ℕ, ◌+◌, ◌*◌, pos, negsuc, List, [], ◌∷◌, ◌++◌}
 use Rattle.rv32_instr.specs.declared.InstrKind.{InstrKind}
 use Rattle.rv32_instr.specs.declared.InstrKind.TheVariants.{Lui, Addi, Lw, Sw, Csrrs, Csrrw, Csrrwi, Mret}
-use Rattle.rv32_routine.specs.Constant.{hi, lo}
+use Rattle.sloth_base.specs.Arithmetic.{hi, lo}
 use Rattle.rv32_routine.specs.Pieces.{saves, clears, clears_words}
 
 -- leaves 0x80000000 in x4
@@ -13,12 +13,15 @@ saves_context =
     ++ (Lui 4 0x8_0000 ∷ Csrrs 3 0 0x341 ∷ Sw 1 3 (pos 0) ∷ Csrrs 3 0 0x7C1 ∷ Sw 1 3 (pos 4) ∷ Lw 3 4 (pos 0) ∷ Sw 1 3 (pos 8)
     ∷ Lw 3 4 (pos 628) ∷ Sw 1 3 (pos 12) ∷ Sw 4 1 (pos 628) ∷ []))
 
+-- the task is the running one and Active, and its level is that of the entry
 abbrev pub marks_active : ℕ → ℕ → List InstrKind
 marks_active task level =
     Addi 3 0 (pos (task + 1)) ∷ Sw 4 3 (pos 0) ∷ Addi 3 0 (pos 1) ∷ Sw 4 3 (pos (4 + 12 * task)) ∷ Csrrwi 0 level 0x7C1 ∷ []
 
+-- x2 is the task's frame, and its first item is where the entry goes to
 abbrev pub begins : ℕ → ℕ → List InstrKind
 begins frame first = Lui 2 (hi frame) ∷ Addi 2 2 (lo frame) ∷ Lui 3 (hi first) ∷ Addi 3 3 (lo first) ∷ Csrrw 0 3 0x341 ∷ []
 
+-- a start with a frame of zero words and zero registers
 abbrev pub starts_anew : ℕ → ℕ → ℕ → List InstrKind
 starts_anew frame words first = begins frame first ++ (clears_words words 0 2 ++ (clears 25 5 ++ Mret ∷ []))

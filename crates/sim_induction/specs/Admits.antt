@@ -33,12 +33,12 @@ abbrev pub with_admits : List ℕ → System → System
 with_admits [] s = s
 with_admits (t ∷ lines) s = with_admits lines (admitted t s)
 
--- each of these lines is below n
+-- each of these lines is below a number
 abbrev pub AllBelow : ℕ → List ℕ → Type 0
 AllBelow n [] = Unit {0}
 AllBelow n (t ∷ lines) = (t < n) × AllBelow n lines
 
--- an arrival as the activation of its line's task
+-- the event of an arrival of a task's line
 abbrev pub admit_event : Arrival → Stamped
 admit_event a = stamp a.at a.at (event.Admit a.line)
 
@@ -52,7 +52,7 @@ abbrev pub before_event : ℕ → Trace → List Arrival
 before_event count [] = []
 before_event count (entry ∷ trace) = at_moment count (touched_of (entry ∷ trace) entry.0) ++ before_event (count + 1) trace
 
--- the others
+-- the arrivals of a trace that stand behind the stretch's event, from this count on
 abbrev pub behind_event : ℕ → Trace → List Arrival
 behind_event count [] = []
 behind_event count (entry ∷ trace) = at_moment count (untouched_of (entry ∷ trace) entry.0) ++ behind_event (count + 1) trace

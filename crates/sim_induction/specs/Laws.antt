@@ -1,5 +1,6 @@
 -- What is asked of a piece of generated code, for each kind of piece of a run.
-use Rattle.std.specs.Prelude.{ℕ, suc, ◌+◌, ◌==◌, ◌<◌, ◌≤◌, ◌≡◌, List, [], ◌∷◌, ◌++◌, map, true, false, cond, slice_index}
+use Rattle.std.specs.Prelude.{ℕ, suc, ◌+◌, ◌==◌, ◌<◌, ◌≤◌, ◌≡◌, List, [], ◌∷◌, ◌++◌, map, true, false, cond, slice_index, Contains}
+use Rattle.std.specs.List.{AllByRecursion}
 use Rattle.sloth_base.specs.declared.event.Event.{Event}
 use Rattle.sloth_base.specs.declared.event.Event.TheVariants as event
 use Rattle.sloth_base.specs.declared.event.Stamped.{Stamped}
@@ -18,7 +19,7 @@ use Rattle.observe.specs.Observe.{stretch_event, outside_events, mark_at}
 use Rattle.osek_machine.specs.State.{System, opening}
 use Rattle.osek_machine.specs.Steps.{OsekStep}
 use Rattle.osek_machine.specs.Runs.{Leads, PassesOverArrivals}
-use Rattle.sim_induction.specs.Short.{IsOneOf, TouchesOnly}
+use Rattle.sim_induction.specs.Short.{TouchesOnly}
 use Rattle.sim_induction.specs.Admits.{Setting, lines_at, with_admits, admit_event, before_event}
 
 -- what is seen of the instruction of a count that leads from this state to the next
@@ -29,11 +30,6 @@ seen_at given count state next = seen count (arrived given.arrivals count state)
 abbrev pub served_event : (task : ℕ) → Service → State → Event
 served_event t served end =
     cond (t + 1 == word_at end.core.ram 0) (event.Call t served (slice_index end.core.registers 10)) (event.Left t served)
-
--- each of these touched lines is one of the lines
-abbrev pub AreOneOf : List ℕ → List ℕ → Type 0
-AreOneOf lines [] = Unit {0}
-AreOneOf lines (touched ∷ more) = IsOneOf lines touched × AreOneOf lines more
 
 -- A stretch that begins at a count which finds MIE 1: its first instruction, which leads to `next`, and the masked ones behind it,
 -- which lead on to `end`. Its event is a step from the system with the arrivals of the count and the early ones, and the states at
@@ -51,7 +47,7 @@ pub record StretchLaw (given : Setting) (R : State → System → Type 0) (count
   pub one : ℕ
   pub other : ℕ
   pub touches_first : TouchesOnly (one ∷ other ∷ []) (seen_at given count state next)
-  pub touches : AreOneOf (one ∷ other ∷ []) (touched_lines trace)
+  pub touches : AllByRecursion (Contains (one ∷ other ∷ [])) (touched_lines trace)
   pub what : Event
   pub what_is : (last : Step) → last.regs ≡ end.core.registers → last.cur_after ≡ word_at end.core.ram 0
       → stretch_event given.view (seen_at given count state next) last ≡ what

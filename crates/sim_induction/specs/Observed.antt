@@ -7,7 +7,7 @@ use Rattle.observe.specs.Observe.{is_early}
 use Rattle.rv32_routine.specs.Trace.{Trace, early, late}
 use Rattle.sim_induction.specs.Admits.{lines_at, before_event, behind_event}
 
--- the trace of these steps: what arrived before each, and which line it touched
+-- the trace of steps with these arrivals
 abbrev pub trace_of : List Arrival → List Step → Trace
 trace_of arrivals [] = []
 trace_of arrivals (step ∷ steps) = (lines_at arrivals step.count, step.touched) ∷ trace_of arrivals steps
@@ -17,7 +17,7 @@ abbrev pub AreFrom : ℕ → List Step → Type 0
 AreFrom count [] = Unit {0}
 AreFrom count (step ∷ steps) = (step.count ≡ count) × AreFrom (count + 1) steps
 
--- the steps stand before a moment
+-- the steps are of counts below this one
 abbrev pub AreBefore : ℕ → List Step → Type 0
 AreBefore count [] = Unit {0}
 AreBefore count (step ∷ steps) = (step.count < count) × AreBefore count steps
@@ -30,7 +30,7 @@ pub record IsTraced (arrivals : List Arrival) (count : ℕ) (done steps : List S
   pub early : map (λ a. a.line) (before_event count (trace_of arrivals steps)) ≡ early (trace_of arrivals steps)
   pub late : map (λ a. a.line) (behind_event count (trace_of arrivals steps)) ≡ late (trace_of arrivals steps)
 
--- the arrivals inside a stretch are parted as its trace says
+-- what a trace tells of the arrivals inside a stretch is so
 abbrev pub StretchesAreTraced : Type 0
 StretchesAreTraced = (arrivals : List Arrival) → NeverFalls 0 arrivals → (count : ℕ) (done steps : List Step) → AreBefore count done → AreFrom count steps
     → IsTraced arrivals count done steps

@@ -13,7 +13,8 @@ use Rattle.rv32_instr.proofs.Table.{decode_encode}
 use Rattle.rv32_routine.specs.Place.{at}
 use Rattle.rv32_routine.proofs.Words.{word_at-agree}
 use Rattle.rv32_routine.proofs.Machine.{Here, step_at, touched_at, next_at}
-use Rattle.rv32_expand.specs.Expansion.{item_address, operation}
+use Rattle.rv32_expand.specs.Expansion.{item_address}
+use Rattle.sloth_base.specs.Named.{operation}
 use Rattle.rv32_expand.specs.InPlace.{result_register}
 use Rattle.osek_machine.specs.declared.state.TaskState.TheVariants as mode
 use Rattle.osek_machine.specs.State.{Frame, Task, System, task}

@@ -4,9 +4,10 @@ use Rattle.sloth_base.specs.declared.event.Event.TheVariants as event
 use Rattle.sloth_base.specs.Machine.{State}
 use Rattle.rv32_instr.specs.declared.InstrKind.{InstrKind}
 use Rattle.rv32_instr.specs.Execute.{Going, step, touched}
-use Rattle.rv32_expand.specs.Expansion.{item_address, operation, expansion}
+use Rattle.rv32_expand.specs.Expansion.{item_address, expansion}
+use Rattle.sloth_base.specs.Named.{operation, function}
 use Rattle.rv32_expand.specs.InPlace.{result_register}
-use Rattle.osek_machine.specs.State.{System, function}
+use Rattle.osek_machine.specs.State.{System}
 use Rattle.osek_machine.specs.Priority.{IsTop}
 use Rattle.osek_machine.specs.Steps.{OsekStep}
 use Rattle.sim_relation.specs.Build.{Build, Fits}

@@ -12,7 +12,8 @@ use Rattle.rv32_instr.specs.declared.InstrKind.{InstrKind}
 use Rattle.rv32_instr.specs.declared.InstrKind.TheVariants.{Jal}
 use Rattle.rv32_instr.specs.Ram.{word_at}
 use Rattle.rv32_machine.specs.Run.{arrived}
-use Rattle.rv32_expand.specs.Expansion.{item_address, block_address, mask_of, distance, operation}
+use Rattle.rv32_expand.specs.Expansion.{item_address, block_address, mask_of, distance}
+use Rattle.sloth_base.specs.Named.{operation}
 use Rattle.rv32_expand.specs.InPlace.{item_mark}
 use Rattle.observe.specs.Observe.{View, mark_at}
 use Rattle.vector_gen.specs.Idle.{Idles}
@@ -42,7 +43,7 @@ GoesOutside b view arrivals progress count state s = (next : State) × OutsideLa
 
 -- ---- an item that computes on registers and numbers
 
--- it is an instruction outside the stretches
+-- an item of one instruction advances the run
 abbrev pub ComputedItemsGoOn : Type 0
 ComputedItemsGoOn = (b : Build) (view : View) (arrivals : List Arrival) (progress : State → System → ℕ) (count : ℕ) (state : State) (s : System) (t : ℕ)
     → At b view arrivals count state s → (here : AtItem b (arrived arrivals count state) (with_admits (lines_at arrivals count) s) t)
@@ -86,7 +87,7 @@ pub record HasIdle (b : Build) (view : View) : Type 0 where
   pub marked : mark_at view b.idle ≡ Some mark
   pub shows : mark.kind ≡ kind.Idle
 
--- it stays, and shows Idle
+-- an instruction of the idle loop advances the run
 abbrev pub IdleGoesOn : Type 0
 IdleGoesOn = (b : Build) (view : View) (arrivals : List Arrival) (progress : State → System → ℕ) (count : ℕ) (state : State) (s : System)
     → At b view arrivals count state s → word_at state.core.ram cur ≡ 0 → HasIdle b view → GoesOutside b view arrivals progress count state s

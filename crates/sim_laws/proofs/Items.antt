@@ -20,10 +20,11 @@ use Rattle.rv32_instr.specs.declared.InstrKind.{InstrKind}
 use Rattle.rv32_instr.specs.declared.InstrKind.TheVariants.{Lui, Jal}
 use Rattle.rv32_instr.specs.Ram.{word_at}
 use Rattle.rv32_instr.specs.Range.{InRange}
-use Rattle.rv32_expand.specs.Expansion.{item_address, block_address, distance, mask_of, operation, expansion, expanded, register_operation, number_operation, amount}
+use Rattle.rv32_expand.specs.Expansion.{item_address, block_address, distance, mask_of, expansion, expanded, register_operation, number_operation, amount}
+use Rattle.sloth_base.specs.Named.{operation, function}
 use Rattle.rv32_expand.specs.InPlace.{IsItem, CodeAt, item_mark, mark_of, last_address}
-use Rattle.observe.specs.Observe.{AreAscending, mark_at, view_of_image}
-use Rattle.osek_machine.specs.State.{function}
+use Rattle.observe.specs.Observe.{mark_at, view_of_image}
+use Rattle.sloth_base.specs.ImageRange.{AreAscending}
 use Rattle.sim_relation.specs.Build.{Build}
 use Rattle.sim_items.specs.Place.{IsOwn, IsNumber, IsComputed}
 use Rattle.sim_items.proofs.Cases.{computed_cases}

@@ -19,7 +19,7 @@ pub record CoreBounded (core : Core) : Type 0 where
   pub enabled : AreBelow 256 core.enabled
   pub levels : AreBelow 256 core.levels
 
--- and so is the address of the next instruction
+-- the numbers of a state have room in the machine
 pub record IsBounded (state : State) : Type 0 where
   pub pc : state.pc < 4294967296
   pub core : CoreBounded state.core

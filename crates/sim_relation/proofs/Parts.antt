@@ -11,13 +11,14 @@ use Rattle.osek_machine.specs.declared.state.TaskState.{TaskState}
 use Rattle.osek_machine.specs.declared.state.TaskState.TheVariants as mode
 use Rattle.osek_machine.specs.State.{Frame, Task, System, sleeping, task, with_task, declaration}
 use Rattle.osek_machine.specs.Priority.{is_in, is_active, ceiling, current_priority}
-use Rattle.sim_induction.specs.Mirror.{level_of}
+use Rattle.sloth_base.specs.PriorityLevels.{level_of}
 use Rattle.sim_relation.specs.Build.{Build}
 use Rattle.sim_relation.specs.Position.{thread_of}
 use Rattle.sim_relation.specs.Context.{Running, Rested, Resumes}
 use Rattle.sim_relation.specs.ServiceWords.{ServiceWords, HeldWords, IsWaitWord, base_priority}
 use Rattle.sim_relation.specs.Stands.{IsActive, Falling, IsLineOf}
-use Rattle.sim_relation.specs.Framing.{Agree, SamePart, Each}
+use Rattle.sim_relation.specs.Framing.{Agree, SamePart}
+use Rattle.std.specs.List.{AllByRecursion}
 use Rattle.sim_relation.proofs.Framing.{word_kept, frames_kept, frames_below}
 use Rattle.sim_relation.proofs.Contexts.{context_same, chain_kept}
 use Rattle.sim_relation.proofs.Tops.{is_in-head, is_in-tail}
@@ -65,7 +66,7 @@ falling_kept b s next (t ∷ u ∷ below) e f = (
   falling_kept b s next (u ∷ below) (λ v h. e v (is_in-tail t v (u ∷ below) h)) f.2,
 )
 
-pub each_from : (P : ℕ → Type 0) (stack : List ℕ) → ((u : ℕ) → is_in u stack ≡ true → P u) → Each P stack
+pub each_from : (P : ℕ → Type 0) (stack : List ℕ) → ((u : ℕ) → is_in u stack ≡ true → P u) → AllByRecursion P stack
 each_from P [] h = tt
 each_from P (t ∷ below) h = (h t (is_in-head t below), each_from P below (λ u k. h u (is_in-tail t u below k)))
 

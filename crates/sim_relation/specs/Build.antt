@@ -6,12 +6,13 @@ use Rattle.sloth_base.specs.declared.places.Places.{Places}
 use Rattle.sloth_base.specs.declared.app.Call.{Call}
 use Rattle.sloth_base.specs.declared.app.Op.TheVariants as op
 use Rattle.sloth_region.specs.Layout.{context_bytes}
-use Rattle.rv32_expand.specs.Expansion.{item_address, block_address, operation}
-use Rattle.osek_machine.specs.State.{declaration, function, body_of}
+use Rattle.rv32_expand.specs.Expansion.{item_address, block_address}
+use Rattle.sloth_base.specs.Named.{operation, function}
+use Rattle.osek_machine.specs.State.{declaration, body_of}
 use Rattle.osek_machine.specs.Priority.{highest}
-use Rattle.sim_induction.specs.Mirror.{level_of}
+use Rattle.sloth_base.specs.PriorityLevels.{level_of}
 
--- what is built and where it stands
+-- the configuration, the task code, and where all of it stands in the image
 pub record Build : Type 0 where
   pub config : Config
   pub app : App

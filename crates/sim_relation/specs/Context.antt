@@ -4,8 +4,10 @@ use Rattle.sloth_base.specs.Machine.{State}
 use Rattle.sloth_region.specs.Layout.{cur, below_word, resume, idle_context, context_bytes}
 use Rattle.rv32_instr.specs.Ram.{word_at}
 use Rattle.rv32_expand.specs.Expansion.{item_address}
-use Rattle.osek_machine.specs.State.{Frame, Task, System, task, function}
-use Rattle.sim_induction.specs.Mirror.{priority_of, level_of}
+use Rattle.osek_machine.specs.State.{Frame, Task, System, task}
+use Rattle.sloth_base.specs.Named.{function}
+use Rattle.sim_induction.specs.Mirror.{priority_of}
+use Rattle.sloth_base.specs.PriorityLevels.{level_of}
 use Rattle.sim_relation.specs.Build.{Build}
 use Rattle.sim_relation.specs.Position.{Thread, thread_of, thread_at, FramesAt, Position}
 
@@ -42,7 +44,7 @@ Chain b ram s (t ∷ below) place =
 
 -- ---- what runs
 
--- a task runs at its level, above the chain of the others
+-- the machine runs a task, below which these are Active
 pub record RunsTask (b : Build) (state : State) (s : System) (t : ℕ) (below : List ℕ) : Type 0 where
   pub level : state.core.ilevel ≡ level_of b.config (priority_of b.config s t)
   pub current : word_at state.core.ram cur ≡ t + 1
@@ -52,7 +54,7 @@ pub record RunsTask (b : Build) (state : State) (s : System) (t : ℕ) (below : 
   pub link : word_at state.core.ram below_word ≡ 0x8000_0000 + next
   pub chain : Chain b state.core.ram s below next
 
--- the idle loop runs at level 0
+-- the machine runs the idle loop
 pub record RunsIdle (b : Build) (state : State) : Type 0 where
   pub level : state.core.ilevel ≡ 0
   pub current : word_at state.core.ram cur ≡ 0

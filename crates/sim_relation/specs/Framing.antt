@@ -37,11 +37,6 @@ pub record SamePart (b : Build) (old new : List ℕ) (s next : System) (t : ℕ)
   pub tasks : task next t ≡ task s t
   pub bytes : Agree old new (b.low t) (b.top t)
 
--- it holds of each number of the list
-abbrev pub Each : (ℕ → Type 0) → List ℕ → Type 0
-Each P [] = Unit {0}
-Each P (t ∷ rest) = P t × Each P rest
-
 -- What going back to the context at `place` does, beside what else the routine writes: `old` is the RAM before, `new` the RAM
 -- afterwards.
 pub record HasLeftFor (old new : List ℕ) (place : ℕ) (end : State) : Type 0 where

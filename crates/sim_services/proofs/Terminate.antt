@@ -1,6 +1,6 @@
 -- TerminateTask is a step, and the relation stands behind it.
 use Rattle.std.proofs.Common.{◌≡◌, ℕ, ◌+◌, ◌<◌, List, [], ◌∷◌, length, refl, sym, ap, ◌∙◌, subst, arith, inl, false}
-use Rattle.std.specs.Prelude.{slice_index}
+use Rattle.std.specs.Prelude.{slice_index, Contains}
 use Rattle.std.proofs.lemmas.List.{get_or-set_same, get_or-set_other, length-set}
 use Rattle.sloth_base.specs.declared.event.Event.TheVariants as event
 use Rattle.sloth_base.specs.declared.service.Service.TheVariants as service
@@ -15,7 +15,7 @@ use Rattle.osek_machine.specs.Priority.{is_active}
 use Rattle.osek_machine.specs.Services.{ended}
 use Rattle.osek_machine.specs.Steps.{OsekStep, IsAt, settled}
 use Rattle.sloth_base.specs.declared.app.Op.TheVariants as op
-use Rattle.sim_induction.specs.Laws.{AreOneOf}
+use Rattle.std.specs.List.{AllByRecursion}
 use Rattle.sim_induction.proofs.Passing.{not_suspended}
 use Rattle.sim_induction.proofs.Stretched.{shows_left}
 use Rattle.sim_relation.specs.Build.{Build, Fits}
@@ -168,7 +168,7 @@ module _ (b : Build) (state : State) (s : System) (t : ℕ) (called : Task) (pla
     answer = record {
       one = t;
       other = t;
-      touches = subst (AreOneOf (t ∷ t ∷ [])) (sym eff.touches) (inl refl, tt);
+      touches = subst (AllByRecursion (Contains (t ∷ t ∷ []))) (sym eff.touches) ((0, (omega arith), refl), tt);
       after = next;
       step_is = subst (λ what. OsekStep b.config b.app what s next) (sym (shows_left t service.TerminateTask end elsewhere)) step_is;
       stands = stands_behind;

@@ -1,5 +1,5 @@
 -- A runner, between two instructions of its run.
-use Rattle.std.specs.Prelude.{ℕ, ◌≡◌, ◌+◌, List, [], ◌++◌, Option, Some, None, Bool, false}
+use Rattle.std.specs.Prelude.{ℕ, ◌≡◌, ◌+◌, ◌<◌, List, All, [], ◌++◌, Option, Some, None, Bool, false}
 use Rattle.sloth_base.specs.Machine.{State}
 use Rattle.sloth_base.specs.ImageRange.{InFormat}
 use Rattle.sloth_base.specs.declared.image.Image.{Image}
@@ -10,7 +10,6 @@ use Rattle.sloth_io.specs.Sink.{gains, GainsPart}
 use Rattle.trace_text.specs.Texts.{text_after, text_in, ends_idle}
 use Rattle.trace_text.specs.declared.print.Form.{Form}
 use Rattle.observe.specs.Observe.{view_of_image}
-use Rattle.observe.specs.Touched.{AreLines}
 use Rattle.observe.specs.Progress.{Fed, remaining, view_of, arrivals_of, expected_of, from}
 use Rattle.observe.specs.declared.observer.Observer.{Observer}
 use Rattle.sim_induction.specs.Sound.{events_of}
@@ -37,6 +36,7 @@ run_steps image arrivals n = steps_of (run n arrivals (start image))
 abbrev pub run_text : Image → List Arrival → Form → ℕ → List ℕ
 run_text image arrivals form n = text_in image form (events_of image arrivals n)
 
+-- how a run ends, by where it stopped
 abbrev pub end_of : Option Stopping → RunEnd
 end_of None = ends.Whole
 end_of (Some stopping) = ends.Stopped stopping.pc stopping.stop
@@ -60,9 +60,11 @@ pub record Draining (image : Image) (form : Form) (idle : Bool) (o0 : Observer) 
 
 -- ---- a runner
 
+-- the state of the machine that runs
 abbrev pub sloth_state : Machine SlothBus → State
 sloth_state machine = state (λ bus. bus) machine
 
+-- the image that it runs
 abbrev pub image_of : Runner → Image
 image_of runner = runner.image.now
 
@@ -70,11 +72,16 @@ image_of runner = runner.image.now
 abbrev pub given : Runner → List Arrival
 given runner = arrivals_of runner.observer
 
+-- the number of instructions that it has done
 abbrev pub count_of : Runner → ℕ
 count_of runner = runner.count
 
+-- each line is one of the controller's 32
+abbrev pub AreLines : List Arrival → Type 0
+AreLines arrivals = All (λ arrival. arrival.line < 32) arrivals
+
 -- k instructions are done, and all their finished events were handed out
-pub record Stands (runner : Runner) (image : Image) (k : ℕ) : Type 0 where
+pub record HasDone (runner : Runner) (image : Image) (k : ℕ) : Type 0 where
   pub format : InFormat image
   pub lines : AreLines runner.coming.now
   pub view : view_of runner.observer ≡ view_of_image image
@@ -88,7 +95,7 @@ pub record Stands (runner : Runner) (image : Image) (k : ℕ) : Type 0 where
 
 -- between two instructions
 abbrev pub IsRunning : Runner → Type 0
-IsRunning runner = Stands runner runner.image.now runner.count
+IsRunning runner = HasDone runner runner.image.now runner.count
 
 -- it has run nothing
 abbrev pub IsFresh : Runner → Type 0

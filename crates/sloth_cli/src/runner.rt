@@ -8,9 +8,8 @@ ghost use Rattle.sloth_io.specs.Counts.{Rose};
 ghost use Rattle.sloth_io.specs.Sink.{gains, GainsPart};
 ghost use Rattle.trace_text.specs.Texts.{text_after, ends_idle, is_idle};
 ghost use Rattle.observe.specs.Progress.{Fed, remaining, view_of, arrivals_of, expected_of, here};
-ghost use Rattle.observe.specs.Touched.{AreLines};
 ghost use Rattle.sloth_base.specs.Arrive.{state_arrive};
-ghost use Rattle.sloth_cli.specs.Runner.{sloth_state};
+ghost use Rattle.sloth_cli.specs.Runner.{AreLines, sloth_state};
 
 use observe::observer::Observer;
 use rv32_machine::{Machine, SlothBus, Stop};

@@ -5,7 +5,7 @@ use Rattle.sloth_base.specs.Machine.{Core, State}
 use Rattle.sloth_region.specs.Layout.{idle_context, context_bytes}
 use Rattle.rv32_instr.specs.declared.InstrKind.{InstrKind}
 use Rattle.rv32_instr.specs.declared.InstrKind.TheVariants.{Lui, Addi, Sb, Csrrw, Mret}
-use Rattle.rv32_routine.specs.Constant.{hi, lo}
+use Rattle.sloth_base.specs.Arithmetic.{hi, lo}
 use Rattle.rv32_routine.specs.Place.{at}
 use Rattle.rv32_routine.specs.Masked.{Masked, WithArrivals}
 use Rattle.rv32_routine.specs.Kernel.{CanRun}
@@ -17,13 +17,16 @@ abbrev pub raises : ℕ → Bool → List InstrKind
 raises line true = Sb 1 4 (pos line) ∷ []
 raises line false = []
 
+-- a task's line has its level and is enabled, and is pending where the task is autostarted
 abbrev pub starts_one : ℕ → ℕ → Bool → List InstrKind
 starts_one line level autostart = Addi 3 0 (pos level) ∷ Sb 1 3 (pos (64 + line)) ∷ Sb 1 4 (pos (32 + line)) ∷ raises line autostart
 
+-- those of the tasks from this line on
 abbrev pub starts : ℕ → List TaskDecl → List ℕ → List InstrKind
 starts line [] levels = []
 starts line (task ∷ tasks) levels = starts_one line (slice_index levels line) task.autostart ++ starts (suc line) tasks levels
 
+-- the stack and the state of the idle loop, and the way there
 abbrev pub finishes : ℕ → List InstrKind
 finishes idle =
     Lui 2 0x8_0000 ∷ Addi 2 2 (pos 1012) ∷ Addi 3 0 (pos 128) ∷ Csrrw 0 3 0x300 ∷ Lui 3 (hi idle) ∷ Addi 3 3 (lo idle) ∷ Csrrw 0 3 0x341

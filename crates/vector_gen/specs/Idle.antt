@@ -7,6 +7,7 @@ use Rattle.rv32_instr.specs.declared.InstrKind.{InstrKind}
 use Rattle.rv32_instr.specs.Execute.{Going, step, touched}
 use Rattle.rv32_routine.specs.Place.{at, InPlace}
 
+-- the mark on the idle loop
 abbrev pub idle_mark : ℕ → Mark
 idle_mark address = record { address = address; kind = mark.Idle; a = 0; b = 0; c = 0 }
 
