@@ -55,7 +55,7 @@ pub record StretchLaw (given : Setting) (R : State → System → Type 0) (count
   pub step_is : OsekStep given.config given.app what (with_admits (early trace) (with_admits (lines_at given.arrivals count) s)) after
   pub passes : (past : List Stamped) → Leads given.config given.app past (opening given.config given.app) (with_admits (lines_at given.arrivals count) s)
       → PassesOverArrivals given.config given.app (past ++ map admit_event (before_event (count + 1) trace))
-          (with_admits (early trace) (with_admits (lines_at given.arrivals count) s)) count what
+      (with_admits (early trace) (with_admits (lines_at given.arrivals count) s)) count what
   pub related : R end (with_admits (late trace) after)
 
 -- what an instruction outside the stretches shows: nothing, or one event, which is a step

@@ -1,5 +1,5 @@
 -- Instructions outside the stretches.
-use Rattle.std.proofs.Common.{◌≡◌, ℕ, ◌+◌, ◌<◌, ◌≤◌, List, [], ◌∷◌, length, refl, sym, ap, ◌∙◌, subst, arith, Some, None, cond}
+use Rattle.std.proofs.Common.{◌≡◌, ℕ, ◌+◌, ◌-◌, ◌*◌, ◌<◌, ◌≤◌, List, [], ◌∷◌, length, refl, sym, ap, ◌∙◌, subst, arith, Some, None, cond}
 use Rattle.std.specs.Prelude.{slice_index, IfSome, Contains}
 use Rattle.sloth_base.specs.declared.app.Op.{Op}
 use Rattle.sloth_base.specs.declared.image.Mark.{Mark}
@@ -15,8 +15,8 @@ use Rattle.rv32_instr.specs.Ram.{word_at}
 use Rattle.rv32_instr.specs.Execute.{Going, step, touched}
 use Rattle.rv32_machine.specs.Run.{arrived}
 use Rattle.rv32_routine.specs.Place.{at, InPlace}
-use Rattle.rv32_expand.specs.Expansion.{item_address}
-use Rattle.sloth_base.specs.Named.{operation}
+use Rattle.rv32_expand.specs.Expansion.{item_address, expansion}
+use Rattle.sloth_base.specs.Named.{operation, function}
 use Rattle.rv32_expand.specs.InPlace.{result_register, mark_of, item_mark, last_address}
 use Rattle.observe.specs.Observe.{View, mark_at, task_of, outside_events, events_of_kind}
 use Rattle.osek_machine.specs.State.{System}
@@ -33,9 +33,9 @@ use Rattle.sim_relation.specs.Stands.{Stands}
 use Rattle.sim_relation.proofs.Arrive.{stands_arrived, stands_fresh}
 use Rattle.sim_relation.proofs.Placed.{placed_in, first_by_word}
 use Rattle.sim_relation.proofs.Choice.{running_top, none_due}
-use Rattle.sim_items.proofs.Cases.{computed_cases}
-use Rattle.sim_items.specs.Place.{AtItem, IsComputed}
-use Rattle.sim_items.specs.Laws.{IsOneInstruction, RunsItem}
+use Rattle.sim_items.proofs.Cases.{computed_cases, computed_long}
+use Rattle.sim_items.specs.Place.{AtItem, ItemStands, IsComputed}
+use Rattle.sim_items.specs.Laws.{RunsItem}
 use Rattle.sim_relation.specs.Placed.{setting_of}
 use Rattle.sim_items.specs.Outside.{At, GoesOutside, HasIdle}
 use Rattle.sim_items.proofs.Computed.{computed_run}
@@ -83,13 +83,19 @@ module _ (b : Build) (view : View) (arrivals : List Arrival) (progress : State �
   }
 
   -- an item that computes
-  module _ (t : ℕ) (item : AtItem b n s1 t) (is : IsComputed (operation b.app item.frame.func item.frame.item)) (one : IsOneInstruction b item.frame.func item.frame.item)
-      (marked : mark_at view (item_address b.places item.frame.func item.frame.item) ≡ Some (item_mark b.app b.places item.frame.func item.frame.item)) where
+  module _ (t : ℕ) (item : AtItem b n s1 t) (is : IsComputed (operation b.app item.frame.func item.frame.item)) (placed : ItemStands b view item.frame.func item.frame.item)
+      (more : item.frame.item + 1 < length (function b.app item.frame.func).items) where
     top : IsTop b.config s1 [] t
     top = let f = first_by_word b n s1 t now.stack now.running item.current in running_top b n s1 now few here.none t f.0 f.1
 
     runs : RunsItem b n s1 t item.frame.func item.frame.item
-    runs = computed_run b n s1 t here.fits now item top is one
+    runs = computed_run b view n s1 t here.fits now item top is placed more
+
+    last_is : last_address b.app b.places item.frame.func item.frame.item ≡ item_address b.places item.frame.func item.frame.item
+    last_is =
+        let l = computed_long b.app b.places item.frame.func (item_address b.places item.frame.func item.frame.item) (operation b.app item.frame.func item.frame.item) is in
+        let e : length (expansion b.app b.places item.frame.func item.frame.item) ≡ 1 = l in
+        omega arith
 
     abbrev shown_as : Mark → Event
     shown_as m = event.Run (task_of view.tasks (word_at n.core.ram cur)) m.b m.c (slice_index runs.next.core.registers m.a)
@@ -107,7 +113,7 @@ module _ (b : Build) (view : View) (arrivals : List Arrival) (progress : State �
     item_outside = (
       runs.next,
       one_instruction runs.next (item_mark b.app b.places item.frame.func item.frame.item) _ runs.after runs.goes runs.untouched
-          (ap (mark_at view) item.pc ∙ marked) shown runs.step_is (λ e. cc) runs.stands,
+          (ap (mark_at view) (item.pc ∙ sym last_is) ∙ placed.marked) shown runs.step_is (λ e. cc) runs.stands,
     )
 
   -- the idle loop
