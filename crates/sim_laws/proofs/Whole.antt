@@ -94,8 +94,8 @@ module _ (b : Build) (image : Image) (kernel : Kernel b image) where
   only : OnlyComputes b.app
   only = record {
     items = λ func item l.
-        ⊎_elim (λ (h : Computes b view func item). inl h.computed) (λ (h : Ends b view func item). inr (h.jumps.call, h.jumps.is, h.ends))
-        (kernel.items func item l);
+        ⊎_elim (λ (h : Computes b func item). inl h.computed) (λ (h : Ends b view func item). inr (h.jumps.call, h.jumps.is, h.ends))
+        (kernel.operations func item l);
   }
 
   few_instructions : (func item : ℕ) → length (expansion b.app b.places func item) ≤ 40
