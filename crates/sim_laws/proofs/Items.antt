@@ -141,7 +141,7 @@ item_stands b image func item h is range =
     (record { code = g.code func item is; inside = g.inside func item is; adjacent = λ next. g.adjacent func item is next; marked = g.marked func item is }) in
     let high = found.inside.1 in
     record {
-      code = in_image b image (item_address b.places func item) (expansion b.app b.places func item) h.memory h.size found.inside.0 (omega arith) (h.is_code func item is) range found.code;
+      code = in_image b image (item_address b.places func item) (expansion b.app b.places func item) h.memory h.size found.inside.0 (omega arith) (λ i x y. h.is_code func item i is x y) range found.code;
       marked = marks_found image (item_mark b.app b.places func item) h.rising found.marked;
       adjacent = λ more. found.adjacent (record { declared = is.declared; inside = more });
     }
