@@ -199,17 +199,17 @@ kept\@: addi    x10, x0, 0
         .set    line, line + 1
         .endr
 
+#: idle 80000548
+#: mark 80000548 Idle 0 0 0
+        .section .b04, "ax"
+        jal     x0, .
+
 #: boot 80000480
         .section .b02, "ax"
         boot    5, 1
 #: boot 80000480
         .section .b03, "ax"
         boot    5, 0
-
-#: idle 80000548
-#: mark 80000548 Idle 0 0 0
-        .section .b04, "ax"
-        jal     x0, .
 
 #: prologue 800ffffc
         .section .p01, "ax"

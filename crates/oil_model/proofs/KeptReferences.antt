@@ -17,7 +17,7 @@ use Rattle.oil_model.specs.Events.{mask_named}
 use Rattle.oil_model.specs.TaskFaults.{have_common_bit, clashes, shares_bit}
 use Rattle.oil_model.specs.References.{event_word, refers_to_clash, referred_word}
 use Rattle.oil_model.specs.KeptReferences.{is_to, has_bit, is_clash, AreKept}
-use Rattle.oil_model.proofs.Tests.{and_true, and_swap, and_left, and_right, or_left_true, or_right_true, or_split, or_nothing, or_absorbs, any_implies, any_but, any_none}
+use Rattle.text_pieces.proofs.Tests.{and_true, and_swap, and_left, and_right, or_left_true, or_right_true, or_split, or_nothing, or_absorbs, any_implies, any_but, any_none}
 use Rattle.oil_model.specs.declared.references.Reference.{Reference}
 
 -- masks with a bit in common

@@ -1,5 +1,5 @@
 -- The next state, computed: what a checker of event lists does.
-use Rattle.std.specs.Prelude.{ℕ, zero, suc, ◌==◌, List, [], ◌∷◌, Bool, true, false, not, ◌&&◌, ◌||◌, leb, ltb, length, Option, Some, None, get_or}
+use Rattle.std.specs.Prelude.{ℕ, zero, suc, ◌==◌, List, [], ◌∷◌, Bool, true, false, not, ◌&&◌, ◌||◌, leb, ltb, length, Option, Some, None}
 use Rattle.sloth_base.specs.ServiceCodes.{code_of}
 use Rattle.sloth_base.specs.declared.config.Config.{Config}
 use Rattle.sloth_base.specs.declared.app.App.{App}
@@ -11,7 +11,7 @@ use Rattle.sloth_base.specs.declared.service.Service.{Service}
 use Rattle.osek_machine.specs.declared.state.TaskState.{TaskState}
 use Rattle.osek_machine.specs.declared.state.TaskState.TheVariants as mode
 use Rattle.osek_machine.specs.State.{Frame, Task, System, task, with_task, declaration, body_of}
-use Rattle.sloth_base.specs.Named.{function}
+use Rattle.sloth_base.specs.Named.{function, operation}
 use Rattle.osek_machine.specs.Priority.{rank, is_in, is_active}
 use Rattle.osek_machine.specs.Meaning.{Meant, meaning, on_some, if_true}
 use Rattle.osek_machine.specs.Services.{is_there, Outcome, GoesOn, Leaves, outcome, entered}
@@ -47,7 +47,7 @@ abbrev pub operation_of : App → List Frame → Option Op
 operation_of app [] = None
 operation_of app (frame ∷ outer) =
     if_true (ltb frame.item (length (function app frame.func).items))
-    (Some (get_or (function app frame.func).items frame.item (record { line = 0; op = op.Return })).op)
+    (Some (operation app frame.func frame.item))
 
 -- the same of a task that runs and owes no `back`
 abbrev pub operation_at : App → Task → Option Op

@@ -5,6 +5,7 @@ use Rattle.sloth_base.specs.declared.app.App.{App}
 use Rattle.sloth_base.specs.declared.service.Service.{Service}
 use Rattle.sloth_base.specs.declared.service.Service.TheVariants as service
 use Rattle.sloth_base.specs.Status.{E_OK, E_OS_LIMIT, E_OS_STATE}
+use Rattle.app_rules.specs.Code.{is_last}
 pub use Rattle.app_rules.specs.Code.{without_last}
 use Rattle.osek_machine.specs.declared.state.TaskState.{TaskState}
 use Rattle.osek_machine.specs.declared.state.TaskState.TheVariants as mode
@@ -84,12 +85,6 @@ is_task config t = ltb t (length config.tasks)
 -- a resource by its number; that of RES_SCHEDULER is 32
 abbrev pub is_resource : Config → ℕ → Bool
 is_resource config r = cond (r == 32) config.res_scheduler (ltb r (length config.resources))
-
--- the resource that was taken last of those that are held
-abbrev pub is_last : ℕ → List ℕ → Bool
-is_last r [] = false
-is_last r (x ∷ []) = x == r
-is_last r (x ∷ y ∷ ys) = is_last r (y ∷ ys)
 
 -- the task or resource that a service names is there; what is released was taken last
 abbrev pub is_there : Config → (held : List ℕ) → Service → (object : ℕ) → Bool

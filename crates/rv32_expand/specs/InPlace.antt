@@ -34,10 +34,19 @@ result_register (op.Invoke callee) = 0
 result_register op.Return = 0
 result_register (op.Serve call) = 0
 
--- the mark of an item at an address: of a service it names the service
+-- an item's mark is that of an item, of a service that of a jump
+abbrev pub mark_kind : Op → MarkKind
+mark_kind (op.Serve call) = kind.Jump
+mark_kind operation = kind.Item
+
+-- it names the register of the result, of a service the service
+abbrev pub mark_number : Op → ℕ
+mark_number (op.Serve call) = code_of call.service
+mark_number operation = result_register operation
+
+-- the mark of an item at an address
 abbrev pub mark_of : Op → (address func index : ℕ) → Mark
-mark_of (op.Serve call) address func index = record { address = address; kind = kind.Jump; a = code_of call.service; b = func; c = index }
-mark_of operation address func index = record { address = address; kind = kind.Item; a = result_register operation; b = func; c = index }
+mark_of operation address func index = record { address = address; kind = mark_kind operation; a = mark_number operation; b = func; c = index }
 
 -- the address of an item's last word
 abbrev pub last_address : App → Places → (func index : ℕ) → ℕ

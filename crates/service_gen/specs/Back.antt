@@ -10,10 +10,11 @@ pub record CanGoBack (offset : ℕ) (code : List InstrKind) (core : Core) : Type
   pub previous : core.mpie ≡ true
   pub back : slice_index core.registers 31 % 4 ≡ 0
 
--- the registers of a service's status and of its answer
+-- the register of a service's status
 abbrev pub a0 : ℕ
 a0 = 10
 
+-- the register of its answer
 abbrev pub a1 : ℕ
 a1 = 11
 

@@ -12,13 +12,15 @@ use Rattle.rv32_routine.specs.Pieces.{past}
 abbrev pub opens : List InstrKind
 opens = masking ∷ Lui 4 words_high ∷ []
 
--- the running task's pending byte, its Active word and its events, where `cur`, its number and 1 more, tells the place
+-- the running task's pending byte, where `cur`, its number and 1 more, tells the place
 abbrev pub own_pending : ℤ
 own_pending = negsuc 0
 
+-- its Active word
 abbrev pub own_active : ℤ
 own_active = negsuc 7
 
+-- its events
 abbrev pub own_events : ℤ
 own_events = negsuc 3
 

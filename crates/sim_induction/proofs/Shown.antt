@@ -1,5 +1,6 @@
 -- What events stretches and single instructions show.
 use Rattle.std.proofs.Common.{◌≡◌, ℕ, List, [], ◌∷◌, refl, Bool, true, false, cond, Option, Some, None}
+use Rattle.std.specs.List.{AllByRecursion}
 use Rattle.std.specs.Prelude.{◌==◌, slice_index}
 use Rattle.sloth_base.specs.declared.service.Service.{Service}
 use Rattle.sloth_base.specs.declared.image.Mark.{Mark}
@@ -62,8 +63,7 @@ IsSingle (event.Back t) = ⊥
 IsSingle event.Stray = ⊥
 
 abbrev pub AreSingle : List Event → Type 0
-AreSingle [] = Unit {0}
-AreSingle (what ∷ whats) = IsSingle what × AreSingle whats
+AreSingle whats = AllByRecursion IsSingle whats
 
 kind_single : (k : MarkKind) (view : View) (mark : Mark) (s : Step) → AreSingle (events_of_kind k view mark s)
 kind_single kind.Item view mark s = (tt, tt)

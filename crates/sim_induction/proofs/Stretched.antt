@@ -73,7 +73,7 @@ enter_law given R k m s line Effect after_boot enabled taken is_task e none afte
 
 -- ---- a service
 
-task_is : (tasks t : ℕ) → t < tasks → task_of tasks (t + 1) ≡ t
+pub task_is : (tasks t : ℕ) → t < tasks → task_of tasks (t + 1) ≡ t
 task_is tasks t l =
     let one : t + 1 - 1 ≡ t = omega arith in
     ap (λ b. cond (b && nat_le (t + 1) tasks) (t + 1 - 1) 4294967295) (lt-ltb 0 (t + 1) (omega arith))

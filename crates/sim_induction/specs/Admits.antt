@@ -1,5 +1,6 @@
 -- Arrivals as the abstract scheduler sees them.
 use Rattle.std.specs.Prelude.{ℕ, ◌+◌, ◌<◌, ◌≡◌, List, [], ◌∷◌, ◌++◌, map, length, All}
+use Rattle.std.specs.List.{AllByRecursion}
 use Rattle.sloth_base.specs.declared.config.Config.{Config}
 use Rattle.sloth_base.specs.declared.app.App.{App}
 use Rattle.sloth_base.specs.declared.event.Arrival.{Arrival}
@@ -35,8 +36,7 @@ with_admits (t ∷ lines) s = with_admits lines (admitted t s)
 
 -- each of these lines is below a number
 abbrev pub AllBelow : ℕ → List ℕ → Type 0
-AllBelow n [] = Unit {0}
-AllBelow n (t ∷ lines) = (t < n) × AllBelow n lines
+AllBelow n lines = AllByRecursion (λ line. line < n) lines
 
 -- the event of an arrival of a task's line
 abbrev pub admit_event : Arrival → Stamped

@@ -34,7 +34,8 @@ served_event t served end =
 -- A stretch that begins at a count which finds MIE 1: its first instruction, which leads to `next`, and the masked ones behind it,
 -- which lead on to `end`. Its event is a step from the system with the arrivals of the count and the early ones, and the states at
 -- its end are related with the late ones.
-pub record StretchLaw (given : Setting) (R : State → System → Type 0) (count : ℕ) (state : State) (s : System) (next : State) (trace : Trace) (end : State) : Type 0 where
+pub record StretchLaw (given : Setting) (R : State → System → Type 0) (count : ℕ) (state : State) (s : System)
+    (next : State) (trace : Trace) (end : State) : Type 0 where
   pub finds : state.core.mie ≡ true
   pub goes : step (entered (arrived given.arrivals count state)) ≡ Going next
   pub starts : begins (seen_at given count state next) ≡ true
@@ -53,7 +54,8 @@ pub record StretchLaw (given : Setting) (R : State → System → Type 0) (count
   pub after : System
   pub step_is : OsekStep given.config given.app what (with_admits (early trace) (with_admits (lines_at given.arrivals count) s)) after
   pub passes : (past : List Stamped) → Leads given.config given.app past (opening given.config given.app) (with_admits (lines_at given.arrivals count) s)
-      → PassesOverArrivals given.config given.app (past ++ map admit_event (before_event (count + 1) trace)) (with_admits (early trace) (with_admits (lines_at given.arrivals count) s)) count what
+      → PassesOverArrivals given.config given.app (past ++ map admit_event (before_event (count + 1) trace))
+      (with_admits (early trace) (with_admits (lines_at given.arrivals count) s)) count what
   pub related : R end (with_admits (late trace) after)
 
 -- what an instruction outside the stretches shows: nothing, or one event, which is a step
@@ -63,7 +65,8 @@ Shows given (what ∷ []) s after = OsekStep given.config given.app what s after
 Shows given (what ∷ other ∷ more) s after = ⊥
 
 -- an instruction outside the stretches, at a count that finds MIE 1; where it shows nothing, it makes progress
-pub record OutsideLaw (given : Setting) (R : State → System → Type 0) (progress : State → System → ℕ) (count : ℕ) (state : State) (s : System) (next : State) : Type 0 where
+pub record OutsideLaw (given : Setting) (R : State → System → Type 0) (progress : State → System → ℕ)
+    (count : ℕ) (state : State) (s : System) (next : State) : Type 0 where
   pub goes : step (entered (arrived given.arrivals count state)) ≡ Going next
   pub outside : begins (seen_at given count state next) ≡ false
   pub untouched : TouchesOnly [] (seen_at given count state next)

@@ -1,9 +1,12 @@
 -- An item that computes on registers and numbers is one of three.
-use Rattle.std.proofs.Common.{ℕ, ℤ}
+use Rattle.std.proofs.Common.{◌≡◌, ℕ, ℤ, length, refl}
 use Rattle.sloth_base.specs.declared.app.Op.{Op}
 use Rattle.sloth_base.specs.declared.app.Op.TheVariants as op
 use Rattle.sloth_base.specs.declared.app.AluKind.{AluKind}
 use Rattle.sloth_base.specs.declared.app.ImmKind.{ImmKind}
+use Rattle.sloth_base.specs.declared.app.App.{App}
+use Rattle.sloth_base.specs.declared.places.Places.{Places}
+use Rattle.rv32_expand.specs.Expansion.{expanded}
 use Rattle.sim_items.specs.Place.{IsComputed}
 
 pub computed_cases : (P : Op → Type 0)
@@ -26,3 +29,8 @@ computed_cases P alu imm lui (op.Jump label) h = absurd h
 computed_cases P alu imm lui (op.Invoke callee) h = absurd h
 computed_cases P alu imm lui op.Return h = absurd h
 computed_cases P alu imm lui (op.Serve call) h = absurd h
+
+-- it has one instruction
+pub computed_long : (app : App) (places : Places) (func address : ℕ) (operation : Op) → IsComputed operation → length (expanded app places func address operation) ≡ 1
+computed_long app places func address =
+    computed_cases (λ o. length (expanded app places func address o) ≡ 1) (λ kind rd rs1 rs2 h. refl) (λ kind rd rs1 number h. refl) (λ rd number h. refl)

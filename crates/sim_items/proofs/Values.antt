@@ -1,7 +1,7 @@
 -- What an instruction of an item computes is what the item means.
 use Rattle.std.proofs.Common.{◌≡◌, ℕ, ◌-◌, ◌*◌, ℤ, pos, negsuc, List, [], ◌∷◌, Bool, true, false, inl, inr, ltb, refl, sym, ap, ◌∙◌, subst, arith}
 use Rattle.std.specs.Prelude.{slice_index, int_lt, if◌then◌else◌, ◌==◌, ◌&&◌, ◌||◌}
-use Rattle.std.specs.List.{list_all}
+use Rattle.std.specs.List.{list_all, AllByRecursion}
 use Rattle.std.proofs.lemmas.Bool.{and_from, le-leb, lt-ltb}
 use Rattle.std.proofs.lemmas.Int.{ints}
 use Rattle.sloth_base.specs.declared.app.App.{App}
@@ -75,8 +75,7 @@ own_test r (inr h) =
     or_true false = refl
 
 abbrev AreOwn : List ℕ → Type 0
-AreOwn [] = Unit {0}
-AreOwn (r ∷ rs) = IsOwn r × AreOwn rs
+AreOwn registers = AllByRecursion IsOwn registers
 
 own_tests : (rs : List ℕ) → AreOwn rs → list_all is_own rs ≡ true
 own_tests [] h = refl

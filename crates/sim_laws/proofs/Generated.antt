@@ -90,4 +90,5 @@ module _ (b : Build) (image : Image) (levels : Levels) (map : Map) (g : IsGenera
     prologues = prologue;
     stacks = g.stacks;
     items = g.items;
+    operations = g.operations;
   }

@@ -13,7 +13,7 @@ use Rattle.rv32_instr.specs.Ram.{word_at}
 use Rattle.rv32_machine.specs.Start.{start}
 use Rattle.rv32_routine.specs.Trace.{late}
 use Rattle.rv32_expand.specs.Expansion.{item_address, expansion, expanded}
-use Rattle.sloth_base.specs.Named.{operation, function}
+use Rattle.sloth_base.specs.Named.{operation, function, no_item}
 use Rattle.observe.specs.Observe.{View, view_of_image}
 use Rattle.osek_machine.specs.State.{Frame, System, task}
 use Rattle.sim_induction.specs.Sound.{Sound}
@@ -94,8 +94,8 @@ module _ (b : Build) (image : Image) (kernel : Kernel b image) where
   only : OnlyComputes b.app
   only = record {
     items = λ func item l.
-        ⊎_elim (λ (h : Computes b view func item). inl h.computed) (λ (h : Ends b view func item). inr (h.jumps.call, h.jumps.is, h.ends))
-        (kernel.items func item l);
+        ⊎_elim (λ (h : Computes b func item). inl h.computed) (λ (h : Ends b view func item). inr (h.jumps.call, h.jumps.is, h.ends))
+        (kernel.operations func item l);
   }
 
   few_instructions : (func item : ℕ) → length (expansion b.app b.places func item) ≤ 40
@@ -103,7 +103,7 @@ module _ (b : Build) (image : Image) (kernel : Kernel b image) where
       ⊎_elim
       (λ (l : item < length (function b.app func).items). let e = item_long b image kernel func item l in omega arith)
       (λ (l : length (function b.app func).items ≤ item).
-      let none : operation b.app func item ≡ op.Return = ap (λ (x : Item). x.op) (beyond (function b.app func).items item (record { line = 0; op = op.Return }) l) in
+      let none : operation b.app func item ≡ op.Return = ap (λ (x : Item). x.op) (beyond (function b.app func).items item no_item l) in
       let e : length (expansion b.app b.places func item) ≡ 3 = ap (λ o. length (expanded b.app b.places func (item_address b.places func item) o)) none in
       omega arith)
       (cases_lt item (length (function b.app func).items))

@@ -26,4 +26,5 @@ pub record IsBounded (state : State) : Type 0 where
 
 -- each instruction of a run keeps that
 abbrev pub BoundsStay : Type 0
-BoundsStay = (arrivals : List Arrival) (count : ℕ) (state next : State) (step : Step) → moment arrivals count state ≡ Goes step next → IsBounded state → IsBounded next
+BoundsStay = (arrivals : List Arrival) (count : ℕ) (state next : State) (step : Step) → moment arrivals count state ≡ Goes step next
+    → IsBounded state → IsBounded next

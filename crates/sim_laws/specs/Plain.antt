@@ -33,4 +33,5 @@ pub record IsPlain (config : Config) (s : System) : Type 0 where
 
 -- each event keeps that
 abbrev pub PlainStays : Type 0
-PlainStays = (config : Config) (app : App) → OnlyComputes app → (what : Event) (s next : System) → OsekStep config app what s next → IsPlain config s → IsPlain config next
+PlainStays = (config : Config) (app : App) → OnlyComputes app → (what : Event) (s next : System) → OsekStep config app what s next
+    → IsPlain config s → IsPlain config next

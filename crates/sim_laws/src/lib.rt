@@ -6,7 +6,7 @@ ghost use Rattle.sim_laws.specs.Bounded.{BoundsStay};
 ghost use Rattle.sim_laws.specs.Plain.{PlainStays};
 ghost use Rattle.sim_laws.specs.Kernel.{KernelIsSound};
 ghost use Rattle.sim_laws.specs.Generated.{GeneratedIsKernel};
-ghost use Rattle.sim_laws.specs.Items.{ComputedItemsStand, EndingItemsStand, MarksAreFound};
+ghost use Rattle.sim_laws.specs.Items.{ComputedItemsStand, EndingItemsStand, ItemsStand, MarksAreFound};
 
 /// Each instruction of a run leaves numbers that have room in the machine's registers and bytes.
 pub fn bounds_stay()
@@ -33,7 +33,12 @@ pub fn marks_are_found()
     ensures { MarksAreFound }
 {}
 
-/// Items of task code that compute, in place in an image, are such items of a kernel.
+/// Items of task code that are in place in an image stand there as in a kernel.
+pub fn items_stand()
+    ensures { ItemsStand }
+{}
+
+/// So do items that compute.
 pub fn computed_items_stand()
     ensures { ComputedItemsStand }
 {}

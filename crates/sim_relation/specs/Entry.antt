@@ -14,7 +14,8 @@ use Rattle.sim_relation.specs.Stands.{IsAlive, AreApart}
 -- else stays. `old` is the state before the line was taken.
 pub record EntryRam (b : Build) (old : State) (new : List ℕ) (t place : ℕ) : Type 0 where
   pub long : length new ≡ 0x20_0000
-  pub outside : (i : ℕ) → idle_context ≤ i → (i < place) ⊎ (place + context_bytes ≤ i) → (i < b.low t) ⊎ (b.top t ≤ i) → slice_index new i ≡ slice_index old.core.ram i
+  pub outside : (i : ℕ) → idle_context ≤ i → (i < place) ⊎ (place + context_bytes ≤ i) → (i < b.low t) ⊎ (b.top t ≤ i)
+      → slice_index new i ≡ slice_index old.core.ram i
   pub pc_word : word_at new place ≡ old.pc
   pub level_word : word_at new (place + 4) ≡ old.core.ilevel
   pub current_word : word_at new (place + 8) ≡ word_at old.core.ram cur

@@ -46,7 +46,8 @@ pub record HasBlock (b : Build) (view : View) (served : Service) (object : ℕ) 
 
 -- What holds at a service's opening mark, with the arrivals of the count: no line is taken, and the service's block stands in the
 -- image. The contract is that of the block for an object.
-pub record OpensService (b : Build) (view : View) (state : State) (s : System) (t : ℕ) (served : Service) (Contract : ℕ → List InstrKind → Type 0) : Type 0 where
+pub record OpensService (b : Build) (view : View) (state : State) (s : System) (t : ℕ) (served : Service)
+    (Contract : ℕ → List InstrKind → Type 0) : Type 0 where
   pub none : choose state.core ≡ None
   pub opening : AtOpening b state t (task s t) served
   pub block : HasBlock b view served opening.block.call.object (Contract opening.block.call.object)

@@ -1,20 +1,25 @@
 -- Which answer comes, where the inputs are told.
-use Rattle.std.proofs.Common.{◌≡◌, ◌≤◌, ◌<◌, ◌+◌, ◌∙◌, inl, inr, ℕ, List, [], Option, None, Some, refl, sym, ap, subst, arith, min, length}
+use Rattle.std.proofs.Common.{◌≡◌, ◌≤◌, ◌<◌, ◌+◌, ◌∙◌, inl, inr, ℕ, List, [], ◌∷◌, Option, None, Some, refl, sym, ap, subst, arith, min, length}
 use Rattle.std.specs.Prelude.{IsTrue, ◌⊎◌}
 use Rattle.std.proofs.Math.Nat.{min-eq_left}
 use Rattle.sloth_base.specs.declared.config.Config.{Config}
 use Rattle.sloth_base.specs.declared.app.App.{App}
+use Rattle.sloth_base.specs.declared.image.Image.{Image}
 use Rattle.sloth_base.specs.declared.refusal.Refusal.{Refusal}
 use Rattle.sloth_io.specs.Counts.{Rose, Stays}
-use Rattle.sloth_io.specs.Store.{Files, Holds}
+use Rattle.sloth_io.specs.Sink.{Output, HasNoSpace}
+use Rattle.sloth_io.specs.Store.{Files, Holds, IsMissing, IsTooLong, IsUnwritten}
+use Rattle.image_file.specs.ImageText.{image_bytes}
 use Rattle.sloth_build.specs.Form.{Accepted}
-use Rattle.sloth_build.proofs.Unique.{never-both}
+use Rattle.sloth_build.proofs.Unique.{never-both, one-meaning}
 use Rattle.sloth_build.proofs.Refusals.{one_refusal}
 use Rattle.sloth_cli.specs.LastLine.{refusal_line}
 use Rattle.sloth_cli.specs.Command.{Command, Run, IsCommand, NoCommand}
 use Rattle.sloth_cli.specs.declared.top.Status.{Status}
 use Rattle.sloth_cli.specs.declared.top.Status.TheVariants as status
-use Rattle.sloth_cli.specs.Top.{OfArrivals, OfInputs, HoldsArrivals, AreThere, IsFailedRead, IsLong, IsLongRead, IsRefusal, IsRefused, IsAccepted, IsDone, IsFailedWrite, Requires, Puts, Took, Stands, Answers, AnswersUsage, AnswersRefused, ReadsStay, CountsStay, TellsUsage, TellsRefused, IsComplete}
+use Rattle.sloth_cli.specs.Top.{World, input_limit, arrivals_named, inputs_of, FirstUnread, AreInputs, HoldsArrivals, AreThere, IsFailedRead, IsLongRead}
+use Rattle.sloth_cli.specs.Top.{IsRefusal, IsRefused, IsAccepted, IsImageOf, IsDone, IsFailedWrite, Requires, Puts, Took, BrokeOff, Stands, Answers}
+use Rattle.sloth_cli.specs.Top.{AnswersUsage, AnswersRefused, ReadsWork, WritesWork, HasSpace, PutsWork, CallsWork, TellsUsage, TellsRefused, IsComplete}
 use Rattle.sloth_cli.proofs.Commands.{one-command}
 
 stays : (a b : ℕ) → Stays a b → Rose a b → ⊥
@@ -31,35 +36,45 @@ told-arrivals : (files : Files) (run : Option Run) (one other : List ℕ) → Is
 told-arrivals files None one other tells h i = h ∙ sym i
 told-arrivals files (Some run) one other tells h i = told files run.arr one other tells h i
 
--- no input is missing
-arrivals-there : (files : Files) (run : Option Run) (arr : List ℕ) → IsTrue files.tells → HoldsArrivals files run arr → OfArrivals (λ name. files.holds name ≡ None) run → ⊥
-arrivals-there files None arr tells h none = none
-arrivals-there files (Some run) arr tells h none = let a = h tells in cc
+-- of inputs that are there, none is the first that is not read
+no-arrivals : (P : List ℕ → Type 0) (old : Files) (run : Option Run) (arr : List ℕ) → HoldsArrivals old run arr → length arr ≤ input_limit
+    → ((name bytes : List ℕ) → Holds old name bytes → length bytes ≤ input_limit → P name → ⊥) → FirstUnread old P (arrivals_named run) → ⊥
+no-arrivals P old None arr holds short f h = h
+no-arrivals P old (Some run) arr holds short f (inl h) = f run.arr arr holds short h
+no-arrivals P old (Some run) arr holds short f (inr h) = h.1
 
-all-there : (old : Files) (c : Command) (oil src arr : List ℕ) → AreThere old c oil src arr → OfInputs (λ name. old.holds name ≡ None) c → ⊥
-all-there old c oil src arr there (inl none) = let a = there.inputs.oil_read there.tells in cc
-all-there old c oil src arr there (inr (inl none)) = let a = there.inputs.src_read there.tells in cc
-all-there old c oil src arr there (inr (inr none)) = arrivals-there old c.run arr there.tells there.inputs.arr_read none
+none-unread : (P : List ℕ → Type 0) (old : Files) (c : Command) (oil src arr : List ℕ) → AreInputs old c oil src arr
+    → ((name bytes : List ℕ) → Holds old name bytes → length bytes ≤ input_limit → P name → ⊥) → FirstUnread old P (inputs_of c) → ⊥
+none-unread P old c oil src arr i f (inl h) = f c.oil oil i.oil_read i.oil_short h
+none-unread P old c oil src arr i f (inr h) = behind h.1
+  where
+    behind : FirstUnread old P (c.src ∷ arrivals_named c.run) → ⊥
+    behind (inl h) = f c.src src i.src_read i.src_short h
+    behind (inr h) = no-arrivals P old c.run arr i.arr_read i.arr_short f h.1
 
--- none is too long
-short : (files : Files) (name bytes : List ℕ) → IsTrue files.tells → Holds files name bytes → length bytes ≤ 4194304 → IsLong files name → ⊥
-short files name bytes tells h l long =
-    let same : bytes ≡ long.0 = told files name bytes long.0 tells h (λ yes. long.1) in
-    let m : length bytes ≤ 4194304 = l in
+-- a file that is there is not missing, where reads work
+not-missing : (old new : Files) (name bytes : List ℕ) → IsTrue old.tells → ReadsWork old new → Holds old name bytes → IsMissing old new name → ⊥
+not-missing old new name bytes tells (inl stay) holds (inl h) = stays old.failed_reads new.failed_reads stay h.0
+not-missing old new name bytes tells (inr sure) holds (inl h) = let a : IsTrue old.sure = sure in let b = h.1 in cc
+not-missing old new name bytes tells works holds (inr h) = let a = holds tells in let b = h.1 in cc
+
+-- and not too long, where it is short enough
+not-long : (old new : Files) (name bytes : List ℕ) → IsTrue old.tells → Holds old name bytes → length bytes ≤ input_limit
+    → IsTooLong old new name input_limit → ⊥
+not-long old new name bytes tells holds short h =
+    let long = h.1 tells in
+    let same : bytes ≡ long.0 = told old name bytes long.0 tells holds (λ yes. long.1) in
+    let m : length bytes ≤ 4194304 = short in
     let k : 4194304 < length bytes = subst (λ x. 4194304 < length x) (sym same) long.2 in omega (arith, m, k)
 
-short-arrivals : (files : Files) (run : Option Run) (arr : List ℕ) → IsTrue files.tells → HoldsArrivals files run arr → length arr ≤ 4194304 → OfArrivals (IsLong files) run → ⊥
-short-arrivals files None arr tells h l long = long
-short-arrivals files (Some run) arr tells h l long = short files run.arr arr tells h l long
+no-failed-read : (old new : Files) (c : Command) (oil src arr : List ℕ) → AreThere old c oil src arr → ReadsWork old new → IsFailedRead old new c → ⊥
+no-failed-read old new c oil src arr there works =
+    none-unread (IsMissing old new) old c oil src arr there.inputs (λ name bytes holds short. not-missing old new name bytes there.tells works holds)
 
-all-short : (old : Files) (c : Command) (oil src arr : List ℕ) → AreThere old c oil src arr → OfInputs (IsLong old) c → ⊥
-all-short old c oil src arr there (inl long) = short old c.oil oil there.tells there.inputs.oil_read there.oil_short long
-all-short old c oil src arr there (inr (inl long)) = short old c.src src there.tells there.inputs.src_read there.src_short long
-all-short old c oil src arr there (inr (inr long)) = short-arrivals old c.run arr there.tells there.inputs.arr_read there.arr_short long
-
-no-failed-read : (old new : Files) (c : Command) (oil src arr : List ℕ) → AreThere old c oil src arr → ReadsStay old new → IsFailedRead old new c → ⊥
-no-failed-read old new c oil src arr there stay (inl rose) = stays old.failed_reads new.failed_reads stay rose
-no-failed-read old new c oil src arr there stay (inr none) = all-there old c oil src arr there none.1
+no-long-read : (old new : Files) (c : Command) (oil src arr : List ℕ) → AreThere old c oil src arr → IsLongRead old new c → ⊥
+no-long-read old new c oil src arr there =
+    none-unread (λ name. IsTooLong old new name input_limit) old c oil src arr there.inputs
+    (λ name bytes holds short. not-long old new name bytes there.tells holds short)
 
 -- accepted inputs are not refused
 not-refused : (oil src : List ℕ) (config : Config) (app : App) (r : Refusal) → Accepted oil src config app → IsRefusal oil src [] r → ⊥
@@ -106,81 +121,124 @@ refused-verdict old c config app oil src r there h refused =
     let by_src : IsRefusal refused.oil src [] r = subst (λ x. IsRefusal refused.oil x [] r) src_is by_arr in
     not-refused oil src config app r h (subst (λ x. IsRefusal x src [] r) oil_is by_src)
 
+-- ---- puts and writes
+
+-- a put that broke off is counted
+counted-put : (old new : Output) (text : List ℕ) → BrokeOff old new text → Rose old.faults new.faults
+counted-put old new text h = let rose : new.faults ≡ min (old.faults + 1) 18446744073709551615 = ap (λ (o : Output). o.faults) h.3 in omega (arith, rose)
+
+full : (taken : Option (List ℕ)) (space : Option ℕ) (text : List ℕ) → HasSpace taken space text → HasNoSpace taken space text → ⊥
+full taken None text h n = h
+full None (Some space) text h n = h
+full (Some taken) (Some space) text h n =
+    let room : length taken + length text ≤ space = h in let over : space < length taken + length text = n in omega (arith, room, over)
+
+no-broken-put : (old new : Output) (text : List ℕ) → PutsWork old new text → BrokeOff old new text → ⊥
+no-broken-put old new text (inl stay) h = stays old.faults new.faults stay (counted-put old new text h)
+no-broken-put old new text (inr room) h = full old.taken old.space text room h.4
+
+no-failed-write : (old new : Files) (name : List ℕ) (size : ℕ) → WritesWork old new name size → IsUnwritten old new name size → ⊥
+no-failed-write old new name size (inl stay) h = stays old.failed_writes new.failed_writes stay h.0
+no-failed-write old new name size (inr works) h = let a = h.1 works.0 in let b = works.1 in cc
+
 -- ---- Usage
 
-usage-by : (wanted answer : Status) (words : List (List ℕ)) (old new : Files) (t u : Option (List ℕ)) (a b : ℕ) (text : List ℕ)
-    → Requires wanted words old new text → Puts wanted answer t u a b text → NoCommand words → AnswersUsage a b answer
-usage-by status.Usage answer words old new t u a b text r (inl p) none = inl p.0
-usage-by status.Usage answer words old new t u a b text r (inr p) none = inr (p.0, p.1.0)
-usage-by status.Done answer words old new t u a b text r p none = absurd (none r.0 r.1)
-usage-by status.Refused answer words old new t u a b text r p none = absurd (none r.0 r.1)
-usage-by status.ReadFault answer words old new t u a b text r p none = absurd (none r.0 r.1)
-usage-by status.WriteFault answer words old new t u a b text r p none = absurd (none r.0 r.1)
-usage-by status.NoMemory answer words old new t u a b text r p none = absurd (none r.0 r.1)
-usage-by status.TooLong answer words old new t u a b text r p none = absurd (none r.0 r.1)
-usage-by status.Stopped answer words old new t u a b text r p none = absurd r
-usage-by status.NotAnImage answer words old new t u a b text r p none = absurd r
+usage-by : (wanted answer : Status) (words : List (List ℕ)) (old new : World) (text : List ℕ) → Requires wanted words old.files new.files text
+    → Puts wanted answer old.sink new.sink text → NoCommand words → AnswersUsage old new answer
+usage-by status.Usage answer words old new text r (inl p) none = inl p.0
+usage-by status.Usage answer words old new text r (inr p) none = inr (p.0, counted-put old.sink new.sink text p.1)
+usage-by status.Done answer words old new text r p none = absurd (none r.0 r.1)
+usage-by status.Refused answer words old new text r p none = absurd (none r.0 r.1)
+usage-by status.ReadFault answer words old new text r p none = absurd (none r.0 r.1)
+usage-by status.WriteFault answer words old new text r p none = absurd (none r.0 r.1)
+usage-by status.NoMemory answer words old new text r p none = absurd (none r.0 r.1)
+usage-by status.TooLong answer words old new text r p none = absurd (none r.0 r.1)
+usage-by status.Stopped answer words old new text r p none = absurd r
+usage-by status.NotAnImage answer words old new text r p none = absurd r
 
-pub tells-usage : (words : List (List ℕ)) (old new : Files) (t u : Option (List ℕ)) (a b : ℕ) (answer : Status) → Answers words old new t u a b answer → TellsUsage words a b answer
-tells-usage words old new t u a b answer h none = usage-by h.wanted answer words old new t u a b h.text h.required h.puts none
+pub tells-usage : (words : List (List ℕ)) (old new : World) (answer : Status) → Answers words old new answer → TellsUsage words old new answer
+tells-usage words old new answer h none = usage-by h.wanted answer words old new h.text h.required h.puts none
 
 -- ---- Refused
 
-refused-by : (wanted answer : Status) (words : List (List ℕ)) (old new : Files) (t u : Option (List ℕ)) (a b : ℕ) (text : List ℕ) (c : Command) (oil src arr : List ℕ) (r : Refusal)
-    → Requires wanted words old new text → Puts wanted answer t u a b text
-    → IsCommand words c → AreThere old c oil src arr → ReadsStay old new → IsRefusal oil src arr r → AnswersRefused t u a b r answer
-refused-by status.Refused answer words old new t u a b text c oil src arr r q (inl p) is there stay refusal =
-    let same : q.2 ≡ r = told-refusal old c oil src arr q.2 r there (subst (λ x. IsRefused old x q.2) (one-command words q.0 c q.1 is) q.3) refusal in
-    inl (p.0, subst (λ x. Took t u x) (q.4 ∙ ap refusal_line same) p.1)
-refused-by status.Refused answer words old new t u a b text c oil src arr r q (inr p) is there stay refusal = inr (inr (p.0, p.1.0))
-refused-by status.NoMemory answer words old new t u a b text c oil src arr r q (inl p) is there stay refusal = inr (inl p.0)
-refused-by status.NoMemory answer words old new t u a b text c oil src arr r q (inr p) is there stay refusal = inr (inr (p.0, p.1.0))
-refused-by status.Usage answer words old new t u a b text c oil src arr r q p is there stay refusal = absurd (q.0 c is)
-refused-by status.Done answer words old new t u a b text c oil src arr r q p is there stay refusal =
-    let d = subst (λ x. IsDone old new x text) (one-command words q.0 c q.1 is) q.2 in
-    absurd (one-verdict old c d.config d.app oil src arr r there d.accepted refusal)
-refused-by status.ReadFault answer words old new t u a b text c oil src arr r q p is there stay refusal =
-    absurd (no-failed-read old new c oil src arr there stay (subst (IsFailedRead old new) (one-command words q.0 c q.1 is) q.2))
-refused-by status.WriteFault answer words old new t u a b text c oil src arr r q p is there stay refusal =
-    let d = subst (IsFailedWrite old new) (one-command words q.0 c q.1 is) q.2 in
-    absurd (one-verdict old c d.config d.app oil src arr r there d.accepted refusal)
-refused-by status.TooLong answer words old new t u a b text c oil src arr r q p is there stay refusal =
-    absurd (all-short old c oil src arr there ((subst (IsLongRead old new) (one-command words q.0 c q.1 is) q.2).1 there.tells))
-refused-by status.Stopped answer words old new t u a b text c oil src arr r q p is there stay refusal = absurd q
-refused-by status.NotAnImage answer words old new t u a b text c oil src arr r q p is there stay refusal = absurd q
+refused-by : (wanted answer : Status) (words : List (List ℕ)) (old new : World) (text : List ℕ) (c : Command) (oil src arr : List ℕ) (r : Refusal)
+    → Requires wanted words old.files new.files text → Puts wanted answer old.sink new.sink text
+    → IsCommand words c → AreThere old.files c oil src arr → ReadsWork old.files new.files → IsRefusal oil src arr r → AnswersRefused old new r answer
+refused-by status.Refused answer words old new text c oil src arr r q (inl p) is there works refusal =
+    let same : q.2 ≡ r =
+    told-refusal old.files c oil src arr q.2 r there (subst (λ x. IsRefused old.files x q.2) (one-command words q.0 c q.1 is) q.3) refusal in
+    inl (p.0, subst (λ x. Took old.sink new.sink x) (q.4 ∙ ap refusal_line same) p.1)
+refused-by status.Refused answer words old new text c oil src arr r q (inr p) is there works refusal =
+    inr (inr (p.0, counted-put old.sink new.sink text p.1))
+refused-by status.NoMemory answer words old new text c oil src arr r q (inl p) is there works refusal = inr (inl p.0)
+refused-by status.NoMemory answer words old new text c oil src arr r q (inr p) is there works refusal =
+    inr (inr (p.0, counted-put old.sink new.sink text p.1))
+refused-by status.Usage answer words old new text c oil src arr r q p is there works refusal = absurd (q.0 c is)
+refused-by status.Done answer words old new text c oil src arr r q p is there works refusal =
+    let d = subst (λ x. IsDone old.files new.files x text) (one-command words q.0 c q.1 is) q.2 in
+    absurd (one-verdict old.files c d.config d.app oil src arr r there d.accepted refusal)
+refused-by status.ReadFault answer words old new text c oil src arr r q p is there works refusal =
+    absurd (no-failed-read old.files new.files c oil src arr there works (subst (IsFailedRead old.files new.files) (one-command words q.0 c q.1 is) q.2))
+refused-by status.WriteFault answer words old new text c oil src arr r q p is there works refusal =
+    let d = subst (IsFailedWrite old.files new.files) (one-command words q.0 c q.1 is) q.2 in
+    absurd (one-verdict old.files c d.config d.app oil src arr r there d.accepted refusal)
+refused-by status.TooLong answer words old new text c oil src arr r q p is there works refusal =
+    absurd (no-long-read old.files new.files c oil src arr there (subst (IsLongRead old.files new.files) (one-command words q.0 c q.1 is) q.2))
+refused-by status.Stopped answer words old new text c oil src arr r q p is there works refusal = absurd q
+refused-by status.NotAnImage answer words old new text c oil src arr r q p is there works refusal = absurd q
 
-pub tells-refused : (words : List (List ℕ)) (old new : Files) (t u : Option (List ℕ)) (a b : ℕ) (answer : Status)
-    → Answers words old new t u a b answer → TellsRefused words old new t u a b answer
-tells-refused words old new t u a b answer h c is oil src arr there stay r refusal =
-    refused-by h.wanted answer words old new t u a b h.text c oil src arr r h.required h.puts is there stay refusal
+pub tells-refused : (words : List (List ℕ)) (old new : World) (answer : Status) → Answers words old new answer → TellsRefused words old new answer
+tells-refused words old new answer h c is oil src arr there works r refusal =
+    refused-by h.wanted answer words old new h.text c oil src arr r h.required h.puts is there works refusal
 
 -- ---- Done
 
 -- no put failed, so the answer is the one that was wanted
-stands : (wanted answer : Status) (words : List (List ℕ)) (old new : Files) (t u : Option (List ℕ)) (a b : ℕ) (text : List ℕ)
-    → Stays a b → Requires wanted words old new text → Puts wanted answer t u a b text → Stands wanted words old new t u answer
-stands wanted answer words old new t u a b text s q (inl p) = (p.0, (text, q, p.1))
-stands wanted answer words old new t u a b text s q (inr p) = absurd (stays a b s p.1.0)
+stands : (wanted answer : Status) (words : List (List ℕ)) (old new : World) (text : List ℕ) → PutsWork old.sink new.sink text
+    → Requires wanted words old.files new.files text → Puts wanted answer old.sink new.sink text → Stands wanted words old new answer
+stands wanted answer words old new text w q (inl p) = (p.0, (text, q, p.1))
+stands wanted answer words old new text w q (inr p) = absurd (no-broken-put old.sink new.sink text w p.1)
 
-complete-by : (wanted answer : Status) (words : List (List ℕ)) (old new : Files) (t u : Option (List ℕ)) (a b : ℕ) (text : List ℕ) (c : Command) (oil src : List ℕ) (config : Config) (app : App)
-    → Requires wanted words old new text → Puts wanted answer t u a b text
-    → IsCommand words c → AreThere old c oil src [] → CountsStay old new a b → Accepted oil src config app
-    → Stands status.Done words old new t u answer ⊎ Stands status.NoMemory words old new t u answer
-complete-by status.Done answer words old new t u a b text c oil src config app q p is there stay h = inl (stands status.Done answer words old new t u a b text stay.2 q p)
-complete-by status.NoMemory answer words old new t u a b text c oil src config app q p is there stay h = inr (stands status.NoMemory answer words old new t u a b text stay.2 q p)
-complete-by status.Usage answer words old new t u a b text c oil src config app q p is there stay h = absurd (q.0 c is)
-complete-by status.Refused answer words old new t u a b text c oil src config app q p is there stay h =
-    absurd (refused-verdict old c config app oil src q.2 there h (subst (λ x. IsRefused old x q.2) (one-command words q.0 c q.1 is) q.3))
-complete-by status.ReadFault answer words old new t u a b text c oil src config app q p is there stay h =
-    absurd (no-failed-read old new c oil src [] there stay.0 (subst (IsFailedRead old new) (one-command words q.0 c q.1 is) q.2))
-complete-by status.WriteFault answer words old new t u a b text c oil src config app q p is there stay h =
-    absurd (stays old.failed_writes new.failed_writes stay.1 q.2.failed)
-complete-by status.TooLong answer words old new t u a b text c oil src config app q p is there stay h =
-    absurd (all-short old c oil src [] there ((subst (IsLongRead old new) (one-command words q.0 c q.1 is) q.2).1 there.tells))
-complete-by status.Stopped answer words old new t u a b text c oil src config app q p is there stay h = absurd q
-complete-by status.NotAnImage answer words old new t u a b text c oil src config app q p is there stay h = absurd q
+-- the inputs have one meaning
+one-app : (old : Files) (c : Command) (oil src : List ℕ) (config other : Config) (app another : App) → AreThere old c oil src []
+    → Accepted oil src config app → IsAccepted old c other another → (other ≡ config) × (another ≡ app)
+one-app old c oil src config other app another there h g =
+    let i = g.inputs in
+    let oil_is : g.oil ≡ oil = told old c.oil g.oil oil there.tells i.oil_read there.inputs.oil_read in
+    let src_is : g.src ≡ src = told old c.src g.src src there.tells i.src_read there.inputs.src_read in
+    let by_src : Accepted g.oil src other another = subst (λ x. Accepted g.oil x other another) src_is g.accepted in
+    one-meaning oil src other config another app (subst (λ x. Accepted x src other another) oil_is by_src) h
 
-pub is-complete : (words : List (List ℕ)) (old new : Files) (t u : Option (List ℕ)) (a b : ℕ) (answer : Status)
-    → Answers words old new t u a b answer → IsComplete words old new t u a b answer
-is-complete words old new t u a b answer h c is oil src there stay config app accepted =
-    complete-by h.wanted answer words old new t u a b h.text c oil src config app h.required h.puts is there stay accepted
+-- an image of one is an image of the other
+image-of : (config other : Config) (app another : App) (image : Image) → (other ≡ config) × (another ≡ app) → IsImageOf other another image
+    → IsImageOf config app image
+image-of config other app another image same h =
+    subst (λ x. IsImageOf config x image) same.1 (subst (λ x. IsImageOf x another image) same.0 h)
+
+complete-by : (wanted answer : Status) (words : List (List ℕ)) (old new : World) (text : List ℕ) (c : Command) (oil src : List ℕ) (config : Config) (app : App)
+    → Requires wanted words old.files new.files text → Puts wanted answer old.sink new.sink text
+    → IsCommand words c → AreThere old.files c oil src [] → Accepted oil src config app → CallsWork c config app old new
+    → Stands status.Done words old new answer ⊎ Stands status.NoMemory words old new answer
+complete-by status.Done answer words old new text c oil src config app q p is there h works =
+    let d = subst (λ x. IsDone old.files new.files x text) (one-command words q.0 c q.1 is) q.2 in
+    let lines = works.lines d.image (image-of config d.config app d.app d.image (one-app old.files c oil src config d.config app d.app there h d.accepted) d.is_image) in
+    inl (stands status.Done answer words old new text (subst (λ x. PutsWork old.sink new.sink x) (sym d.text_is) lines) q p)
+complete-by status.NoMemory answer words old new text c oil src config app q p is there h works =
+    inr (stands status.NoMemory answer words old new text (subst (λ x. PutsWork old.sink new.sink x) (sym q.2) works.last_line) q p)
+complete-by status.Usage answer words old new text c oil src config app q p is there h works = absurd (q.0 c is)
+complete-by status.Refused answer words old new text c oil src config app q p is there h works =
+    absurd (refused-verdict old.files c config app oil src q.2 there h (subst (λ x. IsRefused old.files x q.2) (one-command words q.0 c q.1 is) q.3))
+complete-by status.ReadFault answer words old new text c oil src config app q p is there h works =
+    absurd (no-failed-read old.files new.files c oil src [] there works.reads (subst (IsFailedRead old.files new.files) (one-command words q.0 c q.1 is) q.2))
+complete-by status.WriteFault answer words old new text c oil src config app q p is there h works =
+    let d = subst (IsFailedWrite old.files new.files) (one-command words q.0 c q.1 is) q.2 in
+    let image = image-of config d.config app d.app d.image (one-app old.files c oil src config d.config app d.app there h d.accepted) d.is_image in
+    absurd (no-failed-write old.files new.files c.img (length (image_bytes d.image)) (works.write d.image image) d.failed)
+complete-by status.TooLong answer words old new text c oil src config app q p is there h works =
+    absurd (no-long-read old.files new.files c oil src [] there (subst (IsLongRead old.files new.files) (one-command words q.0 c q.1 is) q.2))
+complete-by status.Stopped answer words old new text c oil src config app q p is there h works = absurd q
+complete-by status.NotAnImage answer words old new text c oil src config app q p is there h works = absurd q
+
+pub is-complete : (words : List (List ℕ)) (old new : World) (answer : Status) → Answers words old new answer → IsComplete words old new answer
+is-complete words old new answer h c is oil src there config app accepted works =
+    complete-by h.wanted answer words old new h.text c oil src config app h.required h.puts is there accepted works

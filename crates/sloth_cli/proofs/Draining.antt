@@ -1,9 +1,9 @@
 -- The lines of finished events, put one after the other.
-use Rattle.std.proofs.Common.{◌≡◌, ℕ, List, [], ◌∷◌, ◌++◌, Option, Bool, refl, sym, ◌∙◌, ap, append_assoc, append-nil, subst}
+use Rattle.std.proofs.Common.{◌≡◌, ℕ, List, [], ◌∷◌, ◌++◌, Bool, refl, sym, ◌∙◌, ap, append_assoc, append-nil, subst}
 use Rattle.sloth_base.specs.declared.image.Image.{Image}
 use Rattle.sloth_base.specs.declared.step.Step.{Step}
 use Rattle.sloth_base.specs.declared.event.Stamped.{Stamped}
-use Rattle.sloth_io.specs.Sink.{gains, GainsPart}
+use Rattle.sloth_io.specs.Sink.{Output, gains, GainsPart}
 use Rattle.sloth_io.proofs.Gains.{gains-gains, gains-nil, part-behind}
 use Rattle.trace_text.specs.Texts.{text_after, ends_idle, is_idle}
 use Rattle.trace_text.specs.declared.print.Form.{Form}
@@ -13,7 +13,7 @@ use Rattle.observe.specs.declared.observer.Observer.{Observer}
 use Rattle.observe.specs.Progress.{Fed, remaining, view_of, arrivals_of, expected_of}
 use Rattle.sloth_cli.specs.Runner.{Draining}
 
-pub draining-init : (image : Image) (form : Form) (idle : Bool) (o : Observer) (t : Option (List ℕ)) → Draining image form idle o idle o t t
+pub draining-init : (image : Image) (form : Form) (idle : Bool) (o : Observer) (t : Output) → Draining image form idle o idle o t t
 draining-init image form idle o t = record {
   done = [];
   taken = sym (gains-nil t);
@@ -26,7 +26,7 @@ draining-init image form idle o t = record {
 }
 
 -- one more line was put, where its event needs one
-pub draining-more : (image : Image) (form : Form) (idle : Bool) (o0 : Observer) (last : Bool) (o p : Observer) (t0 t u : Option (List ℕ)) (e : Stamped)
+pub draining-more : (image : Image) (form : Form) (idle : Bool) (o0 : Observer) (last : Bool) (o p : Observer) (t0 t u : Output) (e : Stamped)
     → Draining image form idle o0 last o t0 t → remaining o ≡ e ∷ remaining p → view_of p ≡ view_of o → arrivals_of p ≡ arrivals_of o → expected_of p ≡ expected_of o
     → ((steps : List Step) (events : List Stamped) → Fed o steps events → Fed p steps (events ++ e ∷ []))
     → u ≡ gains t (text_after image form last (e ∷ []))
@@ -48,7 +48,7 @@ draining-more image form idle o0 last o p t0 t u e d head view arrivals expected
     }
 
 -- the front of what was due, where a line was put in part
-pub draining-part : (image : Image) (form : Form) (idle : Bool) (o0 : Observer) (last : Bool) (o p : Observer) (t0 t u : Option (List ℕ)) (e : Stamped)
+pub draining-part : (image : Image) (form : Form) (idle : Bool) (o0 : Observer) (last : Bool) (o p : Observer) (t0 t u : Output) (e : Stamped)
     → Draining image form idle o0 last o t0 t → remaining o ≡ e ∷ remaining p → GainsPart t u (text_after image form last (e ∷ []))
     → GainsPart t0 u (text_after image form idle (remaining o0))
 draining-part image form idle o0 last o p t0 t u e d head part =
@@ -63,16 +63,16 @@ nothing-left image form.Counted last = refl
 nothing-left image form.Bare last = refl
 
 -- all was put
-pub draining-done : (image : Image) (form : Form) (idle : Bool) (o0 : Observer) (last : Bool) (o : Observer) (t0 t : Option (List ℕ)) → Draining image form idle o0 last o t0 t → remaining o ≡ []
+pub draining-done : (image : Image) (form : Form) (idle : Bool) (o0 : Observer) (last : Bool) (o : Observer) (t0 t : Output) → Draining image form idle o0 last o t0 t → remaining o ≡ []
     → t ≡ gains t0 (text_after image form idle (remaining o0))
 draining-done image form idle o0 last o t0 t d none =
     d.taken ∙ ap (gains t0) (sym (d.text ∙ ap (λ es. d.done ++ text_after image form last es) none ∙ ap (λ x. d.done ++ x) (nothing-left image form last) ∙ append-nil d.done))
 
-pub draining-ends : (image : Image) (form : Form) (idle : Bool) (o0 : Observer) (last : Bool) (o : Observer) (t0 t : Option (List ℕ)) → Draining image form idle o0 last o t0 t → remaining o ≡ []
+pub draining-ends : (image : Image) (form : Form) (idle : Bool) (o0 : Observer) (last : Bool) (o : Observer) (t0 t : Output) → Draining image form idle o0 last o t0 t → remaining o ≡ []
     → last ≡ ends_idle idle (remaining o0)
 draining-ends image form idle o0 last o t0 t d none = sym (d.ends ∙ ap (ends_idle last) none)
 
-pub draining-fed : (image : Image) (form : Form) (idle : Bool) (o0 : Observer) (last : Bool) (o : Observer) (t0 t : Option (List ℕ)) → Draining image form idle o0 last o t0 t → remaining o ≡ []
+pub draining-fed : (image : Image) (form : Form) (idle : Bool) (o0 : Observer) (last : Bool) (o : Observer) (t0 t : Output) → Draining image form idle o0 last o t0 t → remaining o ≡ []
     → (steps : List Step) (events : List Stamped) → Fed o0 steps events → Fed o steps (events ++ remaining o0)
 draining-fed image form idle o0 last o t0 t d none steps events f =
     let q = d.fed steps events f in
@@ -81,7 +81,7 @@ draining-fed image form idle o0 last o t0 t d none steps events f =
     subst P same q.1
 
 -- one more line was put by a printer of the same image and form
-pub draining-put : (image i : Image) (form f : Form) (idle : Bool) (o0 : Observer) (last next : Bool) (o p : Observer) (t0 t u : Option (List ℕ)) (e : Stamped)
+pub draining-put : (image i : Image) (form f : Form) (idle : Bool) (o0 : Observer) (last next : Bool) (o p : Observer) (t0 t u : Output) (e : Stamped)
     → Draining image form idle o0 last o t0 t → i ≡ image → f ≡ form → next ≡ is_idle e.event
     → remaining o ≡ e ∷ remaining p → view_of p ≡ view_of o → arrivals_of p ≡ arrivals_of o → expected_of p ≡ expected_of o
     → ((steps : List Step) (events : List Stamped) → Fed o steps events → Fed p steps (events ++ e ∷ []))
@@ -94,7 +94,7 @@ draining-put image i form f idle o0 last next o p t0 t u e d ei ef en head view 
     subst P (sym en) (draining-more image form idle o0 last o p t0 t u e d head view arrivals expected fed same)
 
 -- or in part
-pub draining-broke : (image i : Image) (form f : Form) (idle : Bool) (o0 : Observer) (last : Bool) (o p : Observer) (t0 t u : Option (List ℕ)) (e : Stamped)
+pub draining-broke : (image i : Image) (form f : Form) (idle : Bool) (o0 : Observer) (last : Bool) (o p : Observer) (t0 t u : Output) (e : Stamped)
     → Draining image form idle o0 last o t0 t → i ≡ image → f ≡ form → remaining o ≡ e ∷ remaining p → GainsPart t u (text_after i f last (e ∷ []))
     → GainsPart t0 u (text_after image form idle (remaining o0))
 draining-broke image i form f idle o0 last o p t0 t u e d ei ef head part =

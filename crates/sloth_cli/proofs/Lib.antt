@@ -4,3 +4,4 @@ mod Running
 mod Causes
 mod Commands
 mod Complete
+mod InMemoryCalls

@@ -1,10 +1,10 @@
 -- A run, instruction by instruction.
-use Rattle.std.proofs.Common.{◌≡◌, ◌<◌, ◌+◌, ℕ, List, [], ◌∷◌, ◌++◌, Option, Some, None, Bool, false, refl, sym, ◌∙◌, ap, subst, arith, append_assoc}
+use Rattle.std.proofs.Common.{◌≡◌, ◌<◌, ◌+◌, ℕ, List, [], ◌∷◌, ◌++◌, Some, None, Bool, false, refl, sym, ◌∙◌, ap, subst, arith, append_assoc}
 use Rattle.sloth_base.specs.Take.{entered}
 use Rattle.sloth_base.specs.declared.image.Image.{Image}
 use Rattle.sloth_base.specs.declared.event.Arrival.{Arrival}
 use Rattle.sloth_base.specs.declared.event.Stamped.{Stamped}
-use Rattle.sloth_io.specs.Sink.{gains, GainsPart}
+use Rattle.sloth_io.specs.Sink.{Output, gains, GainsPart}
 use Rattle.sloth_io.proofs.Gains.{gains-gains, gains-nil, part-behind}
 use Rattle.trace_text.specs.Texts.{text_after, text_in, ends_idle}
 use Rattle.trace_text.specs.declared.print.Form.{Form}
@@ -30,17 +30,20 @@ no-text : (image : Image) (form : Form) → text_after image form false [] ≡ [
 no-text image form.Counted = refl
 no-text image form.Bare = refl
 
-pub running-init : (r : Runner) (form : Form) (printer : Printer) (t : Option (List ℕ)) → IsFresh r → printer.after_idle ≡ false → printer.form ≡ form → printer.image.now ≡ image_of r → Running r r form printer t t 0
-running-init r form printer t f idle form_is printed = record {
-  running = f.0;
-  count = f.1;
-  image = refl;
-  arrivals = refl;
-  taken = sym (gains-nil t) ∙ ap (gains t) (sym (ap (text_in (image_of r) form) (nothing-yet (image_of r) (given r)) ∙ no-text (image_of r) form));
-  idle = idle ∙ sym (ap (ends_idle false) (nothing-yet (image_of r) (given r)));
-  form_is = form_is;
-  printed = printed;
-}
+pub running-init : (r : Runner) (form : Form) (printer : Printer) (t : Output) → IsFresh r → printer.after_idle ≡ false → printer.form ≡ form
+    → printer.image.now ≡ image_of r → Running r r form printer t t (count_of r)
+running-init r form printer t f idle form_is printed =
+    let P : ℕ → Type 0 = λ k. Running r r form printer t t k in
+    subst P (sym f.1) (record {
+      running = f.0;
+      count = f.1;
+      image = refl;
+      arrivals = refl;
+      taken = sym (gains-nil t) ∙ ap (gains t) (sym (ap (text_in (image_of r) form) (nothing-yet (image_of r) (given r)) ∙ no-text (image_of r) form));
+      idle = idle ∙ sym (ap (ends_idle false) (nothing-yet (image_of r) (given r)));
+      form_is = form_is;
+      printed = printed;
+    })
 
 -- the same events at equal things
 adds-at : (i j : Image) (A B : List Arrival) (k n : ℕ) (es : List Stamped) → i ≡ j → A ≡ B → k ≡ n → Adds i A k es → Adds j B n es
@@ -63,7 +66,7 @@ ends-append b (e ∷ es) fs = ends-append _ es fs
 piece-at : (i j : Image) (f g : Form) (b c : Bool) (es : List Stamped) → i ≡ j → f ≡ g → b ≡ c → text_after i f b es ≡ text_after j g c es
 piece-at i j f g b c es p q e = ap (λ x. text_after x f b es) p ∙ ap (λ x. text_after j x b es) q ∙ ap (λ x. text_after j g x es) e
 
-pub running-more : (r0 r q : Runner) (form : Form) (before after : Printer) (t0 t u : Option (List ℕ)) (k : ℕ) → Running r0 r form before t0 t k → Went r q before after t u
+running-more : (r0 r q : Runner) (form : Form) (before after : Printer) (t0 t u : Output) (k : ℕ) → Running r0 r form before t0 t k → Went r q before after t u
     → image_of q ≡ image_of r → given q ≡ given r → after.form ≡ before.form → after.image.now ≡ before.image.now → Running r0 q form after t0 u (k + 1)
 running-more r0 r q form before after t0 t u k run w image arrivals form_is printed =
     let i0 : Image = image_of r0 in
@@ -82,30 +85,38 @@ running-more r0 r q form before after t0 t u k run w image arrivals form_is prin
       printed = printed ∙ run.printed;
     }
 
+-- behind one instruction more
+pub running-on : (r0 r q : Runner) (form : Form) (before after : Printer) (t0 t u : Output) → Running r0 r form before t0 t (count_of r)
+    → Went r q before after t u → image_of q ≡ image_of r → given q ≡ given r → after.form ≡ before.form → after.image.now ≡ before.image.now
+    → Running r0 q form after t0 u (count_of q)
+running-on r0 r q form before after t0 t u run w image arrivals form_is printed =
+    let P : ℕ → Type 0 = λ k. Running r0 q form after t0 u k in
+    subst P (sym w.count) (running-more r0 r q form before after t0 t u (count_of r) run w image arrivals form_is printed)
+
 -- the state after the instructions that were done
-after-is : (r0 r : Runner) (form : Form) (p : Printer) (t0 t : Option (List ℕ)) (k : ℕ) → Running r0 r form p t0 t k → state_after k (given r0) (start (image_of r0)) ≡ Some (sloth_state r.machine)
+after-is : (r0 r : Runner) (form : Form) (p : Printer) (t0 t : Output) (k : ℕ) → Running r0 r form p t0 t k → state_after k (given r0) (start (image_of r0)) ≡ Some (sloth_state r.machine)
 after-is r0 r form p t0 t k run =
     ap (λ n. state_after n (given r0) (start (image_of r0))) (sym run.count)
     ∙ ap (λ A. state_after (count_of r) A (start (image_of r0))) (sym run.arrivals)
     ∙ ap (λ (i : Image). state_after (count_of r) (given r) (start i)) (sym run.image) ∙ run.running.after
 
-halted-is : (r0 r : Runner) (form : Form) (p : Printer) (t0 t : Option (List ℕ)) (k : ℕ) (e : RunEnd) → Running r0 r form p t0 t k → (h : Halted r e) → moment (given r0) k (sloth_state r.machine) ≡ Halts h.0
+halted-is : (r0 r : Runner) (form : Form) (p : Printer) (t0 t : Output) (k : ℕ) (e : RunEnd) → Running r0 r form p t0 t k → (h : Halted r e) → moment (given r0) k (sloth_state r.machine) ≡ Halts h.0
 halted-is r0 r form p t0 t k e run h =
     ap (λ A. moment A k (sloth_state r.machine)) (sym run.arrivals) ∙ ap (λ n. moment (given r) n (sloth_state r.machine)) (sym run.count) ∙ h.1
 
-pub stopped-text : (r0 r : Runner) (form : Form) (p : Printer) (t0 t u : Option (List ℕ)) (k n : ℕ) (e : RunEnd) → Running r0 r form p t0 t k → Halted r e → k < n → u ≡ t → u ≡ gains t0 (run_text (image_of r0) (given r0) form n)
+pub stopped-text : (r0 r : Runner) (form : Form) (p : Printer) (t0 t u : Output) (k n : ℕ) (e : RunEnd) → Running r0 r form p t0 t k → Halted r e → k < n → u ≡ t → u ≡ gains t0 (run_text (image_of r0) (given r0) form n)
 stopped-text r0 r form p t0 t u k n e run h lt same =
     let i0 : Image = image_of r0 in
     same ∙ run.taken ∙ ap (λ ms. gains t0 (text_in i0 form (observe (view_of_image i0) (given r0) (steps_of ms))))
     (sym (run_halts n k (given r0) (start i0) (sloth_state r.machine) h.0 lt (after-is r0 r form p t0 t k run) (halted-is r0 r form p t0 t k e run h)))
 
-pub stopped-end : (r0 r : Runner) (form : Form) (p : Printer) (t0 t : Option (List ℕ)) (k n : ℕ) (e : RunEnd) → Running r0 r form p t0 t k → Halted r e → k < n → e ≡ run_end (image_of r0) (given r0) n
+pub stopped-end : (r0 r : Runner) (form : Form) (p : Printer) (t0 t : Output) (k n : ℕ) (e : RunEnd) → Running r0 r form p t0 t k → Halted r e → k < n → e ≡ run_end (image_of r0) (given r0) n
 stopped-end r0 r form p t0 t k n e run h lt =
     h.2 ∙ ap (λ A. end_of (Some (record { pc = (entered (arrived A (count_of r) (sloth_state r.machine))).pc; stop = h.0 }))) run.arrivals
     ∙ ap (λ c. end_of (Some (record { pc = (entered (arrived (given r0) c (sloth_state r.machine))).pc; stop = h.0 }))) run.count
     ∙ ap end_of (sym (stop_halts n k (given r0) (start (image_of r0)) (sloth_state r.machine) h.0 lt (after-is r0 r form p t0 t k run) (halted-is r0 r form p t0 t k e run h)))
 
-pub whole-end : (r0 r : Runner) (form : Form) (p : Printer) (t0 t : Option (List ℕ)) (k : ℕ) → Running r0 r form p t0 t k → end_of None ≡ run_end (image_of r0) (given r0) k
+pub whole-end : (r0 r : Runner) (form : Form) (p : Printer) (t0 t : Output) (k : ℕ) → Running r0 r form p t0 t k → end_of None ≡ run_end (image_of r0) (given r0) k
 whole-end r0 r form p t0 t k run = ap end_of (sym (stop_none k (given r0) 0 (start (image_of r0)) (sloth_state r.machine) (after-is r0 r form p t0 t k run)))
 
 steps-append : (ms ns : List Moment) → steps_of (ms ++ ns) ≡ steps_of ms ++ steps_of ns
@@ -113,7 +124,7 @@ steps-append [] ns = refl
 steps-append (m ∷ ms) ns = ap (λ ss. m.step ∷ ss) (steps-append ms ns)
 
 -- a run that broke off put a front of the text
-pub broken-text : (r0 r : Runner) (form : Form) (p : Printer) (t0 t u : Option (List ℕ)) (k n : ℕ) → Running r0 r form p t0 t k → Broke r p t u → k < n → GainsPart t0 u (run_text (image_of r0) (given r0) form n)
+pub broken-text : (r0 r : Runner) (form : Form) (p : Printer) (t0 t u : Output) (k n : ℕ) → Running r0 r form p t0 t k → Broke r p t u → k < n → GainsPart t0 u (run_text (image_of r0) (given r0) form n)
 broken-text r0 r form p t0 t u k n run b lt =
     let i0 : Image = image_of r0 in
     let A : List Arrival = given r0 in

@@ -1,33 +1,44 @@
 -- Why a command was not done, phase by phase, before its last line is put.
-use Rattle.std.specs.Prelude.{ℕ, ◌≡◌, List, Option, None, Some, codes}
-use Rattle.sloth_io.specs.Counts.{Rose}
-use Rattle.sloth_io.specs.Store.{Files, KeepsOthers, IsMissing, IsTooLong}
-use Rattle.sloth_cli.specs.Command.{Command, Run}
+use Rattle.std.specs.Prelude.{ℕ, ◌≡◌, List, codes, length}
+use Rattle.sloth_base.specs.declared.refusal.BuildError.{BuildError}
+use Rattle.sloth_base.specs.declared.refusal.BuildError.TheVariants as error
+use Rattle.sloth_io.specs.Sink.{Output}
+use Rattle.sloth_io.specs.Store.{Files, KeepsOthers, IsMissing, IsTooLong, IsUnwritten}
+use Rattle.sloth_io.specs.declared.store.StoreFault.{StoreFault}
+use Rattle.sloth_io.specs.declared.store.StoreFault.TheVariants as fault
+use Rattle.sloth_cli.specs.Command.{Command}
 use Rattle.sloth_cli.specs.LastLine.{refusal_line}
-use Rattle.sloth_cli.specs.Top.{IsFailedRead, IsLongRead, IsRefusal, FilesStay, IsWritten, IsDone, IsRefused, IsFailedWrite, Took, BrokeOff, Puts}
+use Rattle.sloth_cli.specs.Top.{World, input_limit, FirstUnread, IsFailedRead, IsLongRead, IsRefusal, FilesStay, IsWritten, IsDone}
+use Rattle.sloth_cli.specs.Top.{IsRefused, IsFailedWrite, Took, BrokeOff, Puts}
 use Rattle.sloth_cli.specs.declared.top.Status.{Status}
 use Rattle.sloth_cli.specs.declared.top.Status.TheVariants as status
 use Rattle.sloth_cli.specs.declared.top.Failure.{Failure}
 use Rattle.sloth_cli.specs.declared.top.Failure.TheVariants as failure
 
+-- the failure of a read that was refused so
+abbrev pub read_failure : StoreFault → Failure
+read_failure fault.Failed = failure.ReadFault
+read_failure fault.TooLong = failure.TooLong
+read_failure fault.Memory = failure.NoMemory
+
+-- the failure of a judgement that ended so
+abbrev pub judge_failure : BuildError → Failure
+judge_failure (error.Refused refusal) = failure.Refused refusal
+judge_failure error.Memory = failure.NoMemory
+
 -- the file of this name was not read for this reason
 abbrev pub FetchFailed : Failure → Files → Files → List ℕ → Type 0
 FetchFailed failure.ReadFault old new name = IsMissing old new name
-FetchFailed failure.TooLong old new name = IsTooLong old new name 4194304
+FetchFailed failure.TooLong old new name = IsTooLong old new name input_limit
 FetchFailed failure.NoMemory old new name = Unit {0}
 FetchFailed _ old new name = ⊥
 
--- the arrivals were not read for this reason
-abbrev pub ArrivalsFailed : Failure → Files → Files → Option Run → Type 0
-ArrivalsFailed failure old new None = ⊥
-ArrivalsFailed failure old new (Some run) = FetchFailed failure old new run.arr
-
--- the inputs were not read for this reason
-abbrev pub ReadFailed : Failure → Files → Files → Command → Type 0
-ReadFailed failure.ReadFault old new c = IsFailedRead old new c
-ReadFailed failure.TooLong old new c = IsLongRead old new c
-ReadFailed failure.NoMemory old new c = Unit {0}
-ReadFailed _ old new c = ⊥
+-- not all of these files were read for this reason, which is that of the first that was not
+abbrev pub ReadFailed : Failure → Files → Files → List (List ℕ) → Type 0
+ReadFailed failure.ReadFault old new names = FirstUnread old (IsMissing old new) names
+ReadFailed failure.TooLong old new names = FirstUnread old (λ name. IsTooLong old new name input_limit) names
+ReadFailed failure.NoMemory old new names = Unit {0}
+ReadFailed _ old new names = ⊥
 
 -- nothing was built of these texts for this reason
 abbrev pub JudgeFailed : Failure → List ℕ → List ℕ → List ℕ → Type 0
@@ -36,30 +47,31 @@ JudgeFailed failure.NoMemory oil src arr = Unit {0}
 JudgeFailed _ oil src arr = ⊥
 
 -- The image was not run, or its lines were not put, for this reason. The image's file was to hold these bytes, and the sink to take this text.
-abbrev pub PerformFailed : Failure → Files → Files → List ℕ → List ℕ → List ℕ → Option (List ℕ) → Option (List ℕ) → ℕ → ℕ → Type 0
-PerformFailed failure.NoMemory old new img bytes text t u a b = FilesStay old new × (u ≡ t)
-PerformFailed failure.WriteFile old new img bytes text t u a b = Rose old.failed_writes new.failed_writes × KeepsOthers old new img × (u ≡ t)
-PerformFailed failure.Put old new img bytes text t u a b = IsWritten old new img bytes × BrokeOff t u a b text
-PerformFailed _ old new img bytes text t u a b = ⊥
+abbrev pub PerformFailed : Failure → World → World → List ℕ → List ℕ → List ℕ → Type 0
+PerformFailed failure.NoMemory old new img bytes text = FilesStay old.files new.files × (new.sink ≡ old.sink)
+PerformFailed failure.WriteFile old new img bytes text =
+    IsUnwritten old.files new.files img (length bytes) × KeepsOthers old.files new.files img × (new.sink ≡ old.sink)
+PerformFailed failure.Put old new img bytes text = IsWritten old.files new.files img bytes × BrokeOff old.sink new.sink text
+PerformFailed _ old new img bytes text = ⊥
 
 -- The command was not done for this reason; no last line is put yet.
-abbrev pub CommandFailed : Failure → Files → Files → Command → Option (List ℕ) → Option (List ℕ) → ℕ → ℕ → Type 0
-CommandFailed (failure.Refused refusal) old new c t u a b = IsRefused old c refusal × FilesStay old new × (u ≡ t)
-CommandFailed failure.ReadFault old new c t u a b = IsFailedRead old new c × FilesStay old new × (u ≡ t)
-CommandFailed failure.TooLong old new c t u a b = IsLongRead old new c × FilesStay old new × (u ≡ t)
-CommandFailed failure.NoMemory old new c t u a b = FilesStay old new × (u ≡ t)
-CommandFailed failure.WriteFile old new c t u a b = IsFailedWrite old new c × (u ≡ t)
-CommandFailed failure.Put old new c t u a b = (text : List ℕ) × IsDone old new c text × BrokeOff t u a b text
+abbrev pub CommandFailed : Failure → World → World → Command → Type 0
+CommandFailed (failure.Refused refusal) old new c = IsRefused old.files c refusal × FilesStay old.files new.files × (new.sink ≡ old.sink)
+CommandFailed failure.ReadFault old new c = IsFailedRead old.files new.files c × FilesStay old.files new.files × (new.sink ≡ old.sink)
+CommandFailed failure.TooLong old new c = IsLongRead old.files new.files c × FilesStay old.files new.files × (new.sink ≡ old.sink)
+CommandFailed failure.NoMemory old new c = FilesStay old.files new.files × (new.sink ≡ old.sink)
+CommandFailed failure.WriteFile old new c = IsFailedWrite old.files new.files c × (new.sink ≡ old.sink)
+CommandFailed failure.Put old new c = (text : List ℕ) × IsDone old.files new.files c text × BrokeOff old.sink new.sink text
 
 -- the command was done
-abbrev pub IsPerformed : Files → Files → Command → Option (List ℕ) → Option (List ℕ) → Type 0
-IsPerformed old new c t u = (text : List ℕ) × IsDone old new c text × Took t u text
+abbrev pub IsPerformed : World → World → Command → Type 0
+IsPerformed old new c = (text : List ℕ) × IsDone old.files new.files c text × Took old.sink new.sink text
 
 -- the failure's last line was put, or broke off; where a put failed before, there is none
-abbrev pub Finished : Failure → Status → Option (List ℕ) → Option (List ℕ) → ℕ → ℕ → Type 0
-Finished (failure.Refused refusal) answer t u a b = Puts status.Refused answer t u a b (refusal_line refusal)
-Finished failure.ReadFault answer t u a b = Puts status.ReadFault answer t u a b (codes "read fault\n")
-Finished failure.TooLong answer t u a b = Puts status.TooLong answer t u a b (codes "too long\n")
-Finished failure.NoMemory answer t u a b = Puts status.NoMemory answer t u a b (codes "no memory\n")
-Finished failure.WriteFile answer t u a b = Puts status.WriteFault answer t u a b (codes "write fault\n")
-Finished failure.Put answer t u a b = (answer ≡ status.WriteFault) × (u ≡ t)
+abbrev pub Finished : Failure → Status → Output → Output → Type 0
+Finished (failure.Refused refusal) answer old new = Puts status.Refused answer old new (refusal_line refusal)
+Finished failure.ReadFault answer old new = Puts status.ReadFault answer old new (codes "read fault\n")
+Finished failure.TooLong answer old new = Puts status.TooLong answer old new (codes "too long\n")
+Finished failure.NoMemory answer old new = Puts status.NoMemory answer old new (codes "no memory\n")
+Finished failure.WriteFile answer old new = Puts status.WriteFault answer old new (codes "write fault\n")
+Finished failure.Put answer old new = (answer ≡ status.WriteFault) × (new ≡ old)

@@ -4,3 +4,4 @@ pub mod Words
 pub mod LastLine
 pub mod Top
 pub mod Failures
+pub mod InMemory

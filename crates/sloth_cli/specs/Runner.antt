@@ -6,7 +6,7 @@ use Rattle.sloth_base.specs.declared.image.Image.{Image}
 use Rattle.sloth_base.specs.declared.event.Arrival.{Arrival}
 use Rattle.sloth_base.specs.declared.event.Stamped.{Stamped}
 use Rattle.sloth_base.specs.declared.step.Step.{Step}
-use Rattle.sloth_io.specs.Sink.{gains, GainsPart}
+use Rattle.sloth_io.specs.Sink.{Output, gains, GainsPart}
 use Rattle.trace_text.specs.Texts.{text_after, text_in, ends_idle}
 use Rattle.trace_text.specs.declared.print.Form.{Form}
 use Rattle.observe.specs.Observe.{view_of_image}
@@ -36,7 +36,7 @@ run_steps image arrivals n = steps_of (run n arrivals (start image))
 abbrev pub run_text : Image → List Arrival → Form → ℕ → List ℕ
 run_text image arrivals form n = text_in image form (events_of image arrivals n)
 
--- how a run ends, by where it stopped
+-- the end of a run that stops so, if it stops
 abbrev pub end_of : Option Stopping → RunEnd
 end_of None = ends.Whole
 end_of (Some stopping) = ends.Stopped stopping.pc stopping.stop
@@ -47,8 +47,16 @@ run_end image arrivals n = end_of (stop_of n arrivals (start image))
 
 -- ---- a printer
 
+-- the lines that a printer puts of these events
+abbrev pub lines_of : Printer → List Stamped → List ℕ
+lines_of printer events = text_after printer.image.now printer.form printer.after_idle events
+
+-- all finished events were handed out
+abbrev pub HandsOut : Observer → Observer → Type 0
+HandsOut old new = (steps : List Step) (events : List Stamped) → Fed old steps events → Fed new steps (events ++ remaining old)
+
 -- on the way from one observer and printer to others, the lines of some finished events were put
-pub record Draining (image : Image) (form : Form) (idle : Bool) (o0 : Observer) (last : Bool) (o : Observer) (t0 t : Option (List ℕ)) : Type 0 where
+pub record Draining (image : Image) (form : Form) (idle : Bool) (o0 : Observer) (last : Bool) (o : Observer) (t0 t : Output) : Type 0 where
   pub done : List ℕ
   pub taken : t ≡ gains t0 done
   pub text : text_after image form idle (remaining o0) ≡ done ++ text_after image form last (remaining o)
@@ -56,11 +64,12 @@ pub record Draining (image : Image) (form : Form) (idle : Bool) (o0 : Observer) 
   pub view : view_of o ≡ view_of o0
   pub arrivals : arrivals_of o ≡ arrivals_of o0
   pub expected : expected_of o ≡ expected_of o0
-  pub fed : (steps : List Step) (events : List Stamped) → Fed o0 steps events → (front : List Stamped) × Fed o steps front × (front ++ remaining o ≡ events ++ remaining o0)
+  pub fed : (steps : List Step) (events : List Stamped) → Fed o0 steps events
+      → (front : List Stamped) × Fed o steps front × (front ++ remaining o ≡ events ++ remaining o0)
 
 -- ---- a runner
 
--- the state of the machine that runs
+-- the state of its machine
 abbrev pub sloth_state : Machine SlothBus → State
 sloth_state machine = state (λ bus. bus) machine
 
@@ -72,7 +81,7 @@ image_of runner = runner.image.now
 abbrev pub given : Runner → List Arrival
 given runner = arrivals_of runner.observer
 
--- the number of instructions that it has done
+-- how many instructions are done
 abbrev pub count_of : Runner → ℕ
 count_of runner = runner.count
 
@@ -106,7 +115,7 @@ abbrev pub Adds : Image → List Arrival → ℕ → List Stamped → Type 0
 Adds image arrivals k events = events_of image arrivals (k + 1) ≡ events_of image arrivals k ++ events
 
 -- an instruction was done, and its events' lines were put
-pub record Went (old new : Runner) (before after : Printer) (t u : Option (List ℕ)) : Type 0 where
+pub record Went (old new : Runner) (before after : Printer) (t u : Output) : Type 0 where
   pub running : IsRunning new
   pub count : count_of new ≡ count_of old + 1
   pub events : List Stamped
@@ -115,7 +124,7 @@ pub record Went (old new : Runner) (before after : Printer) (t u : Option (List 
   pub idle : after.after_idle ≡ ends_idle before.after_idle events
 
 -- they were put in part
-pub record Broke (old : Runner) (before : Printer) (t u : Option (List ℕ)) : Type 0 where
+pub record Broke (old : Runner) (before : Printer) (t u : Output) : Type 0 where
   pub events : List Stamped
   pub adds : Adds (image_of old) (given old) (count_of old) events
   pub taken : GainsPart t u (text_after (image_of old) before.form before.after_idle events)
@@ -126,7 +135,7 @@ Halted old end = (stop : Stop) × (moment (given old) (count_of old) (sloth_stat
     × (end ≡ ends.Stopped (entered (arrived (given old) (count_of old) (sloth_state old.machine))).pc stop)
 
 -- k instructions were done since the runner was fresh, and the lines of their events were put
-pub record Running (r0 r : Runner) (form : Form) (printer : Printer) (t0 t : Option (List ℕ)) (k : ℕ) : Type 0 where
+pub record Running (r0 r : Runner) (form : Form) (printer : Printer) (t0 t : Output) (k : ℕ) : Type 0 where
   pub running : IsRunning r
   pub count : count_of r ≡ k
   pub image : image_of r ≡ image_of r0

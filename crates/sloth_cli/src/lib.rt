@@ -3,6 +3,7 @@
 
 pub mod command;
 pub mod last_line;
+pub mod laws;
 pub mod runner;
 pub mod top;
 

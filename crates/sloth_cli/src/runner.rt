@@ -1,15 +1,12 @@
 //! Runs an image, and prints what is observed.
-ghost use Rattle.std.specs.Prelude.{◌≡◌, ◌<◌, ◌≤◌, ◌+◌, ◌∷◌, [], ℕ, List, None, OnOk, OnErr, map, ◌++◌, IfOk, IfSome, IfNone, OnSome, length, take_while, nat_le};
+ghost use Rattle.std.specs.Prelude.{◌≡◌, ◌<◌, ◌≤◌, ◌∷◌, [], OnOk, OnErr, map, IfOk, IfSome, IfNone, OnSome, length};
 ghost use Rattle.sloth_base.specs.ImageRange.{InFormat};
 ghost use Rattle.sloth_base.specs.Arrivals.{AreArrivals};
-ghost use Rattle.sloth_base.specs.declared.step.Step.{Step as AnyStep};
-ghost use Rattle.sloth_base.specs.declared.event.Stamped.{Stamped as AnyStamped};
-ghost use Rattle.sloth_io.specs.Counts.{Rose};
-ghost use Rattle.sloth_io.specs.Sink.{gains, GainsPart};
-ghost use Rattle.trace_text.specs.Texts.{text_after, ends_idle, is_idle};
-ghost use Rattle.observe.specs.Progress.{Fed, remaining, view_of, arrivals_of, expected_of, here};
 ghost use Rattle.sloth_base.specs.Arrive.{state_arrive};
-ghost use Rattle.sloth_cli.specs.Runner.{AreLines, sloth_state};
+ghost use Rattle.sloth_io.specs.Sink.{gains, GainsPart};
+ghost use Rattle.trace_text.specs.Texts.{ends_idle, is_idle};
+ghost use Rattle.observe.specs.Progress.{remaining, view_of, arrivals_of, expected_of, here};
+ghost use Rattle.sloth_cli.specs.Runner.{AreLines, sloth_state, lines_of, HandsOut};
 
 use observe::observer::Observer;
 use rv32_machine::{Machine, SlothBus, Stop};
@@ -45,10 +42,8 @@ impl<'a> Printer<'a> {
     // Puts the line of an event. In the bare form an idle directly behind an idle has none.
     fn put<S: Sink>(&mut self, event: &Stamped, out: &mut S) -> Result<(), SinkFault>
         requires { InFormat self.old.image.now }
-        ensures ok { OnOk result (S.taken out.new ≡ gains (S.taken out.old) (text_after self.old.image.now self.old.form self.old.after_idle (event.now ∷ []))) }
-        ensures err { OnErr result (GainsPart (S.taken out.old) (S.taken out.new) (text_after self.old.image.now self.old.form self.old.after_idle (event.now ∷ []))) }
-        ensures failed { OnErr result (Rose (S.faults out.old) (S.faults out.new)) }
-        ensures never_falls { S.faults out.old ≤ S.faults out.new }
+        ensures ok { OnOk result (S.seen out.new ≡ gains (S.seen out.old) (lines_of self.old (event.now ∷ []))) }
+        ensures err { OnErr result (GainsPart (S.seen out.old) (S.seen out.new) (lines_of self.old (event.now ∷ []))) }
         ensures after_idle { self.new.after_idle ≡ is_idle event.now.event }
         ensures image { self.new.image.now ≡ self.old.image.now }
         ensures form { self.new.form ≡ self.old.form }
@@ -67,23 +62,19 @@ impl<'a> Printer<'a> {
     // Puts the lines of all finished events.
     fn drain<S: Sink>(&mut self, observer: &mut Observer, out: &mut S) -> Result<(), SinkFault>
         requires { InFormat self.old.image.now }
-        ensures ok { OnOk result (S.taken out.new ≡ gains (S.taken out.old) (text_after self.old.image.now self.old.form self.old.after_idle (remaining observer.old))) }
-        ensures err { OnErr result (GainsPart (S.taken out.old) (S.taken out.new) (text_after self.old.image.now self.old.form self.old.after_idle (remaining observer.old))) }
-        ensures failed { OnErr result (Rose (S.faults out.old) (S.faults out.new)) }
-        ensures never_falls { S.faults out.old ≤ S.faults out.new }
+        ensures ok { OnOk result (S.seen out.new ≡ gains (S.seen out.old) (lines_of self.old (remaining observer.old))) }
+        ensures err { OnErr result (GainsPart (S.seen out.old) (S.seen out.new) (lines_of self.old (remaining observer.old))) }
         ensures after_idle { OnOk result (self.new.after_idle ≡ ends_idle self.old.after_idle (remaining observer.old)) }
         ensures image { self.new.image.now ≡ self.old.image.now }
         ensures form { self.new.form ≡ self.old.form }
         ensures drained { OnOk result (remaining observer.new ≡ []) }
-        ensures fed { OnOk result ((steps : List AnyStep) (events : List AnyStamped) → Fed observer.old steps events → Fed observer.new steps (events ++ remaining observer.old)) }
+        ensures fed { OnOk result (HandsOut observer.old observer.new) }
         ensures view { view_of observer.new ≡ view_of observer.old }
         ensures arrivals { arrivals_of observer.new ≡ arrivals_of observer.old }
         ensures expected { expected_of observer.new ≡ expected_of observer.old }
     {
         while let Some(event) = observer.next() {
-            if let Err(fault) = self.put(&event, out) {
-                return Err(fault);
-            }
+            self.put(&event, out)?;
         }
         Ok(())
     }
@@ -156,12 +147,11 @@ impl<'a> Runner<'a> {
         requires few { count_of self.old < 1000000 }
         requires running { IsRunning self.old }
         requires printer { printer.old.image.now ≡ image_of self.old }
-        ensures went { IfOk result (λ end. IfNone end (Went self.old self.new printer.old printer.new (S.taken out.old) (S.taken out.new))) }
+        ensures went { IfOk result (λ end. IfNone end
+            (Went self.old self.new printer.old printer.new (S.seen out.old) (S.seen out.new))) }
         ensures halted { IfOk result (λ end. IfSome end (Halted self.old)) }
-        ensures untold { IfOk result (λ end. OnSome end (S.taken out.new ≡ S.taken out.old)) }
-        ensures broke { OnErr result (Broke self.old printer.old (S.taken out.old) (S.taken out.new)) }
-        ensures failed { OnErr result (Rose (S.faults out.old) (S.faults out.new)) }
-        ensures never_falls { S.faults out.old ≤ S.faults out.new }
+        ensures untold { IfOk result (λ end. OnSome end (S.seen out.new ≡ S.seen out.old)) }
+        ensures broke { OnErr result (Broke self.old printer.old (S.seen out.old) (S.seen out.new)) }
         ensures image { image_of self.new ≡ image_of self.old }
         ensures arrivals { given self.new ≡ given self.old }
         ensures form { printer.new.form ≡ printer.old.form }
@@ -177,9 +167,7 @@ impl<'a> Runner<'a> {
         };
         self.count += 1;
         self.observer.feed(&step);
-        if let Err(fault) = printer.drain(&mut self.observer, out) {
-            return Err(fault);
-        }
+        printer.drain(&mut self.observer, out)?;
         Ok(None)
     }
 
@@ -187,22 +175,19 @@ impl<'a> Runner<'a> {
     pub fn run<S: Sink>(&mut self, n: u32, form: Form, out: &mut S) -> Result<RunEnd, SinkFault>
         requires fresh { IsFresh self.old }
         requires few { n ≤ 1000000 }
-        ensures text { OnOk result (S.taken out.new ≡ gains (S.taken out.old) (run_text (image_of self.old) (given self.old) form n)) }
+        ensures text { OnOk result (S.seen out.new ≡ gains (S.seen out.old) (run_text (image_of self.old) (given self.old) form n)) }
         ensures end { IfOk result (λ end. end ≡ run_end (image_of self.old) (given self.old) n) }
-        ensures broke { OnErr result (GainsPart (S.taken out.old) (S.taken out.new) (run_text (image_of self.old) (given self.old) form n)) }
-        ensures failed { OnErr result (Rose (S.faults out.old) (S.faults out.new)) }
-        ensures never_falls { S.faults out.old ≤ S.faults out.new }
+        ensures broke { OnErr result
+            (GainsPart (S.seen out.old) (S.seen out.new) (run_text (image_of self.old) (given self.old) form n)) }
     {
         let mut printer = Printer {
             image: self.image,
             form,
             after_idle: false,
         };
-        for count in 0..n {
-            match self.turn(&mut printer, out) {
-                Err(fault) => return Err(fault),
-                Ok(Some(end)) => return Ok(end),
-                Ok(None) => {}
+        while self.count < n {
+            if let Some(end) = self.turn(&mut printer, out)? {
+                return Ok(end);
             }
         }
         Ok(RunEnd::Whole)

@@ -1,8 +1,6 @@
 //! The program, over a store of files and a sink of lines.
 ghost use Rattle.std.specs.Prelude.{◌≡◌, ◌≤◌, IfOk, IfErr, OnOk, [], length};
-ghost use Rattle.rv32_expand.specs.InPlace.{ItemsInPlace};
 ghost use Rattle.sloth_base.specs.ImageRange.{InFormat};
-ghost use Rattle.sim_induction.specs.Sound.{Sound};
 ghost use Rattle.sloth_io.specs.Store.{KeepsFiles, Holds};
 ghost use Rattle.image_file.specs.ImageText.{image_bytes};
 ghost use Rattle.sloth_build.specs.Form.{Accepted};
@@ -10,17 +8,21 @@ ghost use Rattle.sloth_cli.specs.Command.{words_of, IsInLimit};
 ghost use Rattle.sloth_cli.specs.Words.{command_of, run_of};
 ghost use Rattle.sloth_cli.specs.LastLine.{built_line};
 ghost use Rattle.sloth_cli.specs.Runner.{run_text};
-ghost use Rattle.sloth_cli.specs.Top.{AreInputs, HoldsArrivals, IsWritten, done_text, Took, Puts, Answers, TellsUsage, TellsRefused, IsComplete};
-ghost use Rattle.sloth_cli.specs.Failures.{ArrivalsFailed, FetchFailed, ReadFailed, JudgeFailed, PerformFailed, CommandFailed, Finished, IsPerformed};
+ghost use Rattle.sloth_cli.specs.Top.{world, input_limit, arrivals_named, inputs_of, AreInputs, HoldsArrivals, IsImageOf, IsWritten, done_text};
+ghost use Rattle.sloth_cli.specs.Top.{Took, Puts, Answers, TellsUsage, TellsRefused, IsComplete};
+ghost use Rattle.sloth_cli.specs.Failures.{read_failure, judge_failure, FetchFailed, ReadFailed, JudgeFailed, PerformFailed};
+ghost use Rattle.sloth_cli.specs.Failures.{CommandFailed, Finished, IsPerformed};
+ghost use Rattle.sloth_cli.specs.declared.top.Failure.TheVariants.{NoMemory as OutOfMemory, Put as PutFailed};
 
 use crate::command::{CommandWords, RunWords, command};
 use crate::last_line::{built_line, refusal_line};
 use crate::runner::Runner;
 use image_file::write::write_image;
 use sloth_base::image::Image;
+use sloth_base::memory::NoMemory;
 use sloth_base::refusal::{BuildError, Code, Part, Refusal};
 use sloth_build::{Built, build};
-use sloth_io::sink::Sink;
+use sloth_io::sink::{Sink, SinkFault};
 use sloth_io::store::{Store, StoreFault};
 use std::alloc::Global;
 
@@ -52,6 +54,46 @@ pub enum Failure {
     Put,
 }
 
+impl From<NoMemory> for Failure {
+    ghost from_gives = { λ _ failure. failure ≡ OutOfMemory };
+
+    fn from(_: NoMemory) -> Failure {
+        Failure::NoMemory
+    }
+}
+
+// Of a fault that a read ends with.
+impl From<StoreFault> for Failure {
+    ghost from_gives = { λ fault failure. failure ≡ read_failure fault };
+
+    fn from(fault: StoreFault) -> Failure {
+        match fault {
+            StoreFault::Failed => Failure::ReadFault,
+            StoreFault::TooLong => Failure::TooLong,
+            StoreFault::Memory => Failure::NoMemory,
+        }
+    }
+}
+
+impl From<BuildError> for Failure {
+    ghost from_gives = { λ error failure. failure ≡ judge_failure error };
+
+    fn from(error: BuildError) -> Failure {
+        match error {
+            BuildError::Refused(refusal) => Failure::Refused(refusal),
+            BuildError::Memory => Failure::NoMemory,
+        }
+    }
+}
+
+impl From<SinkFault> for Failure {
+    ghost from_gives = { λ _ failure. failure ≡ PutFailed };
+
+    fn from(_: SinkFault) -> Failure {
+        Failure::Put
+    }
+}
+
 // The texts that are built from, and the arrivals.
 #[derive(Drop)]
 struct Inputs {
@@ -63,17 +105,13 @@ struct Inputs {
 // The bytes of a file.
 fn fetch<F: Store>(alloc: Global, files: &mut F, name: &str) -> Result<Vec<u8>, Failure>
     ensures ok { IfOk result (λ bytes. Holds (F.seen files.old) name.now bytes.items) }
-    ensures short { IfOk result (λ bytes. length bytes.items ≤ 4194304) }
+    ensures short { IfOk result (λ bytes. length bytes.items ≤ input_limit) }
     ensures err { IfErr result (λ failure. FetchFailed failure (F.seen files.old) (F.seen files.new) name.now) }
     ensures keeps { KeepsFiles (F.seen files.old) (F.seen files.new) }
 {
     let mut bytes = Vec::new(alloc);
-    match files.read(name, LIMIT, &mut bytes) {
-        Ok(()) => Ok(bytes),
-        Err(StoreFault::Failed) => Err(Failure::ReadFault),
-        Err(StoreFault::TooLong) => Err(Failure::TooLong),
-        Err(StoreFault::Memory) => Err(Failure::NoMemory),
-    }
+    files.read(name, LIMIT, &mut bytes)?;
+    Ok(bytes)
 }
 
 // The arrivals of a run; a command that runs nothing has none.
@@ -83,7 +121,9 @@ fn fetch_arrivals<F: Store>(
     run: &Option<RunWords>,
 ) -> Result<Vec<u8>, Failure>
     ensures ok { IfOk result (λ bytes. HoldsArrivals (F.seen files.old) (run_of run.now) bytes.items) }
-    ensures err { IfErr result (λ failure. ArrivalsFailed failure (F.seen files.old) (F.seen files.new) (run_of run.now)) }
+    ensures short { IfOk result (λ bytes. length bytes.items ≤ input_limit) }
+    ensures err { IfErr result (λ failure.
+        ReadFailed failure (F.seen files.old) (F.seen files.new) (arrivals_named (run_of run.now))) }
     ensures keeps { KeepsFiles (F.seen files.old) (F.seen files.new) }
 {
     match run {
@@ -95,40 +135,25 @@ fn fetch_arrivals<F: Store>(
 // Reads the inputs, in the order of the words.
 fn read_inputs<F: Store>(alloc: Global, files: &mut F, c: &CommandWords) -> Result<Inputs, Failure>
     ensures ok { IfOk result (λ i. AreInputs (F.seen files.old) (command_of c.now) i.oil.items i.src.items i.arr.items) }
-    ensures short { IfOk result (λ i. length i.oil.items ≤ 4194304) }
-    ensures err { IfErr result (λ failure. ReadFailed failure (F.seen files.old) (F.seen files.new) (command_of c.now)) }
+    ensures err { IfErr result (λ failure. ReadFailed failure (F.seen files.old) (F.seen files.new) (inputs_of (command_of c.now))) }
     ensures keeps { KeepsFiles (F.seen files.old) (F.seen files.new) }
 {
-    let oil = match fetch(alloc, files, c.oil) {
-        Ok(bytes) => bytes,
-        Err(failure) => return Err(failure),
-    };
-    let src = match fetch(alloc, files, c.src) {
-        Ok(bytes) => bytes,
-        Err(failure) => return Err(failure),
-    };
-    let arr = match fetch_arrivals(alloc, files, &c.run) {
-        Ok(bytes) => bytes,
-        Err(failure) => return Err(failure),
-    };
-    Ok(Inputs { oil, src, arr })
+    Ok(Inputs {
+        oil: fetch(alloc, files, c.oil)?,
+        src: fetch(alloc, files, c.src)?,
+        arr: fetch_arrivals(alloc, files, &c.run)?,
+    })
 }
 
 // Judges the inputs, and builds the image.
 fn judge(alloc: Global, inputs: &Inputs) -> Result<Built, Failure>
-    requires { length inputs.now.oil.items ≤ 4194304 }
+    requires { length inputs.now.oil.items ≤ input_limit }
     ensures accepted { IfOk result (λ built. Accepted inputs.now.oil.items inputs.now.src.items built.config built.app) }
-    ensures sound { IfOk result (λ built. Sound built.config built.app built.image) }
-    ensures items { IfOk result (λ built. ItemsInPlace built.image built.config built.app) }
-    ensures format { IfOk result (λ built. InFormat built.image) }
+    ensures image { IfOk result (λ built. IsImageOf built.config built.app built.image) }
     ensures none { OnOk result (inputs.now.arr.items ≡ []) }
     ensures err { IfErr result (λ failure. JudgeFailed failure inputs.now.oil.items inputs.now.src.items inputs.now.arr.items) }
 {
-    let built = match build(alloc, inputs.oil.as_slice(), inputs.src.as_slice()) {
-        Ok(built) => built,
-        Err(BuildError::Refused(refusal)) => return Err(Failure::Refused(refusal)),
-        Err(BuildError::Memory) => return Err(Failure::NoMemory),
-    };
+    let built = build(alloc, inputs.oil.as_slice(), inputs.src.as_slice())?;
     if !inputs.arr.as_slice().is_empty() {
         return Err(Failure::Refused(Refusal {
             part: Part::Arr,
@@ -147,17 +172,14 @@ fn perform_build<F: Store, S: Sink>(
     bytes: &[u8],
 ) -> Result<(), Failure>
     ensures written { OnOk result (IsWritten (F.seen files.old) (F.seen files.new) img.now bytes.now) }
-    ensures text { OnOk result (Took (S.taken out.old) (S.taken out.new) (built_line (length bytes.now))) }
-    ensures err { IfErr result (λ failure. PerformFailed failure (F.seen files.old) (F.seen files.new) img.now bytes.now (built_line (length bytes.now)) (S.taken out.old) (S.taken out.new) (S.faults out.old) (S.faults out.new)) }
-    ensures never_falls { S.faults out.old ≤ S.faults out.new }
+    ensures text { OnOk result (Took (S.seen out.old) (S.seen out.new) (built_line (length bytes.now))) }
+    ensures err { IfErr result (λ failure.
+        PerformFailed failure (world (F.seen files.old) (S.seen out.old)) (world (F.seen files.new) (S.seen out.new))
+        img.now bytes.now (built_line (length bytes.now))) }
 {
-    if files.write(img, bytes).is_err() {
-        return Err(Failure::WriteFile);
-    }
-    match out.put(built_line(bytes.len()).bytes()) {
-        Ok(()) => Ok(()),
-        Err(_) => Err(Failure::Put),
-    }
+    files.write(img, bytes).map_err(|_| Failure::WriteFile)?;
+    out.put(built_line(bytes.len()).bytes())?;
+    Ok(())
 }
 
 // Takes all memory of the run, writes the image's file, runs the image, and puts its lines.
@@ -173,20 +195,15 @@ fn perform_run<F: Store, S: Sink>(
     requires format { InFormat image.now }
     requires few { run.now.n ≤ 1000000 }
     ensures written { OnOk result (IsWritten (F.seen files.old) (F.seen files.new) img.now bytes.now) }
-    ensures text { OnOk result (Took (S.taken out.old) (S.taken out.new) (run_text image.now [] run.now.form run.now.n)) }
-    ensures err { IfErr result (λ failure. PerformFailed failure (F.seen files.old) (F.seen files.new) img.now bytes.now (run_text image.now [] run.now.form run.now.n) (S.taken out.old) (S.taken out.new) (S.faults out.old) (S.faults out.new)) }
-    ensures never_falls { S.faults out.old ≤ S.faults out.new }
+    ensures text { OnOk result (Took (S.seen out.old) (S.seen out.new) (run_text image.now [] run.now.form run.now.n)) }
+    ensures err { IfErr result (λ failure.
+        PerformFailed failure (world (F.seen files.old) (S.seen out.old)) (world (F.seen files.new) (S.seen out.new))
+        img.now bytes.now (run_text image.now [] run.now.form run.now.n)) }
 {
-    let Ok(mut runner) = Runner::new(alloc, image, &[]) else {
-        return Err(Failure::NoMemory);
-    };
-    if files.write(img, bytes).is_err() {
-        return Err(Failure::WriteFile);
-    }
-    match runner.run(run.n, run.form, out) {
-        Ok(_) => Ok(()),
-        Err(_) => Err(Failure::Put),
-    }
+    let mut runner = Runner::new(alloc, image, &[])?;
+    files.write(img, bytes).map_err(|_| Failure::WriteFile)?;
+    runner.run(run.n, run.form, out)?;
+    Ok(())
 }
 
 // Writes the image's file, runs the image where the words say so, and puts the lines.
@@ -200,13 +217,12 @@ fn perform<F: Store, S: Sink>(
     requires format { InFormat image.now }
     requires few { IsInLimit (run_of c.now.run) }
     ensures written { OnOk result (IsWritten (F.seen files.old) (F.seen files.new) c.now.img.now (image_bytes image.now)) }
-    ensures text { OnOk result (Took (S.taken out.old) (S.taken out.new) (done_text image.now (run_of c.now.run))) }
-    ensures err { IfErr result (λ failure. PerformFailed failure (F.seen files.old) (F.seen files.new) c.now.img.now (image_bytes image.now) (done_text image.now (run_of c.now.run)) (S.taken out.old) (S.taken out.new) (S.faults out.old) (S.faults out.new)) }
-    ensures never_falls { S.faults out.old ≤ S.faults out.new }
+    ensures text { OnOk result (Took (S.seen out.old) (S.seen out.new) (done_text image.now (run_of c.now.run))) }
+    ensures err { IfErr result (λ failure.
+        PerformFailed failure (world (F.seen files.old) (S.seen out.old)) (world (F.seen files.new) (S.seen out.new))
+        c.now.img.now (image_bytes image.now) (done_text image.now (run_of c.now.run))) }
 {
-    let Ok(bytes) = write_image(alloc, image) else {
-        return Err(Failure::NoMemory);
-    };
+    let bytes = write_image(alloc, image)?;
     match &c.run {
         None => perform_build(files, out, c.img, bytes.as_slice()),
         Some(run) => perform_run(alloc, files, out, c.img, run, image, bytes.as_slice()),
@@ -221,28 +237,19 @@ fn attempt<F: Store, S: Sink>(
     c: &CommandWords,
 ) -> Result<(), Failure>
     requires { IsInLimit (run_of c.now.run) }
-    ensures done { OnOk result (IsPerformed (F.seen files.old) (F.seen files.new) (command_of c.now) (S.taken out.old) (S.taken out.new)) }
-    ensures err { IfErr result (λ failure. CommandFailed failure (F.seen files.old) (F.seen files.new) (command_of c.now) (S.taken out.old) (S.taken out.new) (S.faults out.old) (S.faults out.new)) }
-    ensures never_falls { S.faults out.old ≤ S.faults out.new }
+    ensures done { OnOk result
+        (IsPerformed (world (F.seen files.old) (S.seen out.old)) (world (F.seen files.new) (S.seen out.new)) (command_of c.now)) }
+    ensures err { IfErr result (λ failure.
+        CommandFailed failure (world (F.seen files.old) (S.seen out.old)) (world (F.seen files.new) (S.seen out.new)) (command_of c.now)) }
 {
-    let inputs = match read_inputs(alloc, files, c) {
-        Err(failure) => return Err(failure),
-        Ok(inputs) => inputs,
-    };
-    let built = match judge(alloc, &inputs) {
-        Err(failure) => return Err(failure),
-        Ok(built) => built,
-    };
-    match perform(alloc, files, out, c, &built.image) {
-        Err(failure) => Err(failure),
-        Ok(()) => Ok(()),
-    }
+    let inputs = read_inputs(alloc, files, c)?;
+    let built = judge(alloc, &inputs)?;
+    perform(alloc, files, out, c, &built.image)
 }
 
 // Puts a last line. Where it can't be put, the status is WriteFault.
 fn say<S: Sink>(out: &mut S, line: &[u8], status: Status) -> Status
-    ensures never_falls { S.faults out.old ≤ S.faults out.new }
-    ensures puts { Puts status result (S.taken out.old) (S.taken out.new) (S.faults out.old) (S.faults out.new) line.now }
+    ensures { Puts status result (S.seen out.old) (S.seen out.new) line.now }
 {
     match out.put(line) {
         Ok(()) => status,
@@ -252,8 +259,7 @@ fn say<S: Sink>(out: &mut S, line: &[u8], status: Status) -> Status
 
 // Puts the last line of a failure.
 fn finish<S: Sink>(out: &mut S, failure: Failure) -> Status
-    ensures never_falls { S.faults out.old ≤ S.faults out.new }
-    ensures finished { Finished failure result (S.taken out.old) (S.taken out.new) (S.faults out.old) (S.faults out.new) }
+    ensures { Finished failure result (S.seen out.old) (S.seen out.new) }
 {
     match failure {
         Failure::Refused(refusal) => say(out, refusal_line(refusal).bytes(), Status::Refused),
@@ -267,11 +273,10 @@ fn finish<S: Sink>(out: &mut S, failure: Failure) -> Status
 
 // Does what the words say, and puts the last line of a failure.
 fn answer<F: Store, S: Sink>(alloc: Global, words: &[String], files: &mut F, out: &mut S) -> Status
-    ensures { Answers (words_of words.now) (F.seen files.old) (F.seen files.new) (S.taken out.old) (S.taken out.new) (S.faults out.old) (S.faults out.new) result }
+    ensures { Answers (words_of words.now) (world (F.seen files.old) (S.seen out.old)) (world (F.seen files.new) (S.seen out.new)) result }
 {
-    let c = match command(words) {
-        None => return say(out, b"usage\n", Status::Usage),
-        Some(c) => c,
+    let Some(c) = command(words) else {
+        return say(out, b"usage\n", Status::Usage);
     };
     match attempt(alloc, files, out, &c) {
         Err(failure) => finish(out, failure),
@@ -286,10 +291,10 @@ pub fn sloth_top<F: Store, S: Sink>(
     files: &mut F,
     out: &mut S,
 ) -> Status
-    ensures answers { Answers (words_of words.now) (F.seen files.old) (F.seen files.new) (S.taken out.old) (S.taken out.new) (S.faults out.old) (S.faults out.new) result }
-    ensures usage { TellsUsage (words_of words.now) (S.faults out.old) (S.faults out.new) result }
-    ensures refused { TellsRefused (words_of words.now) (F.seen files.old) (F.seen files.new) (S.taken out.old) (S.taken out.new) (S.faults out.old) (S.faults out.new) result }
-    ensures complete { IsComplete (words_of words.now) (F.seen files.old) (F.seen files.new) (S.taken out.old) (S.taken out.new) (S.faults out.old) (S.faults out.new) result }
+    ensures answers { Answers (words_of words.now) (world (F.seen files.old) (S.seen out.old)) (world (F.seen files.new) (S.seen out.new)) result }
+    ensures usage { TellsUsage (words_of words.now) (world (F.seen files.old) (S.seen out.old)) (world (F.seen files.new) (S.seen out.new)) result }
+    ensures refused { TellsRefused (words_of words.now) (world (F.seen files.old) (S.seen out.old)) (world (F.seen files.new) (S.seen out.new)) result }
+    ensures complete { IsComplete (words_of words.now) (world (F.seen files.old) (S.seen out.old)) (world (F.seen files.new) (S.seen out.new)) result }
 {
     answer(alloc, words, files, out)
 }

@@ -13,6 +13,7 @@ use Rattle.rv32_routine.specs.Kernel.{CanRun, LeftAs}
 
 -- ---- the code
 
+-- x1 and x4 as the code of each line expects them
 abbrev pub begins : List InstrKind
 begins = Lui 1 controller_high ∷ Addi 4 0 (pos 1) ∷ []
 

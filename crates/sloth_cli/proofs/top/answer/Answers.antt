@@ -4,8 +4,7 @@ use Rattle.sloth_cli.proofs.top.answer.Goals as goal
 
 pub returns-in-Err : goal.returns-in-Err
 returns-in-Err g c =
-    finished c.in-Err.failure _ (command_of c.in-Some.c) _ _ _ _ _ _ _ _ c.finish.result
-    c.in-Some.ensures.some c.in-Err.ensures.err c.attempt.ensures.never_falls c.finish.ensures.never_falls c.finish.ensures.finished
+    finished c.in-Err.failure _ (command_of c.in-Some.c) _ _ _ _ c.finish.result c.in-Some.ensures.some c.in-Err.ensures.err c.finish.ensures
 
 pub returns-in-Ok : goal.returns-in-Ok
-returns-in-Ok g c = answered _ (command_of c.in-Some.c) _ _ _ _ _ _ c.in-Some.ensures.some c.in-Ok.ensures.done
+returns-in-Ok g c = answered _ (command_of c.in-Some.c) _ _ c.in-Some.ensures.some c.in-Ok.ensures.done

@@ -1,27 +1,32 @@
+use Rattle.std.proofs.lemmas.Result.{err_from_is_err_and, IfErr-weaker}
 use Rattle.sloth_cli.specs.Words.{command_of}
-use Rattle.sloth_cli.proofs.Causes.{read-ends, judge-ends, perform-ends, built-of, done}
+use Rattle.sloth_cli.proofs.Causes.{read-ends, judge-ends, perform-ends, built-of, done, both-ok}
 use Rattle.sloth_cli.proofs.top.attempt.Goals as goal
 
-pub returns-in-Err-clause-err : goal.returns-in-Err-clause-err
-returns-in-Err-clause-err g c = read-ends c.in-Err.failure _ _ (command_of c.args.c.now) _ _ _ c.in-Err.ensures.err c.read_inputs.ensures.keeps.holds
+pub returns-in_err-inputs-clause-err : goal.returns-in_err-inputs-clause-err
+returns-in_err-inputs-clause-err g c =
+    let failed = err_from_is_err_and c.from_residual.result c.from_residual.ensures.1 in
+    rw (failed.1, failed.2)
+    (read-ends c.in_err-inputs.field-0.0 _ _ _ (command_of c.args.c.now) c.in_err-inputs.ensures.err c.read_inputs.ensures.keeps.holds)
 
-pub returns-in-Err-judge-clause-err : goal.returns-in-Err-judge-clause-err
-returns-in-Err-judge-clause-err g c =
-    judge-ends c.in-Err-judge.failure _ _ (command_of c.args.c.now) _ _ _ _ _ _ c.in-Ok.ensures.ok c.in-Err-judge.ensures.err c.read_inputs.ensures.keeps.holds
+pub returns-in_err-built-clause-err : goal.returns-in_err-built-clause-err
+returns-in_err-built-clause-err g c =
+    let failed = err_from_is_err_and c.from_residual-in_err-built.result c.from_residual-in_err-built.ensures.1 in
+    rw (failed.1, failed.2)
+    (judge-ends c.in_err-built.field-0.0 _ _ _ (command_of c.args.c.now) _ _ _ c.in_ok-inputs.ensures.ok c.in_err-built.ensures.err
+    c.read_inputs.ensures.keeps.holds)
 
-pub returns-in-Err-perform-clause-err : goal.returns-in-Err-perform-clause-err
-returns-in-Err-perform-clause-err g c =
-    let of = c.in-Ok-judge.ensures in
-    perform-ends c.in-Err-perform.failure _ _ _ (command_of c.args.c.now) _ _ _ _ _ _
-    (built-of _ _ (command_of c.args.c.now) _ _ c.in-Ok-judge.built.image _ _ _ c.in-Ok.ensures.ok of.none of.accepted of.sound of.items of.format c.read_inputs.ensures.keeps)
-    c.in-Err-perform.ensures.err
+pub returns-clause-err : goal.returns-clause-err
+returns-clause-err g c =
+    let of = c.in_ok-built.ensures in
+    let built =
+    built-of _ _ (command_of c.args.c.now) _ _ c.in_ok-built.built.image _ _ _ c.in_ok-inputs.ensures.ok of.none of.accepted of.image c.read_inputs.ensures.keeps in
+    IfErr-weaker c.perform.result _ _ (λ failure h. perform-ends failure _ _ _ _ (command_of c.args.c.now) c.in_ok-built.built.image built h) c.perform.ensures.err
 
 pub returns-clause-done : goal.returns-clause-done
 returns-clause-done g c =
-    let of = c.in-Ok-judge.ensures in (
-      _,
-      done _ _ _ (command_of c.args.c.now) _ _
-          (built-of _ _ (command_of c.args.c.now) _ _ c.in-Ok-judge.built.image _ _ _ c.in-Ok.ensures.ok of.none of.accepted of.sound of.items of.format c.read_inputs.ensures.keeps)
-          c.in-Ok-perform.ensures.written,
-      c.in-Ok-perform.ensures.text,
-    )
+    let of = c.in_ok-built.ensures in
+    let built =
+    built-of _ _ (command_of c.args.c.now) _ _ c.in_ok-built.built.image _ _ _ c.in_ok-inputs.ensures.ok of.none of.accepted of.image c.read_inputs.ensures.keeps in
+    both-ok c.perform.result _ _ _ (λ written text. (_, done _ _ _ (command_of c.args.c.now) c.in_ok-built.built.image built written, text))
+    c.perform.ensures.written c.perform.ensures.text
