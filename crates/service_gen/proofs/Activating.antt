@@ -1,5 +1,5 @@
 -- The code of ActivateTask has its effect.
-use Rattle.std.proofs.Common.{◌≡◌, ℕ, ◌+◌, ◌*◌, ◌<◌, ◌⊎◌, List, ◌∷◌, ◌++◌, length, get_or, refl, ap, arith, inl, inr, ⊎_elim}
+use Rattle.std.proofs.Common.{◌≡◌, ℕ, ◌+◌, ◌<◌, ◌⊎◌, List, ◌∷◌, ◌++◌, length, get_or, refl, ap, arith, inl, inr, ⊎_elim}
 use Rattle.std.specs.Prelude.{set, bit_or, bit_xor}
 use Rattle.sloth_base.specs.Machine.{Core}
 use Rattle.sloth_base.specs.Arrive.{arrive}

@@ -1,6 +1,6 @@
 -- What is owed of the end of the running task, and of the way to what runs below.
 use Rattle.std.proofs.Common.{◌≡◌, ℕ, ◌+◌, ◌*◌, ◌%◌, ◌<◌, ◌≤◌, List, [], ◌∷◌, ◌++◌, refl, sym, ap, ◌∙◌, subst, arith, inl, inr}
-use Rattle.std.specs.Prelude.{true, set}
+use Rattle.std.specs.Prelude.{set}
 use Rattle.sloth_base.specs.Machine.{Core, State}
 use Rattle.sloth_base.specs.Arrive.{arrive, state_arrive}
 use Rattle.sloth_region.specs.Layout.{cur, active, events, below_word, idle_context, context_level, context_cur, context_below, controller_base}
