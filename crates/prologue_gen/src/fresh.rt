@@ -1,5 +1,5 @@
 //! The parts of a prologue: what was preempted is saved, and the task starts anew.
-ghost use Rattle.std.specs.Prelude.{◌≡◌, ◌+◌, ◌<◌, ◌≤◌, ◌^◌, ◌++◌, ◌∷◌, [], OnOk};
+ghost use Rattle.std.specs.Prelude.{◌≡◌, ◌+◌, ◌<◌, ◌≤◌, ◌++◌, OnOk};
 ghost use Rattle.prologue_gen.specs.Pieces.{saves_context, saves_csrs, saves_words, marks_active, begins, starts_anew};
 
 use rv32_instr::Instr;
