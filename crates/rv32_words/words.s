@@ -102,6 +102,18 @@
         .endif
         .endm
 
+        .macro  boot level, autostart
+        lui     x1, 0x10000
+        addi    x4, x0, 1
+        start_line 0, \level, \autostart
+        constant x2, 0x80000000 + IDLE_END
+        addi    x3, x0, 128
+        csrrw   x0, mstatus, x3
+        constant x3, IDLE
+        csrrw   x0, MEPC, x3
+        mret
+        .endm
+
         .macro  prologue task, level, frame, words, first
         save
         lui     x4, 0x80000
@@ -180,10 +192,6 @@ kept\@: addi    x10, x0, 0
         .set    line, 0
         .rept   32
         .if     line == 0
-        jal     x0, . + 0x80000600 - (0x80000400 + 4*line)
-        .elseif line == 1
-        jal     x0, . + 0x80000800 - (0x80000400 + 4*line)
-        .elseif line == 2
         jal     x0, . + 0x800ffffc - (0x80000400 + 4*line)
         .else
         jal     x0, . + IDLE - (0x80000400 + 4*line)
@@ -191,34 +199,30 @@ kept\@: addi    x10, x0, 0
         .set    line, line + 1
         .endr
 
-#: boot 80000480
-        .section .b02, "ax"
-        lui     x1, 0x10000
-        addi    x4, x0, 1
-        start_line 0, 3, 0
-        start_line 1, 1, 1
-        start_line 2, 2, 0
-        constant x2, 0x80000000 + IDLE_END
-        addi    x3, x0, 128
-        csrrw   x0, mstatus, x3
-        constant x3, IDLE
-        csrrw   x0, MEPC, x3
-        mret
-
 #: idle 80000548
 #: mark 80000548 Idle 0 0 0
-        .section .b03, "ax"
+        .section .b04, "ax"
         jal     x0, .
 
-#: prologue 80000600
-        .section .b04, "ax"
-        prologue 0, 3, 0x80002100, 0, 0x80001b74
-#: prologue 80000800
-        .section .b05, "ax"
-        prologue 1, 1, 0x80002200 - 4, 1, 0x80001b74
+#: boot 80000480
+        .section .b02, "ax"
+        boot    5, 1
+#: boot 80000480
+        .section .b03, "ax"
+        boot    5, 0
+
 #: prologue 800ffffc
-        .section .b06, "ax"
-        prologue 2, 3, 0x80002e00 - 128, 32, 0x80001b74
+        .section .p01, "ax"
+        prologue 0, 5, 0x80002e00, 0, 0x80001b74
+#: prologue 800ffffc
+        .section .p02, "ax"
+        prologue 0, 5, 0x80002e00 - 4, 1, 0x80001b74
+#: prologue 800ffffc
+        .section .p03, "ax"
+        prologue 0, 30, 0x80002e00, 0, 0x80001b74
+#: prologue 800ffffc
+        .section .p04, "ax"
+        prologue 0, 30, 0x80002e00 - 128, 32, 0x80001b74
 
 #: service 80001000
 #: mark 80001000 Opening 0 0 0
@@ -257,7 +261,7 @@ kept\@: addi    x10, x0, 0
 #: service 80001000
 #: mark 80001000 Opening 6 0 0
         .section .b14, "ax"
-        get_resource 32, 3
+        get_resource 32, 30
 #: service 80001000
 #: mark 80001000 Opening 7 0 0
         .section .b15, "ax"

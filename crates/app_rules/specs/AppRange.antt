@@ -15,7 +15,7 @@ use Rattle.sloth_base.specs.declared.service.Service.{Service}
 use Rattle.sloth_base.specs.declared.service.Service.TheVariants as service
 use Rattle.sloth_base.specs.ConfigRange.{InRange}
 use Rattle.sloth_base.specs.ImageRange.{AreNames}
-use Rattle.app_rules.specs.Named.{function, IsBodyOf}
+use Rattle.sloth_base.specs.Named.{function, IsBodyOf}
 
 -- ---- operands
 
@@ -53,6 +53,7 @@ IsStored width.Word = Unit {0}
 IsStored width.ByteU = ⊥
 IsStored width.HalfU = ⊥
 
+-- a task of the configuration
 abbrev pub IsDeclared : Config → ℕ → Type 0
 IsDeclared config t = t < length config.tasks
 
@@ -60,9 +61,11 @@ IsDeclared config t = t < length config.tasks
 abbrev pub IsResource : Config → ℕ → Type 0
 IsResource config r = (r < length config.resources) ⊎ ((r ≡ 32) × IsTrue config.res_scheduler)
 
+-- a named piece of data of the task code
 abbrev pub IsSymbol : App → ℕ → Type 0
 IsSymbol app y = y < length app.symbols
 
+-- a label of a body
 abbrev pub IsLabel : Func → ℕ → Type 0
 IsLabel f k = k < length f.labels
 
@@ -70,6 +73,7 @@ IsLabel f k = k < length f.labels
 abbrev pub IsCallable : App → ℕ → Type 0
 IsCallable app g = (g < length app.funcs) × ((function app g).task ≡ None)
 
+-- what stands in the place of an event that is not there
 abbrev pub no_event : EventDecl
 no_event = record { name = []; mask = 0 }
 
@@ -125,6 +129,7 @@ pub record IsPlaced (config : Config) (f : Func) (l : Label) : Type 0 where
   pub place : l.item ≤ length f.items
   pub holds : All (IsResource config) l.holds
 
+-- what a body may say
 pub record IsBody (config : Config) (app : App) (f : Func) : Type 0 where
   pub frame : f.frame_words ≤ 32
   pub label_names : AreNames (map (λ l. l.name) f.labels)
@@ -137,12 +142,14 @@ pub record HasBodies (config : Config) (app : App) : Type 0 where
   pub one : (t f g : ℕ) → IsBodyOf app t f → IsBodyOf app t g → f ≡ g
   pub declared : (t f : ℕ) → IsBodyOf app t f → IsDeclared config t
 
+-- the most of each that task code may have
 pub record IsWithinLimits (app : App) : Type 0 where
   pub few_bodies : length app.funcs ≤ 64
   pub few_items : sum (map (λ f. length f.items) app.funcs) ≤ 4096
   pub few_symbols : length app.symbols ≤ 256
   pub few_bytes : sum (map (λ y. length y.bytes) app.symbols) ≤ 32768
 
+-- the task code is in range of the configuration
 pub record AppInRange (config : Config) (app : App) : Type 0 where
   pub configuration : InRange config
   pub limits : IsWithinLimits app

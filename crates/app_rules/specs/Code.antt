@@ -5,11 +5,9 @@ use Rattle.sloth_base.specs.declared.app.Func.{Func}
 use Rattle.sloth_base.specs.declared.app.Label.{Label}
 use Rattle.sloth_base.specs.declared.app.Op.{Op}
 use Rattle.sloth_base.specs.declared.app.Op.TheVariants as op
-use Rattle.sloth_base.specs.declared.app.Width.{Width}
-use Rattle.sloth_base.specs.declared.app.Width.TheVariants as width
 use Rattle.sloth_base.specs.declared.service.Service.{Service}
 use Rattle.sloth_base.specs.declared.service.Service.TheVariants as service
-use Rattle.app_rules.specs.Named.{function, item_of, operation, label_of, IsBodyOf}
+use Rattle.sloth_base.specs.Named.{function, item_of, operation, label_of, IsBodyOf}
 
 -- ---- items
 
@@ -22,14 +20,6 @@ pub record IsItem (app : App) (f i : ℕ) (o : Op) : Type 0 where
 -- a service with its object and its mask of events
 abbrev pub serve : Service → (object mask : ℕ) → Op
 serve s object mask = op.Serve (record { service = s; object = object; mask = mask })
-
--- the number of bytes of an access
-abbrev pub size : Width → ℕ
-size width.Byte = 1
-size width.Half = 2
-size width.Word = 4
-size width.ByteU = 1
-size width.HalfU = 2
 
 -- ---- calls
 
@@ -68,6 +58,7 @@ ReachesPause app f = (g : ℕ) × (i : ℕ) × (s : Service) × (object : ℕ) �
 
 -- ---- paths
 
+-- a service that never returns
 abbrev pub ends_for_good : Service → Bool
 ends_for_good service.TerminateTask = true
 ends_for_good _ = false
@@ -98,6 +89,7 @@ Path f i (k ∷ between) j = GoesOn f i k × Path f k between j
 
 -- ---- held resources
 
+-- a number is in a list
 abbrev pub is_in : ℕ → List ℕ → Bool
 is_in x [] = false
 is_in x (y ∷ ys) = (y == x) || is_in x ys
@@ -108,11 +100,13 @@ is_last r [] = false
 is_last r (x ∷ []) = x == r
 is_last r (x ∷ y ∷ ys) = is_last r (y ∷ ys)
 
+-- the list without its last number
 abbrev pub without_last : List ℕ → List ℕ
 without_last [] = []
 without_last (x ∷ []) = []
 without_last (x ∷ y ∷ ys) = x ∷ without_last (y ∷ ys)
 
+-- the held resources behind a service that names this one
 abbrev pub held_behind : Service → ℕ → List ℕ → List ℕ
 held_behind service.GetResource r held = held ++ r ∷ []
 held_behind service.ReleaseResource r held = without_last held

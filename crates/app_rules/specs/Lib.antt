@@ -1,4 +1,3 @@
-pub mod Named
 pub mod AppRange
 pub mod Code
 pub mod WellFormed

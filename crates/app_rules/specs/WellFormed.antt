@@ -13,9 +13,10 @@ use Rattle.sloth_base.specs.declared.refusal.Refusal.{Refusal}
 use Rattle.sloth_base.specs.declared.service.Service.{Service}
 use Rattle.sloth_base.specs.declared.service.Service.TheVariants as service
 use Rattle.sloth_refusal.specs.Order.{NoFault}
-use Rattle.app_rules.specs.Named.{declaration, function, item_of, operation, label_of, symbol_size}
+use Rattle.sloth_base.specs.Named.{declaration, function, item_of, operation, label_of, symbol_size}
 use Rattle.app_rules.specs.AppRange.{AppInRange}
-use Rattle.app_rules.specs.Code.{size, CallChain, TaskReaches, Pauses, Ends, ReachesTaking, ReachesPause, way, GoesOn, Path, is_in, is_last, held_at, is_entered, held_entering}
+use Rattle.app_rules.specs.Code.{CallChain, TaskReaches, Pauses, Ends, ReachesTaking, ReachesPause, way, GoesOn, Path, is_in, is_last, held_at, is_entered, held_entering}
+use Rattle.sloth_base.specs.Arithmetic.{size_of}
 
 -- ---- what an operation does against a rule
 
@@ -23,22 +24,22 @@ use Rattle.app_rules.specs.Code.{size, CallChain, TaskReaches, Pauses, Ends, Rea
 abbrev pub AccessesPast : App → Func → Op → Type 0
 AccessesPast app f (op.FrameLoad rd word) = f.frame_words ≤ word
 AccessesPast app f (op.FrameStore rs word) = f.frame_words ≤ word
-AccessesPast app f (op.Load w rd y offset) = symbol_size app y < offset + size w
-AccessesPast app f (op.Store w rs y offset) = symbol_size app y < offset + size w
+AccessesPast app f (op.Load w rd y offset) = symbol_size app y < offset + size_of w
+AccessesPast app f (op.Store w rs y offset) = symbol_size app y < offset + size_of w
 AccessesPast app f _ = ⊥
 
--- V3: a direct offset or a mask that is no multiple of the access size
+-- V3: a direct offset or a mask that is no multiple of the access size_of
 abbrev pub IsUneven : Op → Type 0
-IsUneven (op.Load w rd y offset) = offset % size w ≢ 0
-IsUneven (op.Store w rs y offset) = offset % size w ≢ 0
-IsUneven (op.LoadAt w rd y index mask) = mask % size w ≢ 0
-IsUneven (op.StoreAt w rs y index mask) = mask % size w ≢ 0
+IsUneven (op.Load w rd y offset) = offset % size_of w ≢ 0
+IsUneven (op.Store w rs y offset) = offset % size_of w ≢ 0
+IsUneven (op.LoadAt w rd y index mask) = mask % size_of w ≢ 0
+IsUneven (op.StoreAt w rs y index mask) = mask % size_of w ≢ 0
 IsUneven _ = ⊥
 
--- V4: a mask above 32,767, or mask plus access size above the symbol's size
+-- V4: a mask above 32,767, or mask plus access size_of above the symbol's size_of
 abbrev pub MasksPast : App → Op → Type 0
-MasksPast app (op.LoadAt w rd y index mask) = (32767 < mask) ⊎ (symbol_size app y < mask + size w)
-MasksPast app (op.StoreAt w rs y index mask) = (32767 < mask) ⊎ (symbol_size app y < mask + size w)
+MasksPast app (op.LoadAt w rd y index mask) = (32767 < mask) ⊎ (symbol_size app y < mask + size_of w)
+MasksPast app (op.StoreAt w rs y index mask) = (32767 < mask) ⊎ (symbol_size app y < mask + size_of w)
 MasksPast app _ = ⊥
 
 -- V5: an item that can go on past the last item
@@ -78,6 +79,7 @@ LeavesWrongly f (op.Serve call) = Ends call.service × (f.task ≡ None)
 LeavesWrongly f op.Return = (t : ℕ) × (f.task ≡ Some t)
 LeavesWrongly f _ = ⊥
 
+-- a task lists a resource
 abbrev pub Lists : TaskDecl → ℕ → Type 0
 Lists task r = is_in r task.resources ≡ true
 
@@ -93,6 +95,7 @@ IsUnlisted config app f r = (r ≢ 32) × ((t : ℕ) × TaskReaches app t f × �
 abbrev pub IsLacked : Config → App → ℕ → ℕ → Type 0
 IsLacked config app f mask = (t : ℕ) × TaskReaches app t f × ¬ (HasEvents (declaration config t) mask)
 
+-- a function uses a service with what its tasks do not have
 abbrev pub Misuses : Config → App → ℕ → Service → (object mask : ℕ) → Type 0
 Misuses config app f service.GetResource r mask = IsUnlisted config app f r
 Misuses config app f service.ReleaseResource r mask = IsUnlisted config app f r
@@ -110,6 +113,7 @@ UsesUndeclared config app f _ = ⊥
 
 -- ---- faults
 
+-- the resources that are held before an item
 abbrev pub held_before : App → ℕ → ℕ → List ℕ
 held_before app f i = held_at (function app f) i
 
@@ -132,6 +136,7 @@ pub data Differs (f : Func) (k : ℕ) : Type 0 where
   falling_in : is_entered f k ≡ true → (label_of f k).holds ≢ held_entering f k → Differs f k
   at_begin : (label_of f k).item ≡ 0 → (label_of f k).holds ≢ [] → Differs f k
 
+-- a fault of the task source on a line
 abbrev pub at_line : ℕ → Code → Refusal
 at_line line c = record { part = part.Src; line = line; code = c }
 
@@ -151,6 +156,7 @@ RuleFault config app r = (f : ℕ) × (f < length app.funcs) × BodyFault config
 pub data CycleFault (app : App) : Refusal → Type 0 where
   on_cycle : (f : ℕ) (between : List ℕ) → CallChain app f between f → CycleFault app (at_line (function app f).line code.V1)
 
+-- task code that keeps every rule
 pub record WellFormed (config : Config) (app : App) : Type 0 where
   pub in_range : AppInRange config app
   pub no_cycle : NoFault (CycleFault app)

@@ -21,9 +21,11 @@ is_letter (b ∷ bs) = is_ascii_alphabetic b
 abbrev pub word_of : List ℕ → List ℕ
 word_of t = take_while continues_word t
 
+-- the text without the blanks in front
 abbrev pub trim_start : List ℕ → List ℕ
 trim_start t = drop (length (take_while is_blank t)) t
 
+-- the text without the blanks at its end
 abbrev pub trim_end : List ℕ → List ℕ
 trim_end t = take (length t - length (take_while is_blank (reverse t))) t
 

@@ -19,14 +19,17 @@ use Rattle.asm_lines.specs.SourceLines.{source_line}
 abbrev pub Case : Bool → ℕ → Code → Refusal → Type 0
 Case test line code r = CaseOf Src test line code r
 
+-- an operand without the form that it is to have
 abbrev pub is_wrong : Operand → Bool
 is_wrong o.Wrong = true
 is_wrong _ = false
 
+-- an operand whose number is out of range
 abbrev pub is_outside : Operand → Bool
 is_outside o.Outside = true
 is_outside _ = false
 
+-- two tests that say the same
 abbrev pub same_bool : Bool → Bool → Bool
 same_bool true b = b
 same_bool false b = not b

@@ -73,6 +73,7 @@ pub record IsShape (t word : List ℕ) (operands : List (List ℕ)) : Type 0 whe
   pub text : t ≡ word ++ rest
   pub tail : IsTail rest operands
 
+-- a line without the shape of a statement
 abbrev pub is_shapeless : SourceLine → Bool
 is_shapeless Shapeless = true
 is_shapeless _ = false

@@ -8,6 +8,7 @@ use Rattle.asm_lines.specs.Bytes.{trim}
 abbrev pub line_of : Bool → List ℕ → List ℕ
 line_of is_last part = if is_last then part else strip_carriage_return part
 
+-- the lines without the CR at the end of each but the last
 abbrev pub without_returns : List (List ℕ) → List (List ℕ)
 without_returns [] = []
 without_returns (part ∷ parts) = line_of (length parts == 0) part ∷ without_returns parts

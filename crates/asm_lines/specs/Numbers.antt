@@ -12,11 +12,13 @@ is_hexadecimal t = (slice_index t 0 == 48) && (slice_index t 1 == 120)
 abbrev pub all_some : (ℕ → Bool) → List ℕ → Bool
 all_some p t = not (length t == 0) && list_all p t
 
+-- the number without its sign
 unfoldable pub magnitude : List ℕ → Option ℕ
 magnitude t =
     if is_hexadecimal t then (if all_some is_ascii_hexdigit (drop 2 t) then Some (capped (value_from 16 0 (drop 2 t))) else None)
     else (if all_some is_ascii_digit t then Some (capped (value_from 10 0 t)) else None)
 
+-- the number with its sign
 abbrev pub signed : Bool → Option ℕ → Option ℤ
 signed is_negative None = None
 signed is_negative (Some n) = if is_negative then Some (neg_ℤ (pos n)) else Some (pos n)

@@ -19,6 +19,7 @@ use Rattle.asm_lines.specs.Registers.{register}
 abbrev pub before : ℕ → List ℕ → List ℕ
 before c t = before_first (λ b. b == c) t
 
+-- the text behind the first byte of this kind
 abbrev pub behind : ℕ → List ℕ → List ℕ
 behind c t = after_first (λ b. b == c) t
 
@@ -28,22 +29,27 @@ small_of None = NoNumber
 small_of (Some (pos n)) = if nat_le n 65535 then Is n else TooFar
 small_of (Some (negsuc n)) = TooFar
 
+-- the operand of a register's number
 abbrev pub register_operand : Option ℕ → Operand
 register_operand None = Wrong
 register_operand (Some r) = Register r
 
+-- the operand of a number from low to high
 abbrev pub number_operand : ℤ → ℤ → Option ℤ → Operand
 number_operand low high None = Wrong
 number_operand low high (Some n) = if is_within low high n then Number n else Outside
 
+-- the operand of a name
 abbrev pub name_operand : List ℕ → Operand
 name_operand t = if is_name t then Name t else Wrong
 
+-- the operand of a word of the frame
 abbrev pub frame_operand : Small → Operand
 frame_operand NoNumber = Wrong
 frame_operand TooFar = Outside
 frame_operand (Is k) = Frame k
 
+-- the operand of a symbol with an offset
 abbrev pub direct_at : List ℕ → Small → Operand
 direct_at name NoNumber = Wrong
 direct_at name TooFar = Outside
@@ -53,6 +59,7 @@ direct_at name (Is k) = Direct name k
 abbrev pub direct : List ℕ → Small → Operand
 direct name k = if is_name name then direct_at name k else Wrong
 
+-- the operand of a symbol with an index and its mask
 abbrev pub indexed_at : List ℕ → Option ℕ → Small → Operand
 indexed_at name None k = Wrong
 indexed_at name (Some r) NoNumber = Wrong

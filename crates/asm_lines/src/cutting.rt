@@ -9,8 +9,8 @@ ghost use Rattle.asm_lines.specs.Bytes.{trim};
 use crate::bytes::trim;
 use sloth_base::memory::NoMemory;
 use std::alloc::{AllocError, Global};
-use text_pieces::growth::push;
 use text_pieces::bytes::front;
+use text_pieces::growth::push;
 
 /// The parts between the bytes `stop`.
 pub fn split<'a>(alloc: Global, text: &'a [u8], stop: u8) -> Result<Vec<&'a [u8]>, AllocError>

@@ -3,9 +3,9 @@ ghost use Rattle.std.specs.Prelude.{◌≡◌};
 ghost use Rattle.std.specs.Str.{bytes_eq};
 ghost use Rattle.asm_lines.specs.Table.{alu_of, imm_of, shift_of, load_of, store_of, branch_of, service_of, plain_of, mnemonic_of, service_takes, takes, place_form, form_of, is_outer, opens, closes};
 
-use text_pieces::bytes::same;
 use sloth_base::app::{AluKind, BranchKind, ImmKind, Width};
 use sloth_base::service::Service;
+use text_pieces::bytes::same;
 
 /// A statement by its first word.
 #[derive(Clone, Copy, Debug, PartialEq, Eq)]

@@ -32,6 +32,7 @@ pub record NamesStand (file : List ℕ) (at end : ℕ) (names : List (List ℕ))
 abbrev pub NoNames : List ℕ → ℕ → ℕ → Type 0
 NoNames file at count = (names : List (List ℕ)) (rest : List ℕ) → length names ≡ count → drop at file ≢ flat_map name_bytes names ++ rest
 
+-- what an error says of so many names from this place on
 abbrev pub NamesFail : ImageError → List ℕ → ℕ → ℕ → Type 0
 NamesFail (failure.Fault fault.I1) file at count = ⊥
 NamesFail (failure.Fault fault.I2) file at count = NoNames file at count
@@ -69,10 +70,12 @@ pub record MarksStand (file : List ℕ) (at funcs size : ℕ) (marks : List Mark
   pub are : drop at file ≡ flat_map mark_bytes marks ++ drop (at + length marks * 12) file
   pub right : All (IsMark funcs size) marks
 
+-- no marks in range stand from this place on
 abbrev pub NoMarks : List ℕ → ℕ → ℕ → ℕ → ℕ → Type 0
 NoMarks file at count funcs size = (marks : List Mark) (rest : List ℕ) → length marks ≡ count → All (IsMark funcs size) marks
     → drop at file ≢ flat_map mark_bytes marks ++ rest
 
+-- what an error says of so many marks from this place on
 abbrev pub MarksFail : ImageError → List ℕ → ℕ → ℕ → ℕ → ℕ → Type 0
 MarksFail (failure.Fault fault.I1) file at count funcs size = ⊥
 MarksFail (failure.Fault fault.I2) file at count funcs size = ⊥

@@ -1,9 +1,8 @@
 //! Marks in a file: twelve bytes each.
 ghost use Rattle.std.specs.Prelude.{◌≡◌, ◌≢◌, ◌≤◌, ◌+◌, ◌*◌, IfOk, IfErr, IfSome, IfNone, Decides, length};
 ghost use Rattle.image_file.specs.ImageText.{kind_number};
-ghost use Rattle.image_file.specs.Faults.{AreAscending};
 ghost use Rattle.image_file.specs.Reading.{MarkStands, NoMark, MarksStand, MarksFail};
-ghost use Rattle.sloth_base.specs.ImageRange.{AreFields, IsMark};
+ghost use Rattle.sloth_base.specs.ImageRange.{AreFields, IsMark, AreAscending};
 ghost use Rattle.sloth_base.specs.declared.image.MarkKind.{MarkKind as KindOfMark};
 
 use crate::fault::{ImageError, ImageFault};

@@ -1,23 +1,24 @@
 -- The relation of an observer, its steps and its events goes on.
-use Rattle.std.proofs.Common.{◌≡◌, ◌↔◌, ◌+◌, suc, arith, List, [], ◌∷◌, ◌++◌, Option, Some, None, IsNone, IfNone, length, refl, sym, ◌∙◌, ap, append-nil, length-append}
+use Rattle.std.proofs.Common.{◌≡◌, ◌↔◌, ◌+◌, true, suc, arith, List, [], ◌∷◌, ◌++◌, Option, Some, None, IsNone, IfNone, IfSome, length, refl, sym, ◌∙◌, ap, append-nil, length-append}
 use Rattle.sloth_base.specs.declared.event.Arrival.{Arrival}
 use Rattle.sloth_base.specs.declared.event.Stamped.{Stamped}
 use Rattle.sloth_base.specs.declared.step.Step.{Step}
-use Rattle.observe.specs.Pieces.{cut_off}
+use Rattle.observe.specs.Pieces.{begins, cut_off}
 use Rattle.observe.specs.Observe.{View, observe}
+use Rattle.observe.specs.Touched.{HasPlace}
 use Rattle.observe.specs.Progress.{Progress, left_over, advanced, one_or_none, FedProgress, from}
 use Rattle.observe.proofs.Cutting.{cut_off-append}
 use Rattle.observe.proofs.Growing.{observe-more}
 use Rattle.observe.proofs.Turning.{Ready, Turned, turned}
 
 pub fed-keeps : (view : View) (arrivals : List Arrival) (p : Progress) (step : Step) (run : List Step) (events : List Stamped)
-    → FedProgress view arrivals p run events → left_over view p ≡ [] → step.count ≡ p.expected → FedProgress view arrivals (advanced view p step) (run ++ step ∷ []) events
-fed-keeps view arrivals p step run events f drained e =
-    let r : Ready arrivals p step = record { ordered = f.ordered; lines = f.lines; coming = rw e f.coming; count = e } in
+    → FedProgress view arrivals p run events → left_over view p ≡ [] → step.count ≡ p.expected → IfSome p.first (λ first. HasPlace step) → (begins step ≡ true → HasPlace step)
+    → FedProgress view arrivals (advanced view p step) (run ++ step ∷ []) events
+fed-keeps view arrivals p step run events f drained e joins opens =
+    let r : Ready arrivals p step = record { ordered = f.ordered; joins = joins; opens = opens; coming = rw e f.coming; count = e } in
     let t : Turned view arrivals (advanced view p step) (cut_off [] run) step = turned view arrivals p step p.first (cut_off [] run) r refl f.stretch in
     record {
       ordered = f.ordered;
-      lines = f.lines;
       told =
           let all : events ≡ observe view arrivals run = sym (append-nil events) ∙ ap (λ more. events ++ more) (sym drained) ∙ f.told in
           rw all (sym (observe-more view arrivals run step (left_over view (advanced view p step)) t.brings));

@@ -8,4 +8,3 @@ pub mod Rule
 pub mod Masking
 mod Places
 mod Rows
-pub mod Ranges

@@ -3,14 +3,15 @@ use Rattle.std.proofs.Common.{◌≡◌, ◌⊎◌, ℕ, Bool, true, false, List
 use Rattle.std.specs.Bool.{if◌then◌else◌}
 use Rattle.std.specs.Prelude.{not, ◌||◌, ◌&&◌, is_some}
 use Rattle.sloth_base.specs.declared.step.Step.{Step}
-use Rattle.observe.specs.Pieces.{Piece, Outside, Stretch, pieces, cut_off, is_outside, EachPiece, GoesOn, StartsAtZero, AllFindMasked, RestFindsMasked, FindsEnabled}
+use Rattle.observe.specs.Pieces.{Piece, Outside, Stretch, pieces, cut_off, is_outside, GoesOn, StartsAtZero, FindsMasked, RestFindsMasked, FindsEnabled}
+use Rattle.std.specs.List.{AllByRecursion}
 
 -- before a run goes on: outside the stretches MIE is 1, but before the step of count 0; inside one it is 0
 abbrev pub Finds : List Step → Bool → List Step → Type 0
 Finds [] enabled run = (enabled ≡ true) ⊎ StartsAtZero run
-Finds (first ∷ more) enabled run = (enabled ≡ false) × AllFindMasked more
+Finds (first ∷ more) enabled run = (enabled ≡ false) × AllByRecursion FindsMasked more
 
-masked-push : (steps : List Step) (step : Step) → AllFindMasked steps → step.enabled_before ≡ false → AllFindMasked (steps ++ step ∷ [])
+masked-push : (steps : List Step) (step : Step) → AllByRecursion FindsMasked steps → step.enabled_before ≡ false → AllByRecursion FindsMasked (steps ++ step ∷ [])
 masked-push [] step h e = (e, tt)
 masked-push (next ∷ more) step h e = (h.0, masked-push more step h.1 e)
 
@@ -42,7 +43,7 @@ finds-more [] run step h off = (off, h)
 finds-more (first ∷ more) run step h off = (off, h)
 
 pub record Enabled (parts : List Piece) (rest : List Step) : Type 0 where
-  pub each : EachPiece FindsEnabled parts
+  pub each : AllByRecursion FindsEnabled parts
   pub left : RestFindsMasked rest
 
 enabled-step : (b d : Bool) (opened run : List Step) (enabled : Bool) (step : Step) → is_outside opened step ≡ b → step.enabled_after ≡ d → Finds opened enabled (step ∷ run) → step.enabled_before ≡ enabled

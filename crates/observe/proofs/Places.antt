@@ -9,7 +9,7 @@ use Rattle.std.proofs.lemmas.List.Kept.{AllPairs-from_increasing}
 use Rattle.std.proofs.Math.ListN.{get_or-map, length-map}
 use Rattle.std.proofs.lemmas.Bool.Decides.{nat_tests}
 use Rattle.sloth_base.specs.declared.image.Mark.{Mark}
-use Rattle.observe.specs.Observe.{AreAscending}
+use Rattle.sloth_base.specs.ImageRange.{AreAscending}
 
 -- the first mark of this address
 abbrev pub found_at : List Mark → ℕ → Option Mark

@@ -1,6 +1,6 @@
 -- The table of touched lines tells which arrivals are early.
 use Rattle.std.proofs.Common.{◌≡◌, ◌≤◌, ◌<◌, ◌+◌, ℕ, zero, suc, Bool, true, false, List, [], ◌∷◌, ◌++◌, Option, Some, None, length, filter, refl, sym, ◌∙◌, ap, arith, nat_lt, inl, inr, length-set, get_or, get_or-set_other}
-use Rattle.std.specs.Prelude.{◌&&◌, ◌||◌, not, slice_index, slice_set, replicate}
+use Rattle.std.specs.Prelude.{◌&&◌, ◌||◌, not, slice_index, slice_set, replicate, IfSome}
 use Rattle.std.specs.List.{list_any}
 use Rattle.std.proofs.lemmas.Bool.Decides.{leb_tells, eqb_tells}
 use Rattle.std.proofs.lemmas.Bool.{le-ltb, lt-ltb}
@@ -9,8 +9,9 @@ use Rattle.std.proofs.Math.ListN.{set}
 use Rattle.std.proofs.lemmas.Grind.{get_or-set_at}
 use Rattle.sloth_base.specs.declared.event.Arrival.{Arrival}
 use Rattle.sloth_base.specs.declared.step.Step.{Step}
-use Rattle.observe.specs.Observe.{touches, is_early, is_line}
-use Rattle.observe.specs.Touched.{was_touched, noted, AreLines, Tells}
+use Rattle.observe.specs.Observe.{touches, is_early}
+use Rattle.sloth_base.specs.Options.{is_number}
+use Rattle.observe.specs.Touched.{was_touched, noted, HasPlace, Tells}
 
 or_false : (b : Bool) → (b || false) ≡ b
 or_false true = refl
@@ -28,58 +29,55 @@ any-more : (at line : ℕ) (steps : List Step) (step : Step) → list_any (touch
 any-more at line steps step = list_any-append (touches at line) steps (step ∷ []) ∙ ap (λ b. list_any (touches at line) steps || b) (or_false (touches at line step))
 
 -- a step that does not touch the line
-any-same : (at line : ℕ) (steps : List Step) (step : Step) → is_line step.touched line ≡ false → list_any (touches at line) (steps ++ step ∷ []) ≡ list_any (touches at line) steps
+any-same : (at line : ℕ) (steps : List Step) (step : Step) → is_number line step.touched ≡ false → list_any (touches at line) (steps ++ step ∷ []) ≡ list_any (touches at line) steps
 any-same at line steps step off = any-more at line steps step ∙ rw (off, and_false, or_false) refl
 
 -- a step that does
-any-here : (at line : ℕ) (table : List ℕ) (count : ℕ) (steps : List Step) (step : Step) → Tells table count steps → line < 32 → step.count ≡ count → is_line step.touched line ≡ true
+any-here : (at line : ℕ) (table : List ℕ) (count : ℕ) (steps : List Step) (step : Step) → Tells table count steps → step.count ≡ count → is_number line step.touched ≡ true
     → nat_lt at (step.count + 1) ≡ list_any (touches at line) (steps ++ step ∷ [])
-any-here at line table count steps step t lt e on = elim (leb_tells at step.count) [
+any-here at line table count steps step t e on = elim (leb_tells at step.count) [
   | inl early ↦ (let now : nat_lt at (step.count + 1) ≡ true = lt-ltb at (step.count + 1) (omega arith) in
       now ∙ sym (any-more at line steps step ∙ rw (early.0, on, or_true) refl))
   | inr late ↦ (let now : nat_lt at (step.count + 1) ≡ false = le-ltb at (step.count + 1) (omega arith) in
       let bound : slice_index table line ≤ count = t.earlier line in
       let before : nat_lt at (slice_index table line) ≡ false = le-ltb at (slice_index table line) (omega arith) in
-      now ∙ sym (any-more at line steps step ∙ rw (late.0, or_false) (sym (t.known line at lt) ∙ before)))
+      now ∙ sym (any-more at line steps step ∙ rw (late.0, or_false) (sym (t.known line at) ∙ before)))
 ]
 
--- a step that touches none of the 32 lines
-noted-none : (table : List ℕ) (count : ℕ) (steps : List Step) (step : Step) → ((line : ℕ) → line < 32 → is_line step.touched line ≡ false) → Tells table count steps → Tells table (count + 1) (steps ++ step ∷ [])
+-- a step that touches no line
+noted-none : (table : List ℕ) (count : ℕ) (steps : List Step) (step : Step) → ((line : ℕ) → is_number line step.touched ≡ false) → Tells table count steps → Tells table (count + 1) (steps ++ step ∷ [])
 noted-none table count steps step other t = record {
   long = t.long;
   earlier = λ line. let bound : slice_index table line ≤ count = t.earlier line in omega arith;
-  known = λ line at lt. t.known line at lt ∙ sym (any-same at line steps step (other line lt));
+  known = λ line at. t.known line at ∙ sym (any-same at line steps step (other line));
 }
 
 -- a step that touches this one
-noted-line : (l : ℕ) (table : List ℕ) (count : ℕ) (steps : List Step) (step : Step) → step.touched ≡ Some l → l < 32 → Tells table count steps → step.count ≡ count
+noted-line : (l : ℕ) (table : List ℕ) (count : ℕ) (steps : List Step) (step : Step) → step.touched ≡ Some l → l < 256 → Tells table count steps → step.count ≡ count
     → Tells (slice_set table l (step.count + 1)) (count + 1) (steps ++ step ∷ [])
 noted-line l table count steps step is in_range t e = record {
   long = length-set table l (step.count + 1) ∙ t.long;
   earlier = λ line. elim (eqb_tells line l) [
-    | inl same ↦ (let here : get_or (set table l (step.count + 1)) line 0 ≡ step.count + 1 = get_or-set_at table l line (step.count + 1) 0 same.1 (let long : length table ≡ 32 = t.long in omega arith) in omega arith)
+    | inl same ↦ (let here : get_or (set table l (step.count + 1)) line 0 ≡ step.count + 1 = get_or-set_at table l line (step.count + 1) 0 same.1 (let long : length table ≡ 256 = t.long in omega arith) in omega arith)
     | inr other ↦ (let bound : slice_index table line ≤ count = t.earlier line in
         let there : get_or (set table l (step.count + 1)) line 0 ≡ get_or table line 0 = get_or-set_other table l line (step.count + 1) 0 other.1 in omega arith)
   ];
-  known = λ line at lt. elim (eqb_tells l line) [
-    | inl same ↦ (let here : get_or (set table l (step.count + 1)) line 0 ≡ step.count + 1 = get_or-set_at table l line (step.count + 1) 0 (sym same.1) (let long : length table ≡ 32 = t.long in omega arith) in
-        ap (nat_lt at) here ∙ any-here at line table count steps step t lt e (rw (is, same.0) refl))
+  known = λ line at. elim (eqb_tells l line) [
+    | inl same ↦ (let here : get_or (set table l (step.count + 1)) line 0 ≡ step.count + 1 = get_or-set_at table l line (step.count + 1) 0 (sym same.1) (let long : length table ≡ 256 = t.long in omega arith) in
+        ap (nat_lt at) here ∙ any-here at line table count steps step t e (rw (is, same.0) refl))
     | inr other ↦ (let there : get_or (set table l (step.count + 1)) line 0 ≡ get_or table line 0 = get_or-set_other table l line (step.count + 1) 0 (λ r. other.1 (sym r)) in
-        ap (nat_lt at) there ∙ t.known line at lt ∙ sym (any-same at line steps step (rw (is, other.0) refl)))
+        ap (nat_lt at) there ∙ t.known line at ∙ sym (any-same at line steps step (rw (is, other.0) refl)))
   ];
 }
 
-noted-at : (touched : Option ℕ) (table : List ℕ) (count : ℕ) (steps : List Step) (step : Step) → step.touched ≡ touched → Tells table count steps → step.count ≡ count
+noted-at : (touched : Option ℕ) (table : List ℕ) (count : ℕ) (steps : List Step) (step : Step) → step.touched ≡ touched → IfSome touched (λ line. line < 256) → Tells table count steps → step.count ≡ count
     → Tells (noted touched step.count table) (count + 1) (steps ++ step ∷ [])
-noted-at None table count steps step is t e = noted-none table count steps step (λ line lt. rw is refl) t
-noted-at (Some l) table count steps step is t e = elim (leb_tells (suc l) 32) [
-  | inl low ↦ (rw low.0 (noted-line l table count steps step is (omega arith) t e))
-  | inr high ↦ (rw high.0 (noted-none table count steps step (λ line lt. rw is (elim (eqb_tells l line) [ inl same ↦ absurd (omega arith) | inr other ↦ other.0 ])) t))
-]
+noted-at None table count steps step is place t e = noted-none table count steps step (λ line. rw is refl) t
+noted-at (Some l) table count steps step is place t e = noted-line l table count steps step is place t e
 
 -- the table goes on with the step
-pub noted-keeps : (table : List ℕ) (count : ℕ) (steps : List Step) (step : Step) → Tells table count steps → step.count ≡ count → Tells (noted step.touched step.count table) (count + 1) (steps ++ step ∷ [])
-noted-keeps table count steps step t e = noted-at step.touched table count steps step refl t e
+pub noted-keeps : (table : List ℕ) (count : ℕ) (steps : List Step) (step : Step) → HasPlace step → Tells table count steps → step.count ≡ count → Tells (noted step.touched step.count table) (count + 1) (steps ++ step ∷ [])
+noted-keeps table count steps step place t e = noted-at step.touched table count steps step refl place t e
 
 zeros : (n line : ℕ) → slice_index (replicate n 0) line ≡ 0
 zeros zero line = refl
@@ -87,31 +85,22 @@ zeros (suc n) zero = refl
 zeros (suc n) (suc line) = zeros n line
 
 -- the table where nothing was touched
-pub tells-none : (count : ℕ) → Tells (replicate 32 0) count []
+pub tells-none : (count : ℕ) → Tells (replicate 256 0) count []
 tells-none count = record {
   long = refl;
-  earlier = λ line. let z : slice_index (replicate 32 0) line ≡ 0 = zeros 32 line in omega arith;
-  known = λ line at lt. ap (nat_lt at) (zeros 32 line) ∙ le-ltb at 0 (omega arith);
+  earlier = λ line. let z : slice_index (replicate 256 0) line ≡ 0 = zeros 256 line in omega arith;
+  known = λ line at. ap (nat_lt at) (zeros 256 line) ∙ le-ltb at 0 (omega arith);
 }
 
--- each of the first, and of the rest
-first-line : (arrival : Arrival) (arrivals : List Arrival) → AreLines (arrival ∷ arrivals) → arrival.line < 32
-first-line arrival arrivals h = h 0 arrival (omega arith)
-
-rest-lines : (arrival : Arrival) (arrivals : List Arrival) → AreLines (arrival ∷ arrivals) → AreLines arrivals
-rest-lines arrival arrivals h k d lt = h (suc k) d (omega arith)
-
 -- the table tells of an arrival what the steps do
-early-is : (table : List ℕ) (count : ℕ) (steps : List Step) (arrival : Arrival) → Tells table count steps → arrival.line < 32 → was_touched table arrival ≡ is_early steps arrival
-early-is table count steps arrival t lt = t.known arrival.line arrival.at lt
+early-is : (table : List ℕ) (count : ℕ) (steps : List Step) (arrival : Arrival) → Tells table count steps → was_touched table arrival ≡ is_early steps arrival
+early-is table count steps arrival t = t.known arrival.line arrival.at
 
-pub filter-early : (table : List ℕ) (count : ℕ) (steps : List Step) (arrivals : List Arrival) → Tells table count steps → AreLines arrivals → filter (was_touched table) arrivals ≡ filter (is_early steps) arrivals
-filter-early table count steps [] t h = refl
-filter-early table count steps (arrival ∷ arrivals) t h =
-    rw (early-is table count steps arrival t (first-line arrival arrivals h), filter-early table count steps arrivals t (rest-lines arrival arrivals h)) refl
+pub filter-early : (table : List ℕ) (count : ℕ) (steps : List Step) (arrivals : List Arrival) → Tells table count steps → filter (was_touched table) arrivals ≡ filter (is_early steps) arrivals
+filter-early table count steps [] t = refl
+filter-early table count steps (arrival ∷ arrivals) t = rw (early-is table count steps arrival t, filter-early table count steps arrivals t) refl
 
-pub filter-late : (table : List ℕ) (count : ℕ) (steps : List Step) (arrivals : List Arrival) → Tells table count steps → AreLines arrivals
+pub filter-late : (table : List ℕ) (count : ℕ) (steps : List Step) (arrivals : List Arrival) → Tells table count steps
     → filter (λ arrival. not (was_touched table arrival)) arrivals ≡ filter (λ arrival. not (is_early steps arrival)) arrivals
-filter-late table count steps [] t h = refl
-filter-late table count steps (arrival ∷ arrivals) t h =
-    rw (early-is table count steps arrival t (first-line arrival arrivals h), filter-late table count steps arrivals t (rest-lines arrival arrivals h)) refl
+filter-late table count steps [] t = refl
+filter-late table count steps (arrival ∷ arrivals) t = rw (early-is table count steps arrival t, filter-late table count steps arrivals t) refl

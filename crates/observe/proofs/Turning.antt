@@ -1,9 +1,8 @@
 -- What an observer is after one step more.
 use Rattle.std.proofs.Common.{◌≡◌, ◌≤◌, ◌<◌, ◌+◌, ℕ, Bool, true, false, List, [], ◌∷◌, ◌++◌, Option, Some, None, map, filter, refl, sym, ap, arith, append_assoc, append-nil, subst}
-use Rattle.std.specs.Prelude.{not, replicate}
+use Rattle.std.specs.Prelude.{not, replicate, IfSome}
 use Rattle.std.specs.Bool.{if◌then◌else◌}
 use Rattle.std.specs.List.{flat_map}
-use Rattle.std.proofs.lemmas.List.Elements.{All-filter}
 use Rattle.sloth_base.specs.declared.event.Arrival.{Arrival}
 use Rattle.sloth_base.specs.declared.image.Mark.{Mark}
 use Rattle.sloth_base.specs.declared.image.MarkKind.{MarkKind}
@@ -12,8 +11,8 @@ use Rattle.sloth_base.specs.declared.step.Step.{Step}
 use Rattle.sloth_base.specs.Arrivals.{NeverFalls, moments}
 use Rattle.observe.specs.Pieces.{Outside, Stretch, begins}
 use Rattle.observe.specs.Observe.{View, piece_events, found_admits, placed, masked_from, admit, last_of, outside_events, events_of_kind, mark_at, stamp, stretch_event}
-use Rattle.observe.specs.Touched.{was_touched, noted, AreLines, Tells}
-use Rattle.observe.specs.Progress.{Progress, left_over, advanced_from, passed, begun, joined, ended, noting, stood_outside, only, here, behind, within, one_or_none, IsOpen, IsStretch, from}
+use Rattle.observe.specs.Touched.{was_touched, noted, HasPlace, Tells}
+use Rattle.observe.specs.Progress.{Progress, left_over, advanced_from, passed, begun, joined, noting, stood_outside, only, here, behind, within, one_or_none, IsOpen, IsStretch, from, behind_stretch}
 use Rattle.observe.proofs.Growing.{kept, Brings}
 use Rattle.observe.proofs.Moments.{here-from, behind-from, within-from, moments-none}
 use Rattle.observe.proofs.Touching.{noted-keeps, tells-none, filter-early, filter-late}
@@ -28,7 +27,8 @@ pub record Turned (view : View) (arrivals : List Arrival) (p : Progress) (opened
 -- what a turn rests on
 pub record Ready (arrivals : List Arrival) (p : Progress) (step : Step) : Type 0 where
   pub ordered : NeverFalls 0 arrivals
-  pub lines : AreLines arrivals
+  pub joins : IfSome p.first (λ first. HasPlace step)
+  pub opens : begins step ≡ true → HasPlace step
   pub coming : p.coming ≡ from step.count arrivals
   pub count : step.count ≡ p.expected
 
@@ -38,17 +38,16 @@ last-more first (next ∷ more) step = last-more next more step
 
 -- what the end of a stretch brings
 ending-is : (view : View) (arrivals : List Arrival) (first step : Step) (steps : List Step) (inside coming : List Arrival) (table : List ℕ) (count : ℕ)
-    → inside ≡ from (masked_from first) arrivals → coming ≡ from (step.count + 1) arrivals → masked_from first ≤ step.count + 1 → NeverFalls 0 arrivals → AreLines arrivals → Tells table count steps
+    → inside ≡ from (masked_from first) arrivals → coming ≡ from (step.count + 1) arrivals → masked_from first ≤ step.count + 1 → NeverFalls 0 arrivals → Tells table count steps
     → map (admit view) (filter (was_touched table) (within inside coming))
     ++ (stamp first.count step.count (stretch_event view first step) ∷ map (admit view) (filter (λ arrival. not (was_touched table arrival)) (within inside coming)))
     ≡ placed view steps (moments (masked_from first) (step.count + 1) arrivals) first step
-ending-is view arrivals first step steps inside coming table count i c le ordered lines t =
+ending-is view arrivals first step steps inside coming table count i c le ordered t =
     let between : within inside coming ≡ moments (masked_from first) (step.count + 1) arrivals = rw (i, c) (within-from 0 (masked_from first) (step.count + 1) arrivals ordered le) in
-    let mine : AreLines (moments (masked_from first) (step.count + 1) arrivals) = All-filter _ (λ (arrival : Arrival). arrival.line < 32) arrivals lines in
     rw (
       between,
-      filter-early table count steps (moments (masked_from first) (step.count + 1) arrivals) t mine,
-      filter-late table count steps (moments (masked_from first) (step.count + 1) arrivals) t mine,
+      filter-early table count steps (moments (masked_from first) (step.count + 1) arrivals) t,
+      filter-late table count steps (moments (masked_from first) (step.count + 1) arrivals) t,
     )
     refl
 
@@ -81,20 +80,20 @@ turned-outside view arrivals p step r none off = record {
 }
 
 -- the step follows others of its stretch
-turned-next : (view : View) (arrivals : List Arrival) (p : Progress) (first : Step) (more : List Step) (step : Step) → Ready arrivals p step → IsStretch arrivals p first (first ∷ more) → (b : Bool) → step.enabled_after ≡ b
+turned-next : (view : View) (arrivals : List Arrival) (p : Progress) (first : Step) (more : List Step) (step : Step) → Ready arrivals p step → IsStretch arrivals p first (first ∷ more) → HasPlace step → (b : Bool) → step.enabled_after ≡ b
     → Turned view arrivals (joined view (passed p step) first step) (first ∷ more) step
-turned-next view arrivals p first more step r h true on = record {
+turned-next view arrivals p first more step r h place true on = record {
   brings =
       let masked : masked_from first ≤ step.count + 1 = (let b : masked_from first ≤ p.expected = h.begun in let e : step.count ≡ p.expected = r.count in omega arith) in
       let m : Progress = noting (passed p step) step in
       let P : Bool → Type 0 = λ b.
       flat_map (piece_events view arrivals) (if b then Stretch (first ∷ (more ++ step ∷ [])) ∷ [] else []) ++ found_admits view arrivals (if b then [] else first ∷ (more ++ step ∷ []))
-      ≡ found_admits view arrivals (first ∷ more) ++ left_over view (if b then ended view m first step else record m { first = Some first }) in
+      ≡ found_admits view arrivals (first ∷ more) ++ left_over view (if b then behind_stretch view m first step else record m { first = Some first }) in
       let body : P true =
       rw (
         last-more first more step,
-        ending-is view arrivals first step (first ∷ (more ++ step ∷ [])) p.inside (behind step.count p.coming) (noted step.touched step.count p.touched) (p.expected + 1) h.inside (coming-is arrivals p step r) masked r.ordered r.lines
-            (noted-keeps p.touched p.expected (first ∷ more) step h.tells r.count),
+        ending-is view arrivals first step (first ∷ (more ++ step ∷ [])) p.inside (behind step.count p.coming) (noted step.touched step.count p.touched) (p.expected + 1) h.inside (coming-is arrivals p step r) masked r.ordered
+            (noted-keeps p.touched p.expected (first ∷ more) step place h.tells r.count),
       )
       (simp append-nil) in
       subst P (sym on) body;
@@ -102,20 +101,20 @@ turned-next view arrivals p first more step r h true on = record {
   coming = rw on (coming-is arrivals p step r);
   stretch = rw on tt;
 }
-turned-next view arrivals p first more step r h false off = record {
+turned-next view arrivals p first more step r h place false off = record {
   brings = rw off (simp append-nil);
   expected = rw off (expected-is arrivals p step r);
   coming = rw off (coming-is arrivals p step r);
   stretch =
       let m : Progress = noting (passed p step) step in
-      let now : Bool → Progress = λ b. if b then ended view m first step else record m { first = Some first } in
+      let now : Bool → Progress = λ b. if b then behind_stretch view m first step else record m { first = Some first } in
       let P : Bool → Type 0 = λ b. IsOpen arrivals (now b) (now b).first (if b then [] else first ∷ (more ++ step ∷ [])) in
       subst P (sym off) (
         refl,
         record {
           inside = h.inside;
           begun = (let b : masked_from first ≤ p.expected = h.begun in omega arith);
-          tells = noted-keeps p.touched p.expected (first ∷ more) step h.tells r.count;
+          tells = noted-keeps p.touched p.expected (first ∷ more) step place h.tells r.count;
         },
       );
 }
@@ -143,14 +142,14 @@ turned-first view arrivals p step r opens true on = record {
       let P : Bool → Type 0 = λ b.
       flat_map (piece_events view arrivals) (if not (begins step) then Outside step ∷ [] else if b then Stretch (step ∷ []) ∷ [] else [])
       ++ found_admits view arrivals (if not (begins step) then [] else if b then [] else step ∷ [])
-      ≡ left_over view (if b then ended view m step step else record m { first = Some step }) in
+      ≡ left_over view (if b then behind_stretch view m step step else record m { first = Some step }) in
       let body : P true =
       rw (
         opens,
         first-found view arrivals p step r step.enabled_before refl,
-        ending-is view arrivals step step (step ∷ []) (if step.enabled_before then behind step.count p.coming else p.coming) (behind step.count p.coming) (noted step.touched step.count (replicate 32 0)) (step.count + 1)
-            (first-inside arrivals p step r step.enabled_before refl) (coming-is arrivals p step r) (first-masked step) r.ordered r.lines
-            (noted-keeps (replicate 32 0) step.count [] step (tells-none step.count) refl),
+        ending-is view arrivals step step (step ∷ []) (if step.enabled_before then behind step.count p.coming else p.coming) (behind step.count p.coming) (noted step.touched step.count (replicate 256 0)) (step.count + 1)
+            (first-inside arrivals p step r step.enabled_before refl) (coming-is arrivals p step r) (first-masked step) r.ordered
+            (noted-keeps (replicate 256 0) step.count [] step (r.opens opens) (tells-none step.count) refl),
       )
       (simp append-nil) in
       subst P (sym on) body;
@@ -164,16 +163,16 @@ turned-first view arrivals p step r opens false off = record {
   coming = rw off (coming-is arrivals p step r);
   stretch =
       let m : Progress = noting (begun p step) step in
-      let now : Bool → Progress = λ b. if b then ended view m step step else record m { first = Some step } in
+      let now : Bool → Progress = λ b. if b then behind_stretch view m step step else record m { first = Some step } in
       let P : Bool → Type 0 = λ b. IsOpen arrivals (now b) (now b).first (if not (begins step) then [] else if b then [] else step ∷ []) in
-      let Q : ℕ → Type 0 = λ n. Tells (noted step.touched step.count (replicate 32 0)) n (step ∷ []) in
+      let Q : ℕ → Type 0 = λ n. Tells (noted step.touched step.count (replicate 256 0)) n (step ∷ []) in
       let K : Bool → Type 0 = λ b. IsOpen arrivals (now false) (Some step) (if not b then [] else step ∷ []) in
       let opened : IsOpen arrivals (now false) (Some step) (step ∷ []) = (
         refl,
         record {
           inside = first-inside arrivals p step r step.enabled_before refl;
           begun = (let e : step.count ≡ p.expected = r.count in let b : masked_from step ≤ step.count + 1 = first-masked step in omega arith);
-          tells = subst Q (ap (λ n. n + 1) r.count) (noted-keeps (replicate 32 0) step.count [] step (tells-none step.count) refl);
+          tells = subst Q (ap (λ n. n + 1) r.count) (noted-keeps (replicate 256 0) step.count [] step (r.opens opens) (tells-none step.count) refl);
         },
       ) in
       subst P (sym off) (subst K (sym opens) opened);
@@ -191,4 +190,5 @@ turned view arrivals p step None (next ∷ more) r is h = absurd h
 turned view arrivals p step (Some first) [] r is h = absurd h
 turned view arrivals p step (Some first) (next ∷ more) r is h =
     let P : Step → Type 0 = λ x. IsStretch arrivals p x (next ∷ more) in
-    rw h.0 (turned-next view arrivals p next more step r (subst P h.0 h.1) step.enabled_after refl)
+    let H : Option Step → Type 0 = λ o. IfSome o (λ first. HasPlace step) in
+    rw h.0 (turned-next view arrivals p next more step r (subst P h.0 h.1) (subst H is r.joins) step.enabled_after refl)

@@ -1,7 +1,8 @@
 //! An observer that is fed one step at a time.
-ghost use Rattle.std.specs.Prelude.{◌≡◌, ◌<◌, ◌≤◌, ◌+◌, ◌++◌, ◌∷◌, [], List, length, take_while, nat_le, IfSome, IfNone, OnSome, IsOk, IfOk, IsNone, ◌↔◌};
+ghost use Rattle.std.specs.Prelude.{◌≡◌, ◌<◌, ◌≤◌, ◌+◌, ◌++◌, ◌∷◌, [], true, List, length, take_while, nat_le, IfSome, IfNone, OnSome, IsOk, IfOk, IsNone, ◌↔◌};
 ghost use Rattle.observe.specs.Pieces.{begins};
-ghost use Rattle.observe.specs.Observe.{admit, observe, view_of_image, AreAscending};
+ghost use Rattle.observe.specs.Observe.{admit, observe, view_of_image};
+ghost use Rattle.sloth_base.specs.ImageRange.{AreAscending};
 
 use crate::image_view::ImageView;
 use crate::touched::{skip_early, skip_late};
@@ -10,8 +11,6 @@ use sloth_base::image::Image;
 use sloth_base::memory::NoMemory;
 use sloth_base::step::Step;
 use std::alloc::Global;
-
-const LINES: usize = 32;
 
 /// The events of the steps that it was fed. It keeps the image's marks and the arrivals lent, and one open stretch.
 #[derive(Drop)]
@@ -26,7 +25,7 @@ pub struct Observer<'a> {
     // The arrivals from the first masked moment of that stretch on.
     inside: &'a [Arrival],
     // For each line the count after the last step of that stretch that touched it, or 0.
-    touched: [u64; 32],
+    touched: [u64; 256],
     // What is to be handed out: found with MIE 1, early, the event, late.
     found: &'a [Arrival],
     before: &'a [Arrival],
@@ -38,7 +37,7 @@ impl<'a> Observer<'a> {
     ghost use Rattle.sloth_base.specs.declared.step.Step.{Step as AnyStep};
     ghost use Rattle.sloth_base.specs.declared.event.Stamped.{Stamped as AnyStamped};
     ghost use Rattle.sloth_base.specs.Arrivals.{NeverFalls};
-    ghost use Rattle.observe.specs.Touched.{AreLines};
+    ghost use Rattle.observe.specs.Touched.{HasPlace};
     ghost use Rattle.observe.specs.Progress.{Fed, progress_of, view_of, arrivals_of, expected_of, remaining, left_over, here, passed, joined, advanced, one_or_none, settled, noting};
 
     /// An observer of a run of the image with these arrivals, which has seen no step. It needs no memory of its own.
@@ -49,7 +48,6 @@ impl<'a> Observer<'a> {
     ) -> Result<Observer<'a>, NoMemory>
         requires ascending { AreAscending image.now.marks }
         requires ordered { NeverFalls 0 arrivals.now }
-        requires lines { AreLines arrivals.now }
         ensures answers { IsOk result }
         ensures fed { IfOk result (λ o. Fed o [] []) }
         ensures view { IfOk result (λ o. view_of o ≡ view_of_image image.now) }
@@ -67,7 +65,7 @@ impl<'a> Observer<'a> {
             coming: arrivals,
             first: None,
             inside: none,
-            touched: [0; 32],
+            touched: [0; 256],
             found: none,
             before: none,
             event: None,
@@ -96,6 +94,7 @@ impl<'a> Observer<'a> {
 
     // The stretch of the first step goes on with this one.
     fn join(&mut self, first: &Step, step: &Step)
+        ensures place { HasPlace step.now }
         ensures joined { progress_of self.new ≡ joined (view_of self.old) (progress_of self.old) first.now step.now }
         ensures view { view_of self.new ≡ view_of self.old }
         ensures arrivals { arrivals_of self.new ≡ arrivals_of self.old }
@@ -122,21 +121,21 @@ impl<'a> Observer<'a> {
 
     // Notes the line that the step touches.
     fn note(&mut self, step: &Step)
+        ensures place { HasPlace step.now }
         ensures noted { progress_of self.new ≡ noting (progress_of self.old) step.now }
         ensures view { view_of self.new ≡ view_of self.old }
         ensures arrivals { arrivals_of self.new ≡ arrivals_of self.old }
     {
-        if let Some(line) = step.touched {
-            let line = usize::from(line.0);
-            if line < LINES {
-                self.touched[line] = u64::from(step.count) + 1;
-            }
+        if let Some(line) = &step.touched {
+            self.touched[usize::from(line.0)] = u64::from(step.count) + 1;
         }
     }
 
     // One step more.
     fn advance(&mut self, step: &Step)
         requires expected { step.now.count ≡ expected_of self.old }
+        ensures joins { IfSome self.old.first (λ first. HasPlace step.now) }
+        ensures opens { begins step.now ≡ true → HasPlace step.now }
         ensures advanced { progress_of self.new ≡ advanced (view_of self.old) (progress_of self.old) step.now }
         ensures view { view_of self.new ≡ view_of self.old }
         ensures arrivals { arrivals_of self.new ≡ arrivals_of self.old }
@@ -153,7 +152,7 @@ impl<'a> Observer<'a> {
             self.event = self.view.outside_event(step);
             return;
         }
-        self.touched = [0; 32];
+        self.touched = [0; 256];
         if step.enabled_before {
             self.inside = self.coming;
             self.found = here;

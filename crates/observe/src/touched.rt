@@ -5,17 +5,14 @@ ghost use Rattle.observe.specs.Touched.{was_touched};
 use sloth_base::event::Arrival;
 
 // The arrival's line was touched at its moment or later.
-fn was_touched(touched: &[u64; 32], arrival: &Arrival) -> bool
+fn was_touched(touched: &[u64; 256], arrival: &Arrival) -> bool
     ensures { result ≡ was_touched touched.now arrival.now }
 {
-    match touched.get(usize::from(arrival.line.0)) {
-        Some(count) => u64::from(arrival.at) < *count,
-        None => false,
-    }
+    u64::from(arrival.at) < touched[usize::from(arrival.line.0)]
 }
 
 /// From the first early arrival on.
-pub fn skip_late<'a>(arrivals: &'a [Arrival], touched: &[u64; 32]) -> &'a [Arrival]
+pub fn skip_late<'a>(arrivals: &'a [Arrival], touched: &[u64; 256]) -> &'a [Arrival]
     ensures kept { filter (was_touched touched.now) result.now ≡ filter (was_touched touched.now) arrivals.now }
     ensures head { IfSome (slice_get result.now 0) (λ arrival. was_touched touched.now arrival ≡ true) }
 {
@@ -30,7 +27,7 @@ pub fn skip_late<'a>(arrivals: &'a [Arrival], touched: &[u64; 32]) -> &'a [Arriv
 }
 
 /// From the first late arrival on.
-pub fn skip_early<'a>(arrivals: &'a [Arrival], touched: &[u64; 32]) -> &'a [Arrival]
+pub fn skip_early<'a>(arrivals: &'a [Arrival], touched: &[u64; 256]) -> &'a [Arrival]
     ensures kept { filter (λ arrival. not (was_touched touched.now arrival)) result.now ≡ filter (λ arrival. not (was_touched touched.now arrival)) arrivals.now }
     ensures head { IfSome (slice_get result.now 0) (λ arrival. was_touched touched.now arrival ≡ false) }
 {

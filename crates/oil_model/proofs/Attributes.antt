@@ -14,8 +14,10 @@ use Rattle.oil_model.specs.Table.{place_of, attribute_of, allows}
 use Rattle.oil_model.specs.Objects.{is_of_kind, is_use, has_scheduler}
 use Rattle.oil_model.specs.AttributeFaults.{inner_place, place_at, misses_value, refers_to_none, is_refused, AttributeFault, RowFault}
 use Rattle.oil_model.specs.ModelFaults.{ModelFault}
-use Rattle.oil_model.proofs.Tests.{and_left, and_right}
-use Rattle.oil_model.proofs.NoFaults.{nowhere, case_false, inner_at}
+use Rattle.text_pieces.proofs.Tests.{and_left, and_right}
+use Rattle.sloth_refusal.proofs.Nowhere.{nowhere, case_false}
+use Rattle.oil_model.proofs.NoFaults.{inner_at}
+use Rattle.sloth_base.specs.declared.refusal.Part.TheVariants.{Oil}
 
 not_false : (b : Bool) → not b ≡ false → b ≡ true
 not_false true e = refl
@@ -50,9 +52,9 @@ module _ (tree : OilTree) (none : NoFault (ModelFault tree)) (i : ℕ) (d : OilO
     pub allowed : allows row (get_or (get_or tree.objects i d).attrs k e).value ≡ true
     allowed =
         let a = get_or (get_or tree.objects i d).attrs k e in
-        not_false (allows row a.value) (case_false (is_refused (Some row) a.value) a.line O12 (λ r x. row_here r (inr (inr (inr x)))))
+        not_false (allows row a.value) (case_false Oil (is_refused (Some row) a.value) a.line O12 (λ r x. row_here r (inr (inr (inr x)))))
 
     pub refers : misses_value tree.objects (has_scheduler tree.objects) row (get_or (get_or tree.objects i d).attrs k e).value ≡ false
     refers =
         let a = get_or (get_or tree.objects i d).attrs k e in
-        case_false (refers_to_none tree.objects (has_scheduler tree.objects) (Some row) a.value) a.line O10 (λ r x. row_here r (inr (inr (inl x))))
+        case_false Oil (refers_to_none tree.objects (has_scheduler tree.objects) (Some row) a.value) a.line O10 (λ r x. row_here r (inr (inr (inl x))))

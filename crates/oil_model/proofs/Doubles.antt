@@ -7,7 +7,7 @@ use Rattle.std.proofs.lemmas.Slice.Eq.{bytes_eq-Decides}
 use Rattle.oil_parse.specs.declared.tree.OilObject.{OilObject}
 use Rattle.oil_model.specs.Objects.{is_of_kind, declares, has}
 use Rattle.oil_model.specs.ObjectFaults.{doubles}
-use Rattle.oil_model.proofs.Tests.{or_nothing, and_left, any_implies}
+use Rattle.text_pieces.proofs.Tests.{or_nothing, and_left, any_implies}
 
 or_takes : (a b : Bool) → (a ≡ true → b ≡ true) → (a || b) ≡ b
 or_takes true b f = sym (f refl)

@@ -7,7 +7,7 @@ use Rattle.std.specs.Str.{bytes_eq}
 use Rattle.std.proofs.lemmas.List.Sums.{sum_by-append}
 use Rattle.std.proofs.lemmas.Slice.Eq.{bytes_eq-Decides}
 use Rattle.indexmap.specs.IndexSet.{insert_key}
-use Rattle.oil_model.proofs.Tests.{and_left, and_right, any_insert}
+use Rattle.text_pieces.proofs.Tests.{and_left, and_right, any_insert}
 
 pub named_more : (keys : List (Bor (List ℕ) × Bor (List ℕ))) (k n : Bor (List ℕ)) (kind name : List ℕ)
     → list_any (λ (y : Bor (List ℕ) × Bor (List ℕ)). bytes_eq y.0.now kind && bytes_eq y.1.now name) (insert_key (λ (x : Bor (List ℕ) × Bor (List ℕ)) y. bytes_eq x.0.now y.0.now && bytes_eq x.1.now y.1.now) keys (k, n))

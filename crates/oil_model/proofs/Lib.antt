@@ -1,6 +1,5 @@
-pub mod Tests
 pub mod Names
-pub mod FirstNumbers
+pub mod KindNames
 pub mod Doubles
 pub mod Fronts
 pub mod KeptReferences

@@ -6,7 +6,7 @@ use Rattle.std.proofs.lemmas.List.{map-append}
 use Rattle.std.proofs.lemmas.List.Elements.{All-nil, All-cons, All-head, All-tail, filter_more}
 use Rattle.std.proofs.lemmas.List.Quantifiers.{all_pairs_push}
 use Rattle.std.proofs.Math.Seq.{take-length}
-use Rattle.oil_model.proofs.Tests.{or_left, or_right}
+use Rattle.text_pieces.proofs.Tests.{or_left, or_right}
 
 module _ {X : Type 0} (p : X → Bool) where
   pub none_pass : (xs : List X) → list_any p xs ≡ false → All (λ x. p x ≡ false) xs

@@ -13,52 +13,7 @@ use Rattle.oil_parse.specs.declared.tree.OilObject.{OilObject}
 use Rattle.oil_model.specs.Objects.{is_of_kind, has}
 use Rattle.oil_model.specs.Events.{mask_given, mask_named}
 use Rattle.oil_model.specs.Objects.{names_of}
-
-abbrev pub further : Option ℕ → Option ℕ
-further None = None
-further (Some i) = Some (suc i)
-
-pub bytes_eq-sym : (a b : List ℕ) → bytes_eq a b ≡ bytes_eq b a
-bytes_eq-sym a b = by (bytes_eq a b) (bytes_eq b a) refl refl
-  where
-    by : (x y : Bool) → bytes_eq a b ≡ x → bytes_eq b a ≡ y → bytes_eq a b ≡ bytes_eq b a
-    by true y p q = p ∙ sym ((bytes_eq-Decides b a).1 (sym ((bytes_eq-Decides a b).0 p)))
-    by false true p q = absurd (true≢false (sym ((bytes_eq-Decides a b).1 (sym ((bytes_eq-Decides b a).0 q))) ∙ p))
-    by false false p q = p ∙ sym q
-
-lt_suc : (a b : ℕ) → nat_lt (1 + a) (suc b) ≡ nat_lt a b
-lt_suc a b = ⊎_elim (λ h. let k : 1 + a < suc b = omega (arith, h) in lt-ltb (1 + a) (suc b) k ∙ sym (lt-ltb a b h)) (λ h. let k : suc b ≤ 1 + a = omega (arith, h) in le-ltb (1 + a) (suc b) k ∙ sym (le-ltb a b h)) (cases_lt a b)
-
-further_some : (n : ℕ) (b : Bool) → cond b (Some (1 + n)) None ≡ further (cond b (Some n) None)
-further_some n true = let e : 1 + n ≡ suc n = omega arith in ap Some e
-further_some n false = refl
-
-module _ {X : Type 0} (p : X → Bool) where
-  pub position-cons : (x : X) (xs : List X) → position p (x ∷ xs) ≡ (if p x then Some 0 else further (position p xs))
-  position-cons x xs = by (p x) refl
-    where
-      by : (b : Bool) → p x ≡ b → position p (x ∷ xs) ≡ (if p x then Some 0 else further (position p xs))
-      by true e =
-          let n = position_or_len p xs in
-          let z : nat_lt 0 (suc (length xs)) ≡ true = lt-ltb 0 (suc (length xs)) (omega arith) in
-          ap (λ b. cond (nat_lt (cond (not b) (1 + n) 0) (suc (length xs))) (Some (cond (not b) (1 + n) 0)) None) e ∙ ap (λ b. cond b (Some 0) None) z
-          ∙ sym (ap (λ b. cond b (Some 0) (further (position p xs))) e)
-      by false e =
-          let n = position_or_len p xs in
-          ap (λ b. cond (nat_lt (cond (not b) (1 + n) 0) (suc (length xs))) (Some (cond (not b) (1 + n) 0)) None) e ∙ ap (λ b. cond b (Some (1 + n)) None) (lt_suc n (length xs))
-          ∙ further_some n (nat_lt n (length xs)) ∙ sym (ap (λ b. cond b (Some 0) (further (position p xs))) e)
-
-  pub position-any : (xs : List X) → is_some (position p xs) ≡ list_any p xs
-  position-any [] = refl
-  position-any (x ∷ xs) = ap is_some (position-cons x xs) ∙ by (p x) (position-any xs)
-    where
-      by : (b : Bool) → is_some (position p xs) ≡ list_any p xs → is_some (if b then Some 0 else further (position p xs)) ≡ (b || list_any p xs)
-      by true e = refl
-      by false e = any (position p xs) ∙ e
-        where
-          any : (o : Option ℕ) → is_some (further o) ≡ is_some o
-          any None = refl
-          any (Some i) = refl
+use Rattle.text_pieces.proofs.Places.{further, bytes_eq-sym, position-cons, position-any}
 
 abbrev pub place_in : {X : Type 0} → List X → Option ℕ → Option X
 place_in xs None = None

@@ -9,33 +9,17 @@ use Rattle.sloth_base.specs.declared.refusal.Code.{Code}
 use Rattle.sloth_base.specs.declared.refusal.Code.TheVariants.{O7, O14}
 use Rattle.sloth_base.specs.declared.refusal.Refusal.{Refusal}
 use Rattle.sloth_refusal.specs.Order.{NoFault}
-use Rattle.sloth_refusal.specs.Search.{SomeFrom, Somewhere}
+use Rattle.sloth_refusal.proofs.Nowhere.{nowhere, case_false}
+use Rattle.sloth_base.specs.declared.refusal.Part.TheVariants.{Oil}
 use Rattle.oil_parse.specs.declared.tree.OilObject.{OilObject}
 use Rattle.oil_parse.specs.declared.tree.OilTree.{OilTree}
-use Rattle.oil_model.specs.Cases.{at, Case}
 use Rattle.oil_model.specs.Table.{place_of, is_nowhere}
 use Rattle.oil_model.specs.Objects.{is_of_kind, has_scheduler}
 use Rattle.oil_model.specs.Events.{events_of}
 use Rattle.oil_model.specs.ObjectFaults.{is_known, is_above, comes_behind}
 use Rattle.oil_model.specs.Configs.{resource_names}
-use Rattle.oil_model.proofs.Tests.{or_left, or_right}
+use Rattle.text_pieces.proofs.Tests.{or_left, or_right}
 use Rattle.oil_model.specs.ModelFaults.{InnerFault, ObjectFault, ModelFault}
-
-pub nowhere_from : {X : Type 0} (P : List X → X → Refusal → Type 0) (xs front : List X) → NoFault (SomeFrom P front xs) → (i : ℕ) (d : X) → i < length xs
-    → NoFault (P (front ++ take i xs) (get_or xs i d))
-nowhere_from P [] front n i d h = absurd (omega arith)
-nowhere_from P (x ∷ xs) front n zero d h = λ r p. n r (inl (subst (λ ys. P ys x r) (append-nil front) p))
-nowhere_from P (x ∷ xs) front n (suc i) d h = λ r p.
-    nowhere_from P xs (front ++ x ∷ []) (λ s q. n s (inr q)) i d (omega arith) r (subst (λ ys. P ys (get_or xs i d) r) (sym (append_assoc front (x ∷ []) (take i xs))) p)
-
--- A rule that finds a fault nowhere finds none at an element.
-pub nowhere : {X : Type 0} (P : List X → X → Refusal → Type 0) (xs : List X) → NoFault (Somewhere P xs) → (i : ℕ) (d : X) → i < length xs → NoFault (P (take i xs) (get_or xs i d))
-nowhere P xs n i d h = nowhere_from P xs [] n i d h
-
--- the test of a case that is no fault
-pub case_false : (b : Bool) (line : ℕ) (code : Code) → NoFault (Case b line code) → b ≡ false
-case_false true line code n = absurd (n (at line code) (refl, refl))
-case_false false line code n = refl
 
 lt_of_ne : (a b m : ℕ) → a ≤ b → (a ≡ b → ⊥) → m ≡ a + 1 → m ≤ b
 lt_of_ne a b m h ne e = ⊎_elim (λ l. omega (arith, l, e)) (λ l. absurd (ne (omega (arith, h, l)))) (cases_lt a b)
@@ -74,7 +58,7 @@ module _ (tree : OilTree) (none : NoFault (ModelFault tree)) where
   pub known : (i : ℕ) (d : OilObject) → i < length tree.objects → is_known (get_or tree.objects i d) ≡ true
   known i d h =
       let o = get_or tree.objects i d in
-      let f : is_nowhere (place_of o.kind) ≡ false = case_false (is_nowhere (place_of o.kind)) o.line O7 (λ r x. object_at i d h r (inl x)) in
+      let f : is_nowhere (place_of o.kind) ≡ false = case_false Oil (is_nowhere (place_of o.kind)) o.line O7 (λ r x. object_at i d h r (inl x)) in
       ap not f
 
   pub inner_at : (i : ℕ) (d : OilObject) → i < length tree.objects → NoFault (KnownHere i d)
@@ -83,7 +67,7 @@ module _ (tree : OilTree) (none : NoFault (ModelFault tree)) where
   pub not_above : (i : ℕ) (d : OilObject) → i < length tree.objects → is_above (take i tree.objects) (get_or tree.objects i d) ≡ false
   not_above i d h =
       let o = get_or tree.objects i d in
-      case_false (is_above (take i tree.objects) o) o.line O14 (λ r x. inner_at i d h r (inl (inr (inr (inr x)))))
+      case_false Oil (is_above (take i tree.objects) o) o.line O14 (λ r x. inner_at i d h r (inl (inr (inr (inr x)))))
 
   pub few_tasks : count_by (is_of_kind (codes "TASK")) tree.objects ≤ 30
   few_tasks = count_by-limited (is_of_kind (codes "TASK")) 30 tree.objects (λ i d h. or_left (comes_behind (codes "TASK") 30 (take i tree.objects) (get_or tree.objects i d)) _ (not_above i d h))

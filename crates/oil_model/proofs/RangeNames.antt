@@ -15,8 +15,10 @@ use Rattle.oil_parse.specs.declared.tree.OilTree.{OilTree}
 use Rattle.oil_model.specs.Objects.{is_of_kind, has_scheduler}
 use Rattle.oil_model.specs.ObjectFaults.{doubles, is_doubled, comes_behind}
 use Rattle.oil_model.specs.ModelFaults.{ModelFault}
-use Rattle.oil_model.proofs.Tests.{or_left, or_right}
-use Rattle.oil_model.proofs.NoFaults.{case_false, inner_at, not_above}
+use Rattle.text_pieces.proofs.Tests.{or_left, or_right}
+use Rattle.sloth_refusal.proofs.Nowhere.{case_false}
+use Rattle.oil_model.proofs.NoFaults.{inner_at, not_above}
+use Rattle.sloth_base.specs.declared.refusal.Part.TheVariants.{Oil}
 use Rattle.oil_model.proofs.Lists.{none_pass, All-kept, pairs_kept}
 
 pub true_not_false : (b : Bool) → b ≡ true → b ≡ false → {A : Type 0} → A
@@ -32,7 +34,7 @@ module _ (tree : OilTree) (none : NoFault (ModelFault tree)) where
   not_doubled : (i : ℕ) (d : OilObject) → i < length tree.objects → is_doubled (has_scheduler tree.objects) (take i tree.objects) (get_or tree.objects i d) ≡ false
   not_doubled i d h =
       let o = get_or tree.objects i d in
-      case_false (is_doubled (has_scheduler tree.objects) (take i tree.objects) o) o.line O9 (λ r x. inner_at tree none i d h r (inl (inl x)))
+      case_false Oil (is_doubled (has_scheduler tree.objects) (take i tree.objects) o) o.line O9 (λ r x. inner_at tree none i d h r (inl (inl x)))
 
   -- two objects of one kind differ in their names
   pub named_apart : (K : List ℕ) (i : ℕ) (d : OilObject) → i < length tree.objects → is_of_kind K (get_or tree.objects i d) ≡ true

@@ -19,10 +19,13 @@ use Rattle.oil_model.specs.Table.{allows}
 use Rattle.oil_model.specs.Objects.{is_of_kind, is_use, is_used, first_number, number_of, number_given}
 use Rattle.oil_model.specs.Events.{events_of}
 use Rattle.oil_model.specs.ObjectFaults.{lacks_attribute}
-use Rattle.oil_model.specs.TaskFaults.{is_number, has_priority, is_taken, repeats_priority, shares_bit, TaskFault}
+use Rattle.oil_model.specs.TaskFaults.{has_priority, is_taken, repeats_priority, shares_bit, TaskFault}
+use Rattle.sloth_base.specs.Options.{is_number}
 use Rattle.oil_model.specs.ModelFaults.{ModelFault}
 use Rattle.oil_model.specs.Configs.{resource_number, listed_resource, with_number, with_resource, resources_of}
-use Rattle.oil_model.proofs.NoFaults.{nowhere, case_false, inner_at}
+use Rattle.sloth_refusal.proofs.Nowhere.{nowhere, case_false}
+use Rattle.oil_model.proofs.NoFaults.{inner_at}
+use Rattle.sloth_base.specs.declared.refusal.Part.TheVariants.{Oil}
 use Rattle.oil_model.proofs.Lists.{none_pass, IsFirst, first_of}
 use Rattle.oil_model.proofs.Attributes.{allowed}
 use Rattle.oil_model.proofs.RangeNames.{true_not_false}
@@ -72,7 +75,7 @@ module _ (tree : OilTree) (none : NoFault (ModelFault tree)) (i : ℕ) (d : OilO
   has_priority_use : is_used (get_or tree.objects i d).attrs (codes "PRIORITY") ≡ true
   has_priority_use =
       let o = get_or tree.objects i d in
-      let f = case_false (lacks_attribute o) o.line O11 (λ r x. inner_at tree none i d within r (inl (inr (inl x)))) in
+      let f = case_false Oil (lacks_attribute o) o.line O11 (λ r x. inner_at tree none i d within r (inl (inr (inl x)))) in
       used (is_of_kind (codes "TASK") o) (is_used o.attrs (codes "PRIORITY")) _ task f
     where
       used : (a b c : Bool) → a ≡ true → (a && not (b && c)) ≡ false → b ≡ true
@@ -102,14 +105,14 @@ module _ (tree : OilTree) (none : NoFault (ModelFault tree)) (i : ℕ) (d : OilO
       → shares_bit (events_of tree.objects) (take k (get_or tree.objects i d).attrs) (get_or (get_or tree.objects i d).attrs k e) ≡ false
   no_shared k e h =
       let a = get_or (get_or tree.objects i d).attrs k e in
-      case_false (shares_bit (events_of tree.objects) (take k (get_or tree.objects i d).attrs) a) a.line O15 (λ r x. task_fault_free k e h r (inr x))
+      case_false Oil (shares_bit (events_of tree.objects) (take k (get_or tree.objects i d).attrs) a) a.line O15 (λ r x. task_fault_free k e h r (inr x))
 
   not_taken : list_any (has_priority priority_value.number) (take i tree.objects) ≡ false
   not_taken =
       let o = get_or tree.objects i d in
       let f = first_priority in
       let a = get_or o.attrs f.place f.item in
-      let g = case_false (repeats_priority (take i tree.objects) (take f.place o.attrs) a) a.line O13 (λ r x. task_fault_free f.place f.item f.within r (inl x)) in
+      let g = case_false Oil (repeats_priority (take i tree.objects) (take f.place o.attrs) a) a.line O13 (λ r x. task_fault_free f.place f.item f.within r (inl x)) in
       let h : repeats_priority (take i tree.objects) (take f.place o.attrs) f.item ≡ false = ap (repeats_priority (take i tree.objects) (take f.place o.attrs)) (sym f.stands) ∙ g in
       ap (is_taken (take i tree.objects)) (sym priority_value.is)
       ∙ third (is_use (codes "PRIORITY") f.item) (is_used (take f.place o.attrs) (codes "PRIORITY")) (is_taken (take i tree.objects) (number_of f.item.value)) f.passes f.none_before h

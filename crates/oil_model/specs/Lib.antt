@@ -1,7 +1,6 @@
 pub mod Cases
 pub mod Table
 pub mod Objects
-pub mod Numbers
 pub mod Events
 pub mod ObjectFaults
 pub mod AttributeFaults

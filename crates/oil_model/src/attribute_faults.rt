@@ -6,12 +6,13 @@ ghost use Rattle.oil_model.specs.AttributeFaults.{opened, place_by, is_second_us
 
 use crate::before::Before;
 use crate::object_table::ObjectTable;
-use crate::table::{Attribute, Place, allows, attribute_of, block_place, is_single, same};
+use crate::table::{Attribute, Place, allows, attribute_of, block_place, is_single};
 use oil_parse::tree::{OilAttr, OilValue};
 use sloth_base::memory::NoMemory;
 use sloth_base::refusal::{Code, Part, Refusal};
 use sloth_refusal::{merge, when};
 use std::alloc::Global;
+use text_pieces::bytes::same;
 
 fn opened(place: Place, inner: Place, attr: &OilAttr) -> Place
     ensures { result ≡ opened place inner attr.now }

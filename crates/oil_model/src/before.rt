@@ -3,12 +3,12 @@ ghost use Rattle.std.specs.Prelude.{◌≡◌, ◌||◌, ℕ, List, [], ◌∷�
 ghost use Rattle.std.specs.List.{list_any};
 ghost use Rattle.oil_model.specs.Objects.{is_use, is_used};
 
-use crate::memory::insert;
 use indexmap::IndexSet;
 use oil_parse::tree::OilAttr;
 use sloth_base::memory::NoMemory;
 use std::alloc::Global;
 use std::marker::Model;
+use text_pieces::growth::insert;
 
 /// The attributes of an object before one, with the names of those in the object's own block.
 #[derive(Drop)]

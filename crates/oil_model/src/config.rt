@@ -4,8 +4,6 @@ ghost use Rattle.std.specs.List.{list_any};
 ghost use Rattle.oil_model.specs.Configs.{resource_names, resource_number, listed_resource, with_number, with_resource, resources_of, mask_of_value, listed_mask, event_mask, task_of, tasks_of};
 
 use crate::event_table::EventTable;
-use crate::memory::push;
-use crate::numbers::Numbers;
 use crate::objects::{first_is, first_number, is_of_kind, is_use, is_used};
 use oil_parse::tree::{OilAttr, OilObject, OilValue};
 use sloth_base::config::TaskDecl;
@@ -14,6 +12,8 @@ use sloth_base::memory::NoMemory;
 use sloth_base::name::Name;
 use sloth_base::numbers::ResId;
 use std::alloc::Global;
+use text_pieces::growth::push;
+use text_pieces::names::Names;
 
 /// The names of the resources, in the order of their numbers.
 pub fn resource_names(alloc: Global, objects: &[OilObject]) -> Result<Vec<Name>, NoMemory>
@@ -29,7 +29,7 @@ pub fn resource_names(alloc: Global, objects: &[OilObject]) -> Result<Vec<Name>,
     Ok(names)
 }
 
-fn resource_named(names: &Numbers, word: &[u8]) -> Option<u32>
+fn resource_named(names: &Names, word: &[u8]) -> Option<u32>
     requires { length names.now ≤ 32 }
     ensures { result ≡ position (bytes_eq word.now) names.now }
 {
@@ -39,7 +39,7 @@ fn resource_named(names: &Numbers, word: &[u8]) -> Option<u32>
     }
 }
 
-fn resource_number(names: &Numbers, value: &OilValue) -> Option<u32>
+fn resource_number(names: &Names, value: &OilValue) -> Option<u32>
     requires { length names.now ≤ 32 }
     ensures { result ≡ resource_number names.now value.now }
 {
@@ -49,7 +49,7 @@ fn resource_number(names: &Numbers, value: &OilValue) -> Option<u32>
     }
 }
 
-fn listed_resource(names: &Numbers, attr: &OilAttr) -> Option<u32>
+fn listed_resource(names: &Names, attr: &OilAttr) -> Option<u32>
     requires { length names.now ≤ 32 }
     ensures { result ≡ listed_resource names.now attr.now }
 {
@@ -86,7 +86,7 @@ fn add_resource(listed: &mut Vec<ResId>, number: Option<u32>) -> Result<(), NoMe
 }
 
 /// The resources that a task lists, each once.
-fn resources_of(alloc: Global, names: &Numbers, attrs: &[OilAttr]) -> Result<Vec<ResId>, NoMemory>
+fn resources_of(alloc: Global, names: &Names, attrs: &[OilAttr]) -> Result<Vec<ResId>, NoMemory>
     requires { length names.now ≤ 32 }
     ensures { IfOk result (λ listed. listed.items ≡ resources_of names.now attrs.now) }
 {
@@ -129,7 +129,7 @@ fn event_mask(events: &EventTable, attrs: &[OilAttr]) -> u32
 
 fn task_of(
     alloc: Global,
-    names: &Numbers,
+    names: &Names,
     events: &EventTable,
     object: &OilObject,
 ) -> Result<TaskDecl, NoMemory>
@@ -151,7 +151,7 @@ fn task_of(
 /// The tasks, in the order of their numbers.
 pub fn tasks_of(
     alloc: Global,
-    names: &Numbers,
+    names: &Names,
     events: &EventTable,
     objects: &[OilObject],
 ) -> Result<Vec<TaskDecl>, NoMemory>

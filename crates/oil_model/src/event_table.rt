@@ -2,15 +2,15 @@
 ghost use Rattle.std.specs.Prelude.{◌≡◌, map};
 ghost use Rattle.oil_model.specs.Events.{mask_named};
 
-use crate::numbers::Numbers;
 use sloth_base::config::EventDecl;
 use std::marker::Model;
+use text_pieces::names::Names;
 
 /// The events of a tree, with the numbers of their names.
 #[derive(Drop)]
 pub struct EventTable<'t> {
     events: &'t [EventDecl],
-    numbers: &'t Numbers<'t>,
+    numbers: &'t Names<'t>,
 }
 
 impl<'t> Model for EventTable<'t> {
@@ -26,7 +26,7 @@ impl<'t> Model for EventTable<'t> {
 
 impl<'t> EventTable<'t> {
     /// These events, with the numbers of their names.
-    pub fn new(events: &'t [EventDecl], numbers: &'t Numbers<'t>) -> EventTable<'t>
+    pub fn new(events: &'t [EventDecl], numbers: &'t Names<'t>) -> EventTable<'t>
         requires { numbers.now ≡ map (λ event. event.name) events.now }
         ensures { result ≡ events.now }
     {

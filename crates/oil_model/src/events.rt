@@ -4,7 +4,6 @@ ghost use Rattle.std.specs.Prelude.{◌≡◌, ◌<◌, All, IfOk, find};
 ghost use Rattle.sloth_refusal.specs.Search.{Finds, Somewhere};
 ghost use Rattle.oil_model.specs.Events.{is_event, number_bits, number_masks, free_bit, is_auto, mask_by, taken_more, number_mask, lacks_bit, BitFault, events_of};
 
-use crate::memory::push;
 use crate::objects::{first_is, first_number, is_of_kind, is_used};
 use oil_parse::tree::OilObject;
 use sloth_base::config::EventDecl;
@@ -13,6 +12,7 @@ use sloth_base::name::Name;
 use sloth_base::refusal::{Code, Part, Refusal};
 use sloth_refusal::{merge, when};
 use std::alloc::Global;
+use text_pieces::growth::push;
 
 /// The bits of a mask, the lowest first.
 const BITS: [u32; 32] = [

@@ -5,13 +5,13 @@ ghost use Rattle.oil_model.specs.Objects.{has, is_of_kind};
 ghost use Rattle.oil_model.specs.TaskFaults.{has_priority};
 ghost use Rattle.oil_model.specs.Fronts.{priority_of};
 
-use crate::memory::insert;
 use crate::objects::{first_number, is_of_kind};
 use indexmap::IndexSet;
 use oil_parse::tree::OilObject;
 use sloth_base::memory::NoMemory;
 use std::alloc::Global;
 use std::marker::Model;
+use text_pieces::growth::insert;
 
 /// The objects before one: their kinds and names, the priorities of the tasks, and how many there are of a kind.
 #[derive(Drop)]

@@ -8,7 +8,6 @@ mod event_table;
 mod events;
 mod front;
 mod judge;
-mod memory;
 mod numbers;
 mod object_faults;
 mod object_table;

@@ -7,10 +7,11 @@ ghost use Rattle.oil_model.specs.ObjectFaults.{doubles, is_doubled, lacks_attrib
 
 use crate::front::Front;
 use crate::objects::{declares, is_of_kind, is_used};
-use crate::table::{is_nowhere, place_of, same};
+use crate::table::{is_nowhere, place_of};
 use oil_parse::tree::OilObject;
 use sloth_base::refusal::{Code, Part, Refusal};
 use sloth_refusal::{merge, when};
+use text_pieces::bytes::same;
 
 fn is_second_of_its_name(front: &Front, object: &OilObject) -> bool
     ensures { result ≡ has front.now object.now.kind object.now.name }

@@ -3,16 +3,16 @@ ghost use Rattle.std.specs.Prelude.{◌≡◌, codes};
 ghost use Rattle.oil_model.specs.Objects.{has};
 ghost use Rattle.oil_model.specs.Objects.{names_of};
 
-use crate::numbers::Numbers;
 use oil_parse::tree::OilObject;
 use std::marker::Model;
+use text_pieces::names::Names;
 
 /// The objects of a tree, with the numbers of the names of its resources and of its events.
 #[derive(Drop)]
 pub struct ObjectTable<'t> {
     objects: &'t [OilObject],
-    resources: &'t Numbers<'t>,
-    events: &'t Numbers<'t>,
+    resources: &'t Names<'t>,
+    events: &'t Names<'t>,
 }
 
 impl<'t> Model for ObjectTable<'t> {
@@ -31,8 +31,8 @@ impl<'t> ObjectTable<'t> {
     /// These objects, with the numbers of their names.
     pub fn new(
         objects: &'t [OilObject],
-        resources: &'t Numbers<'t>,
-        events: &'t Numbers<'t>,
+        resources: &'t Names<'t>,
+        events: &'t Names<'t>,
     ) -> ObjectTable<'t>
         requires resources { resources.now ≡ names_of (codes "RESOURCE") objects.now }
         requires events { events.now ≡ names_of (codes "EVENT") objects.now }

@@ -6,13 +6,13 @@ ghost use Rattle.oil_model.specs.References.{Referring, event_word, refers_to_cl
 ghost use Rattle.oil_model.specs.KeptReferences.{is_to, is_clash};
 
 use crate::event_table::EventTable;
-use crate::memory::push;
 use crate::objects::is_use;
-use crate::table::same;
 use oil_parse::tree::{OilAttr, OilValue};
 use sloth_base::memory::NoMemory;
 use std::alloc::Global;
 use std::marker::Model;
+use text_pieces::bytes::same;
+use text_pieces::growth::push;
 
 /// An event that a task refers to.
 #[derive(Drop)]

@@ -16,7 +16,7 @@ use crate::config::{resource_names, tasks_of};
 use crate::event_table::EventTable;
 use crate::events::events_of;
 use crate::judge::judge;
-use crate::numbers::Numbers;
+use crate::numbers::names_of;
 use crate::object_table::ObjectTable;
 use crate::objects::has_scheduler;
 use oil_parse::tree::{OilObject, OilTree};
@@ -25,13 +25,14 @@ use sloth_base::list::List;
 use sloth_base::memory::NoMemory;
 use sloth_base::refusal::{BuildError, Refusal};
 use std::alloc::Global;
+use text_pieces::names::Names;
 
 fn config_of(
     alloc: Global,
     objects: &[OilObject],
     scheduler: bool,
-    resource_numbers: &Numbers,
-    event_numbers: &Numbers,
+    resource_numbers: &Names,
+    event_numbers: &Names,
     events: Vec<EventDecl>,
 ) -> Result<Config, NoMemory>
     requires few { length (resource_names objects.now) ≤ 32 }
@@ -57,8 +58,8 @@ fn refusal_of(
     alloc: Global,
     tree: &OilTree,
     scheduler: bool,
-    resource_numbers: &Numbers,
-    event_numbers: &Numbers,
+    resource_numbers: &Names,
+    event_numbers: &Names,
     events: &[EventDecl],
 ) -> Result<Option<Refusal>, NoMemory>
     requires scheduler { scheduler ≡ has_scheduler tree.now.objects }
@@ -83,8 +84,8 @@ fn config_or_refusal(alloc: Global, tree: &OilTree) -> Result<Result<Config, Ref
     let objects = tree.objects.items();
     let scheduler = has_scheduler(objects);
     let events = events_of(alloc, objects)?;
-    let resource_numbers = Numbers::new(alloc, objects, b"RESOURCE")?;
-    let event_numbers = Numbers::new(alloc, objects, b"EVENT")?;
+    let resource_numbers = names_of(alloc, objects, b"RESOURCE")?;
+    let event_numbers = names_of(alloc, objects, b"EVENT")?;
     let refusal = refusal_of(
         alloc,
         tree,

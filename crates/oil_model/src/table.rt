@@ -4,6 +4,7 @@ ghost use Rattle.std.specs.Str.{bytes_eq};
 ghost use Rattle.oil_model.specs.Table.{place_of, is_hook, is_flag, os_attribute, task_attribute, only, attribute_of, is_single, allows_word, allows_number, allows, is_word, activation_place, block_place, is_nowhere};
 
 use oil_parse::tree::{OilAttr, OilValue};
+use text_pieces::bytes::same;
 
 /// Where attributes stand: in an object of a kind, or in the block of AUTOSTART = TRUE. No attribute may stand anywhere else.
 #[derive(Clone, Copy)]
@@ -33,12 +34,6 @@ pub enum Attribute {
     Event,
     Property,
     Mask,
-}
-
-pub fn same(one: &[u8], other: &[u8]) -> bool
-    ensures { result ≡ bytes_eq one.now other.now }
-{
-    one == other
 }
 
 /// The place that an object of this kind is; nowhere, where there is no such kind.

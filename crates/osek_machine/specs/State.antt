@@ -2,7 +2,8 @@
 use Rattle.std.specs.Prelude.{ℕ, ◌<◌, List, [], Bool, false, length, get_or, set, map, replicate}
 use Rattle.sloth_base.specs.declared.config.Config.{Config}
 use Rattle.sloth_base.specs.declared.app.App.{App}
-pub use Rattle.app_rules.specs.Named.{undeclared, declaration, missing, function, is_body_of, body_of}
+pub use Rattle.sloth_base.specs.Named.{undeclared, declaration, body_of}
+use Rattle.sloth_base.specs.Named.{function}
 use Rattle.osek_machine.specs.declared.state.TaskState.{TaskState}
 use Rattle.osek_machine.specs.declared.state.TaskState.TheVariants as mode
 
@@ -12,6 +13,7 @@ pub record Frame : Type 0 where
   pub item : ℕ
   pub words : List ℕ
 
+-- a task as it stands
 pub record Task : Type 0 where
   pub state : TaskState
   -- the 25 words x5 to x29
@@ -27,6 +29,7 @@ pub record Task : Type 0 where
   -- its Schedule has not come back yet
   pub owed : Bool
 
+-- the system as it stands
 pub record System : Type 0 where
   -- by task number
   pub tasks : List Task
@@ -36,9 +39,11 @@ pub record System : Type 0 where
   -- the tasks that admitted arrivals made Ready since the last event of another kind
   pub fresh : List ℕ
 
+-- the registers of a task that starts
 abbrev pub zero_registers : List ℕ
 zero_registers = replicate 25 0
 
+-- a task that was not activated yet
 abbrev pub sleeping : Task
 sleeping = record { state = mode.Suspended; registers = zero_registers; frames = []; events = 0; held = []; raised = false; owed = false }
 
@@ -46,6 +51,7 @@ sleeping = record { state = mode.Suspended; registers = zero_registers; frames =
 abbrev pub task : System → ℕ → Task
 task s t = get_or s.tasks t sleeping
 
+-- the system with a task replaced
 abbrev pub with_task : System → ℕ → Task → System
 with_task s t new = record s { tasks = set s.tasks t new }
 

@@ -1,5 +1,5 @@
 -- One event of the abstract machine.
-use Rattle.std.specs.Prelude.{ℕ, ◌<◌, ◌≡◌, List, [], ◌∷◌, true, false, cond, length, Some, get_or}
+use Rattle.std.specs.Prelude.{ℕ, ◌<◌, ◌≡◌, List, [], ◌∷◌, true, false, cond, length, Some}
 use Rattle.sloth_base.specs.declared.config.Config.{Config}
 use Rattle.sloth_base.specs.declared.config.TaskDecl.{TaskDecl}
 use Rattle.sloth_base.specs.declared.app.App.{App}
@@ -10,7 +10,9 @@ use Rattle.sloth_base.specs.declared.event.Event.{Event}
 use Rattle.sloth_base.specs.declared.event.Event.TheVariants as event
 use Rattle.sloth_base.specs.declared.service.Service.{Service}
 use Rattle.osek_machine.specs.declared.state.TaskState.TheVariants as mode
-use Rattle.osek_machine.specs.State.{Frame, Task, System, task, with_task, declaration, function, HasBody}
+use Rattle.osek_machine.specs.State.{Frame, Task, System, task, with_task, declaration, HasBody}
+use Rattle.sloth_base.specs.Named.{function}
+use Rattle.sloth_base.specs.Named as named
 use Rattle.osek_machine.specs.Priority.{IsTop, IsDue}
 use Rattle.osek_machine.specs.Meaning.{Meant, meaning}
 use Rattle.osek_machine.specs.Services.{if_suspended, activated, is_there, Outcome, GoesOn, Leaves, outcome, entered}
@@ -19,6 +21,7 @@ use Rattle.osek_machine.specs.Services.{if_suspended, activated, is_there, Outco
 abbrev pub settled : System → System
 settled s = record s { fresh = [] }
 
+-- the tasks with each Ready that the configuration starts by itself
 abbrev pub autostarted : List TaskDecl → List Task → List Task
 autostarted [] tasks = tasks
 autostarted (d ∷ declarations) [] = []
@@ -36,7 +39,7 @@ pub record IsAt (app : App) (s : System) (t : ℕ) (operation : Op) : Type 0 whe
   pub outer : List Frame
   pub frames : (task s t).frames ≡ frame ∷ outer
   pub inside : frame.item < length (function app frame.func).items
-  pub next : (get_or (function app frame.func).items frame.item (record { line = 0; op = op.Return })).op ≡ operation
+  pub next : named.operation app frame.func frame.item ≡ operation
 
 -- the running task executes an item that is no service
 pub record Executes (config : Config) (app : App) (t func item result : ℕ) (s next : System) : Type 0 where

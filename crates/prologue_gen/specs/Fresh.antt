@@ -5,11 +5,11 @@ use Rattle.sloth_region.specs.Layout.{cur, active, below_word, idle_context, con
 use Rattle.rv32_instr.specs.declared.InstrKind.{InstrKind}
 use Rattle.rv32_instr.specs.declared.InstrKind.TheVariants.{Jal}
 use Rattle.rv32_instr.specs.Ram.{word_at, with_word, with_words}
-use Rattle.rv32_instr.specs.Effect.{plus}
+use Rattle.sloth_base.specs.Arithmetic.{plus}
 use Rattle.rv32_routine.specs.Masked.{Masked, WithArrivals}
 use Rattle.rv32_routine.specs.Place.{at, InPlace}
 use Rattle.rv32_routine.specs.Pieces.{registers_from}
-use Rattle.rv32_routine.specs.Kernel.{CanRun}
+use Rattle.rv32_routine.specs.Kernel.{CanRun, LeftAs}
 
 -- the offset of a line's vector word
 abbrev pub vector : ℕ → ℕ
@@ -43,28 +43,23 @@ with_context core place =
     with_words (with_words core.ram (place + 4 * 5) (registers_from 27 5 core.registers)) place
     (core.mepc ∷ core.plevel ∷ word_at core.ram cur ∷ word_at core.ram below_word ∷ [])
 
+-- the bytes in which the task runs: what it preempted has its context at `place`, and the words of its frame are zero
+abbrev pub with_active : List ℕ → ℕ → ℕ → ℕ → ℕ → List ℕ
+with_active ram task place frame words =
+    with_words (with_word (with_word (with_word ram below_word (0x8000_0000 + place)) cur (task + 1)) (active task) 1) frame (replicate words 0)
+
 -- The task runs at its level, Active, with x5 to x29 and the words of its frame zero, at its first item.
 pub record Entered (task level first place frame words : ℕ) (touched : List ℕ) (start end : State) : Type 0 where
   pub touches : touched ≡ []
-  pub ram :
-      end.core.ram
-      ≡ with_words (with_word (with_word (with_word (with_context start.core place) below_word (0x8000_0000 + place)) cur (task + 1)) (active task) 1) frame (replicate words 0)
+  pub left : LeftAs (record start.core { ilevel = level; ram = with_active (with_context start.core place) task place frame words }) end.core
   pub pc : end.pc ≡ first
-  pub running : end.core.ilevel ≡ level
   pub x2 : slice_index end.core.registers 2 ≡ 0x8000_0000 + frame
   pub zeros : (i : ℕ) → 5 ≤ i → i < 30 → slice_index end.core.registers i ≡ 0
   pub kept : (i : ℕ) → 30 ≤ i → slice_index end.core.registers i ≡ slice_index start.core.registers i
-  pub zero : slice_index end.core.registers 0 ≡ 0
-  pub registers : length end.core.registers ≡ 32
-  pub opened : end.core.mie ≡ true
-  pub previous : end.core.mpie ≡ true
-  pub pending : end.core.pending ≡ start.core.pending
-  pub enabled : end.core.enabled ≡ start.core.enabled
-  pub levels : end.core.levels ≡ start.core.levels
-  pub scratch : end.core.mscratch ≡ start.core.mscratch
-  pub controller : end.core.controller ≡ start.core.controller
 
 -- Code of a prologue: with the jump of the vector word, at most 75 + words instructions lead to its effect, whatever lines arrive.
 pub record Enters (task level first frame words : ℕ) (code : List InstrKind) : Type 0 where
   pub size : length code ≡ 74 + words
-  pub runs : (offset place : ℕ) (core : Core) → first % 4 ≡ 0 → MayEnter offset task place frame words code core → Masked (75 + words) (at (vector task) core) (WithArrivals (Entered task level first place frame words) (at (vector task) core))
+  pub runs :
+      (offset place : ℕ) (core : Core) → first % 4 ≡ 0 → MayEnter offset task place frame words code core
+      → Masked (75 + words) (at (vector task) core) (WithArrivals (Entered task level first place frame words) (at (vector task) core))

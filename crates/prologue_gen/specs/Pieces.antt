@@ -1,24 +1,34 @@
 -- The pieces of a prologue.
-use Rattle.std.specs.Prelude.{ℕ, ◌+◌, ◌*◌, pos, negsuc, List, [], ◌∷◌, ◌++◌}
+use Rattle.std.specs.Prelude.{ℕ, ◌+◌, pos, neg_ℤ, List, [], ◌∷◌, ◌++◌}
+use Rattle.sloth_region.specs.Layout.{cur, active, below_word, context_bytes, context_pc, context_level, context_cur, context_below, words_high}
+use Rattle.rv32_instr.specs.declared.csr.TheConstants.{MEPC, PLEVEL}
 use Rattle.rv32_instr.specs.declared.InstrKind.{InstrKind}
 use Rattle.rv32_instr.specs.declared.InstrKind.TheVariants.{Lui, Addi, Lw, Sw, Csrrs, Csrrw, Csrrwi, Mret}
-use Rattle.rv32_routine.specs.Constant.{hi, lo}
+use Rattle.sloth_base.specs.Arithmetic.{hi, lo}
 use Rattle.rv32_routine.specs.Pieces.{saves, clears, clears_words}
 
--- leaves 0x80000000 in x4
-abbrev pub saves_context : List InstrKind
-saves_context =
-    Addi 1 2 (negsuc 127)
-    ∷ (saves 27 5 1
-    ++ (Lui 4 0x8_0000 ∷ Csrrs 3 0 0x341 ∷ Sw 1 3 (pos 0) ∷ Csrrs 3 0 0x7C1 ∷ Sw 1 3 (pos 4) ∷ Lw 3 4 (pos 0) ∷ Sw 1 3 (pos 8)
-    ∷ Lw 3 4 (pos 628) ∷ Sw 1 3 (pos 12) ∷ Sw 4 1 (pos 628) ∷ []))
+-- what the CSRs say goes into the context at x1; leaves 0x80000000 in x4
+abbrev pub saves_csrs : List InstrKind
+saves_csrs = Lui 4 words_high ∷ Csrrs 3 0 MEPC ∷ Sw 1 3 (pos context_pc) ∷ Csrrs 3 0 PLEVEL ∷ Sw 1 3 (pos context_level) ∷ []
 
+-- so does what the service words say, and then the context stands below
+abbrev pub saves_words : List InstrKind
+saves_words =
+    Lw 3 4 (pos cur) ∷ Sw 1 3 (pos context_cur) ∷ Lw 3 4 (pos below_word) ∷ Sw 1 3 (pos context_below) ∷ Sw 4 1 (pos below_word) ∷ []
+
+-- the context stands directly below x2
+abbrev pub saves_context : List InstrKind
+saves_context = Addi 1 2 (neg_ℤ (pos context_bytes)) ∷ (saves 27 5 1 ++ (saves_csrs ++ saves_words))
+
+-- the task is the running one and Active, and its level is that of the entry
 abbrev pub marks_active : ℕ → ℕ → List InstrKind
 marks_active task level =
-    Addi 3 0 (pos (task + 1)) ∷ Sw 4 3 (pos 0) ∷ Addi 3 0 (pos 1) ∷ Sw 4 3 (pos (4 + 12 * task)) ∷ Csrrwi 0 level 0x7C1 ∷ []
+    Addi 3 0 (pos (task + 1)) ∷ Sw 4 3 (pos cur) ∷ Addi 3 0 (pos 1) ∷ Sw 4 3 (pos (active task)) ∷ Csrrwi 0 level PLEVEL ∷ []
 
+-- x2 is the task's frame, and its first item is where the entry goes to
 abbrev pub begins : ℕ → ℕ → List InstrKind
-begins frame first = Lui 2 (hi frame) ∷ Addi 2 2 (lo frame) ∷ Lui 3 (hi first) ∷ Addi 3 3 (lo first) ∷ Csrrw 0 3 0x341 ∷ []
+begins frame first = Lui 2 (hi frame) ∷ Addi 2 2 (lo frame) ∷ Lui 3 (hi first) ∷ Addi 3 3 (lo first) ∷ Csrrw 0 3 MEPC ∷ []
 
+-- a start with a frame of zero words and zero registers
 abbrev pub starts_anew : ℕ → ℕ → ℕ → List InstrKind
 starts_anew frame words first = begins frame first ++ (clears_words words 0 2 ++ (clears 25 5 ++ Mret ∷ []))

@@ -9,6 +9,7 @@ use Rattle.sloth_base.specs.declared.places.Levels.{Levels}
 use Rattle.sloth_base.specs.declared.places.Places.{Places}
 use Rattle.sloth_region.specs.declared.extent.Extent.{Extent}
 use Rattle.sloth_region.specs.declared.map.Map.{Map}
+use Rattle.sloth_region.specs.Layout.{context_bytes}
 use Rattle.rv32_instr.specs.declared.InstrKind.{InstrKind}
 use Rattle.prologue_gen.specs.Fresh.{Enters}
 
@@ -34,7 +35,7 @@ frame_at stack words = stack.base + stack.len - 4 * words - 0x8000_0000
 
 -- a stack lies in RAM, and has room for a context
 abbrev pub IsStack : Extent → Type 0
-IsStack stack = (0x8000_0000 ≤ stack.base) × (stack.base + stack.len ≤ 0x8020_0000) × (128 ≤ stack.len)
+IsStack stack = (0x8000_0000 ≤ stack.base) × (stack.base + stack.len ≤ 0x8020_0000) × (context_bytes ≤ stack.len)
 
 -- The code enters the task: it begins at the first item of its body, with its frame at the end of its stack, at its level.
 pub record EntersTask (task : ℕ) (config : Config) (app : App) (levels : Levels) (map : Map) (code : List InstrKind) : Type 0 where

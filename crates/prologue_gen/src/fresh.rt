@@ -1,79 +1,55 @@
 //! The parts of a prologue: what was preempted is saved, and the task starts anew.
-ghost use Rattle.std.specs.Prelude.{◌≡◌, ◌+◌, ◌<◌, ◌≤◌, ◌^◌, ◌++◌, OnOk};
-ghost use Rattle.prologue_gen.specs.Pieces.{saves_context, marks_active, begins, starts_anew};
+ghost use Rattle.std.specs.Prelude.{◌≡◌, ◌+◌, ◌<◌, ◌≤◌, ◌^◌, ◌++◌, ◌∷◌, [], OnOk};
+ghost use Rattle.prologue_gen.specs.Pieces.{saves_context, saves_csrs, saves_words, marks_active, begins, starts_anew};
 
-use rv32_instr::{Instr, InstrKind};
+use rv32_instr::Instr;
+use rv32_instr::asm::{X1, X2, X3, X4, ZERO, addi, csrrs, csrrw, csrrwi, lui, lw, mret, sw};
+use rv32_instr::csr::{MEPC, PLEVEL};
 use rv32_routine::constant::{hi, lo};
 use rv32_routine::emit::{clear, clear_words, emit, save};
-use sloth_base::numbers::Reg;
+use sloth_region::layout::{
+    BELOW_WORD, CONTEXT_BELOW, CONTEXT_BYTES, CONTEXT_CUR, CONTEXT_LEVEL, CONTEXT_PC, CUR,
+    WORDS_HIGH, active,
+};
 use std::alloc::AllocError;
 
 /// Saves the registers, and then what the CSRs and the service words say, in the context directly below x2.
 pub fn save_context(code: &mut Vec<Instr>) -> Result<(), AllocError>
     ensures { OnOk result (code.new.items ≡ code.old.items ++ saves_context) }
 {
-    emit(
-        code,
-        &[InstrKind::Addi {
-            rd: Reg(1),
-            rs1: Reg(2),
-            imm: -128,
-        }],
-    )?;
-    save(code, 5, 32, Reg(1))?;
-    let rest = [
-        InstrKind::Lui {
-            rd: Reg(4),
-            imm: 0x8_0000,
-        },
-        InstrKind::Csrrs {
-            rd: Reg(3),
-            rs1: Reg(0),
-            csr: 0x341,
-        },
-        InstrKind::Sw {
-            rs1: Reg(1),
-            rs2: Reg(3),
-            imm: 0,
-        },
-        InstrKind::Csrrs {
-            rd: Reg(3),
-            rs1: Reg(0),
-            csr: 0x7C1,
-        },
-        InstrKind::Sw {
-            rs1: Reg(1),
-            rs2: Reg(3),
-            imm: 4,
-        },
-        InstrKind::Lw {
-            rd: Reg(3),
-            rs1: Reg(4),
-            imm: 0,
-        },
-        InstrKind::Sw {
-            rs1: Reg(1),
-            rs2: Reg(3),
-            imm: 8,
-        },
-        InstrKind::Lw {
-            rd: Reg(3),
-            rs1: Reg(4),
-            imm: 628,
-        },
-        InstrKind::Sw {
-            rs1: Reg(1),
-            rs2: Reg(3),
-            imm: 12,
-        },
-        InstrKind::Sw {
-            rs1: Reg(4),
-            rs2: Reg(1),
-            imm: 628,
-        },
-    ];
-    emit(code, &rest)?;
+    emit(code, &[addi(X1, X2, -CONTEXT_BYTES)])?;
+    save(code, 5, 32, X1)?;
+    save_csrs(code)?;
+    save_words(code)?;
     Ok(())
+}
+
+/// What the CSRs say. Leaves 0x80000000 in x4.
+fn save_csrs(code: &mut Vec<Instr>) -> Result<(), AllocError>
+    ensures { OnOk result (code.new.items ≡ code.old.items ++ saves_csrs) }
+{
+    let saved = [
+        lui(X4, WORDS_HIGH),
+        csrrs(X3, MEPC, ZERO),
+        sw(X3, X1, CONTEXT_PC),
+        csrrs(X3, PLEVEL, ZERO),
+        sw(X3, X1, CONTEXT_LEVEL),
+    ];
+    emit(code, &saved)
+}
+
+/// What the service words say; the context then stands below.
+fn save_words(code: &mut Vec<Instr>) -> Result<(), AllocError>
+    ensures { OnOk result (code.new.items ≡ code.old.items ++ saves_words) }
+{
+    let saved = [
+        lw(X3, X4, CUR),
+        sw(X3, X1, CONTEXT_CUR),
+        lw(X3, X4, BELOW_WORD),
+        sw(X3, X1, CONTEXT_BELOW),
+        sw(X1, X4, BELOW_WORD),
+    ];
+    emit(code, &saved)
 }
 
 /// The task becomes the running one and Active, and is to run at this level. x4 holds 0x80000000.
@@ -82,31 +58,11 @@ pub fn mark_active(code: &mut Vec<Instr>, task: u32, level: u8) -> Result<(), Al
     ensures { OnOk result (code.new.items ≡ code.old.items ++ marks_active task level) }
 {
     let marked = [
-        InstrKind::Addi {
-            rd: Reg(3),
-            rs1: Reg(0),
-            imm: task as i32 + 1,
-        },
-        InstrKind::Sw {
-            rs1: Reg(4),
-            rs2: Reg(3),
-            imm: 0,
-        },
-        InstrKind::Addi {
-            rd: Reg(3),
-            rs1: Reg(0),
-            imm: 1,
-        },
-        InstrKind::Sw {
-            rs1: Reg(4),
-            rs2: Reg(3),
-            imm: 4 + 12 * task as i32,
-        },
-        InstrKind::Csrrwi {
-            rd: Reg(0),
-            number: level,
-            csr: 0x7C1,
-        },
+        addi(X3, ZERO, task as i32 + 1),
+        sw(X3, X4, CUR),
+        addi(X3, ZERO, 1),
+        sw(X3, X4, active(task as u8)),
+        csrrwi(ZERO, PLEVEL, level),
     ];
     emit(code, &marked)
 }
@@ -116,29 +72,11 @@ fn begin(code: &mut Vec<Instr>, frame: u32, first: u32) -> Result<(), AllocError
     ensures { OnOk result (code.new.items ≡ code.old.items ++ begins frame first) }
 {
     let begun = [
-        InstrKind::Lui {
-            rd: Reg(2),
-            imm: hi(frame),
-        },
-        InstrKind::Addi {
-            rd: Reg(2),
-            rs1: Reg(2),
-            imm: lo(frame),
-        },
-        InstrKind::Lui {
-            rd: Reg(3),
-            imm: hi(first),
-        },
-        InstrKind::Addi {
-            rd: Reg(3),
-            rs1: Reg(3),
-            imm: lo(first),
-        },
-        InstrKind::Csrrw {
-            rd: Reg(0),
-            rs1: Reg(3),
-            csr: 0x341,
-        },
+        lui(X2, hi(frame)),
+        addi(X2, X2, lo(frame)),
+        lui(X3, hi(first)),
+        addi(X3, X3, lo(first)),
+        csrrw(ZERO, MEPC, X3),
     ];
     emit(code, &begun)
 }
@@ -154,8 +92,8 @@ pub fn start_anew(
     ensures { OnOk result (code.new.items ≡ code.old.items ++ starts_anew frame words first) }
 {
     begin(code, frame, first)?;
-    clear_words(code, words, Reg(2))?;
+    clear_words(code, words, X2)?;
     clear(code, 5, 30)?;
-    emit(code, &[InstrKind::Mret])?;
+    emit(code, &[mret()])?;
     Ok(())
 }

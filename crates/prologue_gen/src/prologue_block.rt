@@ -35,6 +35,7 @@ pub fn prologue(
     requires items { (length app.now.funcs ≤ length map.now.places.first) × All (λ i. i < length map.now.places.items) map.now.places.first }
     ensures at { IfOk result (λ block. block.at ≡ slice_index map.now.handlers task) }
     ensures marks { IfOk result (λ block. block.marks ≡ []) }
+    ensures size { IfOk result (λ block. length block.code ≤ 256) }
     ensures effect { IfOk result (λ block. EntersTask task config.now app.now levels.now map.now block.code) }
 {
     let body = body_of(app.funcs.items(), task);

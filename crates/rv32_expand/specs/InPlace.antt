@@ -13,7 +13,8 @@ use Rattle.sloth_base.specs.declared.places.Places.{Places}
 use Rattle.rv32_instr.specs.Encode.{Encode}
 use Rattle.rv32_instr.specs.Ram.{word_at}
 use Rattle.rv32_instr.specs.declared.InstrKind.{InstrKind}
-use Rattle.rv32_expand.specs.Expansion.{function, operation, expansion, item_address}
+use Rattle.rv32_expand.specs.Expansion.{expansion, item_address}
+use Rattle.sloth_base.specs.Named.{operation, function}
 
 -- the register of an item's result: its destination, a store's source, or x0
 abbrev pub result_register : Op → ℕ
@@ -33,15 +34,25 @@ result_register (op.Invoke callee) = 0
 result_register op.Return = 0
 result_register (op.Serve call) = 0
 
--- the mark of an item at an address: of a service it names the service
+-- an item's mark is that of an item, of a service that of a jump
+abbrev pub mark_kind : Op → MarkKind
+mark_kind (op.Serve call) = kind.Jump
+mark_kind operation = kind.Item
+
+-- it names the register of the result, of a service the service
+abbrev pub mark_number : Op → ℕ
+mark_number (op.Serve call) = code_of call.service
+mark_number operation = result_register operation
+
+-- the mark of an item at an address
 abbrev pub mark_of : Op → (address func index : ℕ) → Mark
-mark_of (op.Serve call) address func index = record { address = address; kind = kind.Jump; a = code_of call.service; b = func; c = index }
-mark_of operation address func index = record { address = address; kind = kind.Item; a = result_register operation; b = func; c = index }
+mark_of operation address func index = record { address = address; kind = mark_kind operation; a = mark_number operation; b = func; c = index }
 
 -- the address of an item's last word
 abbrev pub last_address : App → Places → (func index : ℕ) → ℕ
 last_address app places func index = item_address places func index + 4 * (length (expansion app places func index) - 1)
 
+-- the mark of an item, on its last instruction
 abbrev pub item_mark : App → Places → (func index : ℕ) → Mark
 item_mark app places func index = mark_of (operation app func index) (last_address app places func index) func index
 

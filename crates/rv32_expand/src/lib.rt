@@ -1,2 +1,3 @@
-//! The instructions of each item of task code.
+//! Definitions alone: the instructions of each item of task code (`specs/Expansion`), and what it is for the items to stand
+//! in an image, each behind its mark (`specs/InPlace`).
 #![tactic(auto)]

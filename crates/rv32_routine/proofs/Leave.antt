@@ -1,6 +1,6 @@
 -- Going back to what runs below.
 use Rattle.std.proofs.Common.{◌≡◌, ℕ, zero, suc, ◌+◌, ◌-◌, ◌*◌, ◌%◌, ◌≤◌, List, [], ◌∷◌, length, refl, ◌∙◌, arith, inl, inr}
-use Rattle.std.specs.Prelude.{false}
+use Rattle.std.specs.Prelude.{false, true}
 use Rattle.sloth_base.specs.Machine.{Core, State}
 use Rattle.sloth_region.specs.Layout.{cur, below_word, context_bytes, context_level, context_cur, context_below}
 use Rattle.rv32_instr.specs.declared.InstrKind.TheVariants.{Mret}
@@ -15,7 +15,7 @@ abbrev pub behind : ℕ → ℕ → ℕ
 behind zero o = o
 behind (suc n) o = behind n (o + 4)
 
-module _ (from to : ℕ) (E : List ℕ → State → State → Type 0) (start : State) (place : ℕ) (c : Core) (x1 x2 x3 : ℕ) (tail : List ℕ) (long : length tail ≡ 27) (masked : c.mie ≡ false) (b : IsBelow place c) (code_behind : 1024 ≤ from) where
+module _ (from to : ℕ) (E : List ℕ → State → State → Type 0) (start : State) (place : ℕ) (c : Core) (x1 x2 x3 : ℕ) (tail : List ℕ) (long : length tail ≡ 27) (masked : c.mie ≡ false) (previous : c.mpie ≡ true) (b : IsBelow place c) (code_behind : 1024 ≤ from) where
   pub leave_owes : (o : ℕ) → ((end : State) → HasLeft place c end → E [] start end) → Owes from to o leave 0 E start (record c { registers = 0 ∷ x1 ∷ x2 ∷ x3 ∷ 0x8000_0000 ∷ tail })
   leave_owes o go =
       let al = b.aligned in
@@ -77,20 +77,22 @@ module _ (from to : ℕ) (E : List ℕ → State → State → Type 0) (start : 
                           0x8000_0000 + (place + context_bytes),
                           omega arith,
                           restores_owes from to E start (Mret ∷ []) place al 27 5 1 (behind 10 o) (behind 10 o + 108) d refl (omega arith) refl (omega arith) (go _ (record {
+                            left = record {
+                              zero = restored_other 27 5 ram2 place regs 0 (inl (omega arith));
+                              registers = omega arith;
+                              opened = previous;
+                              previous = refl;
+                              running = omega arith;
+                              pending = refl;
+                              enabled = refl;
+                              levels = refl;
+                              ram = refl;
+                              scratch = refl;
+                              controller = refl;
+                            };
                             pc = omega arith;
-                            level = omega arith;
-                            ram = refl;
                             x2 = restored_other 27 5 ram2 place regs 2 (inl (omega arith));
                             loaded = λ i low high. restored_at 27 5 ram2 place regs i low high (omega arith) ∙ same (4 * i);
-                            zero = restored_other 27 5 ram2 place regs 0 (inl (omega arith));
-                            registers = omega arith;
-                            opened = refl;
-                            previous = refl;
-                            pending = refl;
-                            enabled = refl;
-                            levels = refl;
-                            scratch = refl;
-                            controller = refl;
                           })),
                         ),
                       ),

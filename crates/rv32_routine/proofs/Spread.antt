@@ -1,5 +1,5 @@
 -- Registers written out as a list of 32, so that reads and writes of them compute.
-use Rattle.std.proofs.Common.{◌≡◌, ℕ, zero, suc, ◌+◌, List, [], ◌∷◌, length, get_or, drop, sym, ap, ◌∙◌, arith}
+use Rattle.std.proofs.Common.{◌≡◌, ℕ, zero, suc, ◌+◌, ◌≤◌, List, [], ◌∷◌, length, get_or, drop, refl, sym, ap, ◌∙◌, arith}
 use Rattle.std.proofs.lemmas.List.{drop_more, drop_all}
 use Rattle.sloth_base.specs.Machine.{Core}
 
@@ -23,3 +23,12 @@ spread_is c n z =
     let e = spread_list 32 0 c.registers (omega arith) in
     let f : c.registers ≡ get_or c.registers 0 0 ∷ spread_from 31 1 c.registers = e in
     ap (λ r. record c { registers = r }) (ap (λ x. x ∷ spread_from 31 1 c.registers) (sym z) ∙ sym f)
+
+-- the first five registers do not matter for the others
+pub others : (a b c d x y z w : ℕ) (tail : List ℕ) (i : ℕ) → 5 ≤ i → get_or (0 ∷ a ∷ b ∷ c ∷ d ∷ tail) i 0 ≡ get_or (0 ∷ x ∷ y ∷ z ∷ w ∷ tail) i 0
+others a b c d x y z w tail zero h = absurd (omega arith)
+others a b c d x y z w tail (suc zero) h = absurd (omega arith)
+others a b c d x y z w tail (suc (suc zero)) h = absurd (omega arith)
+others a b c d x y z w tail (suc (suc (suc zero))) h = absurd (omega arith)
+others a b c d x y z w tail (suc (suc (suc (suc zero)))) h = absurd (omega arith)
+others a b c d x y z w tail (suc (suc (suc (suc (suc i))))) h = refl

@@ -44,19 +44,31 @@ takes_up =
 abbrev pub leave : List InstrKind
 leave = takes_up ++ (restores 27 5 1 ++ Mret ∷ [])
 
--- the state after it: all is as the context says
+-- The machine is left as in this core, with interrupts open; of the registers, mepc and plevel it says nothing but that x0 is zero.
+pub record LeftAs (core end : Core) : Type 0 where
+  pub zero : slice_index end.registers 0 ≡ 0
+  pub registers : length end.registers ≡ 32
+  pub opened : end.mie ≡ true
+  pub previous : end.mpie ≡ true
+  pub running : end.ilevel ≡ core.ilevel
+  pub pending : end.pending ≡ core.pending
+  pub enabled : end.enabled ≡ core.enabled
+  pub levels : end.levels ≡ core.levels
+  pub ram : end.ram ≡ core.ram
+  pub scratch : end.mscratch ≡ core.mscratch
+  pub controller : end.controller ≡ core.controller
+
+-- the core in which what is below runs, by the words of its context
+abbrev pub below_again : ℕ → Core → Core
+below_again place core =
+    record core {
+      ilevel = word_at core.ram (place + context_level);
+      ram = with_word (with_word core.ram cur (word_at core.ram (place + context_cur))) below_word (word_at core.ram (place + context_below));
+    }
+
+-- the state after it, where MPIE was 1: all is as the context says
 pub record HasLeft (place : ℕ) (core : Core) (end : State) : Type 0 where
+  pub left : LeftAs (below_again place core) end.core
   pub pc : end.pc ≡ word_at core.ram place
-  pub level : end.core.ilevel ≡ word_at core.ram (place + context_level)
-  pub ram : end.core.ram ≡ with_word (with_word core.ram cur (word_at core.ram (place + context_cur))) below_word (word_at core.ram (place + context_below))
   pub x2 : slice_index end.core.registers 2 ≡ 0x8000_0000 + (place + context_bytes)
   pub loaded : (i : ℕ) → 5 ≤ i → i < 32 → slice_index end.core.registers i ≡ word_at core.ram (place + 4 * i)
-  pub zero : slice_index end.core.registers 0 ≡ 0
-  pub registers : length end.core.registers ≡ 32
-  pub opened : end.core.mie ≡ core.mpie
-  pub previous : end.core.mpie ≡ true
-  pub pending : end.core.pending ≡ core.pending
-  pub enabled : end.core.enabled ≡ core.enabled
-  pub levels : end.core.levels ≡ core.levels
-  pub scratch : end.core.mscratch ≡ core.mscratch
-  pub controller : end.core.controller ≡ core.controller

@@ -17,7 +17,8 @@ Masked zero state P = P [] state
 Masked (suc n) state P =
     P [] state
     ⊎ (state.core.mie ≡ false)
-    × ((lines : List ℕ) → OnGoing (step (state_arrive lines state)) (λ next. Masked n next (λ trace end. P ((lines, touched (state_arrive lines state)) ∷ trace) end)))
+    × ((lines : List ℕ)
+    → OnGoing (step (state_arrive lines state)) (λ next. Masked n next (λ trace end. P ((lines, touched (state_arrive lines state)) ∷ trace) end)))
 
 -- What a stretch does, said without arrivals: the lines that it touches, the state at its start and the one at its end.
 -- The effect holds from the start with the early arrivals, and the late ones come after it.

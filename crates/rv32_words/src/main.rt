@@ -3,9 +3,9 @@
 #![tactic(auto)]
 
 ghost use Rattle.std.specs.Prelude.{ℕ, ◌≡◌, ◌<◌, ◌≤◌, All, length, slice_index};
-ghost use Rattle.sloth_base.specs.ConfigRange.{InRange};
-ghost use Rattle.prologue_gen.specs.Places.{IsBasic, IsStack};
+ghost use Rattle.prologue_gen.specs.Places.{IsStack};
 ghost use Rattle.service_gen.specs.Block.{HasBlock};
+ghost use Rattle.vector_gen.specs.Vectors.{AreInReach};
 
 mod instructions;
 mod kernel;
@@ -23,25 +23,47 @@ use sloth_base::service::Service;
 use sloth_region::map::Map;
 use vector_gen::{boot, idle, vectors};
 
-// The prologue of each task, with a frame of no words, of one and of 32.
-fn list_prologues(
+// The vector words and the idle loop.
+fn list_loops(rt: &(impl Print + AllocGlobal), map: &Map) -> anyhow::Result<()>
+    requires { AreInReach map.now.handlers }
+{
+    let words = vectors(rt.alloc(), map)?;
+    list(rt, "vectors", &words)?;
+    let word = idle(rt.alloc(), map)?;
+    list(rt, "idle", &word)
+}
+
+// Boot, where the task is autostarted and where it isn't.
+fn list_boot(
     rt: &(impl Print + AllocGlobal),
-    config: &Config,
+    autostart: bool,
+    levels: &Levels,
+    map: &Map,
+) -> anyhow::Result<()> {
+    let alloc = rt.alloc();
+    let config = config(alloc, false, autostart)?;
+    let code = boot(alloc, &config, levels, map)?;
+    list(rt, "boot", &code)
+}
+
+// The prologue of a task that is preemptable or not, with a frame of so many words.
+fn list_prologue(
+    rt: &(impl Print + AllocGlobal),
+    non: bool,
+    frame_words: u32,
     levels: &Levels,
     map: &Map,
 ) -> anyhow::Result<()>
-    requires tasks { (length config.now.tasks ≡ 3) × ((t : ℕ) → IsBasic config.now.tasks t) }
+    requires frame { frame_words ≤ 32 }
     requires levels { (levels.now.top < 32) × ((t : ℕ) → slice_index levels.now.task t < 32) }
-    requires stacks { (length map.now.stacks ≡ 3) × All IsStack map.now.stacks }
+    requires stacks { (length map.now.stacks ≡ 1) × All IsStack map.now.stacks }
     requires items { (length map.now.places.first ≡ 1) × All (λ i. i < length map.now.places.items) map.now.places.first }
 {
     let alloc = rt.alloc();
-    for (task, frame_words) in [(0, 0), (1, 1), (2, 32)] {
-        let app = app(alloc, task, frame_words)?;
-        let code = prologue(alloc, TaskId(task), config, &app, levels, map)?;
-        list(rt, "prologue", &code)?;
-    }
-    Ok(())
+    let config = config(alloc, non, false)?;
+    let app = app(alloc, frame_words)?;
+    let code = prologue(alloc, TaskId(0), &config, &app, levels, map)?;
+    list(rt, "prologue", &code)
 }
 
 // A service's block.
@@ -78,15 +100,31 @@ fn list_services(
     list_service(rt, Service::ReleaseResource, 32, config, levels, map)
 }
 
+// Boot and the prologues in each form.
+fn list_entries(rt: &(impl Print + AllocGlobal), levels: &Levels, map: &Map) -> anyhow::Result<()>
+    requires levels { (levels.now.top < 32) × ((t : ℕ) → slice_index levels.now.task t < 32) }
+    requires stacks { (length map.now.stacks ≡ 1) × All IsStack map.now.stacks }
+    requires items { (length map.now.places.first ≡ 1) × All (λ i. i < length map.now.places.items) map.now.places.first }
+{
+    list_boot(rt, true, levels, map)?;
+    list_boot(rt, false, levels, map)?;
+    list_prologue(rt, false, 0, levels, map)?;
+    list_prologue(rt, false, 1, levels, map)?;
+    list_prologue(rt, true, 0, levels, map)?;
+    list_prologue(rt, true, 32, levels, map)
+}
+
+// The kernel's code.
+fn list_kernel(rt: &(impl Print + AllocGlobal)) -> anyhow::Result<()> {
+    let levels = levels();
+    let map = map(rt.alloc())?;
+    list_loops(rt, &map)?;
+    list_entries(rt, &levels, &map)?;
+    let config = config(rt.alloc(), false, false)?;
+    list_services(rt, &config, &levels, &map)
+}
+
 fn main(rt: HostRuntime) -> anyhow::Result<()> {
     list_instructions(&rt)?;
-    let alloc = rt.alloc();
-    let config = config(alloc)?;
-    let levels = levels();
-    let map = map(alloc)?;
-    list(&rt, "vectors", &vectors(alloc, &map)?)?;
-    list(&rt, "boot", &boot(alloc, &config, &levels, &map)?)?;
-    list(&rt, "idle", &idle(alloc, &map)?)?;
-    list_prologues(&rt, &config, &levels, &map)?;
-    list_services(&rt, &config, &levels, &map)
+    list_kernel(&rt)
 }

@@ -1,26 +1,27 @@
 -- The code of ActivateTask has its effect.
-use Rattle.std.proofs.Common.{◌≡◌, ℕ, ◌+◌, ◌*◌, ◌<◌, ◌⊎◌, List, ◌∷◌, ◌++◌, get_or, refl, ap, ◌∙◌, arith, inl, inr, ⊎_elim}
-use Rattle.std.specs.Prelude.{bit_or, bit_xor}
-use Rattle.std.proofs.lemmas.List.{get_or-set_other}
+use Rattle.std.proofs.Common.{◌≡◌, ℕ, ◌+◌, ◌*◌, ◌<◌, ◌⊎◌, List, ◌∷◌, ◌++◌, length, get_or, refl, ap, arith, inl, inr, ⊎_elim}
+use Rattle.std.specs.Prelude.{set, bit_or, bit_xor}
 use Rattle.sloth_base.specs.Machine.{Core}
 use Rattle.sloth_base.specs.Arrive.{arrive}
+use Rattle.sloth_region.specs.Layout.{active, words_high, controller_base}
 use Rattle.rv32_instr.specs.declared.InstrKind.{InstrKind}
-use Rattle.rv32_instr.specs.declared.InstrKind.TheVariants.{Lui, Slli, Csrrci}
+use Rattle.rv32_instr.specs.declared.InstrKind.TheVariants.{Lui}
 use Rattle.rv32_instr.specs.Ram.{word_at}
-use Rattle.rv32_instr.specs.Effect.{shifted_left}
+use Rattle.sloth_base.specs.Arithmetic.{shifted_left}
 use Rattle.rv32_routine.specs.Place.{at}
 use Rattle.rv32_routine.specs.Masked.{FromOpening}
+use Rattle.rv32_routine.specs.Kernel.{masking}
 use Rattle.rv32_routine.specs.Owes.{Owes, Pending, Enabled}
-use Rattle.rv32_routine.proofs.Spread.{spread, spread_from}
+use Rattle.rv32_routine.proofs.Spread.{spread}
 use Rattle.rv32_routine.proofs.Whole.{masked}
 use Rattle.service_gen.proofs.Busy.{bit_arrives, busy_of, busies}
-use Rattle.service_gen.proofs.Others.{others}
+use Rattle.service_gen.proofs.Returning.{answered}
 use Rattle.service_gen.proofs.Serving.{opens}
-use Rattle.service_gen.specs.Pieces.{busy, raises, back}
+use Rattle.service_gen.specs.Pieces.{busy, tells, raises, back}
 use Rattle.service_gen.specs.ActivateTask.{MayActivate, Activated, Activates}
 
 abbrev pub body : ℕ → List InstrKind
-body task = Lui 4 0x8_0000 ∷ (busy task 10 1 ++ (Slli 10 10 2 ∷ (raises task ++ back)))
+body task = Lui 4 words_high ∷ (busy task 10 1 ++ (tells ++ (raises task ++ back)))
 
 -- the status that the code computes of three bits
 abbrev answer : ℕ → ℕ → ℕ → ℕ
@@ -30,23 +31,20 @@ answers : (e p a : ℕ) → e < 2 → p < 2 → a < 2 → (((a ≡ 0) × (p ≡ 
 answers e p a x y z =
     ⊎_elim (λ s. inl (s.0, ap (λ v. shifted_left v 2) s.1)) (λ s. inr (s.0, ap (λ v. shifted_left v 2) s.1)) (busies e p a x y z)
 
-module _ (offset task : ℕ) (c : Core) (h : MayActivate offset task (Csrrci 0 8 0x300 ∷ body task) c) where
+module _ (offset task : ℕ) (c : Core) (h : MayActivate offset task (masking ∷ body task) c) where
   body_owes : Owes offset (offset + 4 + 64) (offset + 4) (body task) 0 (Activated task) (at offset (spread c)) (masked (spread c))
   body_owes =
       let small = h.is_task in
       let line : task < 32 = omega arith in
       let can = h.goes_back.can_run in
       let long = can.lines in
-      let aligned = h.goes_back.back in
       let level = h.level in
       let e = get_or c.enabled task 0 in
-      let a = word_at c.ram (4 + 12 * task) in
-      let x31 = get_or c.registers 31 0 in
-      let tail = spread_from 27 5 c.registers in (
+      let a = word_at c.ram (active task) in (
         0x8000_0000,
         refl,
         (
-          0x1000_0000,
+          controller_base,
           refl,
           (
             Enabled task,
@@ -61,7 +59,7 @@ module _ (offset task : ℕ) (c : Core) (h : MayActivate offset task (Csrrci 0 8
                   bit_or (bit_xor e 1) (get_or (arrive lines c.pending) task 0),
                   refl,
                   (
-                    4 + 12 * task,
+                    active task,
                     record { is = omega arith; aligned = omega arith; inside = omega arith },
                     a,
                     refl,
@@ -72,7 +70,7 @@ module _ (offset task : ℕ) (c : Core) (h : MayActivate offset task (Csrrci 0 8
                         answer e (get_or (arrive lines c.pending) task 0) a,
                         refl,
                         (
-                          0x1000_0000,
+                          controller_base,
                           refl,
                           (
                             1,
@@ -96,12 +94,8 @@ module _ (offset task : ℕ) (c : Core) (h : MayActivate offset task (Csrrci 0 8
                                       refl,
                                       record {
                                         touches = refl;
-                                        pending = refl;
                                         status = answers e (get_or (arrive lines c.pending) task 0) a h.enabled_bit (bit_arrives lines c.pending task (omega arith) h.pending_bit) h.active_bit;
-                                        back = record { pc = omega arith; x2 = refl; zero = refl; registers = refl; opened = h.goes_back.previous; previous = refl; enabled = refl; levels = refl; scratch = refl; controller = refl };
-                                        running = omega arith;
-                                        kept = λ i past ne. get_or-set_other (0 ∷ 0x1000_0000 ∷ get_or c.registers 2 0 ∷ c.ilevel ∷ 0x8000_0000 ∷ tail) 10 i (answer e (get_or (arrive lines c.pending) task 0) a) 0 ne ∙ others 0x1000_0000 (get_or c.registers 2 0) c.ilevel 0x8000_0000 (get_or c.registers 1 0) (get_or c.registers 2 0) (get_or c.registers 3 0) (get_or c.registers 4 0) tail i past;
-                                        ram = refl;
+                                        back = answered offset (masking ∷ body task) c h.goes_back controller_base c.ilevel c.ilevel (answer e (get_or (arrive lines c.pending) task 0) a) (arrive lines c.pending) (set (arrive lines c.pending) task 1) c.ram (omega arith);
                                       },
                                     ),
                                   ),
@@ -123,5 +117,5 @@ module _ (offset task : ℕ) (c : Core) (h : MayActivate offset task (Csrrci 0 8
   runs_it : FromOpening 16 (at offset c) (Activated task)
   runs_it = opens offset 16 (body task) c (Activated task) h.goes_back.can_run (omega arith) body_owes
 
-pub activates : (task : ℕ) → Activates task (Csrrci 0 8 0x300 ∷ body task)
-activates task = record { masks = (body task, refl); runs = λ offset core h. runs_it offset task core h }
+pub activates : (task : ℕ) → Activates task (masking ∷ body task)
+activates task = record { size = (let n : length (masking ∷ body task) ≡ 17 = refl in omega arith); masks = (body task, refl); runs = λ offset core h. runs_it offset task core h }

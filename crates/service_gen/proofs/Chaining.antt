@@ -1,38 +1,39 @@
 -- The code of ChainTask has its effect.
-use Rattle.std.proofs.Common.{◌≡◌, ℕ, ◌+◌, ◌*◌, ◌<◌, ◌≤◌, List, [], ◌∷◌, ◌++◌, get_or, refl, sym, ap, ◌∙◌, arith, inl, inr, ⊎_elim}
+use Rattle.std.proofs.Common.{◌≡◌, ℕ, ◌+◌, ◌*◌, ◌<◌, ◌≤◌, List, [], ◌∷◌, ◌++◌, length, get_or, refl, sym, ap, ◌∙◌, arith, inl, inr, ⊎_elim}
 use Rattle.std.specs.Prelude.{false, set, pos, bit_or, bit_xor, ◌≢◌, eqb}
 use Rattle.std.proofs.lemmas.Bool.{cases_eq, eq-eqb, ne_eqb}
-use Rattle.std.proofs.lemmas.List.{get_or-set_other}
 use Rattle.sloth_base.specs.Machine.{Core, State}
 use Rattle.sloth_base.specs.Arrive.{arrive, state_arrive}
+use Rattle.sloth_base.specs.Status.{E_OS_LIMIT}
+use Rattle.sloth_region.specs.Layout.{cur, active, words_high, controller_base}
 use Rattle.rv32_instr.specs.declared.InstrKind.{InstrKind}
-use Rattle.rv32_instr.specs.declared.InstrKind.TheVariants.{Lui, Addi, Csrrci}
+use Rattle.rv32_instr.specs.declared.InstrKind.TheVariants.{Lui, Addi}
 use Rattle.rv32_instr.specs.Ram.{word_at}
-use Rattle.rv32_instr.specs.Effect.{plus}
+use Rattle.sloth_base.specs.Arithmetic.{plus}
 use Rattle.rv32_routine.specs.Place.{at}
 use Rattle.rv32_routine.specs.Masked.{FromOpening}
 use Rattle.rv32_routine.specs.Owes.{AreOf, Owes, Pending, Enabled}
-use Rattle.rv32_routine.specs.Kernel.{leave}
+use Rattle.rv32_routine.specs.Kernel.{leave, masking}
 use Rattle.rv32_routine.proofs.Arrivals.{other_bytes}
 use Rattle.rv32_routine.proofs.Spread.{spread, spread_from}
 use Rattle.rv32_routine.proofs.Whole.{masked}
 use Rattle.rv32_routine.proofs.Leave.{leave_owes, behind}
-use Rattle.service_gen.proofs.Others.{others}
+use Rattle.service_gen.proofs.Returning.{answered}
 use Rattle.service_gen.proofs.Busy.{bit_arrives, busy_of, busies}
-use Rattle.service_gen.proofs.Ending.{ended_ram, ends_owe, ended_below, terminated}
+use Rattle.service_gen.proofs.Ending.{ends_owe, ended_below, has_ended}
 use Rattle.service_gen.proofs.Serving.{opens}
 use Rattle.service_gen.specs.Pieces.{ends, busy, raises, back, asks, refuses}
-use Rattle.service_gen.specs.TerminateTask.{Terminated}
+use Rattle.service_gen.specs.TerminateTask.{ended_ram, Terminated}
 use Rattle.service_gen.specs.ChainTask.{MayChain, Chained, Chains}
 
 abbrev pub body : ℕ → List InstrKind
-body task = Lui 4 0x8_0000 ∷ (asks task ++ (busy task 3 1 ++ (refuses ++ (back ++ (ends ++ (raises task ++ leave))))))
+body task = Lui 4 words_high ∷ (asks task ++ (busy task 3 1 ++ (refuses ++ (back ++ (ends ++ (raises task ++ leave))))))
 
 -- a branch at an offset reaches the instruction behind so many more
 pub lands : (o k n : ℕ) → o ≤ 0x20_0000 → n ≤ 68 → k ≡ 4 + 4 * n → plus (0x8000_0000 + o) (pos k) ≡ 0x8000_0000 + (o + 4 + 4 * n)
 lands o k n small few e = omega arith
 
-module _ (offset task own place : ℕ) (c : Core) (h : MayChain offset task own place (Csrrci 0 8 0x300 ∷ body task) c) where
+module _ (offset task own place : ℕ) (c : Core) (h : MayChain offset task own place (masking ∷ body task) c) where
   low : 1024 ≤ offset
   low = h.goes_back.can_run.behind
 
@@ -52,7 +53,7 @@ module _ (offset task own place : ℕ) (c : Core) (h : MayChain offset task own 
   tail = spread_from 27 5 c.registers
 
   abbrev word : ℕ
-  word = word_at c.ram (4 + 12 * task)
+  word = word_at c.ram (active task)
 
   -- the caller's end, the raised line, and the way down
   go_owe : (o : ℕ) (p : List ℕ) (x1 x3 : ℕ) (E : List ℕ → State → State → Type 0) → ((lines : List ℕ) (middle end : State) → AreOf own lines → Terminated own place (own ∷ []) (st (arrive lines p)) middle → end ≡ state_arrive (task ∷ []) middle → E (own ∷ []) (st (arrive lines p)) end) → Owes offset (offset + 4 + 272) o (ends ++ (raises task ++ leave)) 0 E (st p) (record (masked (spread c)) { registers = 0 ∷ x1 ∷ x2 ∷ x3 ∷ 0x8000_0000 ∷ tail; pending = p })
@@ -61,7 +62,7 @@ module _ (offset task own place : ℕ) (c : Core) (h : MayChain offset task own 
       (λ lines only.
       let q = arrive lines p in
       let d = record (masked (spread c)) { pending = set (set q own 0) task 1; ram = ended_ram c.ram own } in (
-        0x1000_0000,
+        controller_base,
         refl,
         (
           1,
@@ -71,22 +72,20 @@ module _ (offset task own place : ℕ) (c : Core) (h : MayChain offset task own 
             (omega arith, line),
             inl (
               (λ z. absurd (cc)),
-              leave_owes offset (offset + 4 + 272) (λ u. E (own ∷ u)) (st q) place d 0x1000_0000 x2 1 tail refl refl (ended_below c d own place h.is_own refl h.below) low (behind 13 o)
+              leave_owes offset (offset + 4 + 272) (λ u. E (own ∷ u)) (st q) place d controller_base x2 1 tail refl refl h.goes_back.previous (ended_below c d own place h.is_own refl h.below) low (behind 13 o)
                   (λ end left. k lines (record end { core = record end.core { pending = set q own 0 } }) end only
-                  (terminated c d own place (st q) end h.is_own h.below.behind refl refl h.goes_back.previous refl refl refl refl left)
-                  (ap (λ x. record end { core = record end.core { pending = x } }) left.pending)),
+                  (has_ended c d own place (st q) end h.is_own h.below.behind refl refl refl refl refl refl left)
+                  (ap (λ x. record end { core = record end.core { pending = x } }) left.left.pending)),
             ),
           ),
         ),
       ))
 
   -- the task was not Suspended
-  stays_owe : (o : ℕ) (p : List ℕ) (v : ℕ) → task ≢ own → (((word ≡ 0) × (get_or p task 0 ≡ 0) × (get_or c.enabled task 0 ≡ 1)) → ⊥) → Owes offset (offset + 4 + 272) o (Addi 10 0 (pos 4) ∷ (back ++ (ends ++ (raises task ++ leave)))) 0 (λ u. Chained task own place (task ∷ u)) (st p) (record (masked (spread c)) { registers = 0 ∷ word ∷ x2 ∷ v ∷ 0x8000_0000 ∷ tail; pending = p })
+  stays_owe : (o : ℕ) (p : List ℕ) (v : ℕ) → task ≢ own → (((word ≡ 0) × (get_or p task 0 ≡ 0) × (get_or c.enabled task 0 ≡ 1)) → ⊥) → Owes offset (offset + 4 + 272) o (Addi 10 0 (pos E_OS_LIMIT) ∷ (back ++ (ends ++ (raises task ++ leave)))) 0 (λ u. Chained task own place (task ∷ u)) (st p) (record (masked (spread c)) { registers = 0 ∷ word ∷ x2 ∷ v ∷ 0x8000_0000 ∷ tail; pending = p })
   stays_owe o p v ne busy =
-      let level = h.level in
-      let aligned = h.goes_back.back in
-      let x31 = get_or c.registers 31 0 in (
-        4,
+      let level = h.level in (
+        E_OS_LIMIT,
         refl,
         (
           c.ilevel,
@@ -104,12 +103,8 @@ module _ (offset task own place : ℕ) (c : Core) (h : MayChain offset task own 
                 other = ne;
                 not_suspended = busy;
                 touches = refl;
-                pending = refl;
                 status = refl;
-                back = record { pc = omega arith; x2 = refl; zero = refl; registers = refl; opened = h.goes_back.previous; previous = refl; enabled = refl; levels = refl; scratch = refl; controller = refl };
-                running = omega arith;
-                kept = λ i past not10. get_or-set_other (0 ∷ word ∷ x2 ∷ c.ilevel ∷ 0x8000_0000 ∷ tail) 10 i 4 0 not10 ∙ others word x2 c.ilevel 0x8000_0000 (get_or c.registers 1 0) x2 (get_or c.registers 3 0) (get_or c.registers 4 0) tail i past;
-                ram = refl;
+                back = answered offset (masking ∷ body task) c h.goes_back word c.ilevel c.ilevel E_OS_LIMIT p p c.ram (omega arith);
               }),
             ),
           ),
@@ -145,7 +140,7 @@ module _ (offset task own place : ℕ) (c : Core) (h : MayChain offset task own 
         0x8000_0000,
         refl,
         (
-          0,
+          cur,
           record { is = refl; aligned = refl; inside = omega arith },
           own + 1,
           h.runs,
@@ -161,7 +156,7 @@ module _ (offset task own place : ℕ) (c : Core) (h : MayChain offset task own 
                   (cases_eq (own + 1) (task + 1));
               when_not = λ n.
                   let ne : task ≢ own = λ x. n (eq-eqb (own + 1) (task + 1) (ap (λ y. y + 1) (sym x))) in (
-                    0x1000_0000,
+                    controller_base,
                     refl,
                     (
                       Enabled task,
@@ -176,7 +171,7 @@ module _ (offset task own place : ℕ) (c : Core) (h : MayChain offset task own 
                             bit_or (bit_xor e 1) (get_or (arrive lines c.pending) task 0),
                             refl,
                             (
-                              4 + 12 * task,
+                              active task,
                               record { is = omega arith; aligned = omega arith; inside = omega arith },
                               word,
                               refl,
@@ -199,5 +194,5 @@ module _ (offset task own place : ℕ) (c : Core) (h : MayChain offset task own 
   runs_it : FromOpening 68 (at offset c) (Chained task own place)
   runs_it = opens offset 68 (body task) c (Chained task own place) h.goes_back.can_run (omega arith) body_owes
 
-pub chains : (task : ℕ) → Chains task (Csrrci 0 8 0x300 ∷ body task)
-chains task = record { masks = (body task, refl); runs = λ offset own place core h. runs_it offset task own place core h }
+pub chains : (task : ℕ) → Chains task (masking ∷ body task)
+chains task = record { size = (let n : length (masking ∷ body task) ≡ 69 = refl in omega arith); masks = (body task, refl); runs = λ offset own place core h. runs_it offset task own place core h }

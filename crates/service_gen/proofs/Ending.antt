@@ -3,6 +3,7 @@ use Rattle.std.proofs.Common.{◌≡◌, ℕ, ◌+◌, ◌*◌, ◌%◌, ◌<◌
 use Rattle.std.specs.Prelude.{true, set}
 use Rattle.sloth_base.specs.Machine.{Core, State}
 use Rattle.sloth_base.specs.Arrive.{arrive, state_arrive}
+use Rattle.sloth_region.specs.Layout.{cur, active, events, below_word, idle_context, context_level, context_cur, context_below, controller_base}
 use Rattle.rv32_instr.specs.declared.InstrKind.{InstrKind}
 use Rattle.rv32_instr.specs.Ram.{word_at, with_word}
 use Rattle.rv32_routine.specs.Owes.{AreOf, Owes, Pending}
@@ -10,27 +11,23 @@ use Rattle.rv32_routine.specs.Kernel.{IsBelow, HasLeft}
 use Rattle.rv32_routine.proofs.Words.{word_at-other}
 use Rattle.rv32_routine.proofs.Leave.{behind}
 use Rattle.service_gen.specs.Pieces.{ends}
-use Rattle.service_gen.specs.TerminateTask.{Terminated}
+use Rattle.service_gen.specs.TerminateTask.{ended_ram, Terminated}
 
--- the bytes with the task's two words zero
-abbrev pub ended_ram : List ℕ → ℕ → List ℕ
-ended_ram ram own = with_word (with_word ram (4 + 12 * own) 0) (8 + 12 * own) 0
+pub ended_kept : (ram : List ℕ) (own p : ℕ) → own < 30 → below_word ≤ p → word_at (ended_ram ram own) p ≡ word_at ram p
+ended_kept ram own p small far = word_at-other (with_word ram (active own) 0) (events own) 0 p (inr (omega arith)) ∙ word_at-other ram (active own) 0 p (inr (omega arith))
 
-pub ended_kept : (ram : List ℕ) (own p : ℕ) → own < 30 → 628 ≤ p → word_at (ended_ram ram own) p ≡ word_at ram p
-ended_kept ram own p small far = word_at-other (with_word ram (4 + 12 * own) 0) (8 + 12 * own) 0 p (inr (omega arith)) ∙ word_at-other ram (4 + 12 * own) 0 p (inr (omega arith))
-
-module _ (from to own : ℕ) (E : List ℕ → State → State → Type 0) (start : State) (rest : List InstrKind) (c : Core) (x1 x2 x3 : ℕ) (tail : List ℕ) (small : own < 30) (runs : word_at c.ram 0 ≡ own + 1) (low : 1024 ≤ from) where
+module _ (from to own : ℕ) (E : List ℕ → State → State → Type 0) (start : State) (rest : List InstrKind) (c : Core) (x1 x2 x3 : ℕ) (tail : List ℕ) (small : own < 30) (runs : word_at c.ram cur ≡ own + 1) (low : 1024 ≤ from) where
   pub ends_owe : (o : ℕ) → ((lines : List ℕ) → AreOf own lines → Owes from to (behind 10 o) rest 0 (λ touched. E (own ∷ touched)) (state_arrive lines start) (record c { registers = 0 ∷ 8 * (own + 1) ∷ x2 ∷ (0x8000_0000 + 12 * (own + 1)) ∷ 0x8000_0000 ∷ tail; pending = set (arrive lines c.pending) own 0; ram = ended_ram c.ram own })) → Owes from to o (ends ++ rest) 0 E start (record c { registers = 0 ∷ x1 ∷ x2 ∷ x3 ∷ 0x8000_0000 ∷ tail })
   ends_owe o go = (
-    0,
+    cur,
     record { is = refl; aligned = refl; inside = omega arith },
     own + 1,
     runs,
     (
-      0x1000_0000,
+      controller_base,
       refl,
       (
-        0x1000_0000 + (own + 1),
+        controller_base + (own + 1),
         omega arith,
         (
           Pending own,
@@ -50,11 +47,11 @@ module _ (from to own : ℕ) (E : List ℕ → State → State → Type 0) (star
                     0x8000_0000 + 12 * (own + 1),
                     omega arith,
                     (
-                      4 + 12 * own,
+                      active own,
                       record { is = omega arith; aligned = omega arith; inside = omega arith },
                       inl (omega arith),
                       (
-                        8 + 12 * own,
+                        events own,
                         record { is = omega arith; aligned = omega arith; inside = omega arith },
                         inl (omega arith),
                         go lines only,
@@ -74,32 +71,35 @@ module _ (from to own : ℕ) (E : List ℕ → State → State → Type 0) (star
 pub ended_below : (c d : Core) (own place : ℕ) → own < 30 → d.ram ≡ ended_ram c.ram own → IsBelow place c → IsBelow place d
 ended_below c d own place small e b =
     let past = b.behind in
-    let kept : (p : ℕ) → 628 ≤ p → word_at d.ram p ≡ word_at c.ram p = λ p far. ap (λ r. word_at r p) e ∙ ended_kept c.ram own p small far in
-    record { is = kept 628 (omega arith) ∙ b.is; aligned = b.aligned; behind = past; inside = b.inside; returns = ap (λ w. w % 4) (kept place (omega arith)) ∙ b.returns; level = subst (λ w. w < 256) (sym (kept (place + 4) (omega arith))) b.level }
+    let kept : (p : ℕ) → below_word ≤ p → word_at d.ram p ≡ word_at c.ram p = λ p far. ap (λ r. word_at r p) e ∙ ended_kept c.ram own p small far in
+    record { is = kept below_word (omega arith) ∙ b.is; aligned = b.aligned; behind = past; inside = b.inside; returns = ap (λ w. w % 4) (kept place (omega arith)) ∙ b.returns; level = subst (λ w. w < 256) (sym (kept (place + context_level) (omega arith))) b.level }
 
 -- from the state that the way down leaves, but for the pending bytes
-pub terminated : (c d : Core) (own place : ℕ) (start end : State) → own < 30 → 884 ≤ place → d.ram ≡ ended_ram c.ram own → start.core.ram ≡ c.ram → d.mpie ≡ true → start.core.enabled ≡ d.enabled → start.core.levels ≡ d.levels → start.core.mscratch ≡ d.mscratch → start.core.controller ≡ d.controller → HasLeft place d end → Terminated own place (own ∷ []) start (record end { core = record end.core { pending = set start.core.pending own 0 } })
-terminated c d own place start end small past e same previous en le sc co left =
-    let kept : (p : ℕ) → 628 ≤ p → word_at d.ram p ≡ word_at start.core.ram p = λ p far. ap (λ r. word_at r p) e ∙ ended_kept c.ram own p small far ∙ ap (λ r. word_at r p) (sym same) in
+pub has_ended : (c d : Core) (own place : ℕ) (start end : State) → own < 30 → idle_context ≤ place → d.ram ≡ ended_ram c.ram own → start.core.ram ≡ c.ram → start.core.enabled ≡ d.enabled → start.core.levels ≡ d.levels → start.core.mscratch ≡ d.mscratch → start.core.controller ≡ d.controller → HasLeft place d end → Terminated own place (own ∷ []) start (record end { core = record end.core { pending = set start.core.pending own 0 } })
+has_ended c d own place start end small past e same en le sc co has_left =
+    let left = has_left.left in
+    let kept : (p : ℕ) → below_word ≤ p → word_at d.ram p ≡ word_at start.core.ram p = λ p far. ap (λ r. word_at r p) e ∙ ended_kept c.ram own p small far ∙ ap (λ r. word_at r p) (sym same) in
     let ram : d.ram ≡ ended_ram start.core.ram own = e ∙ ap (λ r. ended_ram r own) (sym same) in
     record {
       touches = refl;
-      pending = refl;
-      ram =
-          left.ram
-          ∙ ap (λ r. with_word (with_word r 0 (word_at d.ram (place + 8))) 628 (word_at d.ram (place + 12))) ram
-          ∙ ap (λ w. with_word (with_word (ended_ram start.core.ram own) 0 w) 628 (word_at d.ram (place + 12))) (kept (place + 8) (omega arith))
-          ∙ ap (λ w. with_word (with_word (ended_ram start.core.ram own) 0 (word_at start.core.ram (place + 8))) 628 w) (kept (place + 12) (omega arith));
-      pc = left.pc ∙ kept place (omega arith);
-      running = left.level ∙ kept (place + 4) (omega arith);
-      x2 = left.x2;
-      loaded = λ i from upto. left.loaded i from upto ∙ kept (place + 4 * i) (omega arith);
-      zero = left.zero;
-      registers = left.registers;
-      opened = left.opened ∙ previous;
-      previous = left.previous;
-      enabled = left.enabled ∙ sym en;
-      levels = left.levels ∙ sym le;
-      scratch = left.scratch ∙ sym sc;
-      controller = left.controller ∙ sym co;
+      left = record {
+        zero = left.zero;
+        registers = left.registers;
+        opened = left.opened;
+        previous = left.previous;
+        running = left.running ∙ kept (place + context_level) (omega arith);
+        pending = refl;
+        enabled = left.enabled ∙ sym en;
+        levels = left.levels ∙ sym le;
+        ram =
+            left.ram
+            ∙ ap (λ r. with_word (with_word r cur (word_at d.ram (place + context_cur))) below_word (word_at d.ram (place + context_below))) ram
+            ∙ ap (λ w. with_word (with_word (ended_ram start.core.ram own) cur w) below_word (word_at d.ram (place + context_below))) (kept (place + context_cur) (omega arith))
+            ∙ ap (λ w. with_word (with_word (ended_ram start.core.ram own) cur (word_at start.core.ram (place + context_cur))) below_word w) (kept (place + context_below) (omega arith));
+        scratch = left.scratch ∙ sym sc;
+        controller = left.controller ∙ sym co;
+      };
+      pc = has_left.pc ∙ kept place (omega arith);
+      x2 = has_left.x2;
+      loaded = λ i from upto. has_left.loaded i from upto ∙ kept (place + 4 * i) (omega arith);
     }

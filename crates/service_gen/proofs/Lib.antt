@@ -1,6 +1,6 @@
 pub mod TerminateTask
 pub mod Activating
-pub mod Others
+pub mod Returning
 pub mod Telling
 pub mod Releasing
 pub mod Ending

@@ -2,15 +2,14 @@
 use Rattle.std.proofs.Common.{ℕ, ◌+◌, ◌*◌, ◌≤◌, List, ◌∷◌, length, subst, arith}
 use Rattle.sloth_base.specs.Machine.{Core, State}
 use Rattle.rv32_instr.specs.declared.InstrKind.{InstrKind}
-use Rattle.rv32_instr.specs.declared.InstrKind.TheVariants.{Csrrci}
-use Rattle.rv32_routine.specs.Kernel.{CanRun}
+use Rattle.rv32_routine.specs.Kernel.{CanRun, masking}
 use Rattle.rv32_routine.specs.Masked.{FromOpening}
 use Rattle.rv32_routine.specs.Owes.{Owes}
 use Rattle.rv32_routine.specs.Place.{at}
 use Rattle.rv32_routine.proofs.Spread.{spread, spread_is}
 use Rattle.rv32_routine.proofs.Whole.{serves, masked}
 
-pub opens : (offset n : ℕ) (code : List InstrKind) (c : Core) (E : List ℕ → State → State → Type 0) → CanRun offset (Csrrci 0 8 0x300 ∷ code) c → length code ≤ n
+pub opens : (offset n : ℕ) (code : List InstrKind) (c : Core) (E : List ℕ → State → State → Type 0) → CanRun offset (masking ∷ code) c → length code ≤ n
     → Owes offset (offset + 4 + 4 * length code) (offset + 4) code 0 E (at offset (spread c)) (masked (spread c)) → FromOpening n (at offset c) E
 opens offset n code c E can few owed =
     let fits = can.inside in

@@ -3,24 +3,25 @@ use Rattle.std.proofs.Common.{◌≡◌, ℕ, ◌+◌, ◌*◌, List, [], ◌∷
 use Rattle.std.specs.Prelude.{set}
 use Rattle.sloth_base.specs.Machine.{Core}
 use Rattle.sloth_base.specs.Arrive.{arrive, state_arrive}
+use Rattle.sloth_region.specs.Layout.{words_high}
 use Rattle.rv32_instr.specs.declared.InstrKind.{InstrKind}
-use Rattle.rv32_instr.specs.declared.InstrKind.TheVariants.{Lui, Csrrci}
+use Rattle.rv32_instr.specs.declared.InstrKind.TheVariants.{Lui}
 use Rattle.rv32_routine.specs.Place.{at}
 use Rattle.rv32_routine.specs.Masked.{FromOpening}
 use Rattle.rv32_routine.specs.Owes.{Owes}
-use Rattle.rv32_routine.specs.Kernel.{leave}
+use Rattle.rv32_routine.specs.Kernel.{leave, masking}
 use Rattle.rv32_routine.proofs.Spread.{spread, spread_from}
 use Rattle.rv32_routine.proofs.Whole.{masked}
 use Rattle.rv32_routine.proofs.Leave.{leave_owes, behind}
-use Rattle.service_gen.proofs.Ending.{ended_ram, ends_owe, ended_below, terminated}
+use Rattle.service_gen.proofs.Ending.{ends_owe, ended_below, has_ended}
 use Rattle.service_gen.proofs.Serving.{opens}
 use Rattle.service_gen.specs.Pieces.{ends}
-use Rattle.service_gen.specs.TerminateTask.{MayTerminate, Terminated, Terminates}
+use Rattle.service_gen.specs.TerminateTask.{ended_ram, MayTerminate, Terminated, Terminates}
 
 abbrev pub body : List InstrKind
-body = Lui 4 0x8_0000 ∷ (ends ++ leave)
+body = Lui 4 words_high ∷ (ends ++ leave)
 
-module _ (offset task place : ℕ) (c : Core) (h : MayTerminate offset task place (Csrrci 0 8 0x300 ∷ body) c) where
+module _ (offset task place : ℕ) (c : Core) (h : MayTerminate offset task place (masking ∷ body) c) where
   body_owes : Owes offset (offset + 4 + 196) (offset + 4) body 0 (Terminated task place) (at offset (spread c)) (masked (spread c))
   body_owes =
       let small = h.is_task in
@@ -33,14 +34,14 @@ module _ (offset task place : ℕ) (c : Core) (h : MayTerminate offset task plac
             (λ lines only.
             let start = state_arrive lines (at offset (spread c)) in
             let d = record (masked (spread c)) { pending = set (arrive lines c.pending) task 0; ram = ended_ram c.ram task } in
-            leave_owes offset (offset + 4 + 196) (λ touched. Terminated task place (task ∷ touched)) start place d (8 * (task + 1)) x2 (0x8000_0000 + 12 * (task + 1)) tail refl refl
+            leave_owes offset (offset + 4 + 196) (λ touched. Terminated task place (task ∷ touched)) start place d (8 * (task + 1)) x2 (0x8000_0000 + 12 * (task + 1)) tail refl refl h.previous
             (ended_below c d task place small refl h.below) low (behind 12 offset)
-            (λ end left. subst (λ p. Terminated task place (task ∷ []) start (record end { core = record end.core { pending = p } })) (sym left.pending)
-            (terminated c d task place start end small h.below.behind refl refl h.previous refl refl refl refl left))),
+            (λ end left. subst (λ p. Terminated task place (task ∷ []) start (record end { core = record end.core { pending = p } })) (sym left.left.pending)
+            (has_ended c d task place start end small h.below.behind refl refl refl refl refl refl left))),
       )
 
   runs_it : FromOpening 49 (at offset c) (Terminated task place)
   runs_it = opens offset 49 body c (Terminated task place) h.can_run (omega arith) body_owes
 
-pub terminates : Terminates (Csrrci 0 8 0x300 ∷ body)
-terminates = record { size = let n : length (Csrrci 0 8 0x300 ∷ body) ≡ 50 = refl in omega arith; masks = (body, refl); runs = λ offset task place core h. runs_it offset task place core h }
+pub terminates : Terminates (masking ∷ body)
+terminates = record { size = let n : length (masking ∷ body) ≡ 50 = refl in omega arith; masks = (body, refl); runs = λ offset task place core h. runs_it offset task place core h }

@@ -1,8 +1,8 @@
 -- Services that go back to their caller at once.
-use Rattle.std.specs.Prelude.{ℕ, ◌%◌, ◌≡◌, true, List, length, slice_index}
+use Rattle.std.specs.Prelude.{ℕ, ◌%◌, ◌≡◌, ◌<◌, ◌≤◌, ◌⊎◌, true, List, slice_index}
 use Rattle.sloth_base.specs.Machine.{Core, State}
 use Rattle.rv32_instr.specs.declared.InstrKind.{InstrKind}
-use Rattle.rv32_routine.specs.Kernel.{CanRun}
+use Rattle.rv32_routine.specs.Kernel.{CanRun, LeftAs}
 
 -- the code stands at an offset, and the address to go back to in x31
 pub record CanGoBack (offset : ℕ) (code : List InstrKind) (core : Core) : Type 0 where
@@ -10,15 +10,18 @@ pub record CanGoBack (offset : ℕ) (code : List InstrKind) (core : Core) : Type
   pub previous : core.mpie ≡ true
   pub back : slice_index core.registers 31 % 4 ≡ 0
 
--- the caller goes on, with interrupts open; x1, x3, x4, mepc and plevel hold anything
-pub record WentBack (start end : State) : Type 0 where
+-- the register of a service's status
+abbrev pub a0 : ℕ
+a0 = 10
+
+-- the register of its answer
+abbrev pub a1 : ℕ
+a1 = 11
+
+-- The caller goes on, and the machine is left as in this core. Of x5 to x31 only those from a0 to the last answer are new; x1, x3,
+-- x4, mepc and plevel hold anything.
+pub record WentBack (last : ℕ) (core : Core) (start end : State) : Type 0 where
+  pub left : LeftAs core end.core
   pub pc : end.pc ≡ slice_index start.core.registers 31
   pub x2 : slice_index end.core.registers 2 ≡ slice_index start.core.registers 2
-  pub zero : slice_index end.core.registers 0 ≡ 0
-  pub registers : length end.core.registers ≡ 32
-  pub opened : end.core.mie ≡ true
-  pub previous : end.core.mpie ≡ true
-  pub enabled : end.core.enabled ≡ start.core.enabled
-  pub levels : end.core.levels ≡ start.core.levels
-  pub scratch : end.core.mscratch ≡ start.core.mscratch
-  pub controller : end.core.controller ≡ start.core.controller
+  pub kept : (i : ℕ) → 5 ≤ i → (i < a0) ⊎ (last < i) → slice_index end.core.registers i ≡ slice_index start.core.registers i

@@ -1,15 +1,15 @@
 -- ChainTask (OSEK OS 2.2.3, section 13.2.3.3).
-use Rattle.std.specs.Prelude.{ℕ, ◌+◌, ◌≡◌, ◌≢◌, ◌<◌, ◌≤◌, ◌⊎◌, List, [], ◌∷◌, slice_index}
+use Rattle.std.specs.Prelude.{ℕ, ◌+◌, ◌≡◌, ◌≢◌, ◌<◌, ◌≤◌, ◌⊎◌, List, [], ◌∷◌, length, slice_index}
 use Rattle.sloth_base.specs.Machine.{Core, State}
+use Rattle.sloth_base.specs.Status.{E_OS_LIMIT}
 use Rattle.sloth_base.specs.Arrive.{state_arrive}
 use Rattle.sloth_region.specs.Layout.{cur, active}
 use Rattle.rv32_instr.specs.declared.InstrKind.{InstrKind}
-use Rattle.rv32_instr.specs.declared.InstrKind.TheVariants.{Csrrci}
 use Rattle.rv32_instr.specs.Ram.{word_at}
 use Rattle.rv32_routine.specs.Masked.{FromOpening}
 use Rattle.rv32_routine.specs.Place.{at}
-use Rattle.rv32_routine.specs.Kernel.{IsBelow}
-use Rattle.service_gen.specs.Back.{CanGoBack, WentBack}
+use Rattle.rv32_routine.specs.Kernel.{IsBelow, masking}
+use Rattle.service_gen.specs.Back.{CanGoBack, WentBack, a0}
 use Rattle.service_gen.specs.ActivateTask.{LooksSuspended}
 use Rattle.service_gen.specs.TerminateTask.{Terminated}
 
@@ -32,22 +32,20 @@ pub record HasChained (task own place : ℕ) (touched : List ℕ) (start end : S
   pub ended : Terminated own place (own ∷ []) start middle
   pub raised : end ≡ state_arrive (task ∷ []) middle
 
--- Nothing happens; a0 is E_OS_LIMIT (4).
+-- Nothing happens; the status is E_OS_LIMIT.
 pub record HasNotChained (task own : ℕ) (touched : List ℕ) (start end : State) : Type 0 where
   pub other : task ≢ own
   pub not_suspended : LooksSuspended task start.core → ⊥
   pub touches : touched ≡ task ∷ []
-  pub pending : end.core.pending ≡ start.core.pending
-  pub status : slice_index end.core.registers 10 ≡ 4
-  pub back : WentBack start end
-  pub running : end.core.ilevel ≡ start.core.ilevel
-  pub kept : (i : ℕ) → 5 ≤ i → i ≢ 10 → slice_index end.core.registers i ≡ slice_index start.core.registers i
-  pub ram : end.core.ram ≡ start.core.ram
+  pub status : slice_index end.core.registers a0 ≡ E_OS_LIMIT
+  pub back : WentBack a0 start.core start end
 
+-- what ChainTask does
 abbrev pub Chained : ℕ → ℕ → ℕ → List ℕ → State → State → Type 0
 Chained task own place touched start end = HasChained task own place touched start end ⊎ HasNotChained task own touched start end
 
 -- Code of ChainTask: its first instruction masks, and at most 68 more lead to its effect, whatever lines arrive.
 pub record Chains (task : ℕ) (code : List InstrKind) : Type 0 where
-  pub masks : (rest : List InstrKind) × (code ≡ Csrrci 0 8 0x300 ∷ rest)
+  pub size : length code ≤ 69
+  pub masks : (rest : List InstrKind) × (code ≡ masking ∷ rest)
   pub runs : (offset own place : ℕ) (core : Core) → MayChain offset task own place code core → FromOpening 68 (at offset core) (Chained task own place)

@@ -1,13 +1,14 @@
 -- GetTaskID (OSEK OS 2.2.3, section 13.2.3.5).
-use Rattle.std.specs.Prelude.{ℕ, ◌+◌, ◌≡◌, ◌≢◌, ◌<◌, ◌≤◌, List, [], ◌∷◌, slice_index}
+use Rattle.std.specs.Prelude.{ℕ, ◌+◌, ◌≡◌, ◌<◌, ◌≤◌, List, [], ◌∷◌, length, slice_index}
 use Rattle.sloth_base.specs.Machine.{Core, State}
+use Rattle.sloth_base.specs.Status.{E_OK}
 use Rattle.sloth_region.specs.Layout.{cur}
 use Rattle.rv32_instr.specs.declared.InstrKind.{InstrKind}
-use Rattle.rv32_instr.specs.declared.InstrKind.TheVariants.{Csrrci}
 use Rattle.rv32_instr.specs.Ram.{word_at}
 use Rattle.rv32_routine.specs.Masked.{FromOpening}
 use Rattle.rv32_routine.specs.Place.{at}
-use Rattle.service_gen.specs.Back.{CanGoBack, WentBack}
+use Rattle.rv32_routine.specs.Kernel.{masking}
+use Rattle.service_gen.specs.Back.{CanGoBack, WentBack, a0, a1}
 
 -- the code can run, and this task runs
 pub record MayTell (offset task : ℕ) (code : List InstrKind) (core : Core) : Type 0 where
@@ -16,18 +17,15 @@ pub record MayTell (offset task : ℕ) (code : List InstrKind) (core : Core) : T
   pub runs : word_at core.ram cur ≡ task + 1
   pub is_task : task < 30
 
--- a1 is the running task's number, a0 E_OK (0).
+-- a1 is the running task's number, the status E_OK.
 pub record Told (task : ℕ) (touched : List ℕ) (start end : State) : Type 0 where
   pub touches : touched ≡ []
-  pub pending : end.core.pending ≡ start.core.pending
-  pub status : slice_index end.core.registers 10 ≡ 0
-  pub number : slice_index end.core.registers 11 ≡ task
-  pub back : WentBack start end
-  pub running : end.core.ilevel ≡ start.core.ilevel
-  pub kept : (i : ℕ) → 5 ≤ i → i ≢ 10 → i ≢ 11 → slice_index end.core.registers i ≡ slice_index start.core.registers i
-  pub ram : end.core.ram ≡ start.core.ram
+  pub status : slice_index end.core.registers a0 ≡ E_OK
+  pub number : slice_index end.core.registers a1 ≡ task
+  pub back : WentBack a1 start.core start end
 
 -- Code of GetTaskID: its first instruction masks, and at most 8 more lead to its effect, whatever lines arrive.
 pub record TellsTask (code : List InstrKind) : Type 0 where
-  pub masks : (rest : List InstrKind) × (code ≡ Csrrci 0 8 0x300 ∷ rest)
+  pub size : length code ≤ 9
+  pub masks : (rest : List InstrKind) × (code ≡ masking ∷ rest)
   pub runs : (offset task : ℕ) (core : Core) → MayTell offset task code core → FromOpening 8 (at offset core) (Told task)

@@ -1,13 +1,12 @@
 -- TerminateTask (OSEK OS 2.2.3, section 13.2.3.2).
 use Rattle.std.specs.Prelude.{ℕ, ◌+◌, ◌*◌, ◌≡◌, ◌<◌, ◌≤◌, true, List, [], ◌∷◌, length, slice_index, slice_set}
 use Rattle.sloth_base.specs.Machine.{Core, State}
-use Rattle.sloth_region.specs.Layout.{cur, active, events, below_word, context_bytes}
+use Rattle.sloth_region.specs.Layout.{cur, active, events, below_word, context_bytes, context_level, context_cur, context_below}
 use Rattle.rv32_instr.specs.declared.InstrKind.{InstrKind}
-use Rattle.rv32_instr.specs.declared.InstrKind.TheVariants.{Csrrci}
 use Rattle.rv32_instr.specs.Ram.{word_at, with_word}
 use Rattle.rv32_routine.specs.Masked.{FromOpening}
 use Rattle.rv32_routine.specs.Place.{at}
-use Rattle.rv32_routine.specs.Kernel.{CanRun, IsBelow}
+use Rattle.rv32_routine.specs.Kernel.{CanRun, IsBelow, LeftAs, masking}
 
 -- the code stands at an offset, this task runs, and the context of what runs below it stands at `place`
 pub record MayTerminate (offset task place : ℕ) (code : List InstrKind) (core : Core) : Type 0 where
@@ -17,28 +16,29 @@ pub record MayTerminate (offset task place : ℕ) (code : List InstrKind) (core 
   pub is_task : task < 30
   pub below : IsBelow place core
 
+-- the bytes with the task's Active word and its events zero
+abbrev pub ended_ram : List ℕ → ℕ → List ℕ
+ended_ram ram task = with_word (with_word ram (active task) 0) (events task) 0
+
+-- the core in which the task has ended, and in which what is below runs, by the words of its context
+abbrev pub ended_core : ℕ → ℕ → Core → Core
+ended_core task place core =
+    record core {
+      ilevel = word_at core.ram (place + context_level);
+      pending = slice_set core.pending task 0;
+      ram = with_word (with_word (ended_ram core.ram task) cur (word_at core.ram (place + context_cur))) below_word (word_at core.ram (place + context_below));
+    }
+
 -- The task has ended: it is neither pending nor Active and has no events, and what runs below goes on as its context says.
 pub record Terminated (task place : ℕ) (touched : List ℕ) (start end : State) : Type 0 where
   pub touches : touched ≡ task ∷ []
-  pub pending : end.core.pending ≡ slice_set start.core.pending task 0
-  pub ram :
-      end.core.ram
-      ≡ with_word (with_word (with_word (with_word start.core.ram (active task) 0) (events task) 0) cur (word_at start.core.ram (place + 8))) below_word (word_at start.core.ram (place + 12))
+  pub left : LeftAs (ended_core task place start.core) end.core
   pub pc : end.pc ≡ word_at start.core.ram place
-  pub running : end.core.ilevel ≡ word_at start.core.ram (place + 4)
   pub x2 : slice_index end.core.registers 2 ≡ 0x8000_0000 + (place + context_bytes)
   pub loaded : (i : ℕ) → 5 ≤ i → i < 32 → slice_index end.core.registers i ≡ word_at start.core.ram (place + 4 * i)
-  pub zero : slice_index end.core.registers 0 ≡ 0
-  pub registers : length end.core.registers ≡ 32
-  pub opened : end.core.mie ≡ true
-  pub previous : end.core.mpie ≡ true
-  pub enabled : end.core.enabled ≡ start.core.enabled
-  pub levels : end.core.levels ≡ start.core.levels
-  pub scratch : end.core.mscratch ≡ start.core.mscratch
-  pub controller : end.core.controller ≡ start.core.controller
 
 -- Code of TerminateTask: its first instruction masks, and at most 49 more lead to the end of the task, whatever lines arrive.
 pub record Terminates (code : List InstrKind) : Type 0 where
   pub size : length code ≤ 50
-  pub masks : (rest : List InstrKind) × (code ≡ Csrrci 0 8 0x300 ∷ rest)
+  pub masks : (rest : List InstrKind) × (code ≡ masking ∷ rest)
   pub runs : (offset task place : ℕ) (core : Core) → MayTerminate offset task place code core → FromOpening 49 (at offset core) (Terminated task place)

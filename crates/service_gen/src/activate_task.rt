@@ -1,11 +1,12 @@
 //! ActivateTask: the task's line is raised, and the status tells whether the task was Suspended.
-ghost use Rattle.std.specs.Prelude.{◌<◌, IfOk};
+ghost use Rattle.std.specs.Prelude.{◌≡◌, ◌<◌, ◌++◌, IfOk, OnOk};
+ghost use Rattle.service_gen.specs.Pieces.{tells};
 ghost use Rattle.service_gen.specs.ActivateTask.{Activates};
 
 use crate::pieces::{go_back, look_at, open, raise};
-use rv32_instr::{Instr, InstrKind};
+use rv32_instr::Instr;
+use rv32_instr::asm::{A0, X1, slli};
 use rv32_routine::emit::emit;
-use sloth_base::numbers::Reg;
 use std::alloc::{AllocError, Global};
 
 /// The look at the task, the raised line, and the way back.
@@ -15,16 +16,16 @@ pub fn code(alloc: Global, task: u8) -> Result<Vec<Instr>, AllocError>
 {
     let mut code = Vec::new(alloc);
     open(&mut code)?;
-    look_at(&mut code, task, Reg(10), Reg(1))?;
-    emit(
-        &mut code,
-        &[InstrKind::Slli {
-            rd: Reg(10),
-            rs1: Reg(10),
-            amount: 2,
-        }],
-    )?;
+    look_at(&mut code, task, A0, X1)?;
+    tell(&mut code)?;
     raise(&mut code, task)?;
     go_back(&mut code)?;
     Ok(code)
+}
+
+/// The status: E_OS_LIMIT, which is 4, where a0 is 1, and E_OK where it is 0.
+fn tell(code: &mut Vec<Instr>) -> Result<(), AllocError>
+    ensures { OnOk result (code.new.items ≡ code.old.items ++ tells) }
+{
+    emit(code, &[slli(A0, A0, 2)])
 }

@@ -4,12 +4,17 @@ ghost use Rattle.std.specs.Prelude.{◌≡◌, ◌<◌, ◌++◌, IfOk, OnOk};
 ghost use Rattle.service_gen.specs.Pieces.{asks, refuses};
 ghost use Rattle.service_gen.specs.ChainTask.{Chains};
 
-use crate::pieces::{end, go_back, look_at, open, raise};
-use rv32_instr::{Instr, InstrKind};
-use rv32_routine::emit::emit;
+use crate::pieces::{BACK, LOOK, end, go_back, look_at, open, raise};
+use rv32_instr::Instr;
+use rv32_instr::asm::{A0, X1, X3, X4, ZERO, addi, beq, lw};
+use rv32_routine::emit::{emit, past};
 use rv32_routine::pieces::leave;
-use sloth_base::numbers::Reg;
+use sloth_base::service::E_OS_LIMIT;
+use sloth_region::layout::CUR;
 use std::alloc::{AllocError, Global};
+
+/// How many instructions `refuse` adds.
+const REFUSE: u32 = 2;
 
 /// The look at the task with the refusal, and then the caller's end, the raised line and the way to what runs below.
 pub fn code(alloc: Global, task: u8) -> Result<Vec<Instr>, AllocError>
@@ -19,7 +24,7 @@ pub fn code(alloc: Global, task: u8) -> Result<Vec<Instr>, AllocError>
     let mut code = Vec::new(alloc);
     open(&mut code)?;
     ask(&mut code, task)?;
-    look_at(&mut code, task, Reg(3), Reg(1))?;
+    look_at(&mut code, task, X3, X1)?;
     refuse(&mut code)?;
     go_back(&mut code)?;
     end(&mut code)?;
@@ -34,40 +39,20 @@ fn ask(code: &mut Vec<Instr>, task: u8) -> Result<(), AllocError>
     ensures { OnOk result (code.new.items ≡ code.old.items ++ asks task) }
 {
     let asked = [
-        InstrKind::Lw {
-            rd: Reg(3),
-            rs1: Reg(4),
-            imm: 0,
-        },
-        InstrKind::Addi {
-            rd: Reg(1),
-            rs1: Reg(0),
-            imm: task as i32 + 1,
-        },
-        InstrKind::Beq {
-            rs1: Reg(3),
-            rs2: Reg(1),
-            imm: 56,
-        },
+        lw(X3, X4, CUR),
+        addi(X1, ZERO, task as i32 + 1),
+        beq(X3, X1, past(LOOK + REFUSE + BACK)),
     ];
     emit(code, &asked)
 }
 
-/// Goes on behind the refusal where x3 is 0; else the status is 4.
+/// Goes on behind the refusal where x3 is 0; else the status is E_OS_LIMIT.
 fn refuse(code: &mut Vec<Instr>) -> Result<(), AllocError>
     ensures { OnOk result (code.new.items ≡ code.old.items ++ refuses) }
 {
     let refused = [
-        InstrKind::Beq {
-            rs1: Reg(3),
-            rs2: Reg(0),
-            imm: 24,
-        },
-        InstrKind::Addi {
-            rd: Reg(10),
-            rs1: Reg(0),
-            imm: 4,
-        },
+        beq(X3, ZERO, past(1 + BACK)),
+        addi(A0, ZERO, E_OS_LIMIT as i32),
     ];
     emit(code, &refused)
 }

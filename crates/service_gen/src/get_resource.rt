@@ -4,9 +4,11 @@ ghost use Rattle.service_gen.specs.Pieces.{takes};
 ghost use Rattle.service_gen.specs.GetResource.{Takes};
 
 use crate::pieces::{go_on, open};
-use rv32_instr::{Instr, InstrKind};
-use rv32_routine::emit::emit;
-use sloth_base::numbers::Reg;
+use rv32_instr::Instr;
+use rv32_instr::asm::{X1, X3, X4, ZERO, addi, bgeu, csrrs, sw};
+use rv32_instr::csr::ILEVEL;
+use rv32_routine::emit::{emit, past};
+use sloth_region::layout::saved;
 use std::alloc::{AllocError, Global};
 
 /// The saved level, the greater level, and the way back.
@@ -27,31 +29,11 @@ fn take(code: &mut Vec<Instr>, resource: u8, ceiling: u8) -> Result<(), AllocErr
     ensures { OnOk result (code.new.items ≡ code.old.items ++ takes resource ceiling) }
 {
     let taken = [
-        InstrKind::Csrrs {
-            rd: Reg(3),
-            rs1: Reg(0),
-            csr: 0x7C0,
-        },
-        InstrKind::Sw {
-            rs1: Reg(4),
-            rs2: Reg(3),
-            imm: 752 + 4 * resource as i32,
-        },
-        InstrKind::Addi {
-            rd: Reg(1),
-            rs1: Reg(0),
-            imm: ceiling as i32,
-        },
-        InstrKind::Bgeu {
-            rs1: Reg(3),
-            rs2: Reg(1),
-            imm: 8,
-        },
-        InstrKind::Addi {
-            rd: Reg(3),
-            rs1: Reg(1),
-            imm: 0,
-        },
+        csrrs(X3, ILEVEL, ZERO),
+        sw(X3, X4, saved(resource)),
+        addi(X1, ZERO, ceiling as i32),
+        bgeu(X3, X1, past(1)),
+        addi(X3, X1, 0),
     ];
     emit(code, &taken)
 }

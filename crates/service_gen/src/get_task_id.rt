@@ -1,11 +1,14 @@
 //! GetTaskID: the number of the running task.
-ghost use Rattle.std.specs.Prelude.{IfOk};
+ghost use Rattle.std.specs.Prelude.{◌≡◌, ◌++◌, IfOk, OnOk};
+ghost use Rattle.service_gen.specs.Pieces.{tells_own};
 ghost use Rattle.service_gen.specs.GetTaskID.{TellsTask};
 
 use crate::pieces::{go_back, open};
-use rv32_instr::{Instr, InstrKind};
+use rv32_instr::Instr;
+use rv32_instr::asm::{A0, A1, X4, ZERO, addi, lw};
 use rv32_routine::emit::emit;
-use sloth_base::numbers::Reg;
+use sloth_base::service::E_OK;
+use sloth_region::layout::CUR;
 use std::alloc::{AllocError, Global};
 
 /// The running task's number, and the way back.
@@ -14,24 +17,19 @@ pub fn code(alloc: Global) -> Result<Vec<Instr>, AllocError>
 {
     let mut code = Vec::new(alloc);
     open(&mut code)?;
-    let told = [
-        InstrKind::Lw {
-            rd: Reg(11),
-            rs1: Reg(4),
-            imm: 0,
-        },
-        InstrKind::Addi {
-            rd: Reg(11),
-            rs1: Reg(11),
-            imm: -1,
-        },
-        InstrKind::Addi {
-            rd: Reg(10),
-            rs1: Reg(0),
-            imm: 0,
-        },
-    ];
-    emit(&mut code, &told)?;
+    tell_own(&mut code)?;
     go_back(&mut code)?;
     Ok(code)
+}
+
+/// a1 := the running task's number, with the status E_OK. x4 holds 0x80000000.
+fn tell_own(code: &mut Vec<Instr>) -> Result<(), AllocError>
+    ensures { OnOk result (code.new.items ≡ code.old.items ++ tells_own) }
+{
+    let told = [
+        lw(A1, X4, CUR),
+        addi(A1, A1, -1),
+        addi(A0, ZERO, E_OK as i32),
+    ];
+    emit(code, &told)
 }

@@ -1,29 +1,39 @@
 //! Pieces of code that several services have.
-ghost use Rattle.std.specs.Prelude.{◌≡◌, ◌<◌, ◌++◌, ◌∷◌, [], OnOk};
-ghost use Rattle.rv32_instr.specs.declared.InstrKind.TheVariants.{Csrrci, Lui};
-ghost use Rattle.service_gen.specs.Pieces.{ends, busy, raises, back_at, back, goes_on_at};
+ghost use Rattle.std.specs.Prelude.{◌≡◌, ◌<◌, ◌++◌, OnOk};
+ghost use Rattle.service_gen.specs.Pieces.{opens, ends, busy, raises, back_at, back, goes_on_at};
 
-use rv32_instr::{Instr, InstrKind};
+use rv32_instr::Instr;
+use rv32_instr::asm::{
+    A0, X1, X3, X4, X31, ZERO, add, addi, csrrci, csrrs, csrrw, lbu, lui, lw, mret, or, sb, slli,
+    sw, xori,
+};
+use rv32_instr::csr::{ILEVEL, MEPC, MIE, MSTATUS, PLEVEL};
 use rv32_routine::emit::emit;
 use sloth_base::numbers::Reg;
+use sloth_base::service::E_OK;
+use sloth_region::layout::{CONTROLLER_HIGH, CUR, WORDS_HIGH, active, enabled_byte, pending_byte};
 use std::alloc::AllocError;
+
+/// The running task's pending byte, from `cur` behind the controller's address, as `cur` is its number and 1 more.
+const OWN_PENDING: i32 = -1;
+
+/// Its Active word, from 12 * `cur` behind the service words.
+const OWN_ACTIVE: i32 = -8;
+
+/// Its events, from there.
+const OWN_EVENTS: i32 = -4;
+
+/// How many instructions `look_at` adds.
+pub const LOOK: u32 = 7;
+
+/// How many instructions `go_back` adds.
+pub const BACK: u32 = 4;
 
 /// Masks interrupts, and loads the address of the service words into x4.
 pub fn open(code: &mut Vec<Instr>) -> Result<(), AllocError>
-    ensures { OnOk result (code.new.items ≡ code.old.items ++ Csrrci 0 8 0x300 ∷ Lui 4 0x80000 ∷ []) }
+    ensures { OnOk result (code.new.items ≡ code.old.items ++ opens) }
 {
-    let opened = [
-        InstrKind::Csrrci {
-            rd: Reg(0),
-            number: 8,
-            csr: 0x300,
-        },
-        InstrKind::Lui {
-            rd: Reg(4),
-            imm: 0x8_0000,
-        },
-    ];
-    emit(code, &opened)
+    emit(code, &[csrrci(ZERO, MSTATUS, MIE), lui(X4, WORDS_HIGH)])
 }
 
 /// Ends the running task: its pending byte, its Active word and its events become 0. x4 holds 0x80000000.
@@ -31,55 +41,16 @@ pub fn end(code: &mut Vec<Instr>) -> Result<(), AllocError>
     ensures { OnOk result (code.new.items ≡ code.old.items ++ ends) }
 {
     let ended = [
-        InstrKind::Lw {
-            rd: Reg(3),
-            rs1: Reg(4),
-            imm: 0,
-        },
-        InstrKind::Lui {
-            rd: Reg(1),
-            imm: 0x1_0000,
-        },
-        InstrKind::Add {
-            rd: Reg(1),
-            rs1: Reg(1),
-            rs2: Reg(3),
-        },
-        InstrKind::Sb {
-            rs1: Reg(1),
-            rs2: Reg(0),
-            imm: -1,
-        },
-        InstrKind::Slli {
-            rd: Reg(1),
-            rs1: Reg(3),
-            amount: 3,
-        },
-        InstrKind::Slli {
-            rd: Reg(3),
-            rs1: Reg(3),
-            amount: 2,
-        },
-        InstrKind::Add {
-            rd: Reg(3),
-            rs1: Reg(3),
-            rs2: Reg(1),
-        },
-        InstrKind::Add {
-            rd: Reg(3),
-            rs1: Reg(3),
-            rs2: Reg(4),
-        },
-        InstrKind::Sw {
-            rs1: Reg(3),
-            rs2: Reg(0),
-            imm: -8,
-        },
-        InstrKind::Sw {
-            rs1: Reg(3),
-            rs2: Reg(0),
-            imm: -4,
-        },
+        lw(X3, X4, CUR),
+        lui(X1, CONTROLLER_HIGH),
+        add(X1, X1, X3),
+        sb(ZERO, X1, OWN_PENDING),
+        slli(X1, X3, 3),
+        slli(X3, X3, 2),
+        add(X3, X3, X1),
+        add(X3, X3, X4),
+        sw(ZERO, X3, OWN_ACTIVE),
+        sw(ZERO, X3, OWN_EVENTS),
     ];
     emit(code, &ended)
 }
@@ -90,40 +61,13 @@ pub fn look_at(code: &mut Vec<Instr>, task: u8, rd: Reg, other: Reg) -> Result<(
     ensures { OnOk result (code.new.items ≡ code.old.items ++ busy task rd other) }
 {
     let looked_at = [
-        InstrKind::Lui {
-            rd: other,
-            imm: 0x1_0000,
-        },
-        InstrKind::Lbu {
-            rd,
-            rs1: other,
-            imm: 32 + task as i32,
-        },
-        InstrKind::Xori {
-            rd,
-            rs1: rd,
-            imm: 1,
-        },
-        InstrKind::Lbu {
-            rd: other,
-            rs1: other,
-            imm: task as i32,
-        },
-        InstrKind::Or {
-            rd,
-            rs1: rd,
-            rs2: other,
-        },
-        InstrKind::Lw {
-            rd: other,
-            rs1: Reg(4),
-            imm: 4 + 12 * task as i32,
-        },
-        InstrKind::Or {
-            rd,
-            rs1: rd,
-            rs2: other,
-        },
+        lui(other, CONTROLLER_HIGH),
+        lbu(rd, other, enabled_byte(task)),
+        xori(rd, rd, 1),
+        lbu(other, other, pending_byte(task)),
+        or(rd, rd, other),
+        lw(other, X4, active(task)),
+        or(rd, rd, other),
     ];
     emit(code, &looked_at)
 }
@@ -134,20 +78,9 @@ pub fn raise(code: &mut Vec<Instr>, task: u8) -> Result<(), AllocError>
     ensures { OnOk result (code.new.items ≡ code.old.items ++ raises task) }
 {
     let raised = [
-        InstrKind::Lui {
-            rd: Reg(1),
-            imm: 0x1_0000,
-        },
-        InstrKind::Addi {
-            rd: Reg(3),
-            rs1: Reg(0),
-            imm: 1,
-        },
-        InstrKind::Sb {
-            rs1: Reg(1),
-            rs2: Reg(3),
-            imm: task as i32,
-        },
+        lui(X1, CONTROLLER_HIGH),
+        addi(X3, ZERO, 1),
+        sb(X3, X1, pending_byte(task)),
     ];
     emit(code, &raised)
 }
@@ -156,19 +89,7 @@ pub fn raise(code: &mut Vec<Instr>, task: u8) -> Result<(), AllocError>
 fn go_back_at(code: &mut Vec<Instr>) -> Result<(), AllocError>
     ensures { OnOk result (code.new.items ≡ code.old.items ++ back_at) }
 {
-    let gone_back = [
-        InstrKind::Csrrw {
-            rd: Reg(0),
-            rs1: Reg(3),
-            csr: 0x7C1,
-        },
-        InstrKind::Csrrw {
-            rd: Reg(0),
-            rs1: Reg(31),
-            csr: 0x341,
-        },
-        InstrKind::Mret,
-    ];
+    let gone_back = [csrrw(ZERO, PLEVEL, X3), csrrw(ZERO, MEPC, X31), mret()];
     emit(code, &gone_back)
 }
 
@@ -176,28 +97,14 @@ fn go_back_at(code: &mut Vec<Instr>) -> Result<(), AllocError>
 pub fn go_back(code: &mut Vec<Instr>) -> Result<(), AllocError>
     ensures { OnOk result (code.new.items ≡ code.old.items ++ back) }
 {
-    emit(
-        code,
-        &[InstrKind::Csrrs {
-            rd: Reg(3),
-            rs1: Reg(0),
-            csr: 0x7C0,
-        }],
-    )?;
+    emit(code, &[csrrs(X3, ILEVEL, ZERO)])?;
     go_back_at(code)
 }
 
-/// Back to the caller, at the level in x3, with the status 0.
+/// Back to the caller, at the level in x3, with the status E_OK.
 pub fn go_on(code: &mut Vec<Instr>) -> Result<(), AllocError>
     ensures { OnOk result (code.new.items ≡ code.old.items ++ goes_on_at) }
 {
-    emit(
-        code,
-        &[InstrKind::Addi {
-            rd: Reg(10),
-            rs1: Reg(0),
-            imm: 0,
-        }],
-    )?;
+    emit(code, &[addi(A0, ZERO, E_OK as i32)])?;
     go_back_at(code)
 }

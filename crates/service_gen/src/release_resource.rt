@@ -4,9 +4,10 @@ ghost use Rattle.service_gen.specs.Pieces.{releases};
 ghost use Rattle.service_gen.specs.ReleaseResource.{Releases};
 
 use crate::pieces::{go_on, open};
-use rv32_instr::{Instr, InstrKind};
+use rv32_instr::Instr;
+use rv32_instr::asm::{X3, X4, lw};
 use rv32_routine::emit::emit;
-use sloth_base::numbers::Reg;
+use sloth_region::layout::saved;
 use std::alloc::{AllocError, Global};
 
 /// The saved level, and the way back.
@@ -20,18 +21,11 @@ pub fn code(alloc: Global, resource: u8) -> Result<Vec<Instr>, AllocError>
     Ok(code)
 }
 
-/// To the level that was saved for the resource, with the status 0. x4 holds 0x80000000.
+/// To the level that was saved for the resource, with the status E_OK. x4 holds 0x80000000.
 fn release(code: &mut Vec<Instr>, resource: u8) -> Result<(), AllocError>
     requires { resource ≤ 32 }
     ensures { OnOk result (code.new.items ≡ code.old.items ++ releases resource) }
 {
-    emit(
-        code,
-        &[InstrKind::Lw {
-            rd: Reg(3),
-            rs1: Reg(4),
-            imm: 752 + 4 * resource as i32,
-        }],
-    )?;
+    emit(code, &[lw(X3, X4, saved(resource))])?;
     go_on(code)
 }

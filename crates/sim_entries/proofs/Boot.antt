@@ -38,19 +38,19 @@ length-ram bytes h =
 module _ (b : Build) (image : Image) (levels : List ℕ) (end : State) (fits : Fits b) (is : IsImage b image) (ranks : AreLevelsOf b levels)
     (effect : Booted b.config.tasks levels b.idle [] (start image) end) where
   ram_is : (i : ℕ) → slice_index end.core.ram i ≡ slice_index b.memory i
-  ram_is i = ap (λ r. slice_index r i) effect.ram ∙ ram_at image.memory i ∙ ap (λ m. slice_index m i) is.memory
+  ram_is i = ap (λ r. slice_index r i) effect.left.ram ∙ ram_at image.memory i ∙ ap (λ m. slice_index m i) is.memory
 
   fixed : Fixed b end.core
   fixed = record {
-    open_to_lines = effect.opened;
-    previous = effect.previous;
-    controller = effect.controller;
-    registers = effect.registers;
-    zero = effect.zero;
+    open_to_lines = effect.left.opened;
+    previous = effect.left.previous;
+    controller = effect.left.controller;
+    registers = effect.left.registers;
+    zero = effect.left.zero;
     pending = effect.lines.0;
     enabled = effect.lines.1;
     levels = effect.lines.2;
-    ram = ap length effect.ram ∙ length-ram image.memory (let m = ap length is.memory in let s = is.size in omega arith);
+    ram = ap length effect.left.ram ∙ length-ram image.memory (let m = ap length is.memory in let s = is.size in omega arith);
     code = λ i h. ram_is i;
   }
 
@@ -64,7 +64,7 @@ module _ (b : Build) (image : Image) (levels : List ℕ) (end : State) (fits : F
   starts : Starts b end
   starts = record {
     pc = effect.pc;
-    level = effect.running;
+    level = effect.left.running;
     x2 = effect.x2;
     fixed = fixed;
     service_words = λ i h. ram_is i ∙ is.service_words i h;

@@ -42,7 +42,7 @@ module _ (b : Build) (view : View) (arrivals : List Arrival) (setting : IsSettin
 
   route : Booting arrivals 130 first (Booted b.config.tasks boot.levels b.idle)
   route =
-      booting arrivals 130 first (Booted b.config.tasks boot.levels b.idle) (λ touched from last e. e.opened) refl
+      booting arrivals 130 first (Booted b.config.tasks boot.levels b.idle) (λ touched from last e. e.left.opened) refl
       (boot.boots.runs 0x480 first.core fits.idle_address
       (record {
         masked = refl;

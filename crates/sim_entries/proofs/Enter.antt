@@ -8,11 +8,13 @@ use Rattle.sloth_base.specs.declared.app.Func.{Func}
 use Rattle.sloth_base.specs.declared.event.Event.TheVariants as event
 use Rattle.sloth_base.specs.Machine.{State}
 use Rattle.sloth_base.specs.Choose.{choose}
+use Rattle.sloth_region.specs.Layout.{cur, below_word, resume}
 use Rattle.rv32_instr.specs.Ram.{word_at}
 use Rattle.rv32_routine.specs.Pieces.{registers_from}
 use Rattle.rv32_routine.proofs.Words.{word_below}
 use Rattle.osek_machine.specs.declared.state.TaskState.TheVariants as mode
-use Rattle.osek_machine.specs.State.{Task, System, task, with_task, declaration, function, missing, body_of, entry_frame, zero_registers}
+use Rattle.osek_machine.specs.State.{Task, System, task, with_task, declaration, body_of, entry_frame, zero_registers}
+use Rattle.sloth_base.specs.Named.{function, missing}
 use Rattle.osek_machine.specs.Priority.{is_active}
 use Rattle.osek_machine.specs.Services.{starts, entered}
 use Rattle.osek_machine.specs.Steps.{OsekStep, settled}
@@ -72,7 +74,7 @@ module _ (b : Build) (state end : State) (s : System) (t place : ℕ) (fits : Fi
   old = state.core.ram
 
   abbrev four : List ℕ
-  four = context_words state.pc state.core.ilevel (word_at old 0) (word_at old 628)
+  four = context_words state.pc state.core.ilevel (word_at old cur) (word_at old below_word)
 
   abbrev rest : List ℕ
   rest = registers_from 27 5 state.core.registers
@@ -102,7 +104,7 @@ module _ (b : Build) (state end : State) (s : System) (t place : ℕ) (fits : Fi
       alone v c.declared (λ z. let r = ready in let d : (task s t).state ≡ mode.Active = subst (λ x. (task s x).state ≡ mode.Active) z c.active in cc) (inl c.active)))
 
   small_four : (j : ℕ) → slice_index four j < 4294967296
-  small_four = words_small state.pc state.core.ilevel (word_at old 0) (word_at old 628) sane.pc (let i = sane.level in omega arith) (word_below old 0 sane.bytes) (word_below old 628 sane.bytes)
+  small_four = words_small state.pc state.core.ilevel (word_at old cur) (word_at old below_word) sane.pc (let i = sane.level in omega arith) (word_below old cur sane.bytes) (word_below old below_word sane.bytes)
 
   small_rest : (j : ℕ) → slice_index rest j < 4294967296
   small_rest = registers_small 27 5 state.core.registers sane.registers
@@ -114,7 +116,7 @@ module _ (b : Build) (state end : State) (s : System) (t place : ℕ) (fits : Fi
   new = ram.new old four rest zeros place t frame k.fixed.ram refl refl few30 sp.behind sp.aligned sp.inside frame_room.3 frame_inside apart_frame small_four small_rest (zeros_small words)
 
   ram_is : end.core.ram ≡ new
-  ram_is = effect.ram
+  ram_is = effect.left.ram
 
   word_is : (j : ℕ) → j < 4 → word_at new (place + 4 * j) ≡ slice_index four j
   word_is = ram.word_is old four rest zeros place t frame k.fixed.ram refl refl few30 sp.behind sp.aligned sp.inside frame_room.3 frame_inside apart_frame small_four small_rest (zeros_small words)
@@ -143,21 +145,21 @@ module _ (b : Build) (state end : State) (s : System) (t place : ℕ) (fits : Fi
         activity = ram.activity_is old four rest zeros place t frame k.fixed.ram refl refl few30 sp.behind sp.aligned sp.inside frame_room.3 frame_inside apart_frame small_four small_rest (zeros_small words);
         resumption =
             ram.named old four rest zeros place t frame k.fixed.ram refl refl few30 sp.behind sp.aligned sp.inside frame_room.3 frame_inside apart_frame small_four small_rest (zeros_small words)
-            (632 + 4 * t) (omega arith) (omega arith) (λ a. omega arith) (λ a. omega arith) (λ a. omega arith)
+            (resume t) (omega arith) (omega arith) (λ a. omega arith) (λ a. omega arith) (λ a. omega arith)
             ∙ rests b old t (task s t) (is_active (task s t).state) (task s t).frames fresh (k.words t declared).resumption;
       }
 
   machine : EntryMachine b state end t
   machine = record {
-    registers = effect.registers ∙ sym k.fixed.registers;
-    zero = effect.zero ∙ sym k.fixed.zero;
-    level = effect.running;
-    pending = effect.pending;
-    enabled = effect.enabled;
-    levels = effect.levels;
-    controller = effect.controller;
-    open_to_lines = effect.opened;
-    previous = effect.previous;
+    registers = effect.left.registers ∙ sym k.fixed.registers;
+    zero = effect.left.zero ∙ sym k.fixed.zero;
+    level = effect.left.running;
+    pending = effect.left.pending;
+    enabled = effect.left.enabled;
+    levels = effect.left.levels;
+    controller = effect.left.controller;
+    open_to_lines = effect.left.opened;
+    previous = effect.left.previous;
   }
 
   context : Context b end.core.ram t own (thread_of end) frame

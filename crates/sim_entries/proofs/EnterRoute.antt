@@ -1,6 +1,6 @@
 -- From the contract of a prologue to the stretch that enters its task.
 use Rattle.std.proofs.Common.{◌≡◌, ℕ, suc, ◌+◌, ◌-◌, ◌*◌, ◌%◌, ◌<◌, ◌≤◌, List, [], ◌∷◌, length, refl, sym, ap, ◌∙◌, subst, arith, ⊎_elim, inl, inr, cond, Option, Some, None}
-use Rattle.std.specs.Prelude.{slice_index, IfSome}
+use Rattle.std.specs.Prelude.{slice_index, IfSome, Contains}
 use Rattle.std.proofs.lemmas.List.{length-set}
 use Rattle.sloth_base.specs.declared.event.Arrival.{Arrival}
 use Rattle.sloth_base.specs.declared.event.Event.TheVariants as event
@@ -21,8 +21,8 @@ use Rattle.osek_machine.specs.Steps.{OsekStep, settled}
 use Rattle.prologue_gen.specs.Fresh.{vector, MayEnter, Entered}
 use Rattle.sim_induction.specs.Admits.{IsSetting, lines_at, with_admits}
 use Rattle.sim_induction.specs.Advances.{Advances}
-use Rattle.sim_induction.specs.Laws.{AreOneOf, StretchLaw}
-use Rattle.sim_induction.specs.Short.{IsOneOf}
+use Rattle.sim_induction.specs.Laws.{StretchLaw}
+use Rattle.std.specs.List.{AllByRecursion}
 use Rattle.sim_induction.proofs.Routes.{Entering, entering, touches_parted, begins_entered, entered_event}
 use Rattle.sim_induction.proofs.StretchPiece.{stretch_advances}
 use Rattle.sim_induction.proofs.Traces.{below_trace}
@@ -141,7 +141,7 @@ module _ (b : Build) (view : View) (arrivals : List Arrival) (setting : IsSettin
 
     route : Entering arrivals (74 + words) count state Effect
     route =
-        entering arrivals (74 + words) count state Effect (λ touched from last e. e.opened)
+        entering arrivals (74 + words) count state Effect (λ touched from last e. e.left.opened)
         (ap (λ o. (enter o now).core.mie) taken) runs
 
     abbrev all_touched : List ℕ
@@ -165,8 +165,8 @@ module _ (b : Build) (view : View) (arrivals : List Arrival) (setting : IsSettin
     enters : OsekStep b.config b.app (event.Enter t) found after × Stands b route.last after
     enters = law.enter_law b now route.last found t place fits k sane chosen fresh prologue.has_item alone spot_is.1 effect
 
-    touches : IfSome (touched (entered now)) (IsOneOf (0 ∷ 0 ∷ [])) × AreOneOf (0 ∷ 0 ∷ []) (touched_lines route.trace)
-    touches = touches_parted (0 ∷ 0 ∷ []) (touched (entered now)) (touched_lines route.trace) (subst (AreOneOf (0 ∷ 0 ∷ [])) (sym untouched) tt)
+    touches : IfSome (touched (entered now)) (Contains (0 ∷ 0 ∷ [])) × AllByRecursion (Contains (0 ∷ 0 ∷ [])) (touched_lines route.trace)
+    touches = touches_parted (0 ∷ 0 ∷ []) (touched (entered now)) (touched_lines route.trace) (subst (AllByRecursion (Contains (0 ∷ 0 ∷ []))) (sym untouched) tt)
 
     stretch : StretchLaw (setting_of b view arrivals) (Stands b) count state s route.next route.trace route.end
     stretch =

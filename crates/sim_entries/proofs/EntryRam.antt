@@ -1,6 +1,7 @@
 -- The RAM that the prologue of a task that starts anew leaves.
 use Rattle.std.proofs.Common.{◌≡◌, ℕ, suc, ◌+◌, ◌*◌, ◌%◌, ◌<◌, ◌≤◌, List, [], ◌∷◌, length, ◌∙◌, arith, ⊎_elim, inl, inr}
 use Rattle.std.specs.Prelude.{◌⊎◌, ◌≢◌, slice_index}
+use Rattle.sloth_region.specs.Layout.{cur, below_word, active, idle_context, context_bytes}
 use Rattle.rv32_instr.specs.Ram.{word_at, with_word, with_words}
 use Rattle.rv32_routine.proofs.Words.{word_at-same, word_at-others, get_or-with_word, get_or-with_words, word_at-with_words, length-with_word, length-with_words, word_at-agree}
 use Rattle.sim_relation.specs.Position.{AreWords}
@@ -17,8 +18,8 @@ written (word ∷ words) ram place h s =
 
 -- `words` and `registers` stand in the context at `place`, and `zeros` in the frame
 module _ (ram words registers zeros : List ℕ) (place t frame : ℕ) (size : length ram ≡ 2097152) (four : length words ≡ 4) (rest : length registers ≡ 27)
-    (declared : t < 30) (behind : 884 ≤ place) (aligned : place % 4 ≡ 0) (inside : place + 128 ≤ 2097152) (frame_from : 1024 ≤ frame) (frame_inside : frame + 4 * length zeros ≤ 2097152)
-    (apart : (place + 128 ≤ frame) ⊎ (frame + 4 * length zeros ≤ place))
+    (declared : t < 30) (behind : idle_context ≤ place) (aligned : place % 4 ≡ 0) (inside : place + context_bytes ≤ 2097152) (frame_from : 1024 ≤ frame) (frame_inside : frame + 4 * length zeros ≤ 2097152)
+    (apart : (place + context_bytes ≤ frame) ⊎ (frame + 4 * length zeros ≤ place))
     (small_words : (i : ℕ) → slice_index words i < 4294967296) (small_registers : (i : ℕ) → slice_index registers i < 4294967296) (small_zeros : (i : ℕ) → slice_index zeros i < 4294967296) where
   abbrev pub ram1 : List ℕ
   ram1 = with_words ram (place + 20) registers
@@ -27,13 +28,13 @@ module _ (ram words registers zeros : List ℕ) (place t frame : ℕ) (size : le
   ram2 = with_words ram1 place words
 
   abbrev pub ram3 : List ℕ
-  ram3 = with_word ram2 628 (0x8000_0000 + place)
+  ram3 = with_word ram2 below_word (0x8000_0000 + place)
 
   abbrev pub ram4 : List ℕ
-  ram4 = with_word ram3 0 (t + 1)
+  ram4 = with_word ram3 cur (t + 1)
 
   abbrev pub ram5 : List ℕ
-  ram5 = with_word ram4 (4 + 12 * t) 1
+  ram5 = with_word ram4 (active t) 1
 
   abbrev pub new : List ℕ
   new = with_words ram5 frame zeros
@@ -45,28 +46,28 @@ module _ (ram words registers zeros : List ℕ) (place t frame : ℕ) (size : le
   long2 = length-with_words words ram1 place ∙ long1
 
   long5 : length ram5 ≡ 2097152
-  long5 = length-with_word ram4 (4 + 12 * t) 1 ∙ length-with_word ram3 0 (t + 1) ∙ length-with_word ram2 628 (0x8000_0000 + place) ∙ long2
+  long5 = length-with_word ram4 (active t) 1 ∙ length-with_word ram3 cur (t + 1) ∙ length-with_word ram2 below_word (0x8000_0000 + place) ∙ long2
 
   pub long_new : length new ≡ 2097152
   long_new = length-with_words zeros ram5 frame ∙ long5
 
   -- bytes above the named words: outside the context and the frame they stay
-  high5 : (i : ℕ) → 884 ≤ i → slice_index ram5 i ≡ slice_index ram2 i
+  high5 : (i : ℕ) → idle_context ≤ i → slice_index ram5 i ≡ slice_index ram2 i
   high5 i h =
-      get_or-with_word ram4 (4 + 12 * t) 1 i (inr (omega arith)) ∙ get_or-with_word ram3 0 (t + 1) i (inr (omega arith)) ∙ get_or-with_word ram2 628 (0x8000_0000 + place) i (inr (omega arith))
+      get_or-with_word ram4 (active t) 1 i (inr (omega arith)) ∙ get_or-with_word ram3 cur (t + 1) i (inr (omega arith)) ∙ get_or-with_word ram2 below_word (0x8000_0000 + place) i (inr (omega arith))
 
-  pub outside : (i : ℕ) → 884 ≤ i → (i < place) ⊎ (place + 128 ≤ i) → (i < frame) ⊎ (frame + 4 * length zeros ≤ i) → slice_index new i ≡ slice_index ram i
+  pub outside : (i : ℕ) → idle_context ≤ i → (i < place) ⊎ (place + context_bytes ≤ i) → (i < frame) ⊎ (frame + 4 * length zeros ≤ i) → slice_index new i ≡ slice_index ram i
   outside i h a b =
       get_or-with_words zeros ram5 frame i b ∙ high5 i h
-      ∙ get_or-with_words words ram1 place i (⊎_elim (λ (x : i < place). inl (omega arith)) (λ (x : place + 128 ≤ i). inr (omega arith)) a)
-      ∙ get_or-with_words registers ram (place + 20) i (⊎_elim (λ (x : i < place). inl (omega arith)) (λ (x : place + 128 ≤ i). inr (omega arith)) a)
+      ∙ get_or-with_words words ram1 place i (⊎_elim (λ (x : i < place). inl (omega arith)) (λ (x : place + context_bytes ≤ i). inr (omega arith)) a)
+      ∙ get_or-with_words registers ram (place + 20) i (⊎_elim (λ (x : i < place). inl (omega arith)) (λ (x : place + context_bytes ≤ i). inr (omega arith)) a)
 
   -- the context
-  in_context : (i : ℕ) → place ≤ i → i < place + 128 → slice_index new i ≡ slice_index ram2 i
+  in_context : (i : ℕ) → place ≤ i → i < place + context_bytes → slice_index new i ≡ slice_index ram2 i
   in_context i x y =
-      get_or-with_words zeros ram5 frame i (⊎_elim (λ (z : place + 128 ≤ frame). inl (omega arith)) (λ (z : frame + 4 * length zeros ≤ place). inr (omega arith)) apart) ∙ high5 i (omega arith)
+      get_or-with_words zeros ram5 frame i (⊎_elim (λ (z : place + context_bytes ≤ frame). inl (omega arith)) (λ (z : frame + 4 * length zeros ≤ place). inr (omega arith)) apart) ∙ high5 i (omega arith)
 
-  context_word : (p : ℕ) → place ≤ p → p + 4 ≤ place + 128 → word_at new p ≡ word_at ram2 p
+  context_word : (p : ℕ) → place ≤ p → p + 4 ≤ place + context_bytes → word_at new p ≡ word_at ram2 p
   context_word p x y = word_at-agree new ram2 p (λ i a b. in_context i (omega arith) (omega arith))
 
   pub word_is : (j : ℕ) → j < 4 → word_at new (place + 4 * j) ≡ slice_index words j
@@ -86,30 +87,30 @@ module _ (ram words registers zeros : List ℕ) (place t frame : ℕ) (size : le
   frame_words = let n = long5 in written zeros ram5 frame (omega arith) small_zeros
 
   -- the named words
-  low_word : (p : ℕ) → p + 4 ≤ 884 → word_at new p ≡ word_at ram5 p
+  low_word : (p : ℕ) → p + 4 ≤ idle_context → word_at new p ≡ word_at ram5 p
   low_word p h = word_at-others zeros ram5 frame p (inl (omega arith))
 
-  low_two : (p : ℕ) → p + 4 ≤ 884 → word_at ram2 p ≡ word_at ram p
+  low_two : (p : ℕ) → p + 4 ≤ idle_context → word_at ram2 p ≡ word_at ram p
   low_two p h = word_at-others words ram1 place p (inl (omega arith)) ∙ word_at-others registers ram (place + 20) p (inl (omega arith))
 
-  pub named : (p : ℕ) → p + 4 ≤ 884 → p % 4 ≡ 0 → p ≢ 0 → p ≢ 628 → p ≢ 4 + 12 * t → word_at new p ≡ word_at ram p
+  pub named : (p : ℕ) → p + 4 ≤ idle_context → p % 4 ≡ 0 → p ≢ cur → p ≢ below_word → p ≢ active t → word_at new p ≡ word_at ram p
   named p h a n0 n1 n2 =
-      low_word p h ∙ word_other ram4 (4 + 12 * t) 1 p a (omega arith) n2 ∙ word_other ram3 0 (t + 1) p a (omega arith) n0 ∙ word_other ram2 628 (0x8000_0000 + place) p a (omega arith) n1 ∙ low_two p h
+      low_word p h ∙ word_other ram4 (active t) 1 p a (omega arith) n2 ∙ word_other ram3 cur (t + 1) p a (omega arith) n0 ∙ word_other ram2 below_word (0x8000_0000 + place) p a (omega arith) n1 ∙ low_two p h
 
-  pub current_is : word_at new 0 ≡ t + 1
+  pub current_is : word_at new cur ≡ t + 1
   current_is =
-      let n = length-with_word ram2 628 (0x8000_0000 + place) in
+      let n = length-with_word ram2 below_word (0x8000_0000 + place) in
       let l = long2 in
-      low_word 0 (omega arith) ∙ word_other ram4 (4 + 12 * t) 1 0 (omega arith) (omega arith) (omega arith) ∙ word_at-same ram3 0 (t + 1) (omega arith) (omega arith)
+      low_word 0 (omega arith) ∙ word_other ram4 (active t) 1 0 (omega arith) (omega arith) (omega arith) ∙ word_at-same ram3 cur (t + 1) (omega arith) (omega arith)
 
-  pub link_is : word_at new 628 ≡ 0x8000_0000 + place
+  pub link_is : word_at new below_word ≡ 0x8000_0000 + place
   link_is =
       let l = long2 in
-      low_word 628 (omega arith) ∙ word_other ram4 (4 + 12 * t) 1 628 (omega arith) (omega arith) (λ e. omega arith) ∙ word_other ram3 0 (t + 1) 628 (omega arith) (omega arith) (omega arith) ∙ word_at-same ram2 628 (0x8000_0000 + place) (omega arith) (omega arith)
+      low_word below_word (omega arith) ∙ word_other ram4 (active t) 1 below_word (omega arith) (omega arith) (λ e. omega arith) ∙ word_other ram3 cur (t + 1) below_word (omega arith) (omega arith) (omega arith) ∙ word_at-same ram2 below_word (0x8000_0000 + place) (omega arith) (omega arith)
 
-  pub activity_is : word_at new (4 + 12 * t) ≡ 1
+  pub activity_is : word_at new (active t) ≡ 1
   activity_is =
       let l = long2 in
-      let n3 = length-with_word ram2 628 (0x8000_0000 + place) in
-      let n4 = length-with_word ram3 0 (t + 1) in
-      low_word (4 + 12 * t) (omega arith) ∙ word_at-same ram4 (4 + 12 * t) 1 (omega arith) (omega arith)
+      let n3 = length-with_word ram2 below_word (0x8000_0000 + place) in
+      let n4 = length-with_word ram3 cur (t + 1) in
+      low_word (active t) (omega arith) ∙ word_at-same ram4 (active t) 1 (omega arith) (omega arith)

@@ -5,6 +5,7 @@ use Rattle.sloth_base.specs.Machine.{State}
 use Rattle.rv32_routine.specs.Pieces.{registers_from}
 use Rattle.osek_machine.specs.State.{System, task}
 use Rattle.osek_machine.specs.Priority.{is_in}
+use Rattle.sloth_region.specs.Layout.{idle_context}
 use Rattle.sim_relation.specs.Build.{Build, Fits}
 use Rattle.sim_relation.specs.Position.{thread_of}
 use Rattle.sim_relation.specs.Context.{Running}
@@ -62,5 +63,5 @@ stored_apart b state s (a ∷ stack) place u fits x k low apart =
 -- there is room for it directly below x2
 pub stored_at : (b : Build) (state : State) (s : System) (stack : List ℕ) → Running b state s stack
     → (place : ℕ) × (slice_index state.core.registers 2 ≡ 0x8000_0000 + (place + 128))
-stored_at b state s [] k = (884, k.x2)
+stored_at b state s [] k = (idle_context, k.x2)
 stored_at b state s (a ∷ stack) k = let p = k.context.x2 in let l = k.context.room in (k.place - 128, omega arith)

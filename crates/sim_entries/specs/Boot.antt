@@ -1,8 +1,9 @@
 -- What boot starts from.
 use Rattle.std.specs.Prelude.{ℕ, ◌<◌, ◌≤◌, ◌≡◌, List, length, slice_index}
 use Rattle.sloth_base.specs.declared.image.Image.{Image}
+use Rattle.sloth_region.specs.Layout.{idle_context}
 use Rattle.osek_machine.specs.State.{declaration, opening}
-use Rattle.sim_induction.specs.Mirror.{level_of}
+use Rattle.sloth_base.specs.PriorityLevels.{level_of}
 use Rattle.sim_relation.specs.Build.{Build}
 use Rattle.sim_relation.specs.DataStands.{DataStands}
 
@@ -10,7 +11,7 @@ use Rattle.sim_relation.specs.DataStands.{DataStands}
 pub record IsImage (b : Build) (image : Image) : Type 0 where
   pub memory : image.memory ≡ b.memory
   pub size : length b.memory ≤ 0x20_0000
-  pub service_words : (i : ℕ) → i < 884 → slice_index b.memory i ≡ 0
+  pub service_words : (i : ℕ) → i < idle_context → slice_index b.memory i ≡ 0
   pub data_stands : DataStands b b.memory (opening b.config b.app).symbols
 
 -- the level of each task is that of its priority

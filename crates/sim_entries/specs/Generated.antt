@@ -12,6 +12,7 @@ use Rattle.sim_relation.specs.Build.{Build, Fits}
 use Rattle.sim_entries.specs.Boot.{AreLevelsOf}
 use Rattle.sim_entries.specs.Entries.{EntersBuilt}
 
+-- a build as the levels and the map say
 pub record IsBuiltFrom (b : Build) (levels : Levels) (map : Map) : Type 0 where
   pub places : b.places ≡ map.places
   pub idle : b.idle ≡ map.idle

@@ -1,4 +1,5 @@
-//! The laws of the simulation for boot and for the entries of tasks.
+//! Boot and the entries of tasks as events of the abstract scheduler. The effects of their code stand in `vector_gen` and
+//! `prologue_gen`.
 #![tactic(auto)]
 
 ghost use Rattle.sim_entries.specs.Generated.{GeneratedEnters};

@@ -1,10 +1,10 @@
 -- Every run from the start is sound.
 use Rattle.std.proofs.Common.{◌≡◌, ℕ, zero, suc, ◌+◌, ◌-◌, ◌<◌, ◌≤◌, List, [], ◌∷◌, ◌++◌, length, take, refl, sym, ap, ◌∙◌, subst, arith, append_assoc, Bool, true, false, cond, Option, Some, None, ⊎_elim, filter}
-use Rattle.std.specs.Prelude.{map, not, ◌||◌}
-use Rattle.std.specs.List.{flat_map}
+use Rattle.std.specs.Prelude.{map, not, ◌||◌, Contains}
+use Rattle.std.specs.List.{flat_map, AllByRecursion}
 use Rattle.std.proofs.lemmas.Bool.{cases_lt}
 use Rattle.std.proofs.lemmas.List.{length-take}
-use Rattle.std.proofs.lemmas.List.Elements.{filter-append}
+use Rattle.std.proofs.lemmas.List.Elements.{filter-append, All-from_recursion}
 use Rattle.sloth_base.specs.declared.event.Arrival.{Arrival}
 use Rattle.sloth_base.specs.declared.event.Event.TheVariants as event
 use Rattle.sloth_base.specs.declared.event.Stamped.{Stamped}
@@ -15,8 +15,9 @@ use Rattle.sloth_base.specs.Arrive.{state_arrive}
 use Rattle.rv32_instr.specs.Execute.{touched}
 use Rattle.rv32_machine.specs.Advance.{Goes}
 use Rattle.rv32_machine.specs.Run.{after_from, moment, run_from, arrived}
-use Rattle.rv32_routine.specs.Trace.{Trace, is_line, touches, touched_of, touched_lines, lines_of, early, late}
-use Rattle.observe.specs.Pieces.{EachPiece, Stretch, pieces, cut_off}
+use Rattle.rv32_routine.specs.Trace.{Trace, touches, touched_of, touched_lines, lines_of, early, late}
+use Rattle.sloth_base.specs.Options.{is_number}
+use Rattle.observe.specs.Pieces.{Stretch, pieces, cut_off}
 use Rattle.observe.specs.Observe.{observe, piece_events, found_admits, admit, stamp, is_early, last_of}
 use Rattle.observe.proofs.Cutting.{pieces-append, cut_off-append}
 use Rattle.observe.proofs.Moments.{moments-none, moments-later}
@@ -27,17 +28,17 @@ use Rattle.sim_induction.specs.Short.{IsShort, IsShortPiece, TouchesOnly, HasSho
 use Rattle.sim_induction.specs.Sound.{stands_before}
 use Rattle.sim_induction.specs.Admits.{Setting, IsSetting, lines_at, with_admits, admit_event, AllBelow, before_event, behind_event, at_moment}
 use Rattle.sim_induction.specs.Observed.{trace_of, IsTraced}
-use Rattle.sim_induction.specs.Advances.{RunTo, EachEvent, EachPair, IsWithin}
-use Rattle.sim_induction.specs.Laws.{BootLaw, AreOneOf, seen_at}
+use Rattle.sim_induction.specs.Advances.{RunTo, EachPair, IsWithin}
+use Rattle.sim_induction.specs.Laws.{BootLaw, seen_at}
 use Rattle.sim_induction.specs.Related.{IsSimulation}
 use Rattle.sim_induction.proofs.Follow.{leads-append, follows-append, follows_leads, follows_admits, booted_admits}
-use Rattle.sim_induction.proofs.Events.{EachArrival, IsFrom, filter_all, each_map, each-append, each_arrival, admit_pairs, behind_within, before}
+use Rattle.sim_induction.proofs.Events.{IsFrom, filter_all, each_map, each-append, each_arrival, admit_pairs, behind_within, before}
 use Rattle.sim_induction.proofs.Schedule.{from_zero, moments-split, below_moments, admits_are}
 use Rattle.sim_induction.proofs.Counts.{admits-append, arrivals-append}
 use Rattle.sim_induction.proofs.Order.{orders-append, parted_order, admits_order}
 use Rattle.sim_induction.proofs.Runs.{steps_from, run_steps, run_take, after_steps, goes_through}
 use Rattle.sim_induction.proofs.RunFrom.{events_from, ReachedAt, SoundFrom}
-use Rattle.sim_induction.proofs.Traces.{lines_behind, is_traced, below_trace, EachStep, steps_touch, each_step, each_step-take}
+use Rattle.sim_induction.proofs.Traces.{lines_behind, is_traced, below_trace, steps_touch, each_step-take}
 use Rattle.sim_induction.proofs.MaskedRun.{MaskedRun, masked_steps, masked_inside, masked_moment, none_taken, trace_long, Flags, flag_first}
 use Rattle.sim_induction.proofs.Cut.{cut_whole, cut_short}
 use Rattle.sim_induction.proofs.Induct.{sound_from, within_wider, pairs_apart}
@@ -49,7 +50,7 @@ use Rattle.sim_induction.proofs.WholeRun.{WholeRun}
 nil_cons : {x : ℕ} {a : List ℕ} → x ∷ a ≡ [] → ⊥
 nil_cons e = cc
 
-no_line : (o : Option ℕ) (rest : List ℕ) (line : ℕ) → lines_of o rest ≡ [] → (is_line o line ≡ false) × (rest ≡ [])
+no_line : (o : Option ℕ) (rest : List ℕ) (line : ℕ) → lines_of o rest ≡ [] → (is_number line o ≡ false) × (rest ≡ [])
 no_line None rest line h = (refl, h)
 no_line (Some l) rest line h = absurd (nil_cons h)
 
@@ -175,18 +176,18 @@ module _ (given : Setting) (setting : IsSetting given) (R : State → System →
   )
 
   -- no line arrives at count 0
-  late_from : EachArrival (IsFrom 1 J) (behind_event 0 law.trace)
+  late_from : AllByRecursion (IsFrom 1 J) (behind_event 0 law.trace)
   late_from =
       let l = trace_long law.more 1 (lines_at A) m1 t1 law.end law.steps.3.2 in
       let none : lines_at A 0 ≡ [] = ap (map (λ a. a.line)) (moments-later 1 0 1 A setting.ordered (omega arith)) in
-      subst (λ v. EachArrival (IsFrom 1 J) (behind_event 0 v)) (sym law.steps.3.1)
+      subst (λ v. AllByRecursion (IsFrom 1 J) (behind_event 0 v)) (sym law.steps.3.1)
       (first_late (lines_at A 0) (touched (state_arrive (lines_at A 0) m)) none t1 (omega arith))
     where
-      first_late : (lines : List ℕ) (o : Option ℕ) → lines ≡ [] → (t : Trace) → 1 + length t ≤ J → EachArrival (IsFrom 1 J) (behind_event 0 ((lines, o) ∷ t))
+      first_late : (lines : List ℕ) (o : Option ℕ) → lines ≡ [] → (t : Trace) → 1 + length t ≤ J → AllByRecursion (IsFrom 1 J) (behind_event 0 ((lines, o) ∷ t))
       first_late [] o e t l = behind_within 1 J 1 t (omega arith) l
       first_late (x ∷ lines) o e t l = absurd (nil_cons e)
 
-  within0 : EachEvent (IsWithin 0 J) E0
+  within0 : AllByRecursion (IsWithin 0 J) E0
   within0 = (
     record { begins = omega arith; ordered = omega arith; ends = omega arith; spans = tt },
     each_arrival (IsWithin 0 J) (IsFrom 1 J) (λ a h. record { begins = omega arith; ordered = omega arith; ends = h.1; spans = refl }) (behind_event 0 law.trace) late_from,
@@ -204,11 +205,11 @@ module _ (given : Setting) (setting : IsSetting given) (R : State → System →
       (subst (λ v. KeepsOrder inside (map admit_event (filter p inside) ++ (boot ∷ map admit_event v))) all_late
       (parted_order p (λ a. not (p a)) inside boot refl))
 
-  touching : EachStep (TouchesOnly []) (f ∷ r.steps)
-  touching = steps_touch A [] (f ∷ r.steps) (subst (AreOneOf []) (sym (ap touched_lines all_trace ∙ law.untouched)) tt)
+  touching : AllByRecursion (TouchesOnly []) (f ∷ r.steps)
+  touching = steps_touch A [] (f ∷ r.steps) (subst (AllByRecursion (Contains [])) (sym (ap touched_lines all_trace ∙ law.untouched)) tt)
 
-  short_at : (steps : List Step) → length steps ≤ 399 → EachStep (TouchesOnly []) steps → IsShort (f ∷ steps)
-  short_at steps l h = (let n : length (f ∷ steps) ≤ 400 = omega arith in n, each_step (TouchesOnly []) (f ∷ steps) (touching.0, h))
+  short_at : (steps : List Step) → length steps ≤ 399 → AllByRecursion (TouchesOnly []) steps → IsShort (f ∷ steps)
+  short_at steps l h = (let n : length (f ∷ steps) ≤ 400 = omega arith in n, All-from_recursion (TouchesOnly []) (f ∷ steps) (touching.0, h))
 
   closed : (i : ℕ) → i < J → (x : State) → after_from i A 0 m ≡ Some x → x.core.mie ≡ false
   closed i l x e = masked_inside A J 0 m law.trace law.end law.steps i l x e
@@ -254,20 +255,20 @@ module _ (given : Setting) (setting : IsSetting given) (R : State → System →
         whole = through.1;
         last = s;
         follows = subst (λ E. Follows given.config given.app [] s E s) (sym obs) refl;
-        within = subst (EachEvent (IsWithin 0 (suc n))) (sym obs) tt;
+        within = subst (AllByRecursion (IsWithin 0 (suc n))) (sym obs) tt;
         placed = subst (EachPair IsOrdered) (sym obs) tt;
         to = 0;
         to_in = (omega arith, subst (λ E. suc n < 0 + longest E) (sym obs) (omega arith));
-        ends = subst (EachEvent (λ e. is_admit e ≡ false → e.stamp.at < 0)) (sym obs) tt;
+        ends = subst (AllByRecursion (λ e. is_admit e ≡ false → e.stamp.at < 0)) (sym obs) tt;
         counted = λ i t. ap (admits_at i t) obs ∙ sym (ap (arrivals_at i t) (moments-none 0 A));
         keeps = subst (KeepsOrder (moments 0 0 A)) (sym obs) (subst (λ v. KeepsOrder v []) (sym (moments-none 0 A)) (admits_order []));
-        short = subst (EachPiece IsShortPiece) (sym no_pieces) tt;
+        short = subst (AllByRecursion IsShortPiece) (sym no_pieces) tt;
         short_cut = subst IsShort (sym open_is) (short_at (take n r.steps) (let k = length-take n r.steps in omega arith) (each_step-take (TouchesOnly []) n r.steps touching.1));
         gaps = subst (HasShortGaps given.view 0) (sym no_pieces) tt;
         mirrors = λ i h x e o. let b = closed i (omega arith) x e in cc;
       }
 
-  all_before : (i : ℕ) → J ≤ i → EachEvent (λ e. stands_before i e ≡ true) E0
+  all_before : (i : ℕ) → J ≤ i → AllByRecursion (λ e. stands_before i e ≡ true) E0
   all_before i l = each_map (IsWithin 0 J) (λ e. stands_before i e ≡ true) (λ e w. before (is_admit e) e.stamp.at i (let u = w.ends in omega arith)) E0 within0
 
   long_run : (n : ℕ) → WholeRun given R (J + n) m
@@ -293,12 +294,12 @@ module _ (given : Setting) (setting : IsSetting given) (R : State → System →
         whole = after_steps J n 0 A m (f ∷ r.steps) law.end runs ∙ ap (λ k. after_from n A k law.end) (omega arith) ∙ g.whole;
         last = g.last;
         follows = subst (λ u. Follows given.config given.app [] s u g.last) (sym obs) (follows-append given.config given.app [] s z g.last E0 E follow0 g.follows);
-        within = subst (EachEvent (IsWithin 0 (J + n))) (sym obs)
+        within = subst (AllByRecursion (IsWithin 0 (J + n))) (sym obs)
             (each-append (IsWithin 0 (J + n)) E0 E (within_wider 0 J 0 (J + n) E0 (omega arith) (omega arith) within0) (within_wider J (J + n) 0 (J + n) E (omega arith) (omega arith) g.within));
         placed = subst (EachPair IsOrdered) (sym obs) (pairs_apart 0 J (J + n) E0 E within0 g.within placed0 g.placed);
         to = g.to;
         to_in = (let w = g.to_in in (omega arith, subst (λ E. J + n < g.to + longest E) (sym obs) w.2));
-        ends = subst (EachEvent (λ e. is_admit e ≡ false → e.stamp.at < g.to)) (sym obs)
+        ends = subst (AllByRecursion (λ e. is_admit e ≡ false → e.stamp.at < g.to)) (sym obs)
             (each-append (λ e. is_admit e ≡ false → e.stamp.at < g.to) E0 E
             (each_map (IsWithin 0 J) (λ e. is_admit e ≡ false → e.stamp.at < g.to) (λ e w o. let u = w.ends in let v = g.to_in.0 in omega arith) E0 within0) g.ends);
         counted = λ i t.
@@ -306,7 +307,7 @@ module _ (given : Setting) (setting : IsSetting given) (R : State → System →
             ∙ sym (ap (arrivals_at i t) split ∙ arrivals-append i t inside (moments J g.to A));
         keeps = subst (KeepsOrder (moments 0 g.to A)) (sym obs)
             (subst (λ v. KeepsOrder v (E0 ++ E)) (sym split) (orders-append inside (moments J g.to A) E0 E keeps0 g.keeps));
-        short = subst (EachPiece IsShortPiece) (sym pieces_are) (short_at r.steps (omega arith) touching.1, g.short);
+        short = subst (AllByRecursion IsShortPiece) (sym pieces_are) (short_at r.steps (omega arith) touching.1, g.short);
         short_cut = subst IsShort (sym open_is) g.short_cut;
         gaps = subst (HasShortGaps given.view 0) (sym pieces_are) (omega arith, g.gaps 0 (omega arith));
         mirrors = λ i h x e o. ⊎_elim

@@ -1,7 +1,7 @@
 -- The induction: from a count that finds MIE 1 to the next.
 use Rattle.std.proofs.Common.{◌≡◌, ℕ, zero, suc, ◌+◌, ◌-◌, ◌<◌, ◌≤◌, List, [], ◌∷◌, ◌++◌, length, take, refl, sym, ap, ◌∙◌, subst, arith, append_assoc, append-nil, Bool, true, false, cond, Some, ⊎_elim, filter}
 use Rattle.std.specs.Prelude.{map}
-use Rattle.std.specs.List.{flat_map}
+use Rattle.std.specs.List.{flat_map, AllByRecursion}
 use Rattle.std.proofs.lemmas.Bool.{cases_lt, le-leb}
 use Rattle.std.proofs.lemmas.List.Elements.{filter-append}
 use Rattle.sloth_base.specs.declared.event.Arrival.{Arrival}
@@ -10,7 +10,7 @@ use Rattle.sloth_base.specs.declared.step.Step.{Step}
 use Rattle.sloth_base.specs.Machine.{State}
 use Rattle.sloth_base.specs.Arrivals.{moments}
 use Rattle.rv32_machine.specs.Run.{after_from, arrived, run_from}
-use Rattle.observe.specs.Pieces.{Piece, EachPiece, pieces, cut_off}
+use Rattle.observe.specs.Pieces.{Piece, pieces, cut_off}
 use Rattle.observe.specs.Observe.{observe, piece_events, found_admits, admit}
 use Rattle.observe.proofs.Cutting.{pieces-append, cut_off-append}
 use Rattle.observe.proofs.Moments.{moments-none}
@@ -20,7 +20,7 @@ use Rattle.osek_machine.specs.InTime.{is_admit, admits_at, arrivals_at, IsOrdere
 use Rattle.sim_induction.specs.Short.{IsShort, IsShortPiece, HasShortGaps, passed}
 use Rattle.sim_induction.specs.Sound.{stands_before}
 use Rattle.sim_induction.specs.Admits.{Setting, IsSetting, lines_at, with_admits, admit_event, AllBelow}
-use Rattle.sim_induction.specs.Advances.{EachEvent, EachPair, IsWithin, found_by, Advances}
+use Rattle.sim_induction.specs.Advances.{EachPair, IsWithin, found_by, Advances}
 use Rattle.sim_induction.specs.Related.{IsSimulation}
 use Rattle.sim_induction.proofs.Follow.{leads-append, follows-append, follows_leads, follows_admits}
 use Rattle.sim_induction.proofs.Events.{filter_all, filter_none, each_map, each_both, each-append, each_arrival, pairs-append, admit_pairs, moment_within, before, behind}
@@ -40,14 +40,14 @@ ordered_apart mid from to x y h k = by (is_admit x) (is_admit y)
     by false true = let a = h.ends in let w = h.ordered in let l = k.begins in let o = k.ordered in omega arith
     by true true = tt
 
-pub pairs_apart : (from mid to : ℕ) (a b : List Stamped) → EachEvent (IsWithin from mid) a → EachEvent (IsWithin mid to) b → EachPair IsOrdered a → EachPair IsOrdered b → EachPair IsOrdered (a ++ b)
+pub pairs_apart : (from mid to : ℕ) (a b : List Stamped) → AllByRecursion (IsWithin from mid) a → AllByRecursion (IsWithin mid to) b → EachPair IsOrdered a → EachPair IsOrdered b → EachPair IsOrdered (a ++ b)
 pairs_apart from mid to a b h k p q =
-    pairs-append IsOrdered a b p q (each_map (IsWithin from mid) (λ x. EachEvent (IsOrdered x) b) (λ x w. each_map (IsWithin mid to) (IsOrdered x) (λ y v. ordered_apart mid from to x y w v) b k) a h)
+    pairs-append IsOrdered a b p q (each_map (IsWithin from mid) (λ x. AllByRecursion (IsOrdered x) b) (λ x w. each_map (IsWithin mid to) (IsOrdered x) (λ y v. ordered_apart mid from to x y w v) b k) a h)
 
-pub within_wider : (from to low high : ℕ) (a : List Stamped) → low ≤ from → to ≤ high → EachEvent (IsWithin from to) a → EachEvent (IsWithin low high) a
+pub within_wider : (from to low high : ℕ) (a : List Stamped) → low ≤ from → to ≤ high → AllByRecursion (IsWithin from to) a → AllByRecursion (IsWithin low high) a
 within_wider from to low high a l h = each_map (IsWithin from to) (IsWithin low high) (λ e w. record { begins = let b = w.begins in omega arith; ordered = w.ordered; ends = let b = w.ends in omega arith; spans = w.spans }) a
 
-pub pieces_join : (P : Piece → Type 0) (a b : List Piece) → EachPiece P a → EachPiece P b → EachPiece P (a ++ b)
+pub pieces_join : (P : Piece → Type 0) (a b : List Piece) → AllByRecursion P a → AllByRecursion P b → AllByRecursion P (a ++ b)
 pieces_join P [] b h k = k
 pieces_join P (x ∷ a) b h k = (h.0, pieces_join P a b h.1 k)
 
@@ -69,13 +69,13 @@ module _ (given : Setting) (setting : IsSetting given) (R : State → System →
   follow_mine : (past : List Stamped) (k : ℕ) (m : State) (s : System) → R m s → Follows given.config given.app past s (mine k) (with_admits (lines_at A k) s)
   follow_mine past k m s r = follows_admits given.config given.app past (here k) s (simulation.booted m s r) (below_here k)
 
-  mine_within : (k hi : ℕ) → k < hi → EachEvent (IsWithin k hi) (mine k)
+  mine_within : (k hi : ℕ) → k < hi → AllByRecursion (IsWithin k hi) (mine k)
   mine_within k hi l = each_arrival (IsWithin k hi) (λ a. a.at ≡ k) (λ a e. record { begins = omega arith; ordered = omega arith; ends = omega arith; spans = refl }) (here k) (moment_within k A)
 
-  mine_ends : (k to : ℕ) → EachEvent (λ e. is_admit e ≡ false → e.stamp.at < to) (mine k)
+  mine_ends : (k to : ℕ) → AllByRecursion (λ e. is_admit e ≡ false → e.stamp.at < to) (mine k)
   mine_ends k to = each_arrival (λ e. is_admit e ≡ false → e.stamp.at < to) (λ a. a.at ≡ k) (λ a e z. cc) (here k) (moment_within k A)
 
-  mine_before : (x k : ℕ) → k ≤ x → EachEvent (λ e. stands_before x e ≡ true) (mine k)
+  mine_before : (x k : ℕ) → k ≤ x → AllByRecursion (λ e. stands_before x e ≡ true) (mine k)
   mine_before x k h = each_arrival (λ e. stands_before x e ≡ true) (λ a. a.at ≡ k) (λ a e. le-leb a.at x (omega arith)) (here k) (moment_within k A)
 
   none_mine : (k : ℕ) → moments k k A ≡ []
@@ -103,7 +103,7 @@ module _ (given : Setting) (setting : IsSetting given) (R : State → System →
   }
 
   -- the first count
-  at_first : (k : ℕ) (m : State) (s : System) → R m s → (E others : List Stamped) → E ≡ mine k ++ others → EachEvent (λ e. stands_before k e ≡ false) others
+  at_first : (k : ℕ) (m : State) (s : System) → R m s → (E others : List Stamped) → E ≡ mine k ++ others → AllByRecursion (λ e. stands_before k e ≡ false) others
       → (x : State) → after_from 0 A k m ≡ Some x → ReachedAt given R E s (k + 0) x
   unfolding after_from
   at_first k m s r E others e away x h =
@@ -148,14 +148,14 @@ module _ (given : Setting) (setting : IsSetting given) (R : State → System →
           whole = through.1;
           last = with_admits (lines_at A k) s;
           follows = subst (λ E. Follows given.config given.app past s E (with_admits (lines_at A k) s)) (sym cut_observed) (follow_mine past k m s r);
-          within = subst (EachEvent (IsWithin k (k + suc n))) (sym cut_observed) (mine_within k (k + suc n) (omega arith));
+          within = subst (AllByRecursion (IsWithin k (k + suc n))) (sym cut_observed) (mine_within k (k + suc n) (omega arith));
           placed = subst (EachPair IsOrdered) (sym cut_observed) (admit_pairs (here k));
           to = k + 1;
           to_in = (omega arith, omega arith, (let q = a.few in omega arith));
-          ends = subst (EachEvent (λ e. is_admit e ≡ false → e.stamp.at < k + 1)) (sym cut_observed) (mine_ends k (k + 1));
+          ends = subst (AllByRecursion (λ e. is_admit e ≡ false → e.stamp.at < k + 1)) (sym cut_observed) (mine_ends k (k + 1));
           counted = λ i t. ap (admits_at i t) cut_observed ∙ admits_of i t (here k);
           keeps = subst (KeepsOrder (here k)) (sym cut_observed) (admits_order (here k));
-          short = subst (EachPiece IsShortPiece) (sym cut_pieces) tt;
+          short = subst (AllByRecursion IsShortPiece) (sym cut_pieces) tt;
           short_cut = subst IsShort (sym cut_open) (a.short_front n (omega arith));
           gaps = λ before h. subst (HasShortGaps given.view before) (sym cut_pieces) tt;
           mirrors = λ i h x g o. cut_mirror i h x g o;
@@ -197,16 +197,16 @@ module _ (given : Setting) (setting : IsSetting given) (R : State → System →
         ∙ append_assoc (piece_events given.view A a.piece) (flat_map (piece_events given.view A) (pieces [] F)) (found_admits given.view A (cut_off [] F))
         ∙ ap (λ u. u ++ E) a.events
 
-    others_before : (x : ℕ) → k + j ≤ x → EachEvent (λ e. stands_before x e ≡ true) a.others
+    others_before : (x : ℕ) → k + j ≤ x → AllByRecursion (λ e. stands_before x e ≡ true) a.others
     others_before x h = each_map (IsWithin k (k + j)) (λ e. stands_before x e ≡ true) (λ e t. before (is_admit e) e.stamp.at x (let u = t.ends in omega arith)) a.others a.stamps
 
-    others_behind : EachEvent (λ e. stands_before k e ≡ false) a.others
+    others_behind : AllByRecursion (λ e. stands_before k e ≡ false) a.others
     others_behind =
         each_map (λ e. IsWithin k (k + j) e × (is_admit e ≡ true → k < e.stamp.at)) (λ e. stands_before k e ≡ false)
         (λ e t. behind (is_admit e) e.stamp.at k (let u = t.0.begins in let v = t.0.ordered in omega arith) t.1) a.others
         (each_both (IsWithin k (k + j)) (λ e. is_admit e ≡ true → k < e.stamp.at) a.others a.stamps a.later)
 
-    rest_behind : EachEvent (λ e. stands_before k e ≡ false) E
+    rest_behind : AllByRecursion (λ e. stands_before k e ≡ false) E
     rest_behind =
         each_map (IsWithin (k + j) (k + j + n)) (λ e. stands_before k e ≡ false)
         (λ e t. behind (is_admit e) e.stamp.at k (let u = t.begins in let v = t.ordered in omega arith) (λ z. let u = t.begins in let v = t.ordered in omega arith)) E g.within
@@ -220,13 +220,13 @@ module _ (given : Setting) (setting : IsSetting given) (R : State → System →
     piece_leads : Leads given.config given.app (mine k ++ a.others) s a.after
     piece_leads = follows_leads given.config given.app past s (mine k ++ a.others) a.after piece_follows
 
-    piece_within : EachEvent (IsWithin k (k + j)) (mine k ++ a.others)
+    piece_within : AllByRecursion (IsWithin k (k + j)) (mine k ++ a.others)
     piece_within = each-append (IsWithin k (k + j)) (mine k) a.others (mine_within k (k + j) (omega arith)) a.stamps
 
     piece_placed : EachPair IsOrdered (mine k ++ a.others)
     piece_placed =
         pairs-append IsOrdered (mine k) a.others (admit_pairs (here k)) a.placed
-        (each_arrival (λ x. EachEvent (IsOrdered x) a.others) (λ y. y.at ≡ k)
+        (each_arrival (λ x. AllByRecursion (IsOrdered x) a.others) (λ y. y.at ≡ k)
         (λ y e. each_map (IsWithin k (k + j)) (IsOrdered (admit_event y)) (λ z w. by y (is_admit z) z e w) a.others a.stamps) (here k) (moment_within k A))
       where
         by : (y : Arrival) (b : Bool) (z : Stamped) → y.at ≡ k → IsWithin k (k + j) z → StandsBefore true b (admit_event y).stamp z.stamp
@@ -241,14 +241,14 @@ module _ (given : Setting) (setting : IsSetting given) (R : State → System →
           whole = after_steps j n k A m (a.first ∷ a.rest) a.next a.runs ∙ g.whole;
           last = g.last;
           follows = subst (λ u. Follows given.config given.app past s u g.last) (sym observed) (follows-append given.config given.app past s a.after g.last (mine k ++ a.others) E piece_follows g.follows);
-          within = subst (EachEvent (IsWithin k (k + (j + n)))) (sym observed)
+          within = subst (AllByRecursion (IsWithin k (k + (j + n)))) (sym observed)
               (each-append (IsWithin k (k + (j + n))) (mine k ++ a.others) E
               (within_wider k (k + j) k (k + (j + n)) (mine k ++ a.others) (omega arith) (omega arith) piece_within)
               (within_wider (k + j) (k + j + n) k (k + (j + n)) E (omega arith) (omega arith) g.within));
           placed = subst (EachPair IsOrdered) (sym observed) (pairs_apart k (k + j) (k + j + n) (mine k ++ a.others) E piece_within g.within piece_placed g.placed);
           to = g.to;
           to_in = (let q = g.to_in in (omega arith, omega arith, omega arith));
-          ends = subst (EachEvent (λ e. is_admit e ≡ false → e.stamp.at < g.to)) (sym observed)
+          ends = subst (AllByRecursion (λ e. is_admit e ≡ false → e.stamp.at < g.to)) (sym observed)
               (each-append (λ e. is_admit e ≡ false → e.stamp.at < g.to) (mine k ++ a.others) E
               (each_map (IsWithin k (k + j)) (λ e. is_admit e ≡ false → e.stamp.at < g.to) (λ e w z. let u = w.ends in let q = g.to_in.0 in omega arith) (mine k ++ a.others) piece_within) g.ends);
           counted = λ i t.
@@ -258,7 +258,7 @@ module _ (given : Setting) (setting : IsSetting given) (R : State → System →
           keeps = subst (KeepsOrder (moments k g.to A)) (sym observed)
               (subst (λ v. KeepsOrder v ((mine k ++ a.others) ++ E)) (sym (moments-split 0 k (k + j) g.to A (from_zero A setting.ordered) (omega arith) g.to_in.0))
               (orders-append (moments k (k + j) A) (moments (k + j) g.to A) (mine k ++ a.others) E a.keeps g.keeps));
-          short = subst (EachPiece IsShortPiece) (sym long_pieces) (a.short, g.short);
+          short = subst (AllByRecursion IsShortPiece) (sym long_pieces) (a.short, g.short);
           short_cut = subst IsShort (sym long_open) g.short_cut;
           gaps = λ b h. subst (HasShortGaps given.view b) (sym long_pieces) (
             (let p = a.progresses b h in let q = simulation.bounded a.next a.after a.related in omega arith),

@@ -6,8 +6,9 @@ use Rattle.sloth_base.specs.declared.event.Arrival.{Arrival}
 use Rattle.sloth_base.specs.declared.event.Stamped.{Stamped}
 use Rattle.sloth_base.specs.Arrivals.{moments, NeverFalls}
 use Rattle.osek_machine.specs.InTime.{is_admit, admits_at, arrivals_at, AdmitsAll, LeavesOut, others, longest}
-use Rattle.sim_induction.specs.Advances.{EachEvent}
-use Rattle.sim_induction.proofs.Events.{each_all, each_map}
+use Rattle.std.specs.List.{AllByRecursion}
+use Rattle.sim_induction.proofs.Events.{each_map}
+use Rattle.std.proofs.lemmas.List.Elements.{All-from_recursion}
 use Rattle.sim_induction.proofs.Counts.{arrivals-cons, not_here, arrivals_here, arrivals_none}
 
 -- from one moment to below another nothing arrives, or there is a first moment at which something does
@@ -52,11 +53,11 @@ first_in from to before (x ∷ arrivals) up =
     (cases_lt x.at to))
     (cases_lt x.at from)
 
-kept_other : (P : Stamped → Type 0) (b : Bool) (e : Stamped) (u : List Stamped) → (b ≡ false → P e) → EachEvent P u → EachEvent P (cond (not b) (e ∷ u) u)
+kept_other : (P : Stamped → Type 0) (b : Bool) (e : Stamped) (u : List Stamped) → (b ≡ false → P e) → AllByRecursion P u → AllByRecursion P (cond (not b) (e ∷ u) u)
 kept_other P true e u h k = k
 kept_other P false e u h k = (h refl, k)
 
-each_other : (P : Stamped → Type 0) (es : List Stamped) → EachEvent (λ e. is_admit e ≡ false → P e) es → EachEvent P (others es)
+each_other : (P : Stamped → Type 0) (es : List Stamped) → AllByRecursion (λ e. is_admit e ≡ false → P e) es → AllByRecursion P (others es)
 each_other P [] h = tt
 each_other P (e ∷ es) h = kept_other P (is_admit e) e (others es) h.0 (each_other P es h.1)
 
@@ -69,7 +70,7 @@ admitted_below to m arrivals events counted none k t l =
 
 -- the arrivals below the moment `to` are admitted, and no later ones
 pub left_out : (n to : ℕ) (arrivals : List Arrival) (events : List Stamped) → NeverFalls 0 arrivals → to ≤ n → ((i t : ℕ) → admits_at i t events ≡ arrivals_at i t (moments 0 to arrivals))
-    → EachEvent (λ e. is_admit e ≡ false → e.stamp.at < to) events → n < to + longest events → AdmitsAll n arrivals events ⊎ ((k : ℕ) × LeavesOut n arrivals events k)
+    → AllByRecursion (λ e. is_admit e ≡ false → e.stamp.at < to) events → n < to + longest events → AdmitsAll n arrivals events ⊎ ((k : ℕ) × LeavesOut n arrivals events k)
 left_out n to arrivals events up le counted ends short =
     ⊎_elim
     (λ (none : NoneIn to n arrivals). inl (admitted_below to n arrivals events counted none))
@@ -80,7 +81,7 @@ left_out n to arrivals events up le counted ends short =
         leaves = λ k t l. counted k t ∙ arrivals_none k t to arrivals (let q = f.is_in.0 in omega arith);
         first = f.first;
         inside = f.is_in.1;
-        behind = each_all (λ e. e.stamp.at < f.at) (others events)
+        behind = All-from_recursion (λ e. e.stamp.at < f.at) (others events)
             (each_other (λ e. e.stamp.at < f.at) events (each_map (λ e. is_admit e ≡ false → e.stamp.at < to) (λ e. is_admit e ≡ false → e.stamp.at < f.at) (λ e h o. let z = h o in let q = f.is_in.0 in omega arith) events ends));
         short = (let q = f.is_in in omega arith);
       },

@@ -7,7 +7,7 @@ use Rattle.sloth_base.specs.declared.event.Arrival.{Arrival}
 use Rattle.sloth_base.specs.declared.event.Stamped.{Stamped}
 use Rattle.osek_machine.specs.InTime.{is_admit, admitted_task, IsSubsequence, KeepsOrder}
 use Rattle.sim_induction.specs.Admits.{admit_event}
-use Rattle.sim_induction.specs.Advances.{EachEvent}
+use Rattle.std.specs.List.{AllByRecursion}
 
 abbrev pub Key : Type 0
 Key = ℕ × Option ℕ
@@ -123,7 +123,7 @@ no_first : (x : Stamped) (group : List Stamped) → is_admit x ≡ false → All
 no_first x group o h = let z : is_admit x ≡ true = h 0 x (omega arith) in cc
 
 -- none of these is an admit
-pub others_order : (es : List Stamped) → EachEvent (λ e. is_admit e ≡ false) es → KeepsOrder [] es
+pub others_order : (es : List Stamped) → AllByRecursion (λ e. is_admit e ≡ false) es → KeepsOrder [] es
 others_order [] h [] [] behind e admits = tt
 others_order [] h [] (x ∷ group) behind e admits = absurd (nil_cons e)
 others_order [] h (y ∷ before) group behind e admits = absurd (nil_cons e)

@@ -15,7 +15,8 @@ use Rattle.osek_machine.specs.Runs.{Leads, Follows, PassesOverArrivals}
 use Rattle.osek_machine.specs.InTime.{is_admit, admits_at, SpansFor, IsOrdered, KeepsOrder}
 use Rattle.sim_induction.specs.Short.{passed_by}
 use Rattle.sim_induction.specs.Admits.{Setting, IsSetting, lines_at, with_admits, AllBelow}
-use Rattle.sim_induction.specs.Advances.{EachEvent, EachPair, IsWithin, found_by, Advances}
+use Rattle.sim_induction.specs.Advances.{EachPair, IsWithin, found_by, Advances}
+use Rattle.std.specs.List.{AllByRecursion}
 use Rattle.sim_induction.specs.Laws.{OutsideLaw, Shows, seen_at}
 use Rattle.sim_induction.proofs.Schedule.{below_moments, admits_are}
 use Rattle.sim_induction.proofs.Counts.{admits-append, admits_of, others_count}
@@ -58,9 +59,9 @@ single_passes given past s k event.Stray h = absurd h
 
 -- what its events are: none or one
 record Alone (given : Setting) (k : ℕ) (whats : List Event) (s after : System) : Type 0 where
-  stamps : EachEvent (IsWithin k (k + 1)) (map (stamp k k) whats)
-  others : EachEvent (λ e. is_admit e ≡ false) (map (stamp k k) whats)
-  later : EachEvent (λ e. is_admit e ≡ true → k < e.stamp.at) (map (stamp k k) whats)
+  stamps : AllByRecursion (IsWithin k (k + 1)) (map (stamp k k) whats)
+  others : AllByRecursion (λ e. is_admit e ≡ false) (map (stamp k k) whats)
+  later : AllByRecursion (λ e. is_admit e ≡ true → k < e.stamp.at) (map (stamp k k) whats)
   placed : EachPair IsOrdered (map (stamp k k) whats)
   leads : Leads given.config given.app (map (stamp k k) whats) s after
   follows : (past : List Stamped) → Follows given.config given.app past s (map (stamp k k) whats) after

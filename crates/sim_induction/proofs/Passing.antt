@@ -17,7 +17,8 @@ use Rattle.osek_machine.specs.Runs.{Leads, ReadySince, PassesOver}
 use Rattle.rv32_routine.specs.Trace.{Trace, early}
 use Rattle.sim_induction.specs.Admits.{with_admits, AllBelow, admit_event, before_event}
 use Rattle.sim_induction.proofs.Follow.{leads-append, booted_admitted}
-use Rattle.sim_induction.proofs.Events.{EachArrival, IsFrom, before_within}
+use Rattle.sim_induction.proofs.Events.{IsFrom, before_within}
+use Rattle.std.specs.List.{AllByRecursion}
 use Rattle.sim_induction.proofs.Traces.{lines_before}
 
 is_suspended : (t : TaskState) → (t ≡ mode.Suspended) ⊎ (t ≡ mode.Suspended → ⊥)
@@ -122,7 +123,7 @@ made t u s n =
     (cases_eq u t))
     (λ _ r. absurd (n r))
 
-pub made_ready : (c : Config) (app : App) (past : List Stamped) (k to u : ℕ) (a : List Arrival) (s : System) → Leads c app past (opening c app) s → s.booted ≡ true → AllBelow (length c.tasks) (map (λ x. x.line) a) → EachArrival (IsFrom (k + 1) to) a
+pub made_ready : (c : Config) (app : App) (past : List Stamped) (k to u : ℕ) (a : List Arrival) (s : System) → Leads c app past (opening c app) s → s.booted ≡ true → AllBelow (length c.tasks) (map (λ x. x.line) a) → AllByRecursion (IsFrom (k + 1) to) a
     → ((task s u).state ≡ mode.Ready → ⊥) → (task (with_admits (map (λ x. x.line) a) s) u).state ≡ mode.Ready → ReadySince c app (past ++ map admit_event a) u k
 made_ready c app past k to u [] s h b l m n r = absurd (n r)
 made_ready c app past k to u (x ∷ a) s h b l m n r =
@@ -173,7 +174,7 @@ still_top c s t lines top active fresh =
     }
 
 pub passes_over : (c : Config) (app : App) (past : List Stamped) (k to t : ℕ) (a : List Arrival) (s : System) → Leads c app past (opening c app) s → s.booted ≡ true
-    → AllBelow (length c.tasks) (map (λ x. x.line) a) → EachArrival (IsFrom (k + 1) to) a → IsTop c s [] t → (task s t).state ≡ mode.Active
+    → AllBelow (length c.tasks) (map (λ x. x.line) a) → AllByRecursion (IsFrom (k + 1) to) a → IsTop c s [] t → (task s t).state ≡ mode.Active
     → PassesOver c app (past ++ map admit_event a) (with_admits (map (λ x. x.line) a) s) t k
 passes_over c app past k to t a s h b l m top active u declared ready above =
     made_ready c app past k to u a s h b l m

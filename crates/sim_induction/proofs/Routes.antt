@@ -1,6 +1,6 @@
 -- From the contracts of generated code to the stretches of a run.
 use Rattle.std.proofs.Common.{◌≡◌, ℕ, zero, suc, ◌+◌, ◌<◌, ◌≤◌, List, [], ◌∷◌, refl, ap, ◌∙◌, subst, arith, Bool, true, false, cond, Option, Some, None, inl, inr, is_some}
-use Rattle.std.specs.Prelude.{◌||◌, ◌&&◌, not, ◌==◌, IfSome}
+use Rattle.std.specs.Prelude.{◌||◌, ◌&&◌, not, ◌==◌, IfSome, Contains}
 use Rattle.std.proofs.lemmas.Bool.{ne_eqb, lt-ltb}
 use Rattle.sloth_base.specs.declared.image.Mark.{Mark}
 use Rattle.sloth_base.specs.declared.event.Arrival.{Arrival}
@@ -17,9 +17,8 @@ use Rattle.rv32_routine.specs.Trace.{Trace, lines_of, touched_lines, early, late
 use Rattle.rv32_routine.proofs.Masked.{masked_run}
 use Rattle.observe.specs.Pieces.{begins}
 use Rattle.observe.specs.Observe.{View, stretch_event, later_event, unentered_event, marked_event, mark_at}
-use Rattle.sim_induction.specs.Short.{IsOneOf}
 use Rattle.sim_induction.specs.Admits.{lines_at}
-use Rattle.sim_induction.specs.Laws.{AreOneOf}
+use Rattle.std.specs.List.{AllByRecursion}
 
 going : (x : Next) (P : State → Type 0) → OnGoing x P → (next : State) × (x ≡ Going next) × P next
 going (Going next) P h = (next, refl, h)
@@ -134,7 +133,7 @@ booting arrivals most m Effect opens off h =
 
 -- ---- what stretches touch
 
-pub touches_parted : (lines : List ℕ) (o : Option ℕ) (rest : List ℕ) → AreOneOf lines (lines_of o rest) → IfSome o (IsOneOf lines) × AreOneOf lines rest
+pub touches_parted : (lines : List ℕ) (o : Option ℕ) (rest : List ℕ) → AllByRecursion (Contains lines) (lines_of o rest) → IfSome o (Contains lines) × AllByRecursion (Contains lines) rest
 touches_parted lines None rest h = (tt, h)
 touches_parted lines (Some l) rest h = (h.0, h.1)
 

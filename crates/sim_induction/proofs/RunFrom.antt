@@ -4,7 +4,8 @@ use Rattle.sloth_base.specs.declared.event.Stamped.{Stamped}
 use Rattle.sloth_base.specs.Machine.{State}
 use Rattle.sloth_base.specs.Arrivals.{moments}
 use Rattle.rv32_machine.specs.Run.{after_from, arrived}
-use Rattle.observe.specs.Pieces.{EachPiece, pieces, cut_off}
+use Rattle.observe.specs.Pieces.{pieces, cut_off}
+use Rattle.std.specs.List.{AllByRecursion}
 use Rattle.observe.specs.Observe.{observe}
 use Rattle.osek_machine.specs.State.{System}
 use Rattle.osek_machine.specs.Runs.{Leads, Follows}
@@ -12,7 +13,7 @@ use Rattle.osek_machine.specs.InTime.{is_admit, admits_at, arrivals_at, IsOrdere
 use Rattle.sim_induction.specs.Short.{IsShort, IsShortPiece, HasShortGaps}
 use Rattle.sim_induction.specs.Sound.{stands_before}
 use Rattle.sim_induction.specs.Admits.{Setting}
-use Rattle.sim_induction.specs.Advances.{EachEvent, EachPair, IsWithin}
+use Rattle.sim_induction.specs.Advances.{EachPair, IsWithin}
 use Rattle.sim_induction.proofs.Runs.{steps_from}
 
 -- its events
@@ -28,14 +29,14 @@ pub record SoundFrom (given : Setting) (R : State → System → Type 0) (progre
   pub whole : after_from n given.arrivals k m ≡ Some end
   pub last : System
   pub follows : Follows given.config given.app past s (events_from given n k m) last
-  pub within : EachEvent (IsWithin k (k + n)) (events_from given n k m)
+  pub within : AllByRecursion (IsWithin k (k + n)) (events_from given n k m)
   pub placed : EachPair IsOrdered (events_from given n k m)
   pub to : ℕ
   pub to_in : (k ≤ to) × (to ≤ k + n) × (k + n < to + 160)
-  pub ends : EachEvent (λ e. is_admit e ≡ false → e.stamp.at < to) (events_from given n k m)
+  pub ends : AllByRecursion (λ e. is_admit e ≡ false → e.stamp.at < to) (events_from given n k m)
   pub counted : (i t : ℕ) → admits_at i t (events_from given n k m) ≡ arrivals_at i t (moments k to given.arrivals)
   pub keeps : KeepsOrder (moments k to given.arrivals) (events_from given n k m)
-  pub short : EachPiece IsShortPiece (pieces [] (steps_from n given.arrivals k m))
+  pub short : AllByRecursion IsShortPiece (pieces [] (steps_from n given.arrivals k m))
   pub short_cut : IsShort (cut_off [] (steps_from n given.arrivals k m))
   pub gaps : (before : ℕ) → before ≤ progress m s → HasShortGaps given.view before (pieces [] (steps_from n given.arrivals k m))
   pub mirrors : (i : ℕ) → i < n → (x : State) → after_from i given.arrivals k m ≡ Some x → x.core.mie ≡ true → ReachedAt given R (events_from given n k m) s (k + i) x

@@ -1,6 +1,6 @@
 -- A stretch is a piece of the run.
 use Rattle.std.proofs.Common.{◌≡◌, ℕ, zero, suc, ◌+◌, ◌<◌, ◌≤◌, List, [], ◌∷◌, ◌++◌, length, take, refl, sym, ap, ◌∙◌, subst, arith, Bool, true, false, cond, inr, filter, Some}
-use Rattle.std.specs.Prelude.{map, not}
+use Rattle.std.specs.Prelude.{map, not, Contains}
 use Rattle.std.proofs.lemmas.Bool.{ne_eqb, not_from_true}
 use Rattle.std.proofs.lemmas.List.{length-take}
 use Rattle.sloth_base.specs.declared.event.Arrival.{Arrival}
@@ -18,8 +18,9 @@ use Rattle.osek_machine.specs.InTime.{is_admit, admits_at, arrivals_at, IsOrdere
 use Rattle.sim_induction.specs.Short.{IsShort, IsShortAt, TouchesOnly}
 use Rattle.sim_induction.specs.Admits.{Setting, IsSetting, lines_at, with_admits, admit_event, AllBelow, before_event, behind_event}
 use Rattle.sim_induction.specs.Observed.{IsTraced}
-use Rattle.sim_induction.specs.Advances.{RunTo, EachEvent, EachPair, IsWithin, found_by, Advances}
-use Rattle.sim_induction.specs.Laws.{StretchLaw, AreOneOf, seen_at}
+use Rattle.sim_induction.specs.Advances.{RunTo, EachPair, IsWithin, found_by, Advances}
+use Rattle.std.specs.List.{AllByRecursion}
+use Rattle.sim_induction.specs.Laws.{StretchLaw, seen_at}
 use Rattle.sim_induction.proofs.Follow.{leads-append, follows-append, booted_admits, follows_admits, leads_admits}
 use Rattle.sim_induction.proofs.Events.{IsFrom, each-append, each_arrival, admit_pairs, pairs-append, before_within, behind_within}
 use Rattle.sim_induction.proofs.Runs.{one_after}
@@ -27,7 +28,8 @@ use Rattle.sim_induction.proofs.Schedule.{from_zero, below_moments, admits_are, 
 use Rattle.sim_induction.proofs.Counts.{admits-append, arrivals-append, admits_of, other_counts, arrivals_parted}
 use Rattle.sim_induction.proofs.Order.{orders-append, admits_order, parted_order}
 use Rattle.sim_induction.proofs.Shown.{stretch_long}
-use Rattle.sim_induction.proofs.Traces.{lines_before, lines_behind, is_traced, below_trace, EachStep, steps_touch, each_step, each_step-take}
+use Rattle.sim_induction.proofs.Traces.{lines_before, lines_behind, is_traced, below_trace, steps_touch, each_step-take}
+use Rattle.std.proofs.lemmas.List.Elements.{All-from_recursion}
 use Rattle.sim_induction.proofs.MaskedRun.{MaskedRun, masked_steps, masked_inside, trace_long, going_moment, Flags, flag_first, ShowsState}
 use Rattle.sim_induction.proofs.Cut.{cut_whole, cut_short}
 
@@ -49,7 +51,7 @@ module _ (k j : ℕ) (t : Trace) (e : Stamped) (long : length t ≡ j) (from_is 
       pairs-append IsOrdered (map admit_event (before_event (k + 1) t)) (e ∷ map admit_event (behind_event (k + 1) t))
       (admit_pairs (before_event (k + 1) t))
       (each_arrival (IsOrdered e) (IsFrom (k + 1) (k + 1 + j)) (λ a h. after_it a h) (behind_event (k + 1) t) (behind_within (k + 1) (k + 1 + j) (k + 1) t (omega arith) (omega arith)), admit_pairs (behind_event (k + 1) t))
-      (each_arrival (λ x. EachEvent (IsOrdered x) (e ∷ map admit_event (behind_event (k + 1) t))) (IsFrom (k + 1) (k + 1 + j)) (λ a h. (before_it a h, all a (behind_event (k + 1) t))) (before_event (k + 1) t) (before_within (k + 1) (k + 1 + j) (k + 1) t (omega arith) (omega arith)))
+      (each_arrival (λ x. AllByRecursion (IsOrdered x) (e ∷ map admit_event (behind_event (k + 1) t))) (IsFrom (k + 1) (k + 1 + j)) (λ a h. (before_it a h, all a (behind_event (k + 1) t))) (before_event (k + 1) t) (before_within (k + 1) (k + 1 + j) (k + 1) t (omega arith) (omega arith)))
     where
       before_it : (a : Arrival) → IsFrom (k + 1) (k + 1 + j) a → IsOrdered (admit_event a) e
       before_it a h = subst (λ b. StandsBefore true b (admit_event a).stamp e.stamp) (sym other) (let l : a.at ≤ e.stamp.at = omega arith in l)
@@ -57,11 +59,11 @@ module _ (k j : ℕ) (t : Trace) (e : Stamped) (long : length t ≡ j) (from_is 
       after_it : (a : Arrival) → IsFrom (k + 1) (k + 1 + j) a → IsOrdered e (admit_event a)
       after_it a h = subst (λ b. StandsBefore b true e.stamp (admit_event a).stamp) (sym other) (let l : e.stamp.from < a.at = omega arith in l)
 
-      all : (a : Arrival) (ys : List Arrival) → EachEvent (IsOrdered (admit_event a)) (map admit_event ys)
+      all : (a : Arrival) (ys : List Arrival) → AllByRecursion (IsOrdered (admit_event a)) (map admit_event ys)
       all a [] = tt
       all a (y ∷ ys) = (tt, all a ys)
 
-  pub masked_later : EachEvent (λ x. is_admit x ≡ true → k < x.stamp.at) (masked_events (k + 1) t e)
+  pub masked_later : AllByRecursion (λ x. is_admit x ≡ true → k < x.stamp.at) (masked_events (k + 1) t e)
   masked_later =
       each-append (λ x. is_admit x ≡ true → k < x.stamp.at) (map admit_event (before_event (k + 1) t)) (e ∷ map admit_event (behind_event (k + 1) t))
       (each_arrival (λ x. is_admit x ≡ true → k < x.stamp.at) (IsFrom (k + 1) (k + 1 + j)) (λ a h z. omega arith) (before_event (k + 1) t) (before_within (k + 1) (k + 1 + j) (k + 1) t (omega arith) (omega arith)))
@@ -70,7 +72,7 @@ module _ (k j : ℕ) (t : Trace) (e : Stamped) (long : length t ≡ j) (from_is 
       true_false : true ≡ false → ⊥
       true_false z = cc
 
-  pub masked_stamps : IsWithin k (k + suc j) e → EachEvent (IsWithin k (k + suc j)) (masked_events (k + 1) t e)
+  pub masked_stamps : IsWithin k (k + suc j) e → AllByRecursion (IsWithin k (k + suc j)) (masked_events (k + 1) t e)
   masked_stamps w =
       each-append (IsWithin k (k + suc j)) (map admit_event (before_event (k + 1) t)) (e ∷ map admit_event (behind_event (k + 1) t))
       (each_arrival (IsWithin k (k + suc j)) (IsFrom k (k + suc j)) (within_admits k (k + suc j)) (before_event (k + 1) t) (before_within k (k + suc j) (k + 1) t (omega arith) (omega arith)))
@@ -208,13 +210,13 @@ module _ (given : Setting) (setting : IsSetting given) (R : State → System →
             (follows_admits given.config given.app ((past ++ map admit_event (before_event (k + 1) t)) ++ event ∷ []) (behind_event (k + 1) t) law.after after_booted below_behind),
       )
 
-  touching : EachStep (TouchesOnly (law.one ∷ law.other ∷ [])) r.steps
-  touching = steps_touch A (law.one ∷ law.other ∷ []) r.steps (subst (λ u. AreOneOf (law.one ∷ law.other ∷ []) (touched_lines u)) (sym r.trace) law.touches)
+  touching : AllByRecursion (TouchesOnly (law.one ∷ law.other ∷ [])) r.steps
+  touching = steps_touch A (law.one ∷ law.other ∷ []) r.steps (subst (λ u. AllByRecursion (Contains (law.one ∷ law.other ∷ [])) (touched_lines u)) (sym r.trace) law.touches)
 
-  short_at : (steps : List Step) → length steps ≤ 159 → EachStep (TouchesOnly (law.one ∷ law.other ∷ [])) steps → IsShort (first ∷ steps)
+  short_at : (steps : List Step) → length steps ≤ 159 → AllByRecursion (TouchesOnly (law.one ∷ law.other ∷ [])) steps → IsShort (first ∷ steps)
   short_at steps l h =
       subst (λ b. IsShortAt b (first ∷ steps)) (sym (ne_eqb k 0 (λ e. omega arith)))
-      (let n : length (first ∷ steps) ≤ 160 = omega arith in (n, (law.one, law.other, each_step (TouchesOnly (law.one ∷ law.other ∷ [])) (first ∷ steps) (law.touches_first, h))))
+      (let n : length (first ∷ steps) ≤ 160 = omega arith in (n, (law.one, law.other, All-from_recursion (TouchesOnly (law.one ∷ law.other ∷ [])) (first ∷ steps) (law.touches_first, h))))
 
   counts : (i u : ℕ) → admits_at i u (found_by given k ++ others) ≡ arrivals_at i u (moments k (k + suc (length r.steps)) A)
   counts i u =
@@ -260,7 +262,7 @@ module _ (given : Setting) (setting : IsSetting given) (R : State → System →
         closed = closed_at;
         others = others;
         events = events_are;
-        stamps = subst (λ j. EachEvent (IsWithin k (k + suc j)) others) (sym n) (masked_stamps k law.more t event long refl refl other within);
+        stamps = subst (λ j. AllByRecursion (IsWithin k (k + suc j)) others) (sym n) (masked_stamps k law.more t event long refl refl other within);
         later = masked_later k law.more t event long refl refl other;
         placed = masked_placed k law.more t event long refl refl other;
         counted = counts;

@@ -1,6 +1,6 @@
 -- The laws of stretches, from what contracts say of the code that runs.
 use Rattle.std.proofs.Common.{◌≡◌, ℕ, ◌+◌, ◌-◌, ◌<◌, ◌≤◌, List, [], ◌∷◌, ◌++◌, length, sym, ap, ◌∙◌, subst, arith, Bool, true, false, cond, Option, Some, None, nat_le}
-use Rattle.std.specs.Prelude.{◌&&◌, ◌==◌, map, IfSome, slice_get, slice_index}
+use Rattle.std.specs.Prelude.{◌&&◌, ◌==◌, map, IfSome, slice_index, Contains}
 use Rattle.std.proofs.lemmas.Bool.{ne_eqb, eq-eqb, lt-ltb, le-leb}
 use Rattle.sloth_base.specs.declared.service.Service.{Service}
 use Rattle.sloth_base.specs.declared.image.Mark.{Mark}
@@ -14,15 +14,16 @@ use Rattle.rv32_instr.specs.Ram.{word_at}
 use Rattle.rv32_instr.specs.Execute.{touched}
 use Rattle.rv32_machine.specs.Run.{arrived}
 use Rattle.rv32_routine.specs.Trace.{Trace, lines_of, touched_lines, early, late}
-use Rattle.observe.specs.Observe.{mark_at, marked_event, services, service_event, task_of}
+use Rattle.observe.specs.Observe.{mark_at, marked_event, service_event, task_of}
+use Rattle.sloth_base.specs.ServiceCodes.{service_of}
 use Rattle.osek_machine.specs.declared.state.TaskState.TheVariants as mode
 use Rattle.osek_machine.specs.State.{System, task}
 use Rattle.osek_machine.specs.Priority.{IsTop}
 use Rattle.osek_machine.specs.Steps.{OsekStep}
 use Rattle.osek_machine.specs.Runs.{PassesOver, PassesOverArrivals}
-use Rattle.sim_induction.specs.Short.{IsOneOf}
 use Rattle.sim_induction.specs.Admits.{Setting, IsSetting, lines_at, with_admits, admit_event, before_event}
-use Rattle.sim_induction.specs.Laws.{AreOneOf, StretchLaw, seen_at, served_event}
+use Rattle.sim_induction.specs.Laws.{StretchLaw, seen_at, served_event}
+use Rattle.std.specs.List.{AllByRecursion}
 use Rattle.sim_induction.proofs.Follow.{booted_admits}
 use Rattle.sim_induction.proofs.Schedule.{below_moments}
 use Rattle.sim_induction.proofs.Traces.{lines_before, below_trace}
@@ -48,7 +49,7 @@ pub enter_law : (given : Setting) (R : State → System → Type 0) (k : ℕ) (m
     → StretchLaw given R k m s e.next e.trace e.end
 enter_law given R k m s line Effect after_boot enabled taken is_task e none after step related =
     let n = arrived given.arrivals k m in
-    let t = touches_parted (0 ∷ 0 ∷ []) (touched (entered n)) (touched_lines e.trace) (subst (AreOneOf (0 ∷ 0 ∷ [])) (sym none) tt) in
+    let t = touches_parted (0 ∷ 0 ∷ []) (touched (entered n)) (touched_lines e.trace) (subst (AllByRecursion (Contains (0 ∷ 0 ∷ []))) (sym none) tt) in
     record {
       finds = enabled;
       goes = e.goes;
@@ -72,7 +73,7 @@ enter_law given R k m s line Effect after_boot enabled taken is_task e none afte
 
 -- ---- a service
 
-task_is : (tasks t : ℕ) → t < tasks → task_of tasks (t + 1) ≡ t
+pub task_is : (tasks t : ℕ) → t < tasks → task_of tasks (t + 1) ≡ t
 task_is tasks t l =
     let one : t + 1 - 1 ≡ t = omega arith in
     ap (λ b. cond (b && nat_le (t + 1) tasks) (t + 1 - 1) 4294967295) (lt-ltb 0 (t + 1) (omega arith))
@@ -85,10 +86,10 @@ both_pass given past s k t called status false h = h
 
 pub service_law : (given : Setting) → IsSetting given → (R : State → System → Type 0) (k : ℕ) (m : State) (s : System) (t : ℕ) (called : Service) (mark : Mark) (most : ℕ) (Effect : List ℕ → State → State → Type 0)
     → 0 < k → m.core.mie ≡ true → line_to_take (arrived given.arrivals k m) ≡ None
-    → mark_at given.view (entered (arrived given.arrivals k m)).pc ≡ Some mark → mark.kind ≡ kind.Opening → slice_get services mark.a ≡ Some called
+    → mark_at given.view (entered (arrived given.arrivals k m)).pc ≡ Some mark → mark.kind ≡ kind.Opening → service_of mark.a ≡ Some called
     → t < given.view.tasks → word_at m.core.ram 0 ≡ t + 1
     → s.booted ≡ true → IsTop given.config (with_admits (lines_at given.arrivals k) s) [] t → (task (with_admits (lines_at given.arrivals k) s) t).state ≡ mode.Active
-    → (e : Masking given.arrivals most k m Effect) → most ≤ 159 → e.end.core.mie ≡ true → touched (entered (arrived given.arrivals k m)) ≡ None → (one other : ℕ) → AreOneOf (one ∷ other ∷ []) (touched_lines e.trace)
+    → (e : Masking given.arrivals most k m Effect) → most ≤ 159 → e.end.core.mie ≡ true → touched (entered (arrived given.arrivals k m)) ≡ None → (one other : ℕ) → AllByRecursion (Contains (one ∷ other ∷ [])) (touched_lines e.trace)
     → (after : System) → OsekStep given.config given.app (served_event t called e.end) (with_admits (early e.trace) (with_admits (lines_at given.arrivals k) s)) after
     → R (state_arrive (late e.trace) e.last) (with_admits (late e.trace) after)
     → StretchLaw given R k m s e.next e.trace e.end
@@ -106,7 +107,7 @@ service_law given setting R k m s t called mark most Effect after_boot enabled n
       ends = ends;
       one = one;
       other = other;
-      touches_first = subst (λ o. IfSome o (IsOneOf (one ∷ other ∷ []))) (sym untouched) tt;
+      touches_first = subst (λ o. IfSome o (Contains (one ∷ other ∷ []))) (sym untouched) tt;
       touches = touches;
       what = served_event t called e.end;
       what_is = λ last regs cur.

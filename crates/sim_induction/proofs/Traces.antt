@@ -1,6 +1,6 @@
 -- What the trace of a stretch tells: its lines, and the lines that it touches.
 use Rattle.std.proofs.Common.{◌≡◌, ℕ, zero, suc, ◌+◌, ◌<◌, List, [], ◌∷◌, ◌++◌, refl, sym, ap, ◌∙◌, subst, arith, Bool, true, false, cond, Option, Some, None}
-use Rattle.std.specs.Prelude.{map, IfSome, All, take}
+use Rattle.std.specs.Prelude.{map, IfSome, All, take, Contains}
 use Rattle.std.proofs.lemmas.List.{map-append}
 use Rattle.sloth_base.specs.declared.event.Arrival.{Arrival}
 use Rattle.sloth_base.specs.declared.step.Step.{Step}
@@ -10,10 +10,10 @@ use Rattle.sloth_base.specs.Arrive.{state_arrive}
 use Rattle.rv32_instr.specs.Execute.{touched}
 use Rattle.rv32_routine.specs.Masked.{Steps}
 use Rattle.rv32_routine.specs.Trace.{Entry, Trace, touches, touched_of, untouched_of, touched_lines, lines_of, early, late}
-use Rattle.sim_induction.specs.Short.{IsOneOf, TouchesOnly}
+use Rattle.sim_induction.specs.Short.{TouchesOnly}
 use Rattle.sim_induction.specs.Admits.{AllBelow, at_moment, before_event, behind_event}
 use Rattle.sim_induction.specs.Observed.{trace_of, AreFrom, AreBefore, IsTraced}
-use Rattle.sim_induction.specs.Laws.{AreOneOf}
+use Rattle.std.specs.List.{AllByRecursion}
 use Rattle.sim_induction.proofs.Schedule.{lines_back}
 use Rattle.sim_induction.proofs.Early.{early_is, late_is}
 
@@ -62,25 +62,16 @@ below_trace n (suc j) k A m t x b h =
 
 -- ---- the lines that the steps touch
 
-abbrev pub EachStep : (Step → Type 0) → List Step → Type 0
-EachStep P [] = Unit {0}
-EachStep P (s ∷ steps) = P s × EachStep P steps
+step_touches : (lines : List ℕ) (o : Option ℕ) (s : Step) (rest : List ℕ) → s.touched ≡ o → AllByRecursion (Contains lines) (lines_of o rest) → TouchesOnly lines s × AllByRecursion (Contains lines) rest
+step_touches lines None s rest e h = (subst (λ o. IfSome o (Contains lines)) (sym e) tt, h)
+step_touches lines (Some l) s rest e h = (subst (λ o. IfSome o (Contains lines)) (sym e) h.0, h.1)
 
-step_touches : (lines : List ℕ) (o : Option ℕ) (s : Step) (rest : List ℕ) → s.touched ≡ o → AreOneOf lines (lines_of o rest) → TouchesOnly lines s × AreOneOf lines rest
-step_touches lines None s rest e h = (subst (λ o. IfSome o (IsOneOf lines)) (sym e) tt, h)
-step_touches lines (Some l) s rest e h = (subst (λ o. IfSome o (IsOneOf lines)) (sym e) h.0, h.1)
-
-pub steps_touch : (arrivals : List Arrival) (lines : List ℕ) (steps : List Step) → AreOneOf lines (touched_lines (trace_of arrivals steps)) → EachStep (TouchesOnly lines) steps
+pub steps_touch : (arrivals : List Arrival) (lines : List ℕ) (steps : List Step) → AllByRecursion (Contains lines) (touched_lines (trace_of arrivals steps)) → AllByRecursion (TouchesOnly lines) steps
 steps_touch arrivals lines [] h = tt
 steps_touch arrivals lines (s ∷ steps) h =
     let q = step_touches lines s.touched s (touched_lines (trace_of arrivals steps)) refl h in (q.0, steps_touch arrivals lines steps q.1)
 
-pub each_step : (P : Step → Type 0) (steps : List Step) → EachStep P steps → All P steps
-each_step P [] h k d lt = absurd (omega arith)
-each_step P (s ∷ steps) h zero d lt = h.0
-each_step P (s ∷ steps) h (suc k) d lt = each_step P steps h.1 k d (omega arith)
-
-pub each_step-take : (P : Step → Type 0) (n : ℕ) (steps : List Step) → EachStep P steps → EachStep P (take n steps)
+pub each_step-take : (P : Step → Type 0) (n : ℕ) (steps : List Step) → AllByRecursion P steps → AllByRecursion P (take n steps)
 each_step-take P zero steps h = tt
 each_step-take P (suc n) [] h = tt
 each_step-take P (suc n) (s ∷ steps) h = (h.0, each_step-take P n steps h.1)

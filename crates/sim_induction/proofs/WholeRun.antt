@@ -11,7 +11,8 @@ use Rattle.sloth_base.specs.Arrivals.{moments}
 use Rattle.rv32_machine.specs.Run.{after_from}
 use Rattle.rv32_machine.specs.Start.{start}
 use Rattle.rv32_machine.proofs.Runs.{stop_none}
-use Rattle.observe.specs.Pieces.{Piece, EachPiece, pieces, cut_off}
+use Rattle.observe.specs.Pieces.{Piece, pieces, cut_off}
+use Rattle.std.specs.List.{AllByRecursion}
 use Rattle.observe.specs.Observe.{view_of_image}
 use Rattle.osek_machine.specs.State.{System, opening}
 use Rattle.osek_machine.specs.Runs.{Follows}
@@ -19,9 +20,10 @@ use Rattle.osek_machine.specs.InTime.{InTime, IsStamped, is_admit, admits_at, ar
 use Rattle.sim_induction.specs.Short.{Short, IsShort, IsShortPiece, HasShortGaps}
 use Rattle.sim_induction.specs.Sound.{SoundRun}
 use Rattle.sim_induction.specs.Admits.{Setting, IsSetting}
-use Rattle.sim_induction.specs.Advances.{EachEvent, EachPair, IsWithin}
+use Rattle.sim_induction.specs.Advances.{EachPair, IsWithin}
 use Rattle.sim_induction.specs.Related.{IsSimulation}
-use Rattle.sim_induction.proofs.Events.{each_map, each_all}
+use Rattle.sim_induction.proofs.Events.{each_map}
+use Rattle.std.proofs.lemmas.List.Elements.{All-from_recursion}
 use Rattle.sim_induction.proofs.Schedule.{from_zero}
 use Rattle.sim_induction.proofs.Order.{order_within}
 use Rattle.sim_induction.proofs.LeftOut.{left_out}
@@ -33,19 +35,19 @@ pub record WholeRun (given : Setting) (R : State → System → Type 0) (n : ℕ
   pub whole : after_from n given.arrivals 0 m ≡ Some end
   pub last : System
   pub follows : Follows given.config given.app [] (opening given.config given.app) (events_from given n 0 m) last
-  pub within : EachEvent (IsWithin 0 n) (events_from given n 0 m)
+  pub within : AllByRecursion (IsWithin 0 n) (events_from given n 0 m)
   pub placed : EachPair IsOrdered (events_from given n 0 m)
   pub to : ℕ
   pub to_in : (to ≤ n) × (n < to + longest (events_from given n 0 m))
-  pub ends : EachEvent (λ e. is_admit e ≡ false → e.stamp.at < to) (events_from given n 0 m)
+  pub ends : AllByRecursion (λ e. is_admit e ≡ false → e.stamp.at < to) (events_from given n 0 m)
   pub counted : (i t : ℕ) → admits_at i t (events_from given n 0 m) ≡ arrivals_at i t (moments 0 to given.arrivals)
   pub keeps : KeepsOrder (moments 0 to given.arrivals) (events_from given n 0 m)
-  pub short : EachPiece IsShortPiece (pieces [] (steps_from n given.arrivals 0 m))
+  pub short : AllByRecursion IsShortPiece (pieces [] (steps_from n given.arrivals 0 m))
   pub short_cut : IsShort (cut_off [] (steps_from n given.arrivals 0 m))
   pub gaps : HasShortGaps given.view 0 (pieces [] (steps_from n given.arrivals 0 m))
   pub mirrors : (i : ℕ) → i < n → (x : State) → after_from i given.arrivals 0 m ≡ Some x → x.core.mie ≡ true → ReachedAt given R (events_from given n 0 m) (opening given.config given.app) i x
 
-all_pieces : (P : Piece → Type 0) (a : List Piece) → EachPiece P a → All P a
+all_pieces : (P : Piece → Type 0) (a : List Piece) → AllByRecursion P a → All P a
 all_pieces P [] h k d lt = absurd (omega arith)
 all_pieces P (x ∷ a) h zero d lt = h.0
 all_pieces P (x ∷ a) h (suc k) d lt = all_pieces P a h.1 k d (omega arith)
@@ -53,14 +55,14 @@ all_pieces P (x ∷ a) h (suc k) d lt = all_pieces P a h.1 k d (omega arith)
 all_pairs : (R : Stamped → Stamped → Type 0) (a : List Stamped) → EachPair R a → AllPairs R a
 all_pairs R [] h i j d l k = absurd (omega arith)
 all_pairs R (x ∷ a) h i zero d l k = absurd (omega arith)
-all_pairs R (x ∷ a) h zero (suc j) d l k = each_all (R x) a h.0 j d (omega arith)
+all_pairs R (x ∷ a) h zero (suc j) d l k = All-from_recursion (R x) a h.0 j d (omega arith)
 all_pairs R (x ∷ a) h (suc i) (suc j) d l k = all_pairs R a h.1 i j d (omega arith) (omega arith)
 
 pub in_time : (given : Setting) → IsSetting given → (R : State → System → Type 0) (n : ℕ) (m : State) → WholeRun given R n m → InTime n given.arrivals (events_from given n 0 m)
 in_time given setting R n m w =
     let events = events_from given n 0 m in
     record {
-      stamped = each_all (IsStamped n) events (each_map (IsWithin 0 n) (IsStamped n) (λ e h. record { ordered = h.ordered; spans = h.spans; below = h.ends }) events w.within);
+      stamped = All-from_recursion (IsStamped n) events (each_map (IsWithin 0 n) (IsStamped n) (λ e h. record { ordered = h.ordered; spans = h.spans; below = h.ends }) events w.within);
       placed = all_pairs IsOrdered events w.placed;
       in_order = order_within (λ a. nat_le 0 a.at && nat_lt a.at w.to) given.arrivals events w.keeps;
       admitted = left_out n w.to given.arrivals events (from_zero given.arrivals setting.ordered) w.to_in.0 w.counted w.ends w.to_in.1;

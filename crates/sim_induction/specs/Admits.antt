@@ -1,5 +1,6 @@
 -- Arrivals as the abstract scheduler sees them.
 use Rattle.std.specs.Prelude.{ℕ, ◌+◌, ◌<◌, ◌≡◌, List, [], ◌∷◌, ◌++◌, map, length, All}
+use Rattle.std.specs.List.{AllByRecursion}
 use Rattle.sloth_base.specs.declared.config.Config.{Config}
 use Rattle.sloth_base.specs.declared.app.App.{App}
 use Rattle.sloth_base.specs.declared.event.Arrival.{Arrival}
@@ -33,10 +34,11 @@ abbrev pub with_admits : List ℕ → System → System
 with_admits [] s = s
 with_admits (t ∷ lines) s = with_admits lines (admitted t s)
 
+-- each of these lines is below a number
 abbrev pub AllBelow : ℕ → List ℕ → Type 0
-AllBelow n [] = Unit {0}
-AllBelow n (t ∷ lines) = (t < n) × AllBelow n lines
+AllBelow n lines = AllByRecursion (λ line. line < n) lines
 
+-- the event of an arrival of a task's line
 abbrev pub admit_event : Arrival → Stamped
 admit_event a = stamp a.at a.at (event.Admit a.line)
 
@@ -50,6 +52,7 @@ abbrev pub before_event : ℕ → Trace → List Arrival
 before_event count [] = []
 before_event count (entry ∷ trace) = at_moment count (touched_of (entry ∷ trace) entry.0) ++ before_event (count + 1) trace
 
+-- the arrivals of a trace that stand behind the stretch's event, from this count on
 abbrev pub behind_event : ℕ → Trace → List Arrival
 behind_event count [] = []
 behind_event count (entry ∷ trace) = at_moment count (untouched_of (entry ∷ trace) entry.0) ++ behind_event (count + 1) trace

@@ -1,5 +1,6 @@
 -- A piece of a run, from a count that finds MIE 1 to the next such count.
 use Rattle.std.specs.Prelude.{ℕ, zero, suc, ◌+◌, ◌<◌, ◌≤◌, ◌≡◌, ◌⊎◌, List, [], ◌∷◌, ◌++◌, map, take, length, Some, true, false}
+use Rattle.std.specs.List.{AllByRecursion}
 use Rattle.sloth_base.specs.declared.event.Arrival.{Arrival}
 use Rattle.sloth_base.specs.declared.event.Stamped.{Stamped}
 use Rattle.sloth_base.specs.declared.step.Step.{Step}
@@ -22,14 +23,10 @@ RunTo arrivals (suc n) count state steps end =
     (step : Step) × (next : State) × (moment arrivals count state ≡ Goes step next)
     × ((rest : List Step) × (steps ≡ step ∷ rest) × RunTo arrivals n (count + 1) next rest end)
 
-abbrev pub EachEvent : (Stamped → Type 0) → List Stamped → Type 0
-EachEvent P [] = Unit {0}
-EachEvent P (e ∷ events) = P e × EachEvent P events
-
 -- each event, and each one behind it
 abbrev pub EachPair : (Stamped → Stamped → Type 0) → List Stamped → Type 0
 EachPair P [] = Unit {0}
-EachPair P (e ∷ events) = EachEvent (P e) events × EachPair P events
+EachPair P (e ∷ events) = AllByRecursion (P e) events × EachPair P events
 
 -- an event of the counts from one to below another
 pub record IsWithin (from to : ℕ) (e : Stamped) : Type 0 where
@@ -57,8 +54,8 @@ pub record Advances (given : Setting) (R : State → System → Type 0) (progres
   pub closed : (i : ℕ) → 0 < i → i < suc (length rest) → (inside : State) → after_from i given.arrivals count state ≡ Some inside → inside.core.mie ≡ false
   pub others : List Stamped
   pub events : piece_events given.view given.arrivals piece ≡ found_by given count ++ others
-  pub stamps : EachEvent (IsWithin count (count + suc (length rest))) others
-  pub later : EachEvent (λ e. is_admit e ≡ true → count < e.stamp.at) others
+  pub stamps : AllByRecursion (IsWithin count (count + suc (length rest))) others
+  pub later : AllByRecursion (λ e. is_admit e ≡ true → count < e.stamp.at) others
   pub placed : EachPair IsOrdered others
   pub counted : (i t : ℕ) → admits_at i t (found_by given count ++ others) ≡ arrivals_at i t (moments count (count + suc (length rest)) given.arrivals)
   pub keeps : KeepsOrder (moments count (count + suc (length rest)) given.arrivals) (found_by given count ++ others)

@@ -1,5 +1,6 @@
 -- What is asked of a piece of generated code, for each kind of piece of a run.
-use Rattle.std.specs.Prelude.{ℕ, suc, ◌+◌, ◌==◌, ◌<◌, ◌≤◌, ◌≡◌, List, [], ◌∷◌, ◌++◌, map, true, false, cond, slice_index}
+use Rattle.std.specs.Prelude.{ℕ, suc, ◌+◌, ◌==◌, ◌<◌, ◌≤◌, ◌≡◌, List, [], ◌∷◌, ◌++◌, map, true, false, cond, slice_index, Contains}
+use Rattle.std.specs.List.{AllByRecursion}
 use Rattle.sloth_base.specs.declared.event.Event.{Event}
 use Rattle.sloth_base.specs.declared.event.Event.TheVariants as event
 use Rattle.sloth_base.specs.declared.event.Stamped.{Stamped}
@@ -18,7 +19,7 @@ use Rattle.observe.specs.Observe.{stretch_event, outside_events, mark_at}
 use Rattle.osek_machine.specs.State.{System, opening}
 use Rattle.osek_machine.specs.Steps.{OsekStep}
 use Rattle.osek_machine.specs.Runs.{Leads, PassesOverArrivals}
-use Rattle.sim_induction.specs.Short.{IsOneOf, TouchesOnly}
+use Rattle.sim_induction.specs.Short.{TouchesOnly}
 use Rattle.sim_induction.specs.Admits.{Setting, lines_at, with_admits, admit_event, before_event}
 
 -- what is seen of the instruction of a count that leads from this state to the next
@@ -30,15 +31,11 @@ abbrev pub served_event : (task : ℕ) → Service → State → Event
 served_event t served end =
     cond (t + 1 == word_at end.core.ram 0) (event.Call t served (slice_index end.core.registers 10)) (event.Left t served)
 
--- each of these touched lines is one of the lines
-abbrev pub AreOneOf : List ℕ → List ℕ → Type 0
-AreOneOf lines [] = Unit {0}
-AreOneOf lines (touched ∷ more) = IsOneOf lines touched × AreOneOf lines more
-
 -- A stretch that begins at a count which finds MIE 1: its first instruction, which leads to `next`, and the masked ones behind it,
 -- which lead on to `end`. Its event is a step from the system with the arrivals of the count and the early ones, and the states at
 -- its end are related with the late ones.
-pub record StretchLaw (given : Setting) (R : State → System → Type 0) (count : ℕ) (state : State) (s : System) (next : State) (trace : Trace) (end : State) : Type 0 where
+pub record StretchLaw (given : Setting) (R : State → System → Type 0) (count : ℕ) (state : State) (s : System)
+    (next : State) (trace : Trace) (end : State) : Type 0 where
   pub finds : state.core.mie ≡ true
   pub goes : step (entered (arrived given.arrivals count state)) ≡ Going next
   pub starts : begins (seen_at given count state next) ≡ true
@@ -50,14 +47,15 @@ pub record StretchLaw (given : Setting) (R : State → System → Type 0) (count
   pub one : ℕ
   pub other : ℕ
   pub touches_first : TouchesOnly (one ∷ other ∷ []) (seen_at given count state next)
-  pub touches : AreOneOf (one ∷ other ∷ []) (touched_lines trace)
+  pub touches : AllByRecursion (Contains (one ∷ other ∷ [])) (touched_lines trace)
   pub what : Event
   pub what_is : (last : Step) → last.regs ≡ end.core.registers → last.cur_after ≡ word_at end.core.ram 0
       → stretch_event given.view (seen_at given count state next) last ≡ what
   pub after : System
   pub step_is : OsekStep given.config given.app what (with_admits (early trace) (with_admits (lines_at given.arrivals count) s)) after
   pub passes : (past : List Stamped) → Leads given.config given.app past (opening given.config given.app) (with_admits (lines_at given.arrivals count) s)
-      → PassesOverArrivals given.config given.app (past ++ map admit_event (before_event (count + 1) trace)) (with_admits (early trace) (with_admits (lines_at given.arrivals count) s)) count what
+      → PassesOverArrivals given.config given.app (past ++ map admit_event (before_event (count + 1) trace))
+      (with_admits (early trace) (with_admits (lines_at given.arrivals count) s)) count what
   pub related : R end (with_admits (late trace) after)
 
 -- what an instruction outside the stretches shows: nothing, or one event, which is a step
@@ -67,7 +65,8 @@ Shows given (what ∷ []) s after = OsekStep given.config given.app what s after
 Shows given (what ∷ other ∷ more) s after = ⊥
 
 -- an instruction outside the stretches, at a count that finds MIE 1; where it shows nothing, it makes progress
-pub record OutsideLaw (given : Setting) (R : State → System → Type 0) (progress : State → System → ℕ) (count : ℕ) (state : State) (s : System) (next : State) : Type 0 where
+pub record OutsideLaw (given : Setting) (R : State → System → Type 0) (progress : State → System → ℕ)
+    (count : ℕ) (state : State) (s : System) (next : State) : Type 0 where
   pub goes : step (entered (arrived given.arrivals count state)) ≡ Going next
   pub outside : begins (seen_at given count state next) ≡ false
   pub untouched : TouchesOnly [] (seen_at given count state next)

@@ -19,6 +19,7 @@ StaysTop =
 -- and each Ready task above it was admitted behind the count at which the stretch began
 abbrev pub PassesOverInner : Type 0
 PassesOverInner =
-    (config : Config) (app : App) (past : List Stamped) (count t : ℕ) (s : System) (trace : Trace) → Leads config app past (opening config app) s → s.booted ≡ true
+    (config : Config) (app : App) (past : List Stamped) (count t : ℕ) (s : System) (trace : Trace) → Leads config app past (opening config app) s
+    → s.booted ≡ true
     → AllBelow (length config.tasks) (early trace) → IsTop config s [] t → (task s t).state ≡ mode.Active
     → PassesOver config app (past ++ map admit_event (before_event (count + 1) trace)) (with_admits (early trace) s) t count

@@ -28,6 +28,7 @@ stands_before count e = if is_admit e then nat_le e.stamp.at count else nat_lt e
 abbrev pub MirrorsAt : Config → App → List Stamped → State → Type 0
 MirrorsAt config app events state = (s : System) × Leads config app events (opening config app) s × Mirror config state.core s
 
+-- the events of a run are a run of the abstract scheduler
 pub record SoundRun (config : Config) (app : App) (image : Image) (arrivals : List Arrival) (n : ℕ) : Type 0 where
   -- the image executes so many instructions
   pub whole : stop_of n arrivals (start image) ≡ None

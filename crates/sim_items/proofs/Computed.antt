@@ -13,10 +13,12 @@ use Rattle.rv32_instr.proofs.Table.{decode_encode}
 use Rattle.rv32_routine.specs.Place.{at}
 use Rattle.rv32_routine.proofs.Words.{word_at-agree}
 use Rattle.rv32_routine.proofs.Machine.{Here, step_at, touched_at, next_at}
-use Rattle.rv32_expand.specs.Expansion.{item_address, operation}
+use Rattle.rv32_expand.specs.Expansion.{item_address, expansion}
+use Rattle.sloth_base.specs.Named.{operation, function}
 use Rattle.rv32_expand.specs.InPlace.{result_register}
 use Rattle.osek_machine.specs.declared.state.TaskState.TheVariants as mode
 use Rattle.osek_machine.specs.State.{Frame, Task, System, task}
+use Rattle.observe.specs.Observe.{View}
 use Rattle.osek_machine.specs.Priority.{IsTop}
 use Rattle.osek_machine.specs.Meaning.{Meant, register, seen_in, going_on}
 use Rattle.osek_machine.specs.Meaning as meaning
@@ -24,15 +26,14 @@ use Rattle.osek_machine.specs.Steps.{IsAt, Executes}
 use Rattle.sim_relation.specs.Build.{Build, Fits}
 use Rattle.sim_relation.specs.Position.{thread_of}
 use Rattle.sim_relation.specs.Context.{Context}
-use Rattle.sim_relation.specs.Stands.{Stands, AreActive}
+use Rattle.sim_relation.specs.Stands.{Stands}
 use Rattle.sim_relation.specs.DataStands.{DataStands}
 use Rattle.sim_relation.specs.Moves.{moved_to, TaskStep, SameMachine}
 use Rattle.sim_relation.proofs.AtItem.{position_first}
-use Rattle.sim_relation.proofs.Placed.{first_by_word}
-use Rattle.sim_relation.proofs.Tops.{falling_head}
+use Rattle.sim_relation.proofs.Placed.{first_by_word, active_by_word}
 use Rattle.sim_relation.proofs.TaskSteps.{task_steps}
-use Rattle.sim_items.specs.Place.{AtItem, HasInstruction, IsOwn, IsComputed}
-use Rattle.sim_items.specs.Laws.{IsOneInstruction, RunsItem}
+use Rattle.sim_items.specs.Place.{AtItem, HasInstruction, HasInstructions, ItemStands, IsOwn, IsComputed}
+use Rattle.sim_items.specs.Laws.{RunsItem}
 use Rattle.sim_items.proofs.Values.{Computed, computed}
 
 -- what the image has stands in RAM
@@ -96,8 +97,9 @@ wrote core own rd value long zero_is own_long same (inr h) =
       shows = seen_value rd value (omega arith) ∙ sym (get_or-set_same core.registers rd value 0 (omega arith));
     }))
 
-module _ (b : Build) (state : State) (s : System) (t : ℕ) (fits : Fits b) (k : Stands b state s) (here : AtItem b state s t) (top : IsTop b.config s [] t)
-    (is : IsComputed (operation b.app here.frame.func here.frame.item)) (one : IsOneInstruction b here.frame.func here.frame.item) where
+module _ (b : Build) (view : View) (state : State) (s : System) (t : ℕ) (fits : Fits b) (k : Stands b state s) (here : AtItem b state s t) (top : IsTop b.config s [] t)
+    (is : IsComputed (operation b.app here.frame.func here.frame.item)) (placed : ItemStands b view here.frame.func here.frame.item)
+    (more : here.frame.item + 1 < length (function b.app here.frame.func).items) where
   abbrev frame : Frame
   frame = here.frame
 
@@ -119,12 +121,12 @@ module _ (b : Build) (state : State) (s : System) (t : ℕ) (fits : Fits b) (k :
       sym (own_register own.registers r (omega arith) ∙ here.context.registers (r - 5) (omega arith) ∙ ap (λ v. slice_index state.core.registers v) e)
 
   value : Computed b.app b.places frame.func address this state.core.registers own.registers
-  value = computed b.app b.places frame.func address this state.core.registers own.registers agree is
+  value = computed b.app b.places frame.func address state.core.registers own.registers agree this is
 
   -- the rest over the parts of this record
   module _ (v : Computed b.app b.places frame.func address this state.core.registers own.registers) where
     instruction : HasInstruction b address v.kind
-    instruction = one.code v.kind v.expands
+    instruction = (subst (HasInstructions b address) v.expands placed.code).0
 
     code : Here state.core.ram instruction.offset v.kind
     code = code_here b state s address v.kind k instruction
@@ -180,20 +182,20 @@ module _ (b : Build) (state : State) (s : System) (t : ℕ) (fits : Fits b) (k :
     }
 
     next_pc : next.pc ≡ item_address b.places frame.func (frame.item + 1)
-    next_pc = let a = instruction.is in let c = one.adjacent in omega arith
+    next_pc = let a = instruction.is in let c = placed.adjacent more in let l : length (expansion b.app b.places frame.func frame.item) ≡ 1 = ap length v.expands in omega arith
 
     context_now : Context b next.core.ram t own_now (thread_of next) here.place
     context_now = subst (λ q. Context b q t own_now (thread_of next) here.place) (sym ram_is)
         (record {
           x2 = w.x2 ∙ here.context.x2;
           registers = w.same;
-          position = position_first b state.core.ram t own_now (thread_of next) here.place moved here.outer refl here.free one.more next_pc here.stood;
+          position = position_first b state.core.ram t own_now (thread_of next) here.place moved here.outer refl here.free more next_pc here.stood;
           room = here.context.room;
           aligned = here.context.aligned;
         })
 
     active_is : (task s t).state ≡ mode.Active
-    active_is = let f = first_by_word b state s t k.stack k.running here.current in (falling_head b s t f.0 (subst (AreActive b s) f.1 k.active).falling).active
+    active_is = (active_by_word b state s t k here.current).active
 
     task_step : TaskStep b state next s t own_now s.symbols
     task_step = record {

@@ -1,3 +1,4 @@
+pub mod Cases
 pub mod Values
 pub mod Computed
 pub mod Outside

@@ -1,9 +1,7 @@
 -- Instructions outside the stretches.
-use Rattle.std.proofs.Common.{◌≡◌, ℕ, ◌+◌, ◌-◌, ◌<◌, ◌≤◌, List, [], ◌∷◌, length, refl, sym, ap, ◌∙◌, subst, arith, Some, None, cond, nat_le}
-use Rattle.std.specs.Prelude.{◌&&◌, slice_index, IfSome}
-use Rattle.std.proofs.lemmas.Bool.{lt-ltb, le-leb}
+use Rattle.std.proofs.Common.{◌≡◌, ℕ, ◌+◌, ◌-◌, ◌*◌, ◌<◌, ◌≤◌, List, [], ◌∷◌, length, refl, sym, ap, ◌∙◌, subst, arith, Some, None, cond}
+use Rattle.std.specs.Prelude.{slice_index, IfSome, Contains}
 use Rattle.sloth_base.specs.declared.app.Op.{Op}
-use Rattle.sloth_base.specs.declared.app.Op.TheVariants as op
 use Rattle.sloth_base.specs.declared.image.Mark.{Mark}
 use Rattle.sloth_base.specs.declared.image.MarkKind.TheVariants as kind
 use Rattle.sloth_base.specs.declared.event.Event.{Event}
@@ -12,56 +10,41 @@ use Rattle.sloth_base.specs.declared.event.Arrival.{Arrival}
 use Rattle.sloth_base.specs.Choose.{choose}
 use Rattle.sloth_base.specs.Machine.{State}
 use Rattle.sloth_base.specs.Take.{line_to_take, enter}
+use Rattle.sloth_region.specs.Layout.{cur}
 use Rattle.rv32_instr.specs.Ram.{word_at}
 use Rattle.rv32_instr.specs.Execute.{Going, step, touched}
 use Rattle.rv32_machine.specs.Run.{arrived}
 use Rattle.rv32_routine.specs.Place.{at, InPlace}
-use Rattle.rv32_expand.specs.Expansion.{item_address, operation}
-use Rattle.rv32_expand.specs.InPlace.{result_register, mark_of, item_mark}
+use Rattle.rv32_expand.specs.Expansion.{item_address, expansion}
+use Rattle.sloth_base.specs.Named.{operation, function}
+use Rattle.rv32_expand.specs.InPlace.{result_register, mark_of, item_mark, last_address}
 use Rattle.observe.specs.Observe.{View, mark_at, task_of, outside_events, events_of_kind}
 use Rattle.osek_machine.specs.State.{System}
 use Rattle.osek_machine.specs.Priority.{IsTop}
 use Rattle.osek_machine.specs.Steps.{settled}
-use Rattle.sim_induction.specs.Short.{IsOneOf}
 use Rattle.sim_induction.specs.Admits.{Setting, lines_at, with_admits}
 use Rattle.sim_induction.specs.Laws.{OutsideLaw, Shows, seen_at}
 use Rattle.sim_induction.proofs.Routes.{begins_none}
 use Rattle.sim_induction.proofs.Schedule.{below_moments}
+use Rattle.sim_induction.proofs.Stretched.{task_is}
 use Rattle.sim_relation.specs.Build.{Build}
 use Rattle.sim_relation.specs.Context.{Running, RunsIdle}
 use Rattle.sim_relation.specs.Stands.{Stands}
 use Rattle.sim_relation.proofs.Arrive.{stands_arrived, stands_fresh}
 use Rattle.sim_relation.proofs.Placed.{placed_in, first_by_word}
 use Rattle.sim_relation.proofs.Choice.{running_top, none_due}
-use Rattle.sim_items.specs.Place.{AtItem, IsComputed}
-use Rattle.sim_items.specs.Laws.{IsOneInstruction, RunsItem}
+use Rattle.sim_items.proofs.Cases.{computed_cases, computed_long}
+use Rattle.sim_items.specs.Place.{AtItem, ItemStands, IsComputed}
+use Rattle.sim_items.specs.Laws.{RunsItem}
 use Rattle.sim_relation.specs.Placed.{setting_of}
 use Rattle.sim_items.specs.Outside.{At, GoesOutside, HasIdle}
 use Rattle.sim_items.proofs.Computed.{computed_run}
 
-task_is : (tasks t : ℕ) → t < tasks → task_of tasks (t + 1) ≡ t
-task_is tasks t l =
-    let one : t + 1 - 1 ≡ t = omega arith in
-    ap (λ b. cond (b && nat_le (t + 1) tasks) (t + 1 - 1) 4294967295) (lt-ltb 0 (t + 1) (omega arith))
-    ∙ ap (λ b. cond b (t + 1 - 1) 4294967295) (le-leb (t + 1) tasks (omega arith)) ∙ one
-
 -- the mark of such an item shows its Run event
-mark_shows : (o : Op) (address func index : ℕ) → IsComputed o → mark_of o address func index ≡ record { address = address; kind = kind.Item; a = result_register o; b = func; c = index }
-mark_shows (op.Alu kind rd rs1 rs2) address func index h = refl
-mark_shows (op.AluImm kind rd rs1 number) address func index h = refl
-mark_shows (op.Lui rd number) address func index h = refl
-mark_shows (op.Li rd value) address func index h = absurd h
-mark_shows (op.FrameLoad rd word) address func index h = absurd h
-mark_shows (op.FrameStore rs word) address func index h = absurd h
-mark_shows (op.Load width rd symbol offset) address func index h = absurd h
-mark_shows (op.Store width rs symbol offset) address func index h = absurd h
-mark_shows (op.LoadAt width rd symbol index mask) address func i h = absurd h
-mark_shows (op.StoreAt width rs symbol index mask) address func i h = absurd h
-mark_shows (op.Branch kind rs1 rs2 label) address func index h = absurd h
-mark_shows (op.Jump label) address func index h = absurd h
-mark_shows (op.Invoke callee) address func index h = absurd h
-mark_shows op.Return address func index h = absurd h
-mark_shows (op.Serve call) address func index h = absurd h
+pub mark_shows : (address func index : ℕ) (o : Op) → IsComputed o → mark_of o address func index ≡ record { address = address; kind = kind.Item; a = result_register o; b = func; c = index }
+mark_shows address func index =
+    computed_cases (λ o. mark_of o address func index ≡ record { address = address; kind = kind.Item; a = result_register o; b = func; c = index })
+    (λ kind rd rs1 rs2 h. refl) (λ kind rd rs1 number h. refl) (λ rd number h. refl)
 
 module _ (b : Build) (view : View) (arrivals : List Arrival) (progress : State → System → ℕ) (count : ℕ) (state : State) (s : System) (here : At b view arrivals count state s) where
   abbrev pub n : State
@@ -89,7 +72,7 @@ module _ (b : Build) (view : View) (arrivals : List Arrival) (progress : State �
   one_instruction next mark whats after goes quiet marked shown shows rises related = record {
     goes = ap (λ o. step (enter o n)) none ∙ goes;
     outside = begins_none count n next here.after_boot none related.fixed.open_to_lines;
-    untouched = subst (λ o. IfSome o (IsOneOf [])) (sym (ap (λ o. touched (enter o n)) none ∙ quiet)) tt;
+    untouched = subst (λ o. IfSome o (Contains [])) (sym (ap (λ o. touched (enter o n)) none ∙ quiet)) tt;
     whats = whats;
     whats_are = ap (λ o. outside_events (mark_at view (enter o n).pc) view (seen_at given count state next)) none
         ∙ ap (λ m. outside_events m view (seen_at given count state next)) marked ∙ shown;
@@ -100,23 +83,29 @@ module _ (b : Build) (view : View) (arrivals : List Arrival) (progress : State �
   }
 
   -- an item that computes
-  module _ (t : ℕ) (item : AtItem b n s1 t) (is : IsComputed (operation b.app item.frame.func item.frame.item)) (one : IsOneInstruction b item.frame.func item.frame.item)
-      (marked : mark_at view (item_address b.places item.frame.func item.frame.item) ≡ Some (item_mark b.app b.places item.frame.func item.frame.item)) where
+  module _ (t : ℕ) (item : AtItem b n s1 t) (is : IsComputed (operation b.app item.frame.func item.frame.item)) (placed : ItemStands b view item.frame.func item.frame.item)
+      (more : item.frame.item + 1 < length (function b.app item.frame.func).items) where
     top : IsTop b.config s1 [] t
     top = let f = first_by_word b n s1 t now.stack now.running item.current in running_top b n s1 now few here.none t f.0 f.1
 
     runs : RunsItem b n s1 t item.frame.func item.frame.item
-    runs = computed_run b n s1 t here.fits now item top is one
+    runs = computed_run b view n s1 t here.fits now item top is placed more
+
+    last_is : last_address b.app b.places item.frame.func item.frame.item ≡ item_address b.places item.frame.func item.frame.item
+    last_is =
+        let l = computed_long b.app b.places item.frame.func (item_address b.places item.frame.func item.frame.item) (operation b.app item.frame.func item.frame.item) is in
+        let e : length (expansion b.app b.places item.frame.func item.frame.item) ≡ 1 = l in
+        omega arith
 
     abbrev shown_as : Mark → Event
-    shown_as m = event.Run (task_of view.tasks (word_at n.core.ram 0)) m.b m.c (slice_index runs.next.core.registers m.a)
+    shown_as m = event.Run (task_of view.tasks (word_at n.core.ram cur)) m.b m.c (slice_index runs.next.core.registers m.a)
 
     shown : events_of_kind (item_mark b.app b.places item.frame.func item.frame.item).kind view (item_mark b.app b.places item.frame.func item.frame.item) (seen_at given count state runs.next)
         ≡ event.Run t item.frame.func item.frame.item (slice_index runs.next.core.registers (result_register (operation b.app item.frame.func item.frame.item))) ∷ []
     shown =
         let l : t < view.tasks = let v = here.setting.tasks in let h = top.declared in omega arith in
         ap (λ m. events_of_kind m.kind view m (seen_at given count state runs.next))
-        (mark_shows (operation b.app item.frame.func item.frame.item) _ item.frame.func item.frame.item is)
+        (mark_shows (last_address b.app b.places item.frame.func item.frame.item) item.frame.func item.frame.item (operation b.app item.frame.func item.frame.item) is)
         ∙ ap (λ u. event.Run u item.frame.func item.frame.item (slice_index runs.next.core.registers (result_register (operation b.app item.frame.func item.frame.item))) ∷ [])
         (ap (task_of view.tasks) item.current ∙ task_is view.tasks t l)
 
@@ -124,11 +113,11 @@ module _ (b : Build) (view : View) (arrivals : List Arrival) (progress : State �
     item_outside = (
       runs.next,
       one_instruction runs.next (item_mark b.app b.places item.frame.func item.frame.item) _ runs.after runs.goes runs.untouched
-          (ap (mark_at view) item.pc ∙ marked) shown runs.step_is (λ e. cc) runs.stands,
+          (ap (mark_at view) (item.pc ∙ sym last_is) ∙ placed.marked) shown runs.step_is (λ e. cc) runs.stands,
     )
 
   -- the idle loop
-  module _ (idle_word : word_at state.core.ram 0 ≡ 0) (idle : HasIdle b view) where
+  module _ (idle_word : word_at state.core.ram cur ≡ 0) (idle : HasIdle b view) where
     empty : now.stack ≡ []
     empty = by now.stack refl
       where

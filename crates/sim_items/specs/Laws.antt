@@ -1,23 +1,17 @@
 -- Items as steps of the abstract scheduler, said without arrivals.
-use Rattle.std.specs.Prelude.{ℕ, ◌+◌, ◌<◌, ◌≡◌, [], ◌∷◌, length, slice_index, None}
+use Rattle.std.specs.Prelude.{ℕ, ◌+◌, ◌<◌, ◌≡◌, [], length, slice_index, None}
 use Rattle.sloth_base.specs.declared.event.Event.TheVariants as event
 use Rattle.sloth_base.specs.Machine.{State}
-use Rattle.rv32_instr.specs.declared.InstrKind.{InstrKind}
 use Rattle.rv32_instr.specs.Execute.{Going, step, touched}
-use Rattle.rv32_expand.specs.Expansion.{item_address, operation, expansion}
+use Rattle.sloth_base.specs.Named.{operation, function}
 use Rattle.rv32_expand.specs.InPlace.{result_register}
-use Rattle.osek_machine.specs.State.{System, function}
+use Rattle.observe.specs.Observe.{View}
+use Rattle.osek_machine.specs.State.{System}
 use Rattle.osek_machine.specs.Priority.{IsTop}
 use Rattle.osek_machine.specs.Steps.{OsekStep}
 use Rattle.sim_relation.specs.Build.{Build, Fits}
 use Rattle.sim_relation.specs.Stands.{Stands}
-use Rattle.sim_items.specs.Place.{AtItem, HasInstruction, IsComputed}
-
--- the code of an item, at its address, is one instruction, and behind it stands the next item
-pub record IsOneInstruction (b : Build) (func item : ℕ) : Type 0 where
-  pub code : (kind : InstrKind) → expansion b.app b.places func item ≡ kind ∷ [] → HasInstruction b (item_address b.places func item) kind
-  pub more : item + 1 < length (function b.app func).items
-  pub adjacent : item_address b.places func (item + 1) ≡ item_address b.places func item + 4
+use Rattle.sim_items.specs.Place.{AtItem, ItemStands, IsComputed}
 
 -- the machine executes the item: its next state stands with that of the abstract scheduler behind the event, and shows its result
 pub record RunsItem (b : Build) (state : State) (s : System) (t func item : ℕ) : Type 0 where
@@ -30,6 +24,7 @@ pub record RunsItem (b : Build) (state : State) (s : System) (t func item : ℕ)
 
 -- an operation on registers and numbers
 abbrev pub ComputedItemsRun : Type 0
-ComputedItemsRun = (b : Build) (state : State) (s : System) (t : ℕ) → Fits b → Stands b state s → (at : AtItem b state s t) → IsTop b.config s [] t
-    → IsComputed (operation b.app at.frame.func at.frame.item) → IsOneInstruction b at.frame.func at.frame.item
+ComputedItemsRun = (b : Build) (view : View) (state : State) (s : System) (t : ℕ) → Fits b → Stands b state s → (at : AtItem b state s t) → IsTop b.config s [] t
+    → IsComputed (operation b.app at.frame.func at.frame.item) → ItemStands b view at.frame.func at.frame.item
+    → at.frame.item + 1 < length (function b.app at.frame.func).items
     → RunsItem b state s t at.frame.func at.frame.item

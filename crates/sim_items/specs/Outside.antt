@@ -1,5 +1,5 @@
 -- Items and the idle loop as instructions of a run outside the stretches.
-use Rattle.std.specs.Prelude.{ℕ, ◌+◌, ◌<◌, ◌≤◌, ◌≡◌, ◌⊎◌, List, [], Some, None}
+use Rattle.std.specs.Prelude.{ℕ, ◌+◌, ◌<◌, ◌≤◌, ◌≡◌, ◌⊎◌, List, [], length, Some, None}
 use Rattle.sloth_base.specs.declared.app.Call.{Call}
 use Rattle.sloth_base.specs.declared.app.Op.TheVariants as op
 use Rattle.sloth_base.specs.declared.event.Arrival.{Arrival}
@@ -9,11 +9,10 @@ use Rattle.sloth_base.specs.Choose.{choose}
 use Rattle.sloth_base.specs.Machine.{State}
 use Rattle.sloth_region.specs.Layout.{cur}
 use Rattle.rv32_instr.specs.declared.InstrKind.{InstrKind}
-use Rattle.rv32_instr.specs.declared.InstrKind.TheVariants.{Jal}
 use Rattle.rv32_instr.specs.Ram.{word_at}
 use Rattle.rv32_machine.specs.Run.{arrived}
-use Rattle.rv32_expand.specs.Expansion.{item_address, block_address, mask_of, distance, operation}
-use Rattle.rv32_expand.specs.InPlace.{item_mark}
+use Rattle.rv32_expand.specs.Expansion.{item_address, block_address, mask_of}
+use Rattle.sloth_base.specs.Named.{operation, function}
 use Rattle.observe.specs.Observe.{View, mark_at}
 use Rattle.vector_gen.specs.Idle.{Idles}
 use Rattle.osek_machine.specs.State.{System}
@@ -23,8 +22,7 @@ use Rattle.sim_relation.specs.Build.{Build, Fits}
 use Rattle.sim_relation.specs.Stands.{Stands}
 pub use Rattle.sim_relation.specs.Placed.{setting_of}
 use Rattle.sim_relation.specs.Placed.{IsPlaced}
-use Rattle.sim_items.specs.Place.{AtItem, HasInstruction, IsComputed}
-use Rattle.sim_items.specs.Laws.{IsOneInstruction}
+use Rattle.sim_items.specs.Place.{AtItem, ItemStands, IsComputed}
 use Rattle.sim_items.specs.Progress.{progress_in}
 
 -- a state at a count from 1 on, which stands
@@ -42,35 +40,31 @@ GoesOutside b view arrivals progress count state s = (next : State) × OutsideLa
 
 -- ---- an item that computes on registers and numbers
 
+-- an item of one instruction advances the run
 abbrev pub ComputedItemsGoOn : Type 0
 ComputedItemsGoOn = (b : Build) (view : View) (arrivals : List Arrival) (progress : State → System → ℕ) (count : ℕ) (state : State) (s : System) (t : ℕ)
     → At b view arrivals count state s → (here : AtItem b (arrived arrivals count state) (with_admits (lines_at arrivals count) s) t)
-    → IsComputed (operation b.app here.frame.func here.frame.item) → IsOneInstruction b here.frame.func here.frame.item
-    → mark_at view (item_address b.places here.frame.func here.frame.item) ≡ Some (item_mark b.app b.places here.frame.func here.frame.item)
+    → IsComputed (operation b.app here.frame.func here.frame.item) → ItemStands b view here.frame.func here.frame.item
+    → here.frame.item + 1 < length (function b.app here.frame.func).items
     → GoesOutside b view arrivals progress count state s
 
 -- ---- the jump to a service that has no mask
 
--- the item is a call without a mask, whose jump stands in the image and shows nothing; the block is in RAM, apart from the jump
-pub record JumpsToService (b : Build) (view : View) (func item : ℕ) : Type 0 where
+-- the item is a call without a mask; the block is in RAM, apart from the jump
+pub record JumpsToService (b : Build) (func item : ℕ) : Type 0 where
   pub call : Call
   pub is : operation b.app func item ≡ op.Serve call
   pub no_mask : mask_of call.service call.mask ≡ []
-  pub code : HasInstruction b (item_address b.places func item)
-      (Jal 31 (distance (item_address b.places func item) (block_address b.places call.service call.object)))
   pub block : ℕ
   pub block_is : block_address b.places call.service call.object ≡ 0x8000_0000 + block
   pub in_ram : block < 0x20_0000
   pub apart : (0x8000_0000 + block < item_address b.places func item) ⊎ (item_address b.places func item + 4 ≤ 0x8000_0000 + block)
-  pub mark : Mark
-  pub marked : mark_at view (item_address b.places func item) ≡ Some mark
-  pub jumps : mark.kind ≡ kind.Jump
 
 -- It leads to the opening mark of the block, and makes progress.
 abbrev pub ServiceJumpsGoOn : Type 0
 ServiceJumpsGoOn = (b : Build) (view : View) (arrivals : List Arrival) (count : ℕ) (state : State) (s : System) (t : ℕ)
     → At b view arrivals count state s → (here : AtItem b (arrived arrivals count state) (with_admits (lines_at arrivals count) s) t)
-    → JumpsToService b view here.frame.func here.frame.item → GoesOutside b view arrivals (progress_in b) count state s
+    → ItemStands b view here.frame.func here.frame.item → JumpsToService b here.frame.func here.frame.item → GoesOutside b view arrivals (progress_in b) count state s
 
 -- ---- the idle loop
 
@@ -85,6 +79,7 @@ pub record HasIdle (b : Build) (view : View) : Type 0 where
   pub marked : mark_at view b.idle ≡ Some mark
   pub shows : mark.kind ≡ kind.Idle
 
+-- an instruction of the idle loop advances the run
 abbrev pub IdleGoesOn : Type 0
 IdleGoesOn = (b : Build) (view : View) (arrivals : List Arrival) (progress : State → System → ℕ) (count : ℕ) (state : State) (s : System)
     → At b view arrivals count state s → word_at state.core.ram cur ≡ 0 → HasIdle b view → GoesOutside b view arrivals progress count state s

@@ -1,5 +1,5 @@
 -- Where a task stands at an item, and the code of the items.
-use Rattle.std.specs.Prelude.{ℕ, ◌+◌, ◌<◌, ◌≤◌, ◌≡◌, ◌⊎◌, ◌^◌, ℤ, pos, true, false, List, ◌∷◌, length}
+use Rattle.std.specs.Prelude.{ℕ, ◌+◌, ◌*◌, ◌<◌, ◌≤◌, ◌≡◌, ◌⊎◌, ◌^◌, ℤ, pos, true, false, List, [], ◌∷◌, length, Some}
 use Rattle.sloth_base.specs.declared.app.Op.{Op}
 use Rattle.sloth_base.specs.declared.app.Op.TheVariants as op
 use Rattle.sloth_base.specs.declared.app.ImmKind.{ImmKind}
@@ -10,8 +10,11 @@ use Rattle.rv32_instr.specs.declared.InstrKind.{InstrKind}
 use Rattle.rv32_instr.specs.Encode.{Encode}
 use Rattle.rv32_instr.specs.Range.{InRange, Signed}
 use Rattle.rv32_instr.specs.Ram.{word_at}
-use Rattle.rv32_expand.specs.Expansion.{item_address}
-use Rattle.osek_machine.specs.State.{Frame, System, task, function}
+use Rattle.rv32_expand.specs.Expansion.{item_address, expansion}
+use Rattle.rv32_expand.specs.InPlace.{item_mark, last_address}
+use Rattle.observe.specs.Observe.{View, mark_at}
+use Rattle.osek_machine.specs.State.{Frame, System, task}
+use Rattle.sloth_base.specs.Named.{function}
 use Rattle.sim_relation.specs.Build.{Build}
 use Rattle.sim_relation.specs.Position.{thread_of, FramesAt}
 use Rattle.sim_relation.specs.Context.{Context}
@@ -37,6 +40,18 @@ pub record HasInstruction (b : Build) (address : ℕ) (kind : InstrKind) : Type 
   pub is_code : (i : ℕ) → offset ≤ i → i < offset + 4 → b.is_code i ≡ true
   pub word : word_at b.memory offset ≡ Encode kind
   pub in_range : InRange kind
+
+-- these instructions, one after the other
+abbrev pub HasInstructions : Build → ℕ → List InstrKind → Type 0
+HasInstructions b address [] = Unit {0}
+HasInstructions b address (kind ∷ code) = HasInstruction b address kind × HasInstructions b (address + 4) code
+
+-- an item stands in the image: its whole expansion, its mark at the last instruction, and the next item behind it
+pub record ItemStands (b : Build) (view : View) (func item : ℕ) : Type 0 where
+  pub code : HasInstructions b (item_address b.places func item) (expansion b.app b.places func item)
+  pub marked : mark_at view (last_address b.app b.places func item) ≡ Some (item_mark b.app b.places func item)
+  pub adjacent : item + 1 < length (function b.app func).items
+      → item_address b.places func (item + 1) ≡ item_address b.places func item + 4 * length (expansion b.app b.places func item)
 
 -- a register of task code: x0, or one of x5 to x29
 abbrev pub IsOwn : ℕ → Type 0

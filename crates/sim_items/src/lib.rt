@@ -1,4 +1,5 @@
-//! Items of task code and the idle loop as steps of the abstract scheduler.
+//! Items of task code and the idle loop as events of the abstract scheduler. The instructions of an item stand in
+//! `rv32_expand`, what it means in `osek_machine` (`specs/Meaning`).
 #![tactic(auto)]
 
 ghost use Rattle.sim_items.specs.Laws.{ComputedItemsRun};

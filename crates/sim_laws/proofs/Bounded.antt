@@ -10,6 +10,7 @@ use Rattle.sloth_base.specs.Machine.{Core, State}
 use Rattle.sloth_base.specs.Lines.{Lines, controller_byte, with_controller_byte, flag_of}
 use Rattle.sloth_base.specs.Arrive.{state_arrive}
 use Rattle.sloth_base.specs.Take.{line_to_take, enter, entered}
+use Rattle.rv32_instr.specs.declared.csr.TheConstants.{MSTATUS, MSCRATCH, MEPC, ILEVEL, PLEVEL}
 use Rattle.rv32_instr.specs.declared.stop.Bad.{Bad}
 use Rattle.rv32_instr.specs.declared.stop.Bad.TheVariants as bad
 use Rattle.rv32_instr.specs.declared.stop.Stop.TheVariants as stop
@@ -23,7 +24,7 @@ use Rattle.rv32_instr.specs.Table.{Decode}
 use Rattle.rv32_instr.specs.Effect.{effect}
 use Rattle.rv32_instr.specs.Ram.{half_at, with_byte, with_half, with_word}
 use Rattle.rv32_instr.specs.Memory.{Memory, memory_of, with_memory, in_ram, refusal, loaded_byte, loaded, stored_byte, stored}
-use Rattle.rv32_instr.specs.Execute.{Next, Going, Stopped, with_register, mstatus_of, csr_value, with_csr, changed, goes_on, jumps, unless_refused, csr_access, perform, execute, execute_word, word_of, step}
+use Rattle.rv32_instr.specs.Execute.{Next, Going, Stopped, with_register, mstatus_of, csr_value, with_csr, changed, goes_on, jumps, unless_refused, csr_access, perform, execute, execute_word, step, fetched}
 use Rattle.rv32_instr.proofs.Table.{decode_is}
 use Rattle.rv32_routine.proofs.Words.{word_below}
 use Rattle.rv32_machine.specs.Advance.{Goes, advance, outcome}
@@ -155,7 +156,7 @@ byte_word : (v : ℕ) → v < 256 → v < 4294967296
 byte_word v h = omega arith
 
 csr_fits : (core : Core) (csr : ℕ) → CoreBounded core → IfSome (csr_value core csr) (λ v. v < 4294967296)
-csr_fits core csr h = by (csr == 0x300) (csr == 0x340) (csr == 0x341) (csr == 0x7C0) (csr == 0x7C1)
+csr_fits core csr h = by (csr == MSTATUS) (csr == MSCRATCH) (csr == MEPC) (csr == ILEVEL) (csr == PLEVEL)
   where
     by : (a b c d e : Bool) → IfSome (if a then Some (mstatus_of core) else if b then Some core.mscratch else if c then Some core.mepc else if d then Some core.ilevel else if e then Some core.plevel else None) (λ v. v < 4294967296)
     by true b c d e = status_fits core
@@ -172,7 +173,7 @@ low_fits : (v : ℕ) → v % 256 < 256
 low_fits v = omega arith
 
 with_csr_fits : (core : Core) (csr value : ℕ) → CoreBounded core → value < 4294967296 → CoreBounded (with_csr core csr value)
-with_csr_fits core csr value h l = by (csr == 0x300) (csr == 0x340) (csr == 0x341) (csr == 0x7C0) (csr == 0x7C1)
+with_csr_fits core csr value h l = by (csr == MSTATUS) (csr == MSCRATCH) (csr == MEPC) (csr == ILEVEL) (csr == PLEVEL)
   where
     by : (a b c d e : Bool) → CoreBounded (
         if a then record core { mie = value / 8 % 2 == 1; mpie = value / 128 % 2 == 1 }
@@ -260,7 +261,7 @@ step_fits : (state : State) → CoreBounded state.core → NextBounded (step sta
 unfolding step
 step_fits state h =
     pick_next (in_ram state.pc 4) _ _
-    (executed_fits (Decode (word_of state)) (word_of state) state (word_below state.core.ram (state.pc - 0x8000_0000) h.bytes) refl h) tt
+    (executed_fits (Decode (fetched state)) (fetched state) state (word_below state.core.ram (state.pc - 0x8000_0000) h.bytes) refl h) tt
 
 -- ---- arrivals, and lines that are taken
 

@@ -3,19 +3,16 @@ use Rattle.std.proofs.Common.{◌≡◌, ℕ, ◌+◌, ◌<◌, ◌≤◌, Bool,
 use Rattle.sloth_base.specs.declared.event.Arrival.{Arrival}
 use Rattle.sloth_base.specs.declared.image.Image.{Image}
 use Rattle.sloth_base.specs.declared.app.Call.{Call}
-use Rattle.sloth_base.specs.declared.app.Op.{Op}
 use Rattle.sloth_base.specs.declared.app.Op.TheVariants as op
-use Rattle.sloth_base.specs.declared.places.Places.{Places}
-use Rattle.sloth_base.specs.declared.app.App.{App}
 use Rattle.sloth_base.specs.Choose.{choose}
 use Rattle.sloth_base.specs.Machine.{State}
 use Rattle.rv32_machine.specs.Run.{arrived}
 use Rattle.rv32_routine.specs.Trace.{Trace, late}
-use Rattle.rv32_instr.specs.declared.InstrKind.{InstrKind}
-use Rattle.rv32_expand.specs.Expansion.{item_address, operation, expansion, expanded, mask_of}
+use Rattle.rv32_expand.specs.Expansion.{item_address, expansion}
+use Rattle.sloth_base.specs.Named.{operation, function}
 use Rattle.observe.specs.Observe.{View, view_of_image}
 use Rattle.osek_machine.specs.declared.state.TaskState.TheVariants as mode
-use Rattle.osek_machine.specs.State.{System, task, function}
+use Rattle.osek_machine.specs.State.{System, task}
 use Rattle.osek_machine.specs.Priority.{is_in, is_active}
 use Rattle.sim_induction.specs.Admits.{IsSetting, lines_at, with_admits}
 use Rattle.sim_induction.specs.Advances.{Advances}
@@ -37,37 +34,14 @@ use Rattle.sim_entries.proofs.EnterRoute.{enter_advances}
 use Rattle.sim_items.specs.Place.{AtItem, IsComputed}
 use Rattle.sim_items.specs.Outside.{setting_of, At, GoesOutside}
 use Rattle.sim_items.specs.Progress.{progress_in}
+use Rattle.sim_items.proofs.Cases.{computed_long}
 use Rattle.sim_items.proofs.Outside.{item_outside, idle_outside}
-use Rattle.sim_items.proofs.Jump.{jump_outside}
+use Rattle.sim_items.proofs.Jump.{call_expands, jump_outside}
 use Rattle.sim_services.specs.Stretch.{HasTerminateTask}
 use Rattle.sim_services.proofs.TerminateStretch.{terminate_stretches}
 use Rattle.sim_laws.specs.Bounded.{IsBounded}
 use Rattle.sim_laws.specs.Kernel.{Kernel, Computes, Ends}
 use Rattle.sim_laws.specs.Plain.{IsPlain}
-
--- an item that computes has one instruction
-pub one_long : (app : App) (places : Places) (func address : ℕ) (o : Op) → IsComputed o → length (expanded app places func address o) ≡ 1
-one_long app places func address (op.Alu kind rd rs1 rs2) h = refl
-one_long app places func address (op.AluImm kind rd rs1 number) h = refl
-one_long app places func address (op.Lui rd number) h = refl
-one_long app places func address (op.Li rd value) h = absurd h
-one_long app places func address (op.FrameLoad rd word) h = absurd h
-one_long app places func address (op.FrameStore rs word) h = absurd h
-one_long app places func address (op.Load width rd symbol offset) h = absurd h
-one_long app places func address (op.Store width rs symbol offset) h = absurd h
-one_long app places func address (op.LoadAt width rd symbol index mask) h = absurd h
-one_long app places func address (op.StoreAt width rs symbol index mask) h = absurd h
-one_long app places func address (op.Branch kind rs1 rs2 label) h = absurd h
-one_long app places func address (op.Jump label) h = absurd h
-one_long app places func address (op.Invoke callee) h = absurd h
-one_long app places func address op.Return h = absurd h
-one_long app places func address (op.Serve call) h = absurd h
-
-longer : (code : List InstrKind) (last : InstrKind) → code ≡ [] → length (code ++ last ∷ []) ≡ 1
-longer code last e = ap (λ c. length (c ++ last ∷ [])) e
-
-call_long : (app : App) (places : Places) (func address : ℕ) (o : Op) (call : Call) → o ≡ op.Serve call → mask_of call.service call.mask ≡ [] → length (expanded app places func address o) ≡ 1
-call_long app places func address o call e h = ap (λ v. length (expanded app places func address v)) e ∙ longer (mask_of call.service call.mask) _ h
 
 clash : {X : Type 0} → true ≡ false → X
 clash e = cc
@@ -80,9 +54,9 @@ module _ (b : Build) (image : Image) (kernel : Kernel b image) where
   pub item_long : (func item : ℕ) → item < length (function b.app func).items → length (expansion b.app b.places func item) ≡ 1
   item_long func item l =
       ⊎_elim
-      (λ (h : Computes b view func item). one_long b.app b.places func (item_address b.places func item) (operation b.app func item) h.computed)
-      (λ (h : Ends b view func item). call_long b.app b.places func (item_address b.places func item) (operation b.app func item) h.jumps.call h.jumps.is h.jumps.no_mask)
-      (kernel.items func item l)
+      (λ (h : Computes b func item). computed_long b.app b.places func (item_address b.places func item) (operation b.app func item) h.computed)
+      (λ (h : Ends b view func item). ap length (call_expands b func item h.jumps.call h.jumps.is h.jumps.no_mask))
+      (kernel.operations func item l)
 
   module _ (arrivals : List Arrival) (setting : IsSetting (setting_of b view arrivals)) (count : ℕ) (after_boot : 0 < count) (state : State) (s : System)
       (stands : Stands b state s) (bounded : IsBounded (arrived arrivals count state)) (plain : IsPlain b.config (with_admits (lines_at arrivals count) s)) where
@@ -151,9 +125,9 @@ module _ (b : Build) (image : Image) (kernel : Kernel b image) where
           item_goes : n.pc ≡ item_address b.places p.frame.func p.frame.item → Goes
           item_goes pc =
               ⊎_elim
-              (λ (h : Computes b view p.frame.func p.frame.item). outside (item_outside b view arrivals (progress_in b) count state s here t (at_item pc) h.computed h.one h.marked))
-              (λ (h : Ends b view p.frame.func p.frame.item). outside (jump_outside b view arrivals count state s here t (at_item pc) h.jumps))
-              (kernel.items p.frame.func p.frame.item p.inside)
+              (λ (h : Computes b p.frame.func p.frame.item). outside (item_outside b view arrivals (progress_in b) count state s here t (at_item pc) h.computed (kernel.items p.frame.func p.frame.item p.inside) h.more))
+              (λ (h : Ends b view p.frame.func p.frame.item). outside (jump_outside b view arrivals count state s here t (at_item pc) (kernel.items p.frame.func p.frame.item p.inside) h.jumps))
+              (kernel.operations p.frame.func p.frame.item p.inside)
 
           in_item : InExpansion b (task s1 t) p.frame (thread_of n) → Goes
           in_item e =
@@ -165,7 +139,7 @@ module _ (b : Build) (image : Image) (kernel : Kernel b image) where
           at_block : AtBlock b p.frame (thread_of n) → Goes
           at_block a =
               ⊎_elim
-              (λ (h : Computes b view p.frame.func p.frame.item). absurd (subst IsComputed a.is h.computed))
+              (λ (h : Computes b p.frame.func p.frame.item). absurd (subst IsComputed a.is h.computed))
               (λ (h : Ends b view p.frame.func p.frame.item).
               let same : op.Serve h.jumps.call ≡ op.Serve a.call = sym h.jumps.is ∙ a.is in
               let call : h.jumps.call ≡ a.call = cc in
@@ -188,7 +162,7 @@ module _ (b : Build) (image : Image) (kernel : Kernel b image) where
                 };
                 holds_nothing = (plain.each t).held;
               })))
-              (kernel.items p.frame.func p.frame.item p.inside)
+              (kernel.operations p.frame.func p.frame.item p.inside)
 
           standing : Goes
           standing = ⊎_elim in_item at_block q.here
@@ -196,16 +170,16 @@ module _ (b : Build) (image : Image) (kernel : Kernel b image) where
         no_call : (callee : ℕ) → operation b.app p.frame.func p.frame.item ≡ op.Invoke callee → Goes
         no_call callee is =
             ⊎_elim
-            (λ (h : Computes b view p.frame.func p.frame.item). absurd (subst IsComputed is h.computed))
+            (λ (h : Computes b p.frame.func p.frame.item). absurd (subst IsComputed is h.computed))
             (λ (h : Ends b view p.frame.func p.frame.item). let e : op.Serve h.jumps.call ≡ op.Invoke callee = sym h.jumps.is ∙ is in cc)
-            (kernel.items p.frame.func p.frame.item p.inside)
+            (kernel.operations p.frame.func p.frame.item p.inside)
 
         no_return : operation b.app p.frame.func p.frame.item ≡ op.Return → Goes
         no_return is =
             ⊎_elim
-            (λ (h : Computes b view p.frame.func p.frame.item). absurd (subst IsComputed is h.computed))
+            (λ (h : Computes b p.frame.func p.frame.item). absurd (subst IsComputed is h.computed))
             (λ (h : Ends b view p.frame.func p.frame.item). let e : op.Serve h.jumps.call ≡ op.Return = sym h.jumps.is ∙ is in cc)
-            (kernel.items p.frame.func p.frame.item p.inside)
+            (kernel.operations p.frame.func p.frame.item p.inside)
 
         task_goes : Goes
         task_goes =

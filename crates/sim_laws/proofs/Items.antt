@@ -1,8 +1,9 @@
 -- Items of task code in an image are those of a kernel in place.
-use Rattle.std.proofs.Common.{◌≡◌, ℕ, zero, suc, ◌+◌, ◌-◌, ◌*◌, ◌<◌, ℤ, pos, List, [], ◌∷◌, ◌++◌, length, refl, sym, ap, ◌∙◌, subst, arith, inl, inr, Some}
-use Rattle.std.specs.Prelude.{map, find, eqb, slice_index_or, Contains}
+use Rattle.std.proofs.Common.{◌≡◌, ℕ, zero, suc, ◌+◌, ◌-◌, ◌*◌, ◌<◌, ◌≤◌, ℤ, pos, List, [], ◌∷◌, ◌++◌, length, refl, sym, ap, ◌∙◌, subst, arith, inl, inr, true, Some}
+use Rattle.std.specs.Prelude.{map, All, find, eqb, slice_index_or, Contains}
 use Rattle.std.proofs.lemmas.Bool.Decides.{nat_tests}
 use Rattle.std.proofs.lemmas.List.Kept.{AllPairs-from_increasing}
+use Rattle.std.proofs.lemmas.List.Elements.{All-cons, All-nil}
 use Rattle.std.proofs.Math.ListN.{get_or-map, length-map}
 use Rattle.sloth_base.specs.declared.app.App.{App}
 use Rattle.sloth_base.specs.declared.app.Op.{Op}
@@ -20,15 +21,17 @@ use Rattle.rv32_instr.specs.declared.InstrKind.{InstrKind}
 use Rattle.rv32_instr.specs.declared.InstrKind.TheVariants.{Lui, Jal}
 use Rattle.rv32_instr.specs.Ram.{word_at}
 use Rattle.rv32_instr.specs.Range.{InRange}
-use Rattle.rv32_expand.specs.Expansion.{item_address, block_address, distance, mask_of, operation, expansion, expanded, register_operation, number_operation, amount}
+use Rattle.rv32_expand.specs.Expansion.{item_address, block_address, distance, mask_of, expansion, expanded, register_operation, number_operation, amount}
+use Rattle.sloth_base.specs.Named.{operation, function}
 use Rattle.rv32_expand.specs.InPlace.{IsItem, CodeAt, item_mark, mark_of, last_address}
-use Rattle.observe.specs.Observe.{AreAscending, mark_at, view_of_image}
-use Rattle.osek_machine.specs.State.{function}
+use Rattle.observe.specs.Observe.{mark_at, view_of_image}
+use Rattle.sloth_base.specs.ImageRange.{AreAscending}
 use Rattle.sim_relation.specs.Build.{Build}
-use Rattle.sim_items.specs.Place.{IsOwn, IsNumber, IsComputed}
-use Rattle.sim_laws.specs.Kernel.{Computes, Ends}
+use Rattle.sim_items.specs.Place.{IsOwn, IsNumber, IsComputed, HasInstructions, ItemStands}
+use Rattle.sim_items.proofs.Cases.{computed_cases}
+use Rattle.sim_items.proofs.Jump.{call_expands}
+use Rattle.sim_laws.specs.Kernel.{Ends}
 use Rattle.sim_laws.specs.Items.{HasItems, CallsTerminateTask}
-use Rattle.sim_laws.proofs.Dispatch.{one_long}
 
 -- ---- marks
 
@@ -95,88 +98,58 @@ number_fits imm.Slli rd rs1 number a b h = (a, b, amount_fits number h.0 h.1 h.2
 number_fits imm.Srli rd rs1 number a b h = (a, b, amount_fits number h.0 h.1 h.2)
 number_fits imm.Srai rd rs1 number a b h = (a, b, amount_fits number h.0 h.1 h.2)
 
-head_is : (x y : InstrKind) → x ∷ [] ≡ y ∷ [] → x ≡ y
-head_is x y e = cc
+computed_fits : (app : App) (places : Places) (func address : ℕ) (o : Op) → IsComputed o → All InRange (expanded app places func address o)
+computed_fits app places func address =
+    computed_cases (λ o. All InRange (expanded app places func address o))
+    (λ k rd rs1 rs2 h. All-cons InRange (register_operation k rd rs1 rs2) [] (register_fits k rd rs1 rs2 (own_small rd h.0) (own_small rs1 h.1) (own_small rs2 h.2)) (All-nil InRange))
+    (λ k rd rs1 number h. All-cons InRange (number_operation k rd rs1 number) [] (number_fits k rd rs1 number (own_small rd h.0) (own_small rs1 h.1) h.2) (All-nil InRange))
+    (λ rd number h. All-cons InRange (Lui rd number) [] (own_small rd h.0, h.1) (All-nil InRange))
 
-code_fits : (app : App) (places : Places) (func address : ℕ) (o : Op) → IsComputed o → (kind : InstrKind) → expanded app places func address o ≡ kind ∷ [] → InRange kind
-code_fits app places func address (op.Alu k rd rs1 rs2) h kind e =
-    subst InRange (head_is (register_operation k rd rs1 rs2) kind e) (register_fits k rd rs1 rs2 (own_small rd h.0) (own_small rs1 h.1) (own_small rs2 h.2))
-code_fits app places func address (op.AluImm k rd rs1 number) h kind e =
-    subst InRange (head_is (number_operation k rd rs1 number) kind e) (number_fits k rd rs1 number (own_small rd h.0) (own_small rs1 h.1) h.2)
-code_fits app places func address (op.Lui rd number) h kind e = subst InRange (head_is (Lui rd number) kind e) (own_small rd h.0, h.1)
-code_fits app places func address (op.Li rd value) h kind e = absurd h
-code_fits app places func address (op.FrameLoad rd word) h kind e = absurd h
-code_fits app places func address (op.FrameStore rs word) h kind e = absurd h
-code_fits app places func address (op.Load width rd symbol offset) h kind e = absurd h
-code_fits app places func address (op.Store width rs symbol offset) h kind e = absurd h
-code_fits app places func address (op.LoadAt width rd symbol index mask) h kind e = absurd h
-code_fits app places func address (op.StoreAt width rs symbol index mask) h kind e = absurd h
-code_fits app places func address (op.Branch k rs1 rs2 label) h kind e = absurd h
-code_fits app places func address (op.Jump label) h kind e = absurd h
-code_fits app places func address (op.Invoke callee) h kind e = absurd h
-code_fits app places func address op.Return h kind e = absurd h
-code_fits app places func address (op.Serve call) h kind e = absurd h
+-- ---- an item
 
--- the mark of an item has the item's last address
-mark_address : (o : Op) (address func index : ℕ) → IsComputed o → (mark_of o address func index).address ≡ address
-mark_address (op.Alu k rd rs1 rs2) address func index h = refl
-mark_address (op.AluImm k rd rs1 number) address func index h = refl
-mark_address (op.Lui rd number) address func index h = refl
-mark_address (op.Li rd value) address func index h = absurd h
-mark_address (op.FrameLoad rd word) address func index h = absurd h
-mark_address (op.FrameStore rs word) address func index h = absurd h
-mark_address (op.Load width rd symbol offset) address func index h = absurd h
-mark_address (op.Store width rs symbol offset) address func index h = absurd h
-mark_address (op.LoadAt width rd symbol i mask) address func index h = absurd h
-mark_address (op.StoreAt width rs symbol i mask) address func index h = absurd h
-mark_address (op.Branch k rs1 rs2 label) address func index h = absurd h
-mark_address (op.Jump label) address func index h = absurd h
-mark_address (op.Invoke callee) address func index h = absurd h
-mark_address op.Return address func index h = absurd h
-mark_address (op.Serve call) address func index h = absurd h
+-- code at an address in the image
+in_image : (b : Build) (image : Image) (address : ℕ) (code : List InstrKind) → image.memory ≡ b.memory → length b.memory ≤ 0x20_0000
+    → 0x8000_0000 < address + 1 → address + 4 * length code < 0x8000_0000 + length image.memory + 1
+    → ((i : ℕ) → address ≤ 0x8000_0000 + i → 0x8000_0000 + i < address + 4 * length code → b.is_code i ≡ true)
+    → All InRange code → CodeAt image.memory address code → HasInstructions b address code
+in_image b image address [] same size low high is_code range h = tt
+in_image b image address (kind ∷ code) same size low high is_code range h =
+    let n = ap (λ (m : List ℕ). length m) same in (
+      record {
+        offset = address - 0x8000_0000;
+        is = omega arith;
+        to = omega arith;
+        is_code = λ i x y. is_code i (omega arith) (omega arith);
+        word = ap (λ (m : List ℕ). word_at m (address - 0x8000_0000)) (sym same) ∙ h.0;
+        in_range = range 0 kind (omega arith);
+      },
+      in_image b image (address + 4) code same size (omega arith) (omega arith) (λ i x y. is_code i (omega arith) (omega arith)) (λ i d l. range (suc i) d (omega arith)) h.1,
+    )
 
--- ---- an item that computes
-
-record ItemStands (b : Build) (image : Image) (places : Places) (func item : ℕ) : Type 0 where
+record InImage (b : Build) (image : Image) (places : Places) (func item : ℕ) : Type 0 where
   code : CodeAt image.memory (item_address places func item) (expansion b.app places func item)
   inside : (0x8000_0000 < item_address places func item + 1) × (last_address b.app places func item + 4 < 0x8000_0000 + length image.memory + 1)
   adjacent : IsItem b.app func (item + 1) → item_address places func (item + 1) ≡ item_address places func item + 4 * length (expansion b.app places func item)
   marked : Contains image.marks (item_mark b.app places func item)
 
-pub item_computes : (b : Build) (image : Image) (func item : ℕ) → HasItems b image → IsItem b.app func item → IsComputed (operation b.app func item)
-    → item + 1 < length (function b.app func).items → Computes b (view_of_image image) func item
-item_computes b image func item h is computed more =
+pub item_stands : (b : Build) (image : Image) (func item : ℕ) → HasItems b image → IsItem b.app func item → All InRange (expansion b.app b.places func item)
+    → ItemStands b (view_of_image image) func item
+item_stands b image func item h is range =
     let g = h.in_place in
-    let stands : ItemStands b image b.places func item =
-    subst (λ p. ItemStands b image p func item) h.places
+    let found : InImage b image b.places func item =
+    subst (λ p. InImage b image p func item) h.places
     (record { code = g.code func item is; inside = g.inside func item is; adjacent = λ next. g.adjacent func item is next; marked = g.marked func item is }) in
-    let one = one_long b.app b.places func (item_address b.places func item) (operation b.app func item) computed in
-    let low = stands.inside.0 in
-    let high = stands.inside.1 in
-    let size = h.size in
-    let same = ap (λ (m : List ℕ). length m) h.memory in
-    let address = item_address b.places func item in
-    let offset : ℕ = address - 0x8000_0000 in
-    let last : last_address b.app b.places func item ≡ address = omega arith in
-    let marked = marks_found image (item_mark b.app b.places func item) h.rising stands.marked in
+    let high = found.inside.1 in
     record {
-      computed = computed;
-      one = record {
-        code = λ kind e.
-            let code : CodeAt image.memory address (kind ∷ []) = subst (CodeAt image.memory address) e stands.code in
-            record {
-              offset = offset;
-              is = omega arith;
-              to = omega arith;
-              is_code = λ i x y. h.is_code func item i is (omega arith) (omega arith);
-              word = ap (λ (m : List ℕ). word_at m offset) (sym h.memory) ∙ code.0;
-              in_range = code_fits b.app b.places func address (operation b.app func item) computed kind e;
-            };
-        more = more;
-        adjacent = let a = stands.adjacent (record { declared = is.declared; inside = more }) in omega arith;
-      };
-      marked = ap (mark_at (view_of_image image)) (sym (mark_address (operation b.app func item) (last_address b.app b.places func item) func item computed ∙ last)) ∙ marked;
+      code = in_image b image (item_address b.places func item) (expansion b.app b.places func item) h.memory h.size found.inside.0 (omega arith) (λ i x y. h.is_code func item i is x y) range found.code;
+      marked = marks_found image (item_mark b.app b.places func item) h.rising found.marked;
+      adjacent = λ more. found.adjacent (record { declared = is.declared; inside = more });
     }
+
+pub item_computes : (b : Build) (image : Image) (func item : ℕ) → HasItems b image → IsItem b.app func item → IsComputed (operation b.app func item)
+    → ItemStands b (view_of_image image) func item
+item_computes b image func item h is computed =
+    item_stands b image func item h is (computed_fits b.app b.places func (item_address b.places func item) (operation b.app func item) computed)
 
 -- ---- the call of TerminateTask
 
@@ -184,52 +157,23 @@ no_mask : (s : Service) (mask : ℕ) → s ≡ service.TerminateTask → mask_of
 no_mask s mask e = subst (λ v. mask_of v mask ≡ []) (sym e) refl
 
 pub item_ends : (b : Build) (image : Image) (func item : ℕ) → HasItems b image → IsItem b.app func item → CallsTerminateTask b image func item
-    → Ends b (view_of_image image) func item
+    → ItemStands b (view_of_image image) func item × Ends b (view_of_image image) func item
 item_ends b image func item h is c =
-    let g = h.in_place in
-    let stands : ItemStands b image b.places func item =
-    subst (λ p. ItemStands b image p func item) h.places
-    (record { code = g.code func item is; inside = g.inside func item is; adjacent = λ next. g.adjacent func item is next; marked = g.marked func item is }) in
-    let address = item_address b.places func item in
-    let offset : ℕ = address - 0x8000_0000 in
-    let jump : InstrKind = Jal 31 (distance address (block_address b.places c.call.service c.call.object)) in
     let plain = no_mask c.call.service c.call.mask c.ends in
-    let zero : address + 4 * 0 ≡ address = omega arith in
-    let expands : expansion b.app b.places func item ≡ jump ∷ [] =
-    ap (λ o. expanded b.app b.places func address o) c.is
-    ∙ ap (λ m. m ++ (Jal 31 (distance (address + 4 * length m) (block_address b.places c.call.service c.call.object)) ∷ [])) plain
-    ∙ ap (λ a. Jal 31 (distance a (block_address b.places c.call.service c.call.object)) ∷ []) zero in
-    let one : length (expansion b.app b.places func item) ≡ 1 = ap (λ (code : List InstrKind). length code) expands in
-    let low = stands.inside.0 in
-    let high = stands.inside.1 in
-    let size = h.size in
-    let same = ap (λ (m : List ℕ). length m) h.memory in
-    let last : last_address b.app b.places func item ≡ address = omega arith in
-    let code : CodeAt image.memory address (jump ∷ []) = subst (CodeAt image.memory address) expands stands.code in
-    let mark : Mark = item_mark b.app b.places func item in
-    let mark_is : mark ≡ mark_of (op.Serve c.call) (last_address b.app b.places func item) func item = ap (λ o. mark_of o (last_address b.app b.places func item) func item) c.is in
-    let at : mark.address ≡ address = ap (λ (m : Mark). m.address) mark_is ∙ last in
-    record {
-      jumps = record {
-        call = c.call;
-        is = c.is;
-        no_mask = plain;
-        code = record {
-          offset = offset;
-          is = omega arith;
-          to = omega arith;
-          is_code = λ i x y. h.is_code func item i is (omega arith) (omega arith);
-          word = ap (λ (m : List ℕ). word_at m offset) (sym h.memory) ∙ code.0;
-          in_range = (omega arith, c.reach);
+    let jump : InstrKind = Jal 31 (distance (item_address b.places func item) (block_address b.places c.call.service c.call.object)) in
+    let fits : All InRange (jump ∷ []) = All-cons InRange jump [] (omega arith, c.reach) (All-nil InRange) in (
+      item_stands b image func item h is (subst (λ (code : List InstrKind). All InRange code) (sym (call_expands b func item c.call c.is plain)) fits),
+      record {
+        jumps = record {
+          call = c.call;
+          is = c.is;
+          no_mask = plain;
+          block = c.block.offset;
+          block_is = ap (λ s. block_address b.places s c.call.object) c.ends ∙ c.block.is;
+          in_ram = c.in_ram;
+          apart = c.apart;
         };
-        block = c.block.offset;
-        block_is = ap (λ s. block_address b.places s c.call.object) c.ends ∙ c.block.is;
-        in_ram = c.in_ram;
-        apart = c.apart;
-        mark = mark;
-        marked = ap (mark_at (view_of_image image)) (sym at) ∙ marks_found image mark h.rising stands.marked;
-        jumps = ap (λ (m : Mark). m.kind) mark_is;
-      };
-      ends = c.ends;
-      block = c.block;
-    }
+        ends = c.ends;
+        block = c.block;
+      },
+    )

@@ -8,12 +8,14 @@ use Rattle.sloth_base.specs.declared.app.Item.{Item}
 use Rattle.sloth_base.specs.declared.app.Op.TheVariants as op
 use Rattle.sloth_base.specs.Arrivals.{moments}
 use Rattle.sloth_base.specs.Machine.{State}
+use Rattle.sloth_region.specs.Layout.{cur}
 use Rattle.rv32_instr.specs.Ram.{word_at}
 use Rattle.rv32_machine.specs.Start.{start}
 use Rattle.rv32_routine.specs.Trace.{late}
-use Rattle.rv32_expand.specs.Expansion.{item_address, operation, expansion, expanded}
+use Rattle.rv32_expand.specs.Expansion.{item_address, expansion, expanded}
+use Rattle.sloth_base.specs.Named.{operation, function, no_item}
 use Rattle.observe.specs.Observe.{View, view_of_image}
-use Rattle.osek_machine.specs.State.{Frame, System, task, function}
+use Rattle.osek_machine.specs.State.{Frame, System, task}
 use Rattle.sim_induction.specs.Sound.{Sound}
 use Rattle.sim_induction.specs.Admits.{IsSetting, lines_at, with_admits, admit_event}
 use Rattle.sim_induction.specs.Laws.{BootLaw}
@@ -92,8 +94,8 @@ module _ (b : Build) (image : Image) (kernel : Kernel b image) where
   only : OnlyComputes b.app
   only = record {
     items = λ func item l.
-        ⊎_elim (λ (h : Computes b view func item). inl h.computed) (λ (h : Ends b view func item). inr (h.jumps.call, h.jumps.is, h.ends))
-        (kernel.items func item l);
+        ⊎_elim (λ (h : Computes b func item). inl h.computed) (λ (h : Ends b view func item). inr (h.jumps.call, h.jumps.is, h.ends))
+        (kernel.operations func item l);
   }
 
   few_instructions : (func item : ℕ) → length (expansion b.app b.places func item) ≤ 40
@@ -101,7 +103,7 @@ module _ (b : Build) (image : Image) (kernel : Kernel b image) where
       ⊎_elim
       (λ (l : item < length (function b.app func).items). let e = item_long b image kernel func item l in omega arith)
       (λ (l : length (function b.app func).items ≤ item).
-      let none : operation b.app func item ≡ op.Return = ap (λ (x : Item). x.op) (beyond (function b.app func).items item (record { line = 0; op = op.Return }) l) in
+      let none : operation b.app func item ≡ op.Return = ap (λ (x : Item). x.op) (beyond (function b.app func).items item no_item l) in
       let e : length (expansion b.app b.places func item) ≡ 3 = ap (λ o. length (expanded b.app b.places func (item_address b.places func item) o)) none in
       omega arith)
       (cases_lt item (length (function b.app func).items))
@@ -129,7 +131,7 @@ module _ (b : Build) (image : Image) (kernel : Kernel b image) where
         (λ count state h. arrive_fits (lines_at arrivals count) state h)
         (λ state s w. w.base.tidy.booted)
         (λ state s w. mirror_of b state s w.base)
-        (λ state s w. in_frames state.pc (task s (word_at state.core.ram 0 - 1)).frames)
+        (λ state s w. in_frames state.pc (task s (word_at state.core.ram cur - 1)).frames)
 
     booting : BootLaw (setting_of b view arrivals) R (start image)
     booting =

@@ -19,10 +19,12 @@ pub record CoreBounded (core : Core) : Type 0 where
   pub enabled : AreBelow 256 core.enabled
   pub levels : AreBelow 256 core.levels
 
+-- the numbers of a state have room in the machine
 pub record IsBounded (state : State) : Type 0 where
   pub pc : state.pc < 4294967296
   pub core : CoreBounded state.core
 
 -- each instruction of a run keeps that
 abbrev pub BoundsStay : Type 0
-BoundsStay = (arrivals : List Arrival) (count : ℕ) (state next : State) (step : Step) → moment arrivals count state ≡ Goes step next → IsBounded state → IsBounded next
+BoundsStay = (arrivals : List Arrival) (count : ℕ) (state next : State) (step : Step) → moment arrivals count state ≡ Goes step next
+    → IsBounded state → IsBounded next

@@ -6,7 +6,8 @@ use Rattle.sloth_region.specs.declared.extent.Extent.{Extent}
 use Rattle.sloth_region.specs.declared.map.Map.{Map}
 use Rattle.rv32_instr.specs.declared.InstrKind.{InstrKind}
 use Rattle.observe.specs.Observe.{view_of_image}
-use Rattle.osek_machine.specs.State.{body_of, function}
+use Rattle.osek_machine.specs.State.{body_of}
+use Rattle.sloth_base.specs.Named.{function}
 use Rattle.prio_levels.specs.Levels.{AreLevels}
 use Rattle.vector_gen.specs.Boot.{Boots}
 use Rattle.vector_gen.specs.Vectors.{AreJumps}
@@ -20,6 +21,7 @@ use Rattle.sim_relation.specs.Stands.{AreApart}
 use Rattle.sim_entries.specs.Boot.{IsImage}
 use Rattle.sim_entries.specs.Entries.{first_words}
 use Rattle.sim_entries.specs.Generated.{HasOneBody}
+use Rattle.sim_items.specs.Place.{ItemStands}
 use Rattle.sim_items.specs.Outside.{HasIdle}
 use Rattle.sim_laws.specs.Kernel.{Kernel, Computes, Ends}
 
@@ -53,8 +55,8 @@ pub record IsGenerated (b : Build) (image : Image) (levels : Levels) (map : Map)
   pub idle : HasIdle b (view_of_image image)
   pub prologues : (t : ℕ) → t < length b.config.tasks → HasPrologue b levels map t
   pub stacks : (t u : ℕ) → t < length b.config.tasks → u < length b.config.tasks → u ≢ t → AreApart b t u
-  pub items : (func item : ℕ) → item < length (function b.app func).items
-      → Computes b (view_of_image image) func item ⊎ Ends b (view_of_image image) func item
+  pub items : (func item : ℕ) → item < length (function b.app func).items → ItemStands b (view_of_image image) func item
+  pub operations : (func item : ℕ) → item < length (function b.app func).items → Computes b func item ⊎ Ends b (view_of_image image) func item
 
 -- What is generated so is a kernel in place.
 abbrev pub GeneratedIsKernel : Type 0

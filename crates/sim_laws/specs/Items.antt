@@ -1,19 +1,20 @@
 -- From the items of task code in an image to those of a kernel in place.
-use Rattle.std.specs.Prelude.{ℕ, ◌+◌, ◌*◌, ◌<◌, ◌≤◌, ◌≡◌, ◌⊎◌, true, length, Some, Contains}
+use Rattle.std.specs.Prelude.{ℕ, ◌+◌, ◌*◌, ◌<◌, ◌≤◌, ◌≡◌, ◌⊎◌, true, length, Some, All, Contains}
 use Rattle.sloth_base.specs.declared.image.Image.{Image}
 use Rattle.sloth_base.specs.declared.image.Mark.{Mark}
 use Rattle.sloth_base.specs.declared.app.Call.{Call}
 use Rattle.sloth_base.specs.declared.app.Op.TheVariants as op
 use Rattle.sloth_base.specs.declared.service.Service.TheVariants as service
-use Rattle.rv32_instr.specs.Range.{Even}
-use Rattle.rv32_expand.specs.Expansion.{item_address, block_address, distance, operation, expansion}
+use Rattle.rv32_instr.specs.Range.{Even, InRange}
+use Rattle.rv32_expand.specs.Expansion.{item_address, block_address, distance, expansion}
+use Rattle.sloth_base.specs.Named.{operation}
 use Rattle.rv32_expand.specs.InPlace.{IsItem, ItemsInPlace}
-use Rattle.observe.specs.Observe.{AreAscending, mark_at, view_of_image}
-use Rattle.osek_machine.specs.State.{function}
+use Rattle.observe.specs.Observe.{mark_at, view_of_image}
+use Rattle.sloth_base.specs.ImageRange.{AreAscending}
 use Rattle.sim_relation.specs.Build.{Build}
-use Rattle.sim_items.specs.Place.{IsComputed}
+use Rattle.sim_items.specs.Place.{ItemStands, IsComputed}
 use Rattle.sim_services.specs.Stretch.{HasTerminateTask}
-use Rattle.sim_laws.specs.Kernel.{Computes, Ends}
+use Rattle.sim_laws.specs.Kernel.{Ends}
 
 -- the items of the task code stand in the image, among the code of what is built, and the marks rise
 pub record HasItems (b : Build) (image : Image) : Type 0 where
@@ -29,10 +30,15 @@ pub record HasItems (b : Build) (image : Image) : Type 0 where
 abbrev pub MarksAreFound : Type 0
 MarksAreFound = (image : Image) (mark : Mark) → AreAscending image.marks → Contains image.marks mark → mark_at (view_of_image image) mark.address ≡ Some mark
 
--- an item that computes, and isn't the last one of its function, stands in the image with its mark
+-- an item whose instructions have words stands in the image
+abbrev pub ItemsStand : Type 0
+ItemsStand = (b : Build) (image : Image) (func item : ℕ) → HasItems b image → IsItem b.app func item → All InRange (expansion b.app b.places func item)
+    → ItemStands b (view_of_image image) func item
+
+-- so does one that computes
 abbrev pub ComputedItemsStand : Type 0
 ComputedItemsStand = (b : Build) (image : Image) (func item : ℕ) → HasItems b image → IsItem b.app func item → IsComputed (operation b.app func item)
-    → item + 1 < length (function b.app func).items → Computes b (view_of_image image) func item
+    → ItemStands b (view_of_image image) func item
 
 -- The call of TerminateTask: its block stands in the image, apart from the jump, and within the jump's reach.
 pub record CallsTerminateTask (b : Build) (image : Image) (func item : ℕ) : Type 0 where
@@ -44,7 +50,7 @@ pub record CallsTerminateTask (b : Build) (image : Image) (func item : ℕ) : Ty
   pub apart : (0x8000_0000 + block.offset < item_address b.places func item) ⊎ (item_address b.places func item + 4 ≤ 0x8000_0000 + block.offset)
   pub reach : Even 21 (distance (item_address b.places func item) (block_address b.places call.service call.object))
 
--- such an item stands in the image with its mark
+-- such an item stands in the image, and ends its task
 abbrev pub EndingItemsStand : Type 0
 EndingItemsStand = (b : Build) (image : Image) (func item : ℕ) → HasItems b image → IsItem b.app func item → CallsTerminateTask b image func item
-    → Ends b (view_of_image image) func item
+    → ItemStands b (view_of_image image) func item × Ends b (view_of_image image) func item

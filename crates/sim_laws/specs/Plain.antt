@@ -6,9 +6,9 @@ use Rattle.sloth_base.specs.declared.app.Call.{Call}
 use Rattle.sloth_base.specs.declared.app.Op.TheVariants as op
 use Rattle.sloth_base.specs.declared.event.Event.{Event}
 use Rattle.sloth_base.specs.declared.service.Service.TheVariants as service
-use Rattle.rv32_expand.specs.Expansion.{operation}
+use Rattle.sloth_base.specs.Named.{operation, function}
 use Rattle.osek_machine.specs.declared.state.TaskState.TheVariants as mode
-use Rattle.osek_machine.specs.State.{Task, System, task, function}
+use Rattle.osek_machine.specs.State.{Task, System, task}
 use Rattle.osek_machine.specs.Priority.{is_in, is_active}
 use Rattle.osek_machine.specs.Steps.{OsekStep}
 use Rattle.sim_items.specs.Place.{IsComputed}
@@ -24,6 +24,7 @@ pub record IsPlainTask (own : Task) : Type 0 where
   pub free : own.owed ≡ false
   pub anew : is_active own.state ≡ false → own.frames ≡ []
 
+-- a system whose tasks only compute and end
 pub record IsPlain (config : Config) (s : System) : Type 0 where
   pub tasks : length s.tasks ≡ length config.tasks
   pub each : (t : ℕ) → IsPlainTask (task s t)
@@ -32,4 +33,5 @@ pub record IsPlain (config : Config) (s : System) : Type 0 where
 
 -- each event keeps that
 abbrev pub PlainStays : Type 0
-PlainStays = (config : Config) (app : App) → OnlyComputes app → (what : Event) (s next : System) → OsekStep config app what s next → IsPlain config s → IsPlain config next
+PlainStays = (config : Config) (app : App) → OnlyComputes app → (what : Event) (s next : System) → OsekStep config app what s next
+    → IsPlain config s → IsPlain config next

@@ -1,11 +1,12 @@
-//! The laws together: every run of a kernel in place is one of the abstract scheduler.
+//! The laws together: every run of a kernel in place (`specs/Kernel`) is one of the abstract scheduler, and what the
+//! generators' contracts say of the code makes such a kernel (`specs/Generated`, `specs/Items`).
 #![tactic(auto)]
 
 ghost use Rattle.sim_laws.specs.Bounded.{BoundsStay};
 ghost use Rattle.sim_laws.specs.Plain.{PlainStays};
 ghost use Rattle.sim_laws.specs.Kernel.{KernelIsSound};
 ghost use Rattle.sim_laws.specs.Generated.{GeneratedIsKernel};
-ghost use Rattle.sim_laws.specs.Items.{ComputedItemsStand, EndingItemsStand, MarksAreFound};
+ghost use Rattle.sim_laws.specs.Items.{ComputedItemsStand, EndingItemsStand, ItemsStand, MarksAreFound};
 
 /// Each instruction of a run leaves numbers that have room in the machine's registers and bytes.
 pub fn bounds_stay()
@@ -32,7 +33,12 @@ pub fn marks_are_found()
     ensures { MarksAreFound }
 {}
 
-/// Items of task code that compute, in place in an image, are such items of a kernel.
+/// Items of task code that are in place in an image stand there as in a kernel.
+pub fn items_stand()
+    ensures { ItemsStand }
+{}
+
+/// So do items that compute.
 pub fn computed_items_stand()
     ensures { ComputedItemsStand }
 {}

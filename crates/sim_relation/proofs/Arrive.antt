@@ -1,22 +1,23 @@
 -- An arrival at a count that finds MIE 1 is the admit of its task.
-use Rattle.std.proofs.Common.{◌≡◌, ℕ, ◌<◌, ◌≤◌, List, [], ◌∷◌, length, set, refl, sym, ap, ◌∙◌, subst, arith, ⊎_elim, inl, inr, true, false}
+use Rattle.std.proofs.Common.{◌≡◌, ℕ, ◌<◌, ◌≤◌, List, [], ◌∷◌, length, set, get_or, refl, sym, ap, ◌∙◌, subst, arith, ⊎_elim, inl, inr, true, false}
 use Rattle.std.specs.Prelude.{◌⊎◌, ◌≢◌, slice_index}
-use Rattle.std.proofs.lemmas.Bool.{cases_eq}
-use Rattle.std.proofs.lemmas.List.{get_or-set_same, get_or-set_other, length-set}
+use Rattle.std.proofs.lemmas.List.{set-get_or, get_or-set_same, get_or-set_other, length-set}
 use Rattle.sloth_base.specs.Machine.{State}
 use Rattle.sloth_base.specs.Arrive.{state_arrive}
 use Rattle.osek_machine.specs.declared.state.TaskState.{TaskState}
 use Rattle.osek_machine.specs.declared.state.TaskState.TheVariants as mode
-use Rattle.osek_machine.specs.State.{Task, System, task, with_task}
+use Rattle.osek_machine.specs.State.{Task, System, sleeping, task, with_task}
 use Rattle.osek_machine.specs.Priority.{is_in, is_active}
 use Rattle.osek_machine.specs.Services.{if_suspended, activated}
 use Rattle.osek_machine.specs.Steps.{admitted}
 use Rattle.sim_induction.specs.Admits.{with_admits, AllBelow}
 use Rattle.sim_relation.specs.Build.{Build}
 use Rattle.sim_relation.specs.ServiceWords.{ServiceWords, active_word}
-use Rattle.sim_relation.specs.Stands.{Stands, IsLineOf, IsAlive, TidyTask, Tidy, Fixed}
+use Rattle.sim_relation.specs.Stands.{Stands, IsLineOf, IsAlive, TidyTask}
 use Rattle.sim_relation.proofs.Tops.{falling_active}
+use Rattle.sim_relation.specs.Moves.{changed, WholeMachine}
 use Rattle.sim_relation.proofs.Parts.{other_task, by_task, falling_kept, running_tasks, rests, anew}
+use Rattle.sim_relation.proofs.Rebuilt.{among, rebuilt}
 
 -- the line of a task that is not Suspended
 more_pending : (m : TaskState) (p e : ℕ) → (m ≡ mode.Suspended → ⊥) → IsLineOf m p e → IsLineOf m 1 e
@@ -50,59 +51,63 @@ module _ (b : Build) (state : State) (s : System) (l : ℕ) (k : Stands b state 
   abbrev now : State
   now = state_arrive (l ∷ []) state
 
-  fixed_kept : Fixed b now.core
-  fixed_kept =
-      let f = k.fixed in
-      record {
-        open_to_lines = f.open_to_lines;
-        previous = f.previous;
-        controller = f.controller;
-        registers = f.registers;
-        zero = f.zero;
-        pending = length-set state.core.pending l 1 ∙ f.pending;
-        enabled = f.enabled;
-        levels = f.levels;
-        ram = f.ram;
-        code = f.code;
-      }
+  whole : WholeMachine state now
+  whole = record {
+    ram = refl;
+    registers = refl;
+    zero = refl;
+    pending = length-set state.core.pending l 1;
+    enabled = refl;
+    levels = refl;
+    controller = refl;
+    open_to_lines = k.fixed.open_to_lines;
+    previous = k.fixed.previous;
+  }
 
   here_pending : slice_index (set state.core.pending l 1) l ≡ 1
   here_pending = let f = k.fixed.pending in get_or-set_same state.core.pending l 1 0 (omega arith)
 
+  -- the task has this record now, and is Active or alive only where it was so
+  module _ (own : Task) (fresh : List ℕ) (own_line : IsLineOf own.state 1 (slice_index state.core.enabled l)) (own_words : ServiceWords b state.core.ram l own) (own_tidy : TidyTask own)
+      (in_stack : (u : ℕ) → is_in u k.stack ≡ true → task (with_task s l own) u ≡ task s u)
+      (was_active : own.state ≡ mode.Active → (task s l).state ≡ mode.Active) (was_alive : IsAlive own → IsAlive (task s l)) where
+    abbrev next : System
+    next = changed s l own s.symbols fresh
+
+    raised : Stands b now next
+    raised = rebuilt b state now s k l own s.symbols fresh k.stack
+        (record {
+          declared = inside;
+          machine = whole;
+          code = λ i x. refl;
+          active = record {
+            falling = falling_kept b s next k.stack in_stack k.active.falling;
+            all = by_task (λ u t. u < length b.config.tasks → t.state ≡ mode.Active → is_in u k.stack ≡ true) s l own (among b state s l k inside)
+                (λ h a. k.active.all l h (was_active a)) (λ u n h a. k.active.all u h a);
+          };
+          running = running_tasks b state now s next k.stack refl refl refl refl in_stack k.running;
+          own_line = line_pending own.state 1 (slice_index (set state.core.pending l 1) l) (slice_index state.core.enabled l) here_pending own_line;
+          other_pending = λ line n. get_or-set_other state.core.pending l line 1 0 n;
+          other_enabled = λ line n. refl;
+          own_words = own_words;
+          other_words = λ u h n. k.words u h;
+          data_stands = k.data_stands;
+          apart = λ u h n a c. k.apart l u inside h (λ e. n (sym e)) (was_alive c) a;
+          tidy = own_tidy;
+        })
+
   -- a task that is not Suspended: nothing but its pending byte
   lost : ((task s l).state ≡ mode.Suspended → ⊥) → Stands b now s
-  lost n = record {
-    stack = k.stack;
-    active = k.active;
-    lines = record {
-      each = λ t h. ⊎_elim
-          (λ (e : t ≡ l). subst (λ x. IsLineOf (task s x).state (slice_index (set state.core.pending l 1) x) (slice_index state.core.enabled x)) (sym e)
-          (line_pending (task s l).state 1 (slice_index (set state.core.pending l 1) l) (slice_index state.core.enabled l) here_pending
-          (more_pending (task s l).state (slice_index state.core.pending l) (slice_index state.core.enabled l) n (k.lines.each l inside))))
-          (λ (e : t ≡ l → ⊥). line_pending (task s t).state (slice_index state.core.pending t) (slice_index (set state.core.pending l 1) t) (slice_index state.core.enabled t)
-          (get_or-set_other state.core.pending l t 1 0 e) (k.lines.each t h))
-          (cases_eq t l);
-      levels = k.lines.levels;
-      others = k.lines.others;
-    };
-    running = running_tasks b state now s s k.stack refl refl refl refl (λ u h. refl) k.running;
-    words = k.words;
-    data_stands = k.data_stands;
-    apart = k.apart;
-    tidy = k.tidy;
-    fixed = fixed_kept;
-  }
+  lost n =
+      let same : set s.tasks l (task s l) ≡ s.tasks = set-get_or s.tasks l sleeping in
+      subst (λ (ts : List Task). Stands b now (record s { tasks = ts })) same
+      (raised (task s l) s.fresh (more_pending (task s l).state (slice_index state.core.pending l) (slice_index state.core.enabled l) n (k.lines.each l inside))
+      (k.words l inside) (k.tidy.each l inside) (λ u h. ap (λ (ts : List Task). get_or ts u sleeping) same) (λ a. a) (λ a. a))
 
   -- a Suspended task becomes Ready
   module _ (e : (task s l).state ≡ mode.Suspended) where
-    abbrev next : System
-    next = record (activated s l) { fresh = l ∷ s.fresh }
-
     abbrev as_ready : Task
     as_ready = record (task s l) { state = mode.Ready }
-
-    among : l < length s.tasks
-    among = let t = k.tidy.tasks in omega arith
 
     rest : (frames : (task s l).frames ≡ []) × ((task s l).events ≡ 0)
     rest = (k.tidy.each l inside).asleep e
@@ -113,20 +118,9 @@ module _ (b : Build) (state : State) (s : System) (l : ℕ) (k : Stands b state 
     in_stack : (u : ℕ) → is_in u k.stack ≡ true → task (with_task s l as_ready) u ≡ task s u
     in_stack u h = other_task s l u as_ready (not_active u (falling_active b s k.stack k.active.falling u h).active)
 
-    line : (u : ℕ) → u < length b.config.tasks → IsLineOf (task (with_task s l as_ready) u).state (slice_index (set state.core.pending l 1) u) (slice_index state.core.enabled u)
-    line = by_task (λ u t. u < length b.config.tasks → IsLineOf t.state (slice_index (set state.core.pending l 1) u) (slice_index state.core.enabled u)) s l as_ready among
-        (λ h. line_pending mode.Ready 1 (slice_index (set state.core.pending l 1) l) (slice_index state.core.enabled l) here_pending
-        (line_ready (task s l).state (slice_index state.core.pending l) (slice_index state.core.enabled l) e (k.lines.each l inside)))
-        (λ u n h. line_pending (task s u).state (slice_index state.core.pending u) (slice_index (set state.core.pending l 1) u) (slice_index state.core.enabled u)
-        (get_or-set_other state.core.pending l u 1 0 n) (k.lines.each u h))
-
-    all : (u : ℕ) → u < length b.config.tasks → (task (with_task s l as_ready) u).state ≡ mode.Active → is_in u k.stack ≡ true
-    all = by_task (λ u t. u < length b.config.tasks → t.state ≡ mode.Active → is_in u k.stack ≡ true) s l as_ready among
-        (λ h a. cc) (λ u n h a. k.active.all u h a)
-
-    service : (u : ℕ) → u < length b.config.tasks → ServiceWords b state.core.ram u (task (with_task s l as_ready) u)
-    service = by_task (λ u t. u < length b.config.tasks → ServiceWords b state.core.ram u t) s l as_ready among
-        (λ h. let w = k.words l inside in
+    ready_words : ServiceWords b state.core.ram l as_ready
+    ready_words =
+        let w = k.words l inside in
         record {
           activity = w.activity ∙ ap active_word e;
           event_mask = w.event_mask;
@@ -134,46 +128,23 @@ module _ (b : Build) (state : State) (s : System) (l : ℕ) (k : Stands b state 
           resumption = anew b state.core.ram l as_ready false (task s l).frames rest.0
               (rests b state.core.ram l (task s l) (is_active (task s l).state) (task s l).frames rest.0 w.resumption);
           held = w.held;
-        })
-        (λ u n h. k.words u h)
-
-    -- who is alive was so before
-    alive : (u : ℕ) → IsAlive (task (with_task s l as_ready) u) → IsAlive (task s u)
-    alive = by_task (λ u t. IsAlive t → IsAlive (task s u)) s l as_ready among
-        (λ a. ⊎_elim (λ (x : mode.Ready ≡ mode.Active). absurd cc) (λ (x : (task s l).frames ≢ []). inr x) a)
-        (λ u n a. a)
-
-    tidy : Tidy b next
-    tidy =
-        let t = k.tidy in
-        record {
-          booted = t.booted;
-          tasks = length-set s.tasks l as_ready ∙ t.tasks;
-          each = by_task (λ u t. u < length b.config.tasks → TidyTask t) s l as_ready among
-              (λ h. let y = t.each l inside in record { registers = y.registers; at_rest = λ _. y.at_rest (ap is_active e); asleep = λ a. cc; few = y.few })
-              (λ u n h. t.each u h);
         }
 
-    raised : Stands b now next
-    raised = record {
-      stack = k.stack;
-      active = record { falling = falling_kept b s next k.stack in_stack k.active.falling; all = all };
-      lines = record { each = line; levels = k.lines.levels; others = k.lines.others };
-      running = running_tasks b state now s next k.stack refl refl refl refl in_stack k.running;
-      words = service;
-      data_stands = k.data_stands;
-      apart = λ t u h i n x y. k.apart t u h i n (alive t x) (alive u y);
-      tidy = tidy;
-      fixed = fixed_kept;
-    }
+    ready_tidy : TidyTask as_ready
+    ready_tidy =
+        let y = k.tidy.each l inside in
+        record { registers = y.registers; at_rest = λ _. y.at_rest (ap is_active e); asleep = λ a. cc; few = y.few }
 
-    is_next : next ≡ admitted l s
-    is_next = sym (ap (λ x. if_suspended x next s) e)
+    woken : Stands b now (admitted l s)
+    woken = subst (λ z. Stands b now z) (sym (ap (λ x. if_suspended x (record (activated s l) { fresh = l ∷ s.fresh }) s) e))
+        (raised as_ready (l ∷ s.fresh) (line_ready (task s l).state (slice_index state.core.pending l) (slice_index state.core.enabled l) e (k.lines.each l inside))
+        ready_words ready_tidy in_stack (λ a. absurd cc)
+        (λ a. ⊎_elim (λ (x : mode.Ready ≡ mode.Active). absurd cc) (λ (x : (task s l).frames ≢ []). inr x) a))
 
   pub arrived_one : Stands b now (admitted l s)
   arrived_one =
       ⊎_elim
-      (λ (e : (task s l).state ≡ mode.Suspended). subst (λ z. Stands b now z) (is_next e) (raised e))
+      woken
       (λ (n : (task s l).state ≡ mode.Suspended → ⊥).
       subst (λ z. Stands b now z) (sym (not_suspended (task s l).state (record (activated s l) { fresh = l ∷ s.fresh }) s n)) (lost n))
       (is_suspended (task s l).state)

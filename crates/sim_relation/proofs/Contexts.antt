@@ -1,14 +1,16 @@
 -- What a task's context, and the chain of contexts, say stands as long as their bytes stay.
 use Rattle.std.specs.Prelude.{slice_index}
 use Rattle.std.proofs.Common.{true, ◌≡◌, ℕ, ◌+◌, ◌*◌, ◌≤◌, List, [], ◌∷◌, refl, sym, ap, ◌∙◌, subst, arith}
+use Rattle.sloth_region.specs.Layout.{idle_context}
 use Rattle.osek_machine.specs.State.{Task, System, task, declaration}
 use Rattle.osek_machine.specs.Priority.{current_priority}
-use Rattle.sim_induction.specs.Mirror.{level_of}
+use Rattle.sloth_base.specs.PriorityLevels.{level_of}
 use Rattle.sim_relation.specs.Build.{Build}
 use Rattle.sim_relation.specs.Position.{Thread, thread_at}
 use Rattle.sim_relation.specs.Context.{Context, Saved, Chain}
 use Rattle.sim_relation.specs.DataStands.{DataStands}
-use Rattle.sim_relation.specs.Framing.{Agree, SameThread, SamePart, Each}
+use Rattle.sim_relation.specs.Framing.{Agree, IdleKept, SameThread, SamePart}
+use Rattle.std.specs.List.{AllByRecursion}
 use Rattle.sim_relation.proofs.Framing.{word_kept, position_kept, position_below}
 
 pub context_below : (b : Build) (ram : List ℕ) (t : ℕ) (own : Task) (th : Thread) (place : ℕ) → Context b ram t own th place → place ≤ b.top t
@@ -58,13 +60,13 @@ saved_kept b old new s next t place p k =
     }
 
 -- the chain stands as long as each task's part does, and the idle loop's context
-pub chain_kept : (b : Build) (old new : List ℕ) (s next : System) → Agree old new 884 896 → (stack : List ℕ) (place : ℕ)
-    → Each (SamePart b old new s next) stack → Chain b old s stack place → Chain b new next stack place
+pub chain_kept : (b : Build) (old new : List ℕ) (s next : System) → IdleKept old new → (stack : List ℕ) (place : ℕ)
+    → AllByRecursion (SamePart b old new s next) stack → Chain b old s stack place → Chain b new next stack place
 chain_kept b old new s next idle [] place e k = record {
   is = k.is;
-  pc = word_kept old new 884 896 884 idle (omega arith) (omega arith) ∙ k.pc;
-  level = word_kept old new 884 896 888 idle (omega arith) (omega arith) ∙ k.level;
-  current = word_kept old new 884 896 892 idle (omega arith) (omega arith) ∙ k.current;
+  pc = word_kept old new idle_context (idle_context + 12) idle_context idle (omega arith) (omega arith) ∙ k.pc;
+  level = word_kept old new idle_context (idle_context + 12) (idle_context + 4) idle (omega arith) (omega arith) ∙ k.level;
+  current = word_kept old new idle_context (idle_context + 12) (idle_context + 8) idle (omega arith) (omega arith) ∙ k.current;
 }
 chain_kept b old new s next idle (t ∷ below) place e k =
     let low = k.0.context.room in

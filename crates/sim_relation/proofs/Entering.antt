@@ -1,28 +1,30 @@
 -- The entry of a task: where it leaves the machine so, the relation stands again.
 use Rattle.std.proofs.Common.{◌≡◌, ℕ, ◌+◌, ◌%◌, ◌<◌, ◌≤◌, List, [], ◌∷◌, length, set, sym, ap, ◌∙◌, subst, arith, ⊎_elim, inl, inr, true, false, cond, max, Some, eqb}
 use Rattle.std.specs.Prelude.{◌≢◌, slice_index}
-use Rattle.std.proofs.lemmas.Bool.{cases_Bool, eqb-true}
+use Rattle.std.proofs.lemmas.Bool.{cases_Bool, ne_eqb}
 use Rattle.std.proofs.lemmas.List.{get_or-set_other, length-set}
 use Rattle.sloth_base.specs.Machine.{State}
 use Rattle.sloth_base.specs.Choose.{choose}
-use Rattle.sloth_region.specs.Layout.{active, events, wait, resume, saved}
+use Rattle.sloth_region.specs.Layout.{events, wait, idle_context}
 use Rattle.rv32_instr.specs.Ram.{word_at}
 use Rattle.osek_machine.specs.declared.state.TaskState.{TaskState}
 use Rattle.osek_machine.specs.declared.state.TaskState.TheVariants as mode
 use Rattle.osek_machine.specs.State.{Task, System, task, with_task, declaration}
 use Rattle.osek_machine.specs.Priority.{is_in, is_active, highest, current_priority}
 use Rattle.osek_machine.specs.Steps.{settled}
-use Rattle.sim_induction.specs.Mirror.{level_of}
+use Rattle.sloth_base.specs.PriorityLevels.{level_of}
 use Rattle.sim_relation.specs.Build.{Build, Fits, IsElsewhere}
 use Rattle.sim_relation.specs.Position.{thread_of, thread_at}
 use Rattle.sim_relation.specs.Context.{Context, Chain, Running, RunsTask}
 use Rattle.sim_relation.specs.ServiceWords.{ServiceWords, HeldWords, IsWaitWord, active_word}
-use Rattle.sim_relation.specs.Stands.{Stands, Falling, IsLineOf, IsAlive, AreApart, TidyTask, Tidy, Fixed}
-use Rattle.sim_relation.specs.Framing.{Agree, SameThread, SamePart}
+use Rattle.sim_relation.specs.Stands.{Stands, Falling, IsLineOf, IsAlive, TidyTask}
+use Rattle.sim_relation.specs.Framing.{Agree, NamedKept, SameThread, SamePart}
 use Rattle.sim_relation.specs.Entry.{TaskEntry}
+use Rattle.sim_relation.specs.Moves.{WholeMachine}
 use Rattle.sim_relation.proofs.Contexts.{context_same, chain_kept, data_kept}
-use Rattle.sim_relation.proofs.Parts.{other_task, this_task, by_task, falling_kept, each_from, service_kept}
-use Rattle.sim_relation.proofs.Tops.{falling_head, falling_active, not_below, is_in-head, is_in-tail}
+use Rattle.sim_relation.proofs.Parts.{other_task, this_task, by_task, falling_kept, each_from}
+use Rattle.sim_relation.proofs.Rebuilt.{other_kept, among, rebuilt}
+use Rattle.sim_relation.proofs.Tops.{falling_head, falling_active, below_other, is_in-head, is_in-tail}
 use Rattle.sim_relation.proofs.Choice.{taken_declared, taken_ready, taken_above}
 use Rattle.sim_relation.proofs.TaskSteps.{resumes_active}
 use Rattle.sim_relation.proofs.Fresh.{start_priority, falling_cons}
@@ -35,11 +37,7 @@ enabled_ready mode.Active p e q h = cc
 enabled_ready (mode.Waiting v) p e q h = cc
 
 not_first : (b : Build) (s : System) (t : ℕ) (below : List ℕ) → Falling b s (t ∷ below) → (u : ℕ) → is_in u below ≡ true → eqb t u ≡ false
-not_first b s t below f u h =
-    ⊎_elim
-    (λ (a : eqb t u ≡ true). let n = not_below b s t below f in let g : is_in t below ≡ true = subst (λ x. is_in x below ≡ true) (sym (eqb-true t u a)) h in cc)
-    (λ (a : eqb t u ≡ false). a)
-    (cases_Bool (eqb t u))
+not_first b s t below f u h = ne_eqb t u (λ e. below_other b s t below f u h (sym e))
 
 module _ (b : Build) (old now : State) (s : System) (k : Stands b old s) (fits : Fits b) (t : ℕ) (e : choose old.core ≡ Some t)
     (own : Task) (place : ℕ) (entry : TaskEntry b old now s t own place) where
@@ -58,8 +56,8 @@ module _ (b : Build) (old now : State) (s : System) (k : Stands b old s) (fits :
   abbrev next : System
   next = settled (with_task s t own)
 
-  among : t < length s.tasks
-  among = let y = k.tidy.tasks in let l = declared in omega arith
+  here_now : t < length s.tasks
+  here_now = among b old s t k declared
 
   not_t : (u : ℕ) → (task s u).state ≡ mode.Active → u ≢ t
   not_t u a h = let r = ready in let c : (task s t).state ≡ mode.Active = subst (λ x. (task s x).state ≡ mode.Active) h a in cc
@@ -107,7 +105,7 @@ module _ (b : Build) (old now : State) (s : System) (k : Stands b old s) (fits :
   chain_of [] fl same pt run =
       let x = run.x2 in
       let y = entry.x2 in
-      let p : place ≡ 884 = omega arith in
+      let p : place ≡ idle_context = omega arith in
       record {
         is = p;
         pc = ap (word_at new_ram) (sym p) ∙ entry.ram.pc_word ∙ run.pc;
@@ -158,7 +156,7 @@ module _ (b : Build) (old now : State) (s : System) (k : Stands b old s) (fits :
   held_nil = ((k.tidy.each t declared).at_rest (ap is_active ready)).0
 
   this : task next t ≡ own
-  this = this_task s t own among
+  this = this_task s t own here_now
 
   runs : RunsTask b now next t k.stack
   runs = record {
@@ -174,116 +172,74 @@ module _ (b : Build) (old now : State) (s : System) (k : Stands b old s) (fits :
 
   -- ---- the rest
 
-  line : (u : ℕ) → u < length b.config.tasks → IsLineOf (task next u).state (slice_index now.core.pending u) (slice_index now.core.enabled u)
-  line =
-      let p = entry.machine.pending in
-      let n = entry.machine.enabled in
-      by_task (λ u x. u < length b.config.tasks → IsLineOf x.state (slice_index now.core.pending u) (slice_index now.core.enabled u)) s t own among
-      (λ h. subst (λ a. IsLineOf a (slice_index now.core.pending t) (slice_index now.core.enabled t)) (sym entry.state)
-      (ap (λ l. slice_index l t) n ∙ enabled_ready (task s t).state (slice_index old.core.pending t) (slice_index old.core.enabled t) ready (k.lines.each t declared)))
-      (λ u ne h.
-      subst (λ l. IsLineOf (task s u).state (slice_index l u) (slice_index now.core.enabled u)) (sym p)
-      (subst (λ l. IsLineOf (task s u).state (slice_index (set old.core.pending t 0) u) (slice_index l u)) (sym n)
-      (subst (λ v. IsLineOf (task s u).state v (slice_index old.core.enabled u)) (sym (get_or-set_other old.core.pending t u 0 0 ne)) (k.lines.each u h))))
+  own_line : IsLineOf own.state (slice_index now.core.pending t) (slice_index now.core.enabled t)
+  own_line = subst (λ a. IsLineOf a (slice_index now.core.pending t) (slice_index now.core.enabled t)) (sym entry.state)
+      (ap (λ l. slice_index l t) entry.machine.enabled
+      ∙ enabled_ready (task s t).state (slice_index old.core.pending t) (slice_index old.core.enabled t) ready (k.lines.each t declared))
 
   all : (u : ℕ) → u < length b.config.tasks → (task next u).state ≡ mode.Active → is_in u (t ∷ k.stack) ≡ true
-  all = by_task (λ u x. u < length b.config.tasks → x.state ≡ mode.Active → is_in u (t ∷ k.stack) ≡ true) s t own among
+  all = by_task (λ u x. u < length b.config.tasks → x.state ≡ mode.Active → is_in u (t ∷ k.stack) ≡ true) s t own here_now
       (λ h a. is_in-head t k.stack) (λ u n h a. is_in-tail t u k.stack (k.active.all u h a))
 
-  named : (p : ℕ) → p + 4 ≤ 884 → p % 4 ≡ 0 → p ≢ 0 → p ≢ 628 → p ≢ active t → p ≢ resume t → word_at new_ram p ≡ word_at old_ram p
-  named = entry.ram.named
+  named : NamedKept old_ram new_ram t
+  named p h a n0 n1 n2 n3 n4 n5 = entry.ram.named p h a n0 n1 n2 n5
 
-  held_word : (u : ℕ) → u < length b.config.tasks → (r : ℕ) → is_in r (task s u).held ≡ true → word_at new_ram (saved r) ≡ word_at old_ram (saved r)
-  held_word u h r a =
-      let g = few30 in
-      let l = (k.tidy.each u h).few r a in
-      named (saved r) (omega arith) (omega arith) (omega arith) (λ c. omega arith) (λ c. omega arith) (λ c. omega arith)
-
-  service : (u : ℕ) → u < length b.config.tasks → ServiceWords b new_ram u (task next u)
-  service = by_task (λ u x. u < length b.config.tasks → ServiceWords b new_ram u x) s t own among
-      (λ h. let v = k.words t declared in
+  own_words : ServiceWords b new_ram t own
+  own_words =
+      let v = k.words t declared in
       let g = few30 in
       record {
         activity = entry.ram.activity ∙ sym (ap active_word entry.state);
-        event_mask = named (events t) (omega arith) (omega arith) (omega arith) (λ a. omega arith) (λ a. omega arith) (λ a. omega arith) ∙ v.event_mask ∙ sym entry.events;
+        event_mask = entry.ram.named (events t) (omega arith) (omega arith) (omega arith) (λ a. omega arith) (λ a. omega arith) (λ a. omega arith) ∙ v.event_mask ∙ sym entry.events;
         wait_mask = subst (λ a. IsWaitWord a (word_at new_ram (wait t))) (sym entry.state) tt;
         resumption = resumes_active b new_ram t own (is_active own.state) own.frames (ap is_active entry.state) entry.ram.resumption;
         held = subst (λ x. HeldWords b new_ram (max (declaration b.config t).priority (cond own.raised (highest b.config) 0)) x) (sym (entry.held ∙ held_nil)) tt;
-      })
-      (λ u n h.
-      let g = few30 in
-      let c = fits.few_tasks in
-      service_kept b old_ram new_ram u (task s u)
-      (named (active u) (omega arith) (omega arith) (omega arith) (λ a. omega arith) (λ a. n (omega arith)) (λ a. omega arith))
-      (named (events u) (omega arith) (omega arith) (omega arith) (λ a. omega arith) (λ a. omega arith) (λ a. omega arith))
-      (named (wait u) (omega arith) (omega arith) (omega arith) (λ a. omega arith) (λ a. omega arith) (λ a. omega arith))
-      (named (resume u) (omega arith) (omega arith) (omega arith) (λ a. omega arith) (λ a. omega arith) (λ a. n (omega arith)))
-      (held_word u h)
-      (λ a f. part u h n (inr f) (off_first u (λ x. let y = ap is_active x in cc)))
-      (k.words u h))
-
-  apart : (x u : ℕ) → x < length b.config.tasks → u < length b.config.tasks → x ≢ u → IsAlive (task next x) → IsAlive (task next u) → AreApart b x u
-  apart = by_task (λ x v. (u : ℕ) → x < length b.config.tasks → u < length b.config.tasks → x ≢ u → IsAlive v → IsAlive (task next u) → AreApart b x u) s t own among
-      (λ u h l n a c. entry.apart u l (λ z. n (sym z)) (was u (λ z. n (sym z)) c))
-      (λ x m u h l n a. by_task (λ u v. u < length b.config.tasks → x ≢ u → IsAlive v → AreApart b x u) s t own among
-      (λ i z c. ⊎_elim (λ (y : b.top t ≤ b.low x). inr y) (λ (y : b.top x ≤ b.low t). inl y) (entry.apart x h m a))
-      (λ v o i z c. k.apart x v h i z a c) u l n)
-    where
-      was : (u : ℕ) → u ≢ t → IsAlive (task next u) → IsAlive (task s u)
-      was u n a = subst IsAlive (other_task s t u own n) a
-
-  tidy : Tidy b next
-  tidy =
-      let v = k.tidy in
-      record {
-        booted = v.booted;
-        tasks = length-set s.tasks t own ∙ v.tasks;
-        each = by_task (λ u x. u < length b.config.tasks → TidyTask x) s t own among
-            (λ h. record {
-              registers = entry.registers;
-              at_rest = λ a. let c = ap is_active entry.state in cc;
-              asleep = λ a. let c = entry.state in cc;
-              few = λ x a. (v.each t h).few x (subst (λ l. is_in x l ≡ true) entry.held a);
-            })
-            (λ u n h. v.each u h);
       }
 
-  fixed : Fixed b now.core
-  fixed =
-      let v = k.fixed in
+  tidy : TidyTask own
+  tidy = record {
+    registers = entry.registers;
+    at_rest = λ a. let c = ap is_active entry.state in cc;
+    asleep = λ a. let c = entry.state in cc;
+    few = λ x a. (k.tidy.each t declared).few x (subst (λ l. is_in x l ≡ true) entry.held a);
+  }
+
+  whole : WholeMachine old now
+  whole =
       let m = entry.machine in
       record {
+        ram = entry.ram.long ∙ sym k.fixed.ram;
+        registers = m.registers;
+        zero = m.zero;
+        pending = ap length m.pending ∙ length-set old.core.pending t 0;
+        enabled = ap length m.enabled;
+        levels = m.levels;
+        controller = m.controller;
         open_to_lines = m.open_to_lines;
         previous = m.previous;
-        controller = m.controller ∙ v.controller;
-        registers = m.registers ∙ v.registers;
-        zero = m.zero ∙ v.zero;
-        pending = ap length m.pending ∙ length-set old.core.pending t 0 ∙ v.pending;
-        enabled = ap length m.enabled ∙ v.enabled;
-        levels = ap length m.levels ∙ v.levels;
-        ram = entry.ram.long;
-        code = λ i x. elsewhere_kept i (inl x) ∙ v.code i x;
       }
 
   -- the states stand
   pub entry_stands : Stands b now next
-  entry_stands = record {
-    stack = t ∷ k.stack;
-    active = record {
-      falling = falling_cons b next t k.stack (record { declared = declared; active = ap (λ x. x.state) this ∙ entry.state })
-          (λ u h. subst (λ x. current_priority b.config (declaration b.config u) x < (declaration b.config t).priority) (sym (in_stack u h)) (taken_above b old s k few t e u h))
-          (falling_kept b s next k.stack in_stack k.active.falling);
-      all = all;
-    };
-    lines = record {
-      each = line;
-      levels = λ u h. ap (λ l. slice_index l u) entry.machine.levels ∙ k.lines.levels u h;
-      others = λ l h. ap (λ x. slice_index x l) entry.machine.enabled ∙ k.lines.others l h;
-    };
-    running = runs;
-    words = service;
-    data_stands = data_kept b old_ram new_ram s.symbols (λ i x. elsewhere_kept i (inr x)) k.data_stands;
-    apart = apart;
-    tidy = tidy;
-    fixed = fixed;
-  }
+  entry_stands = rebuilt b old now s k t own s.symbols [] (t ∷ k.stack)
+      (record {
+        declared = declared;
+        machine = whole;
+        code = λ i x. elsewhere_kept i (inl x);
+        active = record {
+          falling = falling_cons b next t k.stack (record { declared = declared; active = ap (λ x. x.state) this ∙ entry.state })
+              (λ u h. subst (λ x. current_priority b.config (declaration b.config u) x < (declaration b.config t).priority) (sym (in_stack u h)) (taken_above b old s k few t e u h))
+              (falling_kept b s next k.stack in_stack k.active.falling);
+          all = all;
+        };
+        running = runs;
+        own_line = own_line;
+        other_pending = λ l m. ap (λ q. slice_index q l) entry.machine.pending ∙ get_or-set_other old.core.pending t l 0 0 m;
+        other_enabled = λ l m. ap (λ q. slice_index q l) entry.machine.enabled;
+        own_words = own_words;
+        other_words = λ u h m. other_kept b old_ram new_ram s t u fits declared h m (k.tidy.each u h) named
+            (λ a f. part u h m (inr f) (off_first u (λ x. let y = ap is_active x in cc))) (k.words u h);
+        data_stands = data_kept b old_ram new_ram s.symbols (λ i x. elsewhere_kept i (inr x)) k.data_stands;
+        apart = λ u h m a c. entry.apart u h m a;
+        tidy = tidy;
+      })

@@ -30,7 +30,7 @@ module _ (b : Build) (state : State) (s : System) (t : ℕ) (fits : Fits b) (k :
   steps_keep now own symbols step = task_steps b state now s k fits t first_of.0 first_of.1 own symbols step
 
   pub moves_keep : (now : State) (own : Task) (symbols : List (List ℕ)) → TaskMove b state now s t own symbols → Stands b now (moved_to s t own symbols)
-  moves_keep now own symbols step = task_moves b state now s k fits t first_of.0 first_of.1 own symbols step
+  moves_keep now own symbols step = task_moves b state now s k t first_of.0 first_of.1 own symbols step
 
   pub leaves_keep : (now : State) (own : Task) (place : ℕ) → TaskLeave b state now s t own place → Stands b now (settled (with_task s t own))
   leaves_keep now own place leave = leave_stands b state now s k fits t first_of.0 first_of.1 own place leave

@@ -3,29 +3,30 @@ use Rattle.std.proofs.Common.{◌≡◌, ℕ, ◌+◌, ◌<◌, List, [], ◌∷
 use Rattle.std.specs.Prelude.{◌≢◌}
 use Rattle.std.proofs.lemmas.Bool.{or_cases, eqb-true}
 use Rattle.sloth_base.specs.Machine.{State}
+use Rattle.sloth_region.specs.Layout.{cur, below_word}
 use Rattle.rv32_instr.specs.Ram.{word_at}
 use Rattle.osek_machine.specs.declared.state.TaskState.TheVariants as mode
 use Rattle.osek_machine.specs.State.{System, task, declaration}
 use Rattle.osek_machine.specs.Priority.{is_in, current_priority}
-use Rattle.sim_induction.specs.Mirror.{level_of}
+use Rattle.sloth_base.specs.PriorityLevels.{level_of}
 use Rattle.sim_relation.specs.Build.{Build}
 use Rattle.sim_relation.specs.Position.{thread_of, thread_at}
 use Rattle.sim_relation.specs.Context.{Context, Chain, Running}
 use Rattle.sim_relation.specs.Stands.{AreActive}
-use Rattle.sim_relation.specs.Framing.{Agree, SamePart, HasLeftFor}
+use Rattle.sim_relation.specs.Framing.{IdleKept, SamePart, HasLeftFor}
 use Rattle.sim_relation.proofs.Contexts.{context_same, context_below, chain_kept}
 use Rattle.sim_relation.proofs.Parts.{each_from, falling_kept}
 use Rattle.sim_relation.proofs.Tops.{falling_tail, is_in-head, is_in-tail}
 
 -- what runs behind the end or the wait of the task above: the other tasks of the stack have kept their parts
 pub leave_runs : (b : Build) (old new : List ℕ) (s next : System) (end : State) (place : ℕ) (stack : List ℕ) → HasLeftFor old new place end
-    → Agree old new 884 896 → ((u : ℕ) → is_in u stack ≡ true → SamePart b old new s next u) → Chain b old s stack place → Running b end next stack
+    → IdleKept old new → ((u : ℕ) → is_in u stack ≡ true → SamePart b old new s next u) → Chain b old s stack place → Running b end next stack
 leave_runs b old new s next end place [] l idle part k =
     let p = k.is in
     let x = l.x2 in
     record {
       level = l.level ∙ ap (λ j. word_at old (j + 4)) p ∙ k.level;
-      current = ap (λ q. word_at q 0) l.ram ∙ l.current ∙ ap (λ j. word_at old (j + 8)) p ∙ k.current;
+      current = ap (λ q. word_at q cur) l.ram ∙ l.current ∙ ap (λ j. word_at old (j + 8)) p ∙ k.current;
       pc = l.pc ∙ ap (word_at old) p ∙ k.pc;
       x2 = omega arith;
     }
@@ -35,14 +36,14 @@ leave_runs b old new s next end place (t ∷ below) l idle part k =
     let top = context_below b old t (task s t) (thread_at old place) (place + 128) k.0.context in
     record {
       level = l.level ∙ k.0.level ∙ sym (ap (λ v. level_of b.config (current_priority b.config (declaration b.config t) v)) here.tasks);
-      current = ap (λ q. word_at q 0) l.ram ∙ l.current ∙ k.0.current;
+      current = ap (λ q. word_at q cur) l.ram ∙ l.current ∙ k.0.current;
       place = place + 128;
       context = subst (λ q. Context b q t (task next t) (thread_of end) (place + 128)) (sym l.ram)
           (context_same b old new t (task s t) (task next t) (thread_at old place) (thread_of end) (place + 128) here.tasks
           (record { pc = l.pc; x2 = l.x2; x = l.loaded })
           (λ i x y. here.bytes i (omega arith) (omega arith)) k.0.context);
       next = k.1.0;
-      link = ap (λ q. word_at q 628) l.ram ∙ l.link ∙ k.1.1;
+      link = ap (λ q. word_at q below_word) l.ram ∙ l.link ∙ k.1.1;
       chain = subst (λ q. Chain b q next below k.1.0) (sym l.ram)
           (chain_kept b old new s next idle below k.1.0 (each_from (SamePart b old new s next) below (λ u h. part u (is_in-tail t u below h))) k.1.2);
     }

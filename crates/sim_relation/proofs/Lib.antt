@@ -5,6 +5,7 @@ pub mod MirrorOf
 pub mod Framing
 pub mod Contexts
 pub mod Parts
+pub mod Rebuilt
 pub mod Arrive
 pub mod Leave
 pub mod Undisturbed

@@ -3,12 +3,14 @@ use Rattle.std.proofs.Common.{◌≡◌, ℕ, ◌+◌, ◌<◌, List, [], ◌∷
 use Rattle.std.specs.Prelude.{slice_index}
 use Rattle.std.proofs.lemmas.Bool.{eqb-true, or_cases, false≢true}
 use Rattle.sloth_base.specs.Machine.{State}
+use Rattle.sloth_region.specs.Layout.{cur}
 use Rattle.rv32_instr.specs.Ram.{word_at}
 use Rattle.osek_machine.specs.declared.state.TaskState.{TaskState}
 use Rattle.osek_machine.specs.declared.state.TaskState.TheVariants as mode
 use Rattle.osek_machine.specs.State.{System, task}
 use Rattle.osek_machine.specs.Priority.{is_in}
-use Rattle.sim_induction.specs.Mirror.{Mirror, Runs, priority_of, level_of}
+use Rattle.sim_induction.specs.Mirror.{Mirror, Runs, priority_of}
+use Rattle.sloth_base.specs.PriorityLevels.{level_of}
 use Rattle.sim_relation.specs.Build.{Build}
 use Rattle.sim_relation.specs.Context.{Running}
 use Rattle.sim_relation.specs.Stands.{Stands, IsLineOf, AreActive}
@@ -45,14 +47,14 @@ first_is b s t below a u r =
     (or_cases (eqb t u) (is_in u below) (a.all u r.declared r.active))
 
 runs : (b : Build) (state : State) (s : System) (stack : List ℕ) → AreActive b s stack → Running b state s stack → (u : ℕ) → Runs b.config s u
-    → (state.core.ilevel ≡ level_of b.config (priority_of b.config s u)) × (word_at state.core.ram 0 ≡ u + 1)
+    → (state.core.ilevel ≡ level_of b.config (priority_of b.config s u)) × (word_at state.core.ram cur ≡ u + 1)
 runs b state s [] a k u r = let e = a.all u r.declared r.active in absurd (false≢true e)
 runs b state s (t ∷ below) a k u r =
-    subst (λ v. (state.core.ilevel ≡ level_of b.config (priority_of b.config s v)) × (word_at state.core.ram 0 ≡ v + 1)) (first_is b s t below a u r)
+    subst (λ v. (state.core.ilevel ≡ level_of b.config (priority_of b.config s v)) × (word_at state.core.ram cur ≡ v + 1)) (first_is b s t below a u r)
     (k.level, k.current)
 
 idles : (b : Build) (state : State) (s : System) (stack : List ℕ) → AreActive b s stack → Running b state s stack
-    → ((t : ℕ) → t < length b.config.tasks → ¬ ((task s t).state ≡ mode.Active)) → (state.core.ilevel ≡ 0) × (word_at state.core.ram 0 ≡ 0)
+    → ((t : ℕ) → t < length b.config.tasks → ¬ ((task s t).state ≡ mode.Active)) → (state.core.ilevel ≡ 0) × (word_at state.core.ram cur ≡ 0)
 idles b state s [] a k none = (k.level, k.current)
 idles b state s (t ∷ below) a k none = let h = falling_head b s t below a.falling in absurd (none t h.declared h.active)
 

@@ -4,18 +4,21 @@ use Rattle.std.specs.Prelude.{◌⊎◌, ◌≢◌, slice_index}
 use Rattle.std.proofs.lemmas.Bool.{cases_eq, cases_order}
 use Rattle.std.proofs.lemmas.List.{get_or-set_same, get_or-set_other}
 use Rattle.sloth_base.specs.Machine.{State}
-use Rattle.sloth_region.specs.Layout.{active, events, wait, resume, saved}
+use Rattle.sloth_region.specs.Layout.{cur, below_word, active, events, wait, resume, saved}
 use Rattle.rv32_instr.specs.Ram.{word_at, with_word}
 use Rattle.rv32_routine.proofs.Words.{word_at-other}
+use Rattle.osek_machine.specs.declared.state.TaskState.{TaskState}
+use Rattle.osek_machine.specs.declared.state.TaskState.TheVariants as mode
 use Rattle.osek_machine.specs.State.{Frame, Task, System, sleeping, task, with_task, declaration}
 use Rattle.osek_machine.specs.Priority.{is_in, is_active, ceiling, current_priority}
-use Rattle.sim_induction.specs.Mirror.{level_of}
+use Rattle.sloth_base.specs.PriorityLevels.{level_of}
 use Rattle.sim_relation.specs.Build.{Build}
 use Rattle.sim_relation.specs.Position.{thread_of}
 use Rattle.sim_relation.specs.Context.{Running, Rested, Resumes}
 use Rattle.sim_relation.specs.ServiceWords.{ServiceWords, HeldWords, IsWaitWord, base_priority}
-use Rattle.sim_relation.specs.Stands.{IsActive, Falling}
-use Rattle.sim_relation.specs.Framing.{Agree, SamePart, Each}
+use Rattle.sim_relation.specs.Stands.{IsActive, Falling, IsLineOf}
+use Rattle.sim_relation.specs.Framing.{Agree, SamePart}
+use Rattle.std.specs.List.{AllByRecursion}
 use Rattle.sim_relation.proofs.Framing.{word_kept, frames_kept, frames_below}
 use Rattle.sim_relation.proofs.Contexts.{context_same, chain_kept}
 use Rattle.sim_relation.proofs.Tops.{is_in-head, is_in-tail}
@@ -37,6 +40,17 @@ by_task P s t new l here other u =
     (λ (n : u ≡ t → ⊥). subst (P u) (sym (other_task s t u new n)) (other u n))
     (cases_eq u t)
 
+-- ---- the line of a task
+
+pub line_same : (m : TaskState) (p q a d : ℕ) → q ≡ p → d ≡ a → IsLineOf m p a → IsLineOf m q d
+line_same m p q a d e f h = subst (λ x. IsLineOf m x d) (sym e) (subst (λ x. IsLineOf m p x) (sym f) h)
+
+pub line_active : (m : TaskState) (p a : ℕ) → m ≡ mode.Active → IsLineOf m p a → IsLineOf mode.Active p a
+line_active mode.Active p a e h = h
+line_active mode.Suspended p a e h = cc
+line_active mode.Ready p a e h = cc
+line_active (mode.Waiting w) p a e h = cc
+
 -- ---- the stack
 
 active_kept : (b : Build) (s next : System) (t : ℕ) → task next t ≡ task s t → IsActive b s t → IsActive b next t
@@ -52,7 +66,7 @@ falling_kept b s next (t ∷ u ∷ below) e f = (
   falling_kept b s next (u ∷ below) (λ v h. e v (is_in-tail t v (u ∷ below) h)) f.2,
 )
 
-pub each_from : (P : ℕ → Type 0) (stack : List ℕ) → ((u : ℕ) → is_in u stack ≡ true → P u) → Each P stack
+pub each_from : (P : ℕ → Type 0) (stack : List ℕ) → ((u : ℕ) → is_in u stack ≡ true → P u) → AllByRecursion P stack
 each_from P [] h = tt
 each_from P (t ∷ below) h = (h t (is_in-head t below), each_from P below (λ u k. h u (is_in-tail t u below k)))
 
@@ -62,7 +76,7 @@ pub running_tasks : (b : Build) (state now : State) (s next : System) (stack : L
     → ((u : ℕ) → is_in u stack ≡ true → task next u ≡ task s u) → Running b state s stack → Running b now next stack
 running_tasks b state now s next [] p x r l e k = record {
   level = l ∙ k.level;
-  current = ap (λ q. word_at q 0) r ∙ k.current;
+  current = ap (λ q. word_at q cur) r ∙ k.current;
   pc = p ∙ k.pc;
   x2 = ap (λ q. slice_index q 2) x ∙ k.x2;
 }
@@ -70,13 +84,13 @@ running_tasks b state now s next (t ∷ below) p x r l e k =
     let here = e t (is_in-head t below) in
     record {
       level = l ∙ k.level ∙ sym (ap (λ v. level_of b.config (current_priority b.config (declaration b.config t) v)) here);
-      current = ap (λ q. word_at q 0) r ∙ k.current;
+      current = ap (λ q. word_at q cur) r ∙ k.current;
       place = k.place;
       context = context_same b state.core.ram now.core.ram t (task s t) (task next t) (thread_of state) (thread_of now) k.place here
           (record { pc = p; x2 = ap (λ q. slice_index q 2) x; x = λ i a c. ap (λ q. slice_index q i) x })
           (λ i a c. ap (λ q. slice_index q i) r) k.context;
       next = k.next;
-      link = ap (λ q. word_at q 628) r ∙ k.link;
+      link = ap (λ q. word_at q below_word) r ∙ k.link;
       chain = chain_kept b state.core.ram now.core.ram s next (λ i a c. ap (λ q. slice_index q i) r) below k.next
           (each_from (SamePart b state.core.ram now.core.ram s next) below
           (λ u h. record { tasks = e u (is_in-tail t u below h); bytes = λ i a c. ap (λ q. slice_index q i) r }))

@@ -3,6 +3,7 @@ use Rattle.std.proofs.Common.{◌≡◌, ℕ, ◌+◌, ◌%◌, ◌<◌, ◌≤�
 use Rattle.std.specs.Prelude.{◌⊎◌, slice_index}
 use Rattle.std.proofs.lemmas.Bool.{eqb-false, or_left}
 use Rattle.sloth_base.specs.Machine.{State}
+use Rattle.sloth_region.specs.Layout.{idle_context}
 use Rattle.osek_machine.specs.State.{System, task}
 use Rattle.osek_machine.specs.Priority.{is_in}
 use Rattle.sim_relation.specs.Build.{Build, Fits, IsElsewhere}
@@ -22,7 +23,7 @@ is_first_in [] u h = cc
 is_first_in (t ∷ below) u h = or_left (eqb t u) (is_in u below) h
 
 pub record Spot (b : Build) (s : System) (stack : List ℕ) (place : ℕ) : Type 0 where
-  pub behind : 884 ≤ place
+  pub behind : idle_context ≤ place
   pub aligned : place % 4 ≡ 0
   pub inside : place + 128 ≤ 0x20_0000
   -- outside code and data

@@ -3,7 +3,7 @@ use Rattle.std.proofs.Common.{◌≡◌, ℕ, zero, suc, ◌+◌, ◌<◌, ◌�
 use Rattle.std.specs.Prelude.{◌≢◌, map, slice_index}
 use Rattle.sloth_base.specs.Machine.{State}
 use Rattle.sloth_base.specs.declared.config.TaskDecl.{TaskDecl}
-use Rattle.sloth_region.specs.Layout.{active, events, resume}
+use Rattle.sloth_region.specs.Layout.{active, events, resume, idle_context}
 use Rattle.rv32_instr.specs.Ram.{word_at}
 use Rattle.osek_machine.specs.declared.state.TaskState.TheVariants as mode
 use Rattle.osek_machine.specs.State.{Task, System, sleeping, task, declaration, undeclared}
@@ -27,7 +27,7 @@ length-autostarted : (ds : List TaskDecl) → length (autostarted ds (map (λ (_
 length-autostarted [] = refl
 length-autostarted (d ∷ ds) = ap suc (length-autostarted ds)
 
-zero_word : (ram : List ℕ) (p : ℕ) → ((i : ℕ) → i < 884 → slice_index ram i ≡ 0) → p + 4 ≤ 884 → word_at ram p ≡ 0
+zero_word : (ram : List ℕ) (p : ℕ) → ((i : ℕ) → i < idle_context → slice_index ram i ≡ 0) → p + 4 ≤ idle_context → word_at ram p ≡ 0
 unfolding word_at
 zero_word ram p h l =
     let a = h p (omega arith) in
@@ -75,7 +75,7 @@ module _ (b : Build) (state : State) (fits : Fits b) (start : Starts b state) wh
       ⊎_elim (λ (x : (task s t).state ≡ mode.Active). not_active t h x)
       (λ (x : (task s t).frames ≢ []). x (by_awake (λ t v. v.frames ≡ []) (λ t h. (rests (declaration b.config t).autostart).1) t h)) a
 
-  zero_at : (p : ℕ) → p + 4 ≤ 884 → word_at state.core.ram p ≡ 0
+  zero_at : (p : ℕ) → p + 4 ≤ idle_context → word_at state.core.ram p ≡ 0
   zero_at p h = zero_word state.core.ram p start.service_words h
 
   pub starts_stand : Stands b state s

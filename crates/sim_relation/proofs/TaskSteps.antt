@@ -4,11 +4,11 @@ use Rattle.std.specs.Prelude.{◌≢◌, map}
 use Rattle.sloth_base.specs.Machine.{State}
 use Rattle.sloth_base.specs.declared.config.Config.{Config}
 use Rattle.sloth_base.specs.declared.config.TaskDecl.{TaskDecl}
-use Rattle.sloth_region.specs.Layout.{active, events, wait, resume, saved}
+use Rattle.sloth_region.specs.Layout.{cur, below_word, active, events, wait, resume, saved}
 use Rattle.rv32_instr.specs.Ram.{word_at}
 use Rattle.osek_machine.specs.State.{Frame, Task, System, task, declaration}
 use Rattle.osek_machine.specs.Priority.{is_in, is_active, highest, ceiling, greatest, current_priority}
-use Rattle.sim_induction.specs.Mirror.{level_of}
+use Rattle.sloth_base.specs.PriorityLevels.{level_of}
 use Rattle.sim_relation.specs.Build.{Build, Fits}
 use Rattle.sim_relation.specs.Context.{Running, RunsTask, Resumes}
 use Rattle.sim_relation.specs.ServiceWords.{ServiceWords, HeldWords, IsWaitWord, active_word}
@@ -89,8 +89,8 @@ module _ (b : Build) (old now : State) (s : System) (k : Stands b old s) (fits :
         machine = step.machine;
         active = step.active;
         level = step.level ∙ run.level ∙ sym (ap (level_of b.config) (same_current b.config (declaration b.config t) (task s t) own step.held step.raised));
-        current = low_word 0 (omega arith);
-        link = low_word 628 (omega arith);
+        current = low_word cur (omega arith);
+        link = low_word below_word (omega arith);
         idle = λ i x y. step.low i (omega arith) (omega arith);
         code = step.code;
         others = step.others;
@@ -103,4 +103,4 @@ module _ (b : Build) (old now : State) (s : System) (k : Stands b old s) (fits :
       }
 
   pub task_steps : Stands b now (moved_to s t own symbols)
-  task_steps = task_moves b old now s k fits t below stack_is own symbols move
+  task_steps = task_moves b old now s k t below stack_is own symbols move

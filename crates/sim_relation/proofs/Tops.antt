@@ -1,5 +1,5 @@
 -- The order of the Active tasks, and the top task.
-use Rattle.std.proofs.Common.{◌≡◌, ℕ, ◌+◌, ◌*◌, ◌<◌, ◌≤◌, List, [], ◌∷◌, length, refl, ap, subst, arith, ⊎_elim, inr, true, false, cond, eqb}
+use Rattle.std.proofs.Common.{◌≡◌, ◌≢◌, ℕ, ◌+◌, ◌*◌, ◌<◌, ◌≤◌, List, [], ◌∷◌, length, refl, ap, subst, arith, ⊎_elim, inr, true, false, cond, eqb}
 use Rattle.std.proofs.lemmas.Bool.{cases_Bool, eqb-true, eq-eqb, or_cases, or_left, or_right}
 use Rattle.sloth_base.specs.declared.config.Config.{Config}
 use Rattle.osek_machine.specs.declared.state.TaskState.TheVariants as mode
@@ -64,6 +64,10 @@ not_below b s t below f =
     (λ (h : is_in t below ≡ true). absurd (let lower = below_first b s t below f t h in let e = static_le b.config s t in omega arith))
     (λ (h : is_in t below ≡ false). h)
     (cases_Bool (is_in t below))
+
+pub below_other : (b : Build) (s : System) (t : ℕ) (below : List ℕ) → Falling b s (t ∷ below) → (u : ℕ) → is_in u below ≡ true → u ≢ t
+below_other b s t below f u h e =
+    let a = not_below b s t below f in let c : is_in t below ≡ true = subst (λ v. is_in v below ≡ true) e h in cc
 
 pub falling_active : (b : Build) (s : System) (stack : List ℕ) → Falling b s stack → (u : ℕ) → is_in u stack ≡ true → IsActive b s u
 falling_active b s [] f u h = cc

@@ -5,11 +5,14 @@ use Rattle.sloth_base.specs.declared.app.App.{App}
 use Rattle.sloth_base.specs.declared.places.Places.{Places}
 use Rattle.sloth_base.specs.declared.app.Call.{Call}
 use Rattle.sloth_base.specs.declared.app.Op.TheVariants as op
-use Rattle.rv32_expand.specs.Expansion.{item_address, block_address, operation}
-use Rattle.osek_machine.specs.State.{declaration, function, body_of}
+use Rattle.sloth_region.specs.Layout.{context_bytes}
+use Rattle.rv32_expand.specs.Expansion.{item_address, block_address}
+use Rattle.sloth_base.specs.Named.{operation, function}
+use Rattle.osek_machine.specs.State.{declaration, body_of}
 use Rattle.osek_machine.specs.Priority.{highest}
-use Rattle.sim_induction.specs.Mirror.{level_of}
+use Rattle.sloth_base.specs.PriorityLevels.{level_of}
 
+-- the configuration, the task code, and where all of it stands in the image
 pub record Build : Type 0 where
   pub config : Config
   pub app : App
@@ -51,4 +54,4 @@ pub record Fits (b : Build) : Type 0 where
   -- each task's part lies behind the service words in RAM, and has room for its first frame and a context
   pub from : (t : ℕ) → t < length b.config.tasks → 1024 ≤ b.low t
   pub to : (t : ℕ) → t < length b.config.tasks → (b.top t ≤ 0x20_0000) × (b.top t % 4 ≡ 0)
-  pub room : (t : ℕ) → t < length b.config.tasks → b.low t + 128 + 4 * (function b.app (body_of b.app.funcs t)).frame_words ≤ b.top t
+  pub room : (t : ℕ) → t < length b.config.tasks → b.low t + context_bytes + 4 * (function b.app (body_of b.app.funcs t)).frame_words ≤ b.top t

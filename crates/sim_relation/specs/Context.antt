@@ -1,11 +1,13 @@
 -- The contexts of tasks, and their chain from the running task down to the idle loop.
 use Rattle.std.specs.Prelude.{ℕ, ◌+◌, ◌*◌, ◌%◌, ◌<◌, ◌≤◌, ◌≡◌, List, [], ◌∷◌, Bool, true, false, length, slice_index}
 use Rattle.sloth_base.specs.Machine.{State}
-use Rattle.sloth_region.specs.Layout.{cur, below_word, resume, idle_context}
+use Rattle.sloth_region.specs.Layout.{cur, below_word, resume, idle_context, context_bytes}
 use Rattle.rv32_instr.specs.Ram.{word_at}
 use Rattle.rv32_expand.specs.Expansion.{item_address}
-use Rattle.osek_machine.specs.State.{Frame, Task, System, task, function}
-use Rattle.sim_induction.specs.Mirror.{priority_of, level_of}
+use Rattle.osek_machine.specs.State.{Frame, Task, System, task}
+use Rattle.sloth_base.specs.Named.{function}
+use Rattle.sim_induction.specs.Mirror.{priority_of}
+use Rattle.sloth_base.specs.PriorityLevels.{level_of}
 use Rattle.sim_relation.specs.Build.{Build}
 use Rattle.sim_relation.specs.Position.{Thread, thread_of, thread_at, FramesAt, Position}
 
@@ -16,7 +18,7 @@ pub record Context (b : Build) (ram : List ℕ) (t : ℕ) (own : Task) (th : Thr
   pub registers : (i : ℕ) → i < 25 → slice_index own.registers i ≡ th.x (i + 5)
   pub position : Position b ram t own th place
   -- there is room for a context below
-  pub room : b.low t + 128 ≤ place
+  pub room : b.low t + context_bytes ≤ place
   pub aligned : place % 4 ≡ 0
 
 -- ---- the Active tasks below the running one
@@ -25,14 +27,14 @@ pub record Context (b : Build) (ram : List ℕ) (t : ℕ) (own : Task) (th : Thr
 pub record Saved (b : Build) (ram : List ℕ) (s : System) (t place : ℕ) : Type 0 where
   pub level : word_at ram (place + 4) ≡ level_of b.config (priority_of b.config s t)
   pub current : word_at ram (place + 8) ≡ t + 1
-  pub context : Context b ram t (task s t) (thread_at ram place) (place + 128)
+  pub context : Context b ram t (task s t) (thread_at ram place) (place + context_bytes)
 
 -- the idle loop's context
 pub record SavedIdle (b : Build) (ram : List ℕ) (place : ℕ) : Type 0 where
   pub is : place ≡ idle_context
-  pub pc : word_at ram 884 ≡ b.idle
-  pub level : word_at ram 888 ≡ 0
-  pub current : word_at ram 892 ≡ 0
+  pub pc : word_at ram idle_context ≡ b.idle
+  pub level : word_at ram (idle_context + 4) ≡ 0
+  pub current : word_at ram (idle_context + 8) ≡ 0
 
 -- the first of these tasks has its context at an offset, and each context has the address of the next
 abbrev pub Chain : Build → List ℕ → System → List ℕ → ℕ → Type 0
@@ -42,6 +44,7 @@ Chain b ram s (t ∷ below) place =
 
 -- ---- what runs
 
+-- the machine runs a task, below which these are Active
 pub record RunsTask (b : Build) (state : State) (s : System) (t : ℕ) (below : List ℕ) : Type 0 where
   pub level : state.core.ilevel ≡ level_of b.config (priority_of b.config s t)
   pub current : word_at state.core.ram cur ≡ t + 1
@@ -51,11 +54,12 @@ pub record RunsTask (b : Build) (state : State) (s : System) (t : ℕ) (below : 
   pub link : word_at state.core.ram below_word ≡ 0x8000_0000 + next
   pub chain : Chain b state.core.ram s below next
 
+-- the machine runs the idle loop
 pub record RunsIdle (b : Build) (state : State) : Type 0 where
   pub level : state.core.ilevel ≡ 0
   pub current : word_at state.core.ram cur ≡ 0
   pub pc : state.pc ≡ b.idle
-  pub x2 : slice_index state.core.registers 2 ≡ 0x8000_0000 + 1012
+  pub x2 : slice_index state.core.registers 2 ≡ 0x8000_0000 + (idle_context + context_bytes)
 
 -- the first of the Active tasks runs, above the others
 abbrev pub Running : Build → State → System → List ℕ → Type 0
@@ -70,7 +74,7 @@ pub record Rested (b : Build) (ram : List ℕ) (t : ℕ) (own : Task) (frame : F
   pub inside : frame.item < length (function b.app frame.func).items
   pub pc : word_at ram place ≡ item_address b.places frame.func frame.item
   pub registers : (i : ℕ) → i < 25 → slice_index own.registers i ≡ word_at ram (place + 4 * (i + 5))
-  pub frames : FramesAt b ram frame outer (place + 128) (b.top t)
+  pub frames : FramesAt b ram frame outer (place + context_bytes) (b.top t)
   pub room : b.low t ≤ place
   pub aligned : place % 4 ≡ 0
 

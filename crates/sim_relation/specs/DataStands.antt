@@ -9,6 +9,7 @@ pub record ByteStands (b : Build) (ram : List ℕ) (address value : ℕ) : Type 
   pub is_data : b.is_data (address - 0x8000_0000) ≡ true
   pub holds : slice_index ram (address - 0x8000_0000) ≡ value
 
+-- the bytes of the symbols stand where the build says
 abbrev pub DataStands : Build → List ℕ → List (List ℕ) → Type 0
 DataStands b ram symbols =
     (y k : ℕ) → k < length (get_or symbols y []) → ByteStands b ram (symbol_address b.places y + k) (slice_index (get_or symbols y []) k)

@@ -1,7 +1,7 @@
 -- What the entry of a task leaves, anew or behind a wait.
 use Rattle.std.specs.Prelude.{ℕ, ◌+◌, ◌*◌, ◌%◌, ◌<◌, ◌≤◌, ◌≡◌, ◌≢◌, ◌⊎◌, List, length, slice_index, slice_set, true}
 use Rattle.sloth_base.specs.Machine.{State}
-use Rattle.sloth_region.specs.Layout.{active, resume}
+use Rattle.sloth_region.specs.Layout.{cur, below_word, active, resume, idle_context, context_bytes}
 use Rattle.rv32_instr.specs.Ram.{word_at}
 use Rattle.osek_machine.specs.declared.state.TaskState.TheVariants as mode
 use Rattle.osek_machine.specs.State.{Task, System, task, declaration}
@@ -14,15 +14,16 @@ use Rattle.sim_relation.specs.Stands.{IsAlive, AreApart}
 -- else stays. `old` is the state before the line was taken.
 pub record EntryRam (b : Build) (old : State) (new : List ℕ) (t place : ℕ) : Type 0 where
   pub long : length new ≡ 0x20_0000
-  pub outside : (i : ℕ) → 884 ≤ i → (i < place) ⊎ (place + 128 ≤ i) → (i < b.low t) ⊎ (b.top t ≤ i) → slice_index new i ≡ slice_index old.core.ram i
+  pub outside : (i : ℕ) → idle_context ≤ i → (i < place) ⊎ (place + context_bytes ≤ i) → (i < b.low t) ⊎ (b.top t ≤ i)
+      → slice_index new i ≡ slice_index old.core.ram i
   pub pc_word : word_at new place ≡ old.pc
   pub level_word : word_at new (place + 4) ≡ old.core.ilevel
-  pub current_word : word_at new (place + 8) ≡ word_at old.core.ram 0
-  pub link_word : word_at new (place + 12) ≡ word_at old.core.ram 628
+  pub current_word : word_at new (place + 8) ≡ word_at old.core.ram cur
+  pub link_word : word_at new (place + 12) ≡ word_at old.core.ram below_word
   pub register_words : (i : ℕ) → 5 ≤ i → i < 32 → word_at new (place + 4 * i) ≡ slice_index old.core.registers i
-  pub named : (p : ℕ) → p + 4 ≤ 884 → p % 4 ≡ 0 → p ≢ 0 → p ≢ 628 → p ≢ active t → p ≢ resume t → word_at new p ≡ word_at old.core.ram p
-  pub current : word_at new 0 ≡ t + 1
-  pub link : word_at new 628 ≡ 0x8000_0000 + place
+  pub named : (p : ℕ) → p + 4 ≤ idle_context → p % 4 ≡ 0 → p ≢ cur → p ≢ below_word → p ≢ active t → p ≢ resume t → word_at new p ≡ word_at old.core.ram p
+  pub current : word_at new cur ≡ t + 1
+  pub link : word_at new below_word ≡ 0x8000_0000 + place
   pub activity : word_at new (active t) ≡ 1
   pub resumption : word_at new (resume t) ≡ 0
 
@@ -47,7 +48,7 @@ pub record TaskEntry (b : Build) (old now : State) (s : System) (t : ℕ) (own :
   pub held : own.held ≡ (task s t).held
   pub raised : own.raised ≡ (declaration b.config t).non
   pub registers : length own.registers ≡ 25
-  pub x2 : slice_index old.core.registers 2 ≡ 0x8000_0000 + (place + 128)
+  pub x2 : slice_index old.core.registers 2 ≡ 0x8000_0000 + (place + context_bytes)
   -- its part of the stacks is apart from those of the tasks that have something there
   pub apart : (u : ℕ) → u < length b.config.tasks → u ≢ t → IsAlive (task s u) → AreApart b t u
   pub frame : ℕ

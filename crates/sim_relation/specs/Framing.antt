@@ -1,6 +1,7 @@
 -- What a stretch leaves as it was.
-use Rattle.std.specs.Prelude.{ℕ, ◌<◌, ◌≤◌, ◌≡◌, ◌+◌, ◌*◌, List, [], ◌∷◌, slice_index}
+use Rattle.std.specs.Prelude.{ℕ, ◌<◌, ◌≤◌, ◌≡◌, ◌≢◌, ◌+◌, ◌*◌, ◌%◌, List, [], ◌∷◌, slice_index}
 use Rattle.sloth_base.specs.Machine.{State}
+use Rattle.sloth_region.specs.Layout.{cur, below_word, active, events, wait, resume, idle_context, context_bytes}
 use Rattle.rv32_instr.specs.Ram.{word_at}
 use Rattle.osek_machine.specs.State.{System, task}
 use Rattle.sim_relation.specs.Build.{Build}
@@ -9,6 +10,15 @@ use Rattle.sim_relation.specs.Position.{Thread}
 -- the bytes from `from` up to `to` are the same
 abbrev pub Agree : List ℕ → List ℕ → (from to : ℕ) → Type 0
 Agree old new from to = (i : ℕ) → from ≤ i → i < to → slice_index new i ≡ slice_index old i
+
+-- the pc, level and `cur` of the idle loop's context
+abbrev pub IdleKept : List ℕ → List ℕ → Type 0
+IdleKept old new = Agree old new idle_context (idle_context + 12)
+
+-- of the service words only those of the running task and this task's own change
+abbrev pub NamedKept : List ℕ → List ℕ → ℕ → Type 0
+NamedKept old new t = (p : ℕ) → p + 4 ≤ idle_context → p % 4 ≡ 0 → p ≢ cur → p ≢ below_word → p ≢ active t → p ≢ events t → p ≢ wait t → p ≢ resume t
+    → word_at new p ≡ word_at old p
 
 -- the same pc, x2 and x5 to x31
 pub record SameThread (old new : Thread) : Type 0 where
@@ -27,18 +37,13 @@ pub record SamePart (b : Build) (old new : List ℕ) (s next : System) (t : ℕ)
   pub tasks : task next t ≡ task s t
   pub bytes : Agree old new (b.low t) (b.top t)
 
--- it holds of each number of the list
-abbrev pub Each : (ℕ → Type 0) → List ℕ → Type 0
-Each P [] = Unit {0}
-Each P (t ∷ rest) = P t × Each P rest
-
 -- What going back to the context at `place` does, beside what else the routine writes: `old` is the RAM before, `new` the RAM
 -- afterwards.
 pub record HasLeftFor (old new : List ℕ) (place : ℕ) (end : State) : Type 0 where
   pub ram : end.core.ram ≡ new
-  pub current : word_at new 0 ≡ word_at old (place + 8)
-  pub link : word_at new 628 ≡ word_at old (place + 12)
-  pub x2 : slice_index end.core.registers 2 ≡ 0x8000_0000 + (place + 128)
+  pub current : word_at new cur ≡ word_at old (place + 8)
+  pub link : word_at new below_word ≡ word_at old (place + 12)
+  pub x2 : slice_index end.core.registers 2 ≡ 0x8000_0000 + (place + context_bytes)
   pub loaded : (i : ℕ) → 5 ≤ i → i < 32 → slice_index end.core.registers i ≡ word_at old (place + 4 * i)
   pub pc : end.pc ≡ word_at old place
   pub level : end.core.ilevel ≡ word_at old (place + 4)

@@ -35,6 +35,7 @@ pub record IsUndisturbed (b : Build) (s : System) : Type 0 where
   pub running : (t : ℕ) → Runs b.config s t → IsTop b.config s [] t
   pub idle : ((t : ℕ) → t < length b.config.tasks → ¬ ((task s t).state ≡ mode.Active)) → (t : ℕ) → t < length b.config.tasks → ¬ (IsDue s t)
 
+-- where no line is taken nothing disturbs the running task
 abbrev pub NoneTaken : Type 0
 NoneTaken = (b : Build) (state : State) (s : System) → length b.config.tasks ≤ 32 → Stands b state s → choose state.core ≡ None → IsUndisturbed b s
 
@@ -45,6 +46,7 @@ abbrev pub StepsKeep : Type 0
 StepsKeep = (b : Build) (old now : State) (s : System) (t : ℕ) (own : Task) (symbols : List (List ℕ)) → Fits b → Stands b old s → Runs b.config s t
     → TaskStep b old now s t own symbols → Stands b now (moved_to s t own symbols)
 
+-- a move of the running task keeps the relation
 abbrev pub MovesKeep : Type 0
 MovesKeep = (b : Build) (old now : State) (s : System) (t : ℕ) (own : Task) (symbols : List (List ℕ)) → Fits b → Stands b old s → Runs b.config s t
     → TaskMove b old now s t own symbols → Stands b now (moved_to s t own symbols)

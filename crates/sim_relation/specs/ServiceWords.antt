@@ -6,10 +6,11 @@ use Rattle.osek_machine.specs.declared.state.TaskState.{TaskState}
 use Rattle.osek_machine.specs.declared.state.TaskState.TheVariants as mode
 use Rattle.osek_machine.specs.State.{Task, declaration}
 use Rattle.osek_machine.specs.Priority.{highest, ceiling, is_active}
-use Rattle.sim_induction.specs.Mirror.{level_of}
+use Rattle.sloth_base.specs.PriorityLevels.{level_of}
 use Rattle.sim_relation.specs.Build.{Build}
 use Rattle.sim_relation.specs.Context.{Resumes}
 
+-- the word that says whether a task is Active
 abbrev pub active_word : TaskState → ℕ
 active_word state = cond (is_active state) 1 0
 
@@ -30,6 +31,7 @@ HeldWords b ram priority (r ∷ held) =
 abbrev pub base_priority : Build → ℕ → Task → ℕ
 base_priority b t own = max (declaration b.config t).priority (cond own.raised (highest b.config) 0)
 
+-- the service words of a task say what its record does
 pub record ServiceWords (b : Build) (ram : List ℕ) (t : ℕ) (own : Task) : Type 0 where
   pub activity : word_at ram (active t) ≡ active_word own.state
   pub event_mask : word_at ram (events t) ≡ own.events

@@ -5,7 +5,8 @@ use Rattle.osek_machine.specs.declared.state.TaskState.{TaskState}
 use Rattle.osek_machine.specs.declared.state.TaskState.TheVariants as mode
 use Rattle.osek_machine.specs.State.{Task, System, task, declaration}
 use Rattle.osek_machine.specs.Priority.{is_in, is_active}
-use Rattle.sim_induction.specs.Mirror.{priority_of, level_of}
+use Rattle.sim_induction.specs.Mirror.{priority_of}
+use Rattle.sloth_base.specs.PriorityLevels.{level_of}
 use Rattle.sim_relation.specs.Build.{Build}
 use Rattle.sim_relation.specs.Context.{Running}
 use Rattle.sim_relation.specs.ServiceWords.{ServiceWords}
@@ -13,12 +14,14 @@ use Rattle.sim_relation.specs.DataStands.{DataStands}
 
 -- ---- the lines
 
+-- the pending and the enable byte of a task in this state
 abbrev pub IsLineOf : TaskState → (pending enabled : ℕ) → Type 0
 IsLineOf mode.Suspended pending enabled = (pending ≡ 0) × (enabled ≡ 1)
 IsLineOf mode.Ready pending enabled = (pending ≡ 1) × (enabled ≡ 1)
 IsLineOf mode.Active pending enabled = enabled ≡ 1
 IsLineOf (mode.Waiting mask) pending enabled = enabled ≡ 0
 
+-- the controller's bytes say what the system is
 pub record LinesStand (b : Build) (core : Core) (s : System) : Type 0 where
   pub each : (t : ℕ) → t < length b.config.tasks → IsLineOf (task s t).state (slice_index core.pending t) (slice_index core.enabled t)
   pub levels : (t : ℕ) → t < length b.config.tasks → slice_index core.levels t ≡ level_of b.config (declaration b.config t).priority
@@ -26,6 +29,7 @@ pub record LinesStand (b : Build) (core : Core) (s : System) : Type 0 where
 
 -- ---- the Active tasks
 
+-- a task of the configuration is Active
 pub record IsActive (b : Build) (s : System) (t : ℕ) : Type 0 where
   pub declared : t < length b.config.tasks
   pub active : (task s t).state ≡ mode.Active
@@ -36,6 +40,7 @@ Falling b s [] = Unit {0}
 Falling b s (t ∷ []) = IsActive b s t
 Falling b s (t ∷ u ∷ below) = IsActive b s t × (priority_of b.config s u < (declaration b.config t).priority) × Falling b s (u ∷ below)
 
+-- these are the Active tasks, the running one first
 pub record AreActive (b : Build) (s : System) (stack : List ℕ) : Type 0 where
   pub falling : Falling b s stack
   pub all : (u : ℕ) → u < length b.config.tasks → (task s u).state ≡ mode.Active → is_in u stack ≡ true
@@ -46,6 +51,7 @@ pub record AreActive (b : Build) (s : System) (stack : List ℕ) : Type 0 where
 abbrev pub IsAlive : Task → Type 0
 IsAlive own = (own.state ≡ mode.Active) ⊎ (own.frames ≢ [])
 
+-- the stacks of two tasks share no byte
 abbrev pub AreApart : Build → (t u : ℕ) → Type 0
 AreApart b t u = (b.top t ≤ b.low u) ⊎ (b.top u ≤ b.low t)
 
@@ -56,12 +62,14 @@ StacksApart b s =
 
 -- ---- what holds of the abstract state alone
 
+-- what holds of a task's record in every state
 pub record TidyTask (own : Task) : Type 0 where
   pub registers : length own.registers ≡ 25
   pub at_rest : is_active own.state ≡ false → (own.held ≡ []) × (own.owed ≡ false) × (own.raised ≡ false)
   pub asleep : own.state ≡ mode.Suspended → (own.frames ≡ []) × (own.events ≡ 0)
   pub few : (r : ℕ) → is_in r own.held ≡ true → r < 33
 
+-- what holds of the system in every state after its start
 pub record Tidy (b : Build) (s : System) : Type 0 where
   pub booted : s.booted ≡ true
   pub tasks : length s.tasks ≡ length b.config.tasks
@@ -69,6 +77,7 @@ pub record Tidy (b : Build) (s : System) : Type 0 where
 
 -- ---- what no stretch changes
 
+-- what holds of the machine at each relation of the two states
 pub record Fixed (b : Build) (core : Core) : Type 0 where
   pub open_to_lines : core.mie ≡ true
   pub previous : core.mpie ≡ true
@@ -81,6 +90,7 @@ pub record Fixed (b : Build) (core : Core) : Type 0 where
   pub ram : length core.ram ≡ 0x20_0000
   pub code : (i : ℕ) → b.is_code i ≡ true → slice_index core.ram i ≡ slice_index b.memory i
 
+-- the machine stands as the system says
 pub record Stands (b : Build) (state : State) (s : System) : Type 0 where
   -- the Active tasks, the running one first
   pub stack : List ℕ

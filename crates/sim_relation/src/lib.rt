@@ -1,4 +1,5 @@
-//! The relation of the simulation, between states of the machine and of the abstract scheduler, and its laws.
+//! The relation of the simulation, between states of the machine and of the abstract scheduler (`specs/Stands`), and who
+//! keeps it. It stands on the offsets of `sloth_region` (`specs/Layout`) and on no generator.
 #![tactic(auto)]
 
 ghost use Rattle.sim_relation.specs.Laws.{MirrorOfStands, ArrivalsAreAdmits, TakenIsTop, NoneTaken, StepsKeep, MovesKeep, LeavesKeep, EntriesKeep, BelowIsFound, StartsStand};

@@ -1,70 +1,71 @@
 -- What is left of RAM where a task has ended: four words are written, all below the contexts.
 use Rattle.std.proofs.Common.{◌≡◌, ℕ, ◌+◌, ◌*◌, ◌%◌, ◌<◌, ◌≤◌, List, length, ◌∙◌, arith, inr}
 use Rattle.std.specs.Prelude.{◌≢◌, slice_index}
+use Rattle.sloth_region.specs.Layout.{cur, below_word, active, events, idle_context}
 use Rattle.rv32_instr.specs.Ram.{word_at, with_word}
 use Rattle.rv32_routine.proofs.Words.{word_at-same, get_or-with_word, length-with_word}
 use Rattle.sim_relation.proofs.Parts.{word_other}
 
 pub record EndRam (old new : List ℕ) (t current link : ℕ) : Type 0 where
   pub long : length new ≡ 0x20_0000
-  pub high : (i : ℕ) → 884 ≤ i → slice_index new i ≡ slice_index old i
-  pub named : (place : ℕ) → place % 4 ≡ 0 → place ≢ 0 → place ≢ 628 → place ≢ 4 + 12 * t → place ≢ 8 + 12 * t → word_at new place ≡ word_at old place
-  pub activity : word_at new (4 + 12 * t) ≡ 0
-  pub events : word_at new (8 + 12 * t) ≡ 0
-  pub current_word : word_at new 0 ≡ current
-  pub link_word : word_at new 628 ≡ link
+  pub high : (i : ℕ) → idle_context ≤ i → slice_index new i ≡ slice_index old i
+  pub named : (place : ℕ) → place % 4 ≡ 0 → place ≢ cur → place ≢ below_word → place ≢ active t → place ≢ events t → word_at new place ≡ word_at old place
+  pub activity : word_at new (active t) ≡ 0
+  pub event_mask : word_at new (events t) ≡ 0
+  pub current_word : word_at new cur ≡ current
+  pub link_word : word_at new below_word ≡ link
 
 module _ (old : List ℕ) (t current link : ℕ) (long : length old ≡ 0x20_0000) (few : t < 30) (current_in : current < 4294967296) (link_in : link < 4294967296) where
   abbrev first : List ℕ
-  first = with_word old (4 + 12 * t) 0
+  first = with_word old (active t) 0
 
   abbrev second : List ℕ
-  second = with_word first (8 + 12 * t) 0
+  second = with_word first (events t) 0
 
   abbrev third : List ℕ
-  third = with_word second 0 current
+  third = with_word second cur current
 
   abbrev new : List ℕ
-  new = with_word third 628 link
+  new = with_word third below_word link
 
   long1 : length first ≡ 0x20_0000
-  long1 = length-with_word old (4 + 12 * t) 0 ∙ long
+  long1 = length-with_word old (active t) 0 ∙ long
 
   long2 : length second ≡ 0x20_0000
-  long2 = length-with_word first (8 + 12 * t) 0 ∙ long1
+  long2 = length-with_word first (events t) 0 ∙ long1
 
   long3 : length third ≡ 0x20_0000
-  long3 = length-with_word second 0 current ∙ long2
+  long3 = length-with_word second cur current ∙ long2
 
   long4 : length new ≡ 0x20_0000
-  long4 = length-with_word third 628 link ∙ long3
+  long4 = length-with_word third below_word link ∙ long3
 
-  high : (i : ℕ) → 884 ≤ i → slice_index new i ≡ slice_index old i
+  high : (i : ℕ) → idle_context ≤ i → slice_index new i ≡ slice_index old i
   high i h =
-      get_or-with_word third 628 link i (inr (omega arith)) ∙ get_or-with_word second 0 current i (inr (omega arith))
-      ∙ get_or-with_word first (8 + 12 * t) 0 i (inr (omega arith)) ∙ get_or-with_word old (4 + 12 * t) 0 i (inr (omega arith))
+      get_or-with_word third below_word link i (inr (omega arith)) ∙ get_or-with_word second cur current i (inr (omega arith))
+      ∙ get_or-with_word first (events t) 0 i (inr (omega arith)) ∙ get_or-with_word old (active t) 0 i (inr (omega arith))
 
-  named : (p : ℕ) → p % 4 ≡ 0 → p ≢ 0 → p ≢ 628 → p ≢ 4 + 12 * t → p ≢ 8 + 12 * t → word_at new p ≡ word_at old p
+  named : (p : ℕ) → p % 4 ≡ 0 → p ≢ cur → p ≢ below_word → p ≢ active t → p ≢ events t → word_at new p ≡ word_at old p
   named p m n0 n1 n2 n3 =
-      word_other third 628 link p m (omega arith) n1 ∙ word_other second 0 current p m (omega arith) n0
-      ∙ word_other first (8 + 12 * t) 0 p m (omega arith) n3 ∙ word_other old (4 + 12 * t) 0 p m (omega arith) n2
+      word_other third below_word link p m (omega arith) n1 ∙ word_other second cur current p m (omega arith) n0
+      ∙ word_other first (events t) 0 p m (omega arith) n3 ∙ word_other old (active t) 0 p m (omega arith) n2
 
-  activity : word_at new (4 + 12 * t) ≡ 0
+  activity : word_at new (active t) ≡ 0
   activity =
-      word_other third 628 link (4 + 12 * t) (omega arith) (omega arith) (λ e. omega arith) ∙ word_other second 0 current (4 + 12 * t) (omega arith) (omega arith) (λ e. omega arith)
-      ∙ word_other first (8 + 12 * t) 0 (4 + 12 * t) (omega arith) (omega arith) (λ e. omega arith) ∙ word_at-same old (4 + 12 * t) 0 (omega arith) (omega arith)
+      word_other third below_word link (active t) (omega arith) (omega arith) (λ e. omega arith) ∙ word_other second cur current (active t) (omega arith) (omega arith) (λ e. omega arith)
+      ∙ word_other first (events t) 0 (active t) (omega arith) (omega arith) (λ e. omega arith) ∙ word_at-same old (active t) 0 (omega arith) (omega arith)
 
-  events : word_at new (8 + 12 * t) ≡ 0
-  events =
+  event_mask : word_at new (events t) ≡ 0
+  event_mask =
       let l = long1 in
-      word_other third 628 link (8 + 12 * t) (omega arith) (omega arith) (λ e. omega arith) ∙ word_other second 0 current (8 + 12 * t) (omega arith) (omega arith) (λ e. omega arith)
-      ∙ word_at-same first (8 + 12 * t) 0 (omega arith) (omega arith)
+      word_other third below_word link (events t) (omega arith) (omega arith) (λ e. omega arith) ∙ word_other second cur current (events t) (omega arith) (omega arith) (λ e. omega arith)
+      ∙ word_at-same first (events t) 0 (omega arith) (omega arith)
 
-  current_word : word_at new 0 ≡ current
-  current_word = let l = long2 in word_other third 628 link 0 (omega arith) (omega arith) (omega arith) ∙ word_at-same second 0 current (omega arith) current_in
+  current_word : word_at new cur ≡ current
+  current_word = let l = long2 in word_other third below_word link cur (omega arith) (omega arith) (omega arith) ∙ word_at-same second cur current (omega arith) current_in
 
-  link_word : word_at new 628 ≡ link
-  link_word = let l = long3 in word_at-same third 628 link (omega arith) link_in
+  link_word : word_at new below_word ≡ link
+  link_word = let l = long3 in word_at-same third below_word link (omega arith) link_in
 
   pub end_ram : EndRam old new t current link
-  end_ram = record { long = long4; high = high; named = named; activity = activity; events = events; current_word = current_word; link_word = link_word }
+  end_ram = record { long = long4; high = high; named = named; activity = activity; event_mask = event_mask; current_word = current_word; link_word = link_word }

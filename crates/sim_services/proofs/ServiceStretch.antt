@@ -8,9 +8,9 @@ use Rattle.sloth_base.specs.Machine.{State}
 use Rattle.sloth_base.specs.Arrive.{state_arrive}
 use Rattle.sloth_base.specs.Take.{line_to_take, enter, entered}
 use Rattle.rv32_instr.specs.declared.InstrKind.{InstrKind}
-use Rattle.rv32_instr.specs.declared.InstrKind.TheVariants.{Csrrci}
 use Rattle.rv32_instr.specs.Execute.{touched, touched_by}
 use Rattle.rv32_machine.specs.Run.{arrived}
+use Rattle.rv32_routine.specs.Kernel as kernel
 use Rattle.rv32_routine.specs.Masked.{FromOpening}
 use Rattle.rv32_routine.specs.Place.{at, InPlace}
 use Rattle.rv32_routine.specs.Trace.{touched_lines, early, late}
@@ -45,7 +45,7 @@ use Rattle.sim_services.specs.Stretch.{Stretches}
 module _ (b : Build) (view : View) (arrivals : List Arrival) (count : ℕ) (state : State) (s : System) (t : ℕ) (served : Service) (Contract : ℕ → List InstrKind → Type 0)
     (fits : Fits b) (setting : IsSetting (setting_of b view arrivals)) (after_boot : 0 < count) (stands : Stands b state s)
     (opens : OpensService b view (arrived arrivals count state) (with_admits (lines_at arrivals count) s) t served Contract)
-    (masks : (rest : List InstrKind) × (opens.block.code ≡ Csrrci 0 8 0x300 ∷ rest)) where
+    (masks : (rest : List InstrKind) × (opens.block.code ≡ kernel.masking ∷ rest)) where
   abbrev n : State
   n = arrived arrivals count state
 
@@ -93,8 +93,8 @@ module _ (b : Build) (view : View) (arrivals : List Arrival) (count : ℕ) (stat
   untouched : touched (entered n) ≡ None
   unfolding touched_by
   untouched =
-      let c : InPlace n.core.ram offset (Csrrci 0 8 0x300 ∷ masks.0) = subst (InPlace n.core.ram offset) masks.1 placed in
-      ap (λ o. touched (enter o n)) none ∙ ap touched n_is ∙ touched_at offset n.core (Csrrci 0 8 0x300) c.0
+      let c : InPlace n.core.ram offset (kernel.masking ∷ masks.0) = subst (InPlace n.core.ram offset) masks.1 placed in
+      ap (λ o. touched (enter o n)) none ∙ ap touched n_is ∙ touched_at offset n.core kernel.masking c.0
 
   module _ (below : List ℕ) (stack_is : k.stack ≡ t ∷ below) where
     active : AreActive b s1 (t ∷ below)

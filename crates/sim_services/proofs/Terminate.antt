@@ -1,6 +1,6 @@
 -- TerminateTask is a step, and the relation stands behind it.
 use Rattle.std.proofs.Common.{◌≡◌, ℕ, ◌+◌, ◌<◌, List, [], ◌∷◌, length, refl, sym, ap, ◌∙◌, subst, arith, inl, false}
-use Rattle.std.specs.Prelude.{slice_index}
+use Rattle.std.specs.Prelude.{slice_index, Contains}
 use Rattle.std.proofs.lemmas.List.{get_or-set_same, get_or-set_other, length-set}
 use Rattle.sloth_base.specs.declared.event.Event.TheVariants as event
 use Rattle.sloth_base.specs.declared.service.Service.TheVariants as service
@@ -15,7 +15,7 @@ use Rattle.osek_machine.specs.Priority.{is_active}
 use Rattle.osek_machine.specs.Services.{ended}
 use Rattle.osek_machine.specs.Steps.{OsekStep, IsAt, settled}
 use Rattle.sloth_base.specs.declared.app.Op.TheVariants as op
-use Rattle.sim_induction.specs.Laws.{AreOneOf}
+use Rattle.std.specs.List.{AllByRecursion}
 use Rattle.sim_induction.proofs.Passing.{not_suspended}
 use Rattle.sim_induction.proofs.Stretched.{shows_left}
 use Rattle.sim_relation.specs.Build.{Build, Fits}
@@ -23,12 +23,11 @@ use Rattle.sim_relation.specs.Context.{RunsTask, Running}
 use Rattle.sim_relation.specs.ServiceWords.{ServiceWords, HeldWords, base_priority}
 use Rattle.sim_relation.specs.Stands.{Stands, IsActive, AreActive, IsLineOf}
 use Rattle.sim_relation.specs.Moves.{TaskLeave}
-use Rattle.sim_relation.proofs.Parts.{this_task}
+use Rattle.sim_relation.proofs.Parts.{this_task, line_active}
 use Rattle.sim_relation.proofs.Placed.{first_by_word, active_by_word}
 use Rattle.sim_relation.proofs.Tops.{falling_head}
 use Rattle.sim_relation.proofs.Leaving.{leave_stands}
 use Rattle.sim_relation.proofs.TaskSteps.{active_resumes}
-use Rattle.sim_relation.proofs.TaskMoves.{line_active}
 use Rattle.sim_services.specs.Opening.{AtOpening}
 use Rattle.sim_services.specs.Served.{Answers}
 use Rattle.sim_services.specs.Laws.{MayEnd}
@@ -72,7 +71,7 @@ module _ (b : Build) (state : State) (s : System) (t : ℕ) (called : Task) (pla
     among = let v = k.tidy.tasks in let h = here.declared in omega arith
 
     mem : EndRam old new t (word_at old (place + 8)) (word_at old (place + 12))
-    mem = subst (λ x. EndRam old x t (word_at old (place + 8)) (word_at old (place + 12))) (sym eff.ram)
+    mem = subst (λ x. EndRam old x t (word_at old (place + 8)) (word_at old (place + 12))) (sym eff.left.ram)
         (end_ram old t (word_at old (place + 8)) (word_at old (place + 12)) k.fixed.ram few30 (word_below old (place + 8) may.is_served.bytes) (word_below old (place + 12) may.is_served.bytes))
 
     resume_zero : word_at old (resume t) ≡ 0
@@ -88,15 +87,15 @@ module _ (b : Build) (state : State) (s : System) (t : ℕ) (called : Task) (pla
     own_line =
         let f = k.fixed.pending in
         let g = few30 in (
-          ap (λ l. slice_index l t) eff.pending ∙ get_or-set_same state.core.pending t 0 0 (omega arith),
-          ap (λ l. slice_index l t) eff.enabled
+          ap (λ l. slice_index l t) eff.left.pending ∙ get_or-set_same state.core.pending t 0 0 (omega arith),
+          ap (λ l. slice_index l t) eff.left.enabled
               ∙ line_active (task s t).state (slice_index state.core.pending t) (slice_index state.core.enabled t) here.active (k.lines.each t here.declared),
         )
 
     own_words : ServiceWords b new t own
     own_words = let g = few30 in record {
       activity = mem.activity;
-      event_mask = mem.events;
+      event_mask = mem.event_mask;
       wait_mask = tt;
       resumption = mem.named (resume t) (omega arith) (omega arith) (λ a. omega arith) (λ a. omega arith) (λ a. omega arith) ∙ resume_zero;
       held = subst (λ (l : List ℕ). HeldWords b new (base_priority b t own) l) (sym held_nil) tt;
@@ -108,18 +107,21 @@ module _ (b : Build) (state : State) (s : System) (t : ℕ) (called : Task) (pla
         let f = k.fixed in
         record {
           link = may.below;
-          left = record { ram = refl; current = mem.current_word; link = mem.link_word; x2 = eff.x2; loaded = eff.loaded; pc = eff.pc; level = eff.running };
-          long = mem.long ∙ sym f.ram;
-          registers = eff.registers ∙ sym f.registers;
-          zero = eff.zero ∙ sym f.zero;
-          levels = eff.levels;
-          controller = eff.controller;
-          open_to_lines = eff.opened;
-          previous = eff.previous;
-          lengths = (ap length eff.pending ∙ length-set state.core.pending t 0, ap length eff.enabled);
+          left = record { ram = refl; current = mem.current_word; link = mem.link_word; x2 = eff.x2; loaded = eff.loaded; pc = eff.pc; level = eff.left.running };
+          machine = record {
+            ram = mem.long ∙ sym f.ram;
+            registers = eff.left.registers ∙ sym f.registers;
+            zero = eff.left.zero ∙ sym f.zero;
+            pending = ap length eff.left.pending ∙ length-set state.core.pending t 0;
+            enabled = ap length eff.left.enabled;
+            levels = eff.left.levels;
+            controller = eff.left.controller;
+            open_to_lines = eff.left.opened;
+            previous = eff.left.previous;
+          };
           own_line = own_line;
-          other_pending = λ l n. ap (λ q. slice_index q l) eff.pending ∙ get_or-set_other state.core.pending t l 0 0 n;
-          other_enabled = λ l n. ap (λ q. slice_index q l) eff.enabled;
+          other_pending = λ l n. ap (λ q. slice_index q l) eff.left.pending ∙ get_or-set_other state.core.pending t l 0 0 n;
+          other_enabled = λ l n. ap (λ q. slice_index q l) eff.left.enabled;
           idle = λ i x y. mem.high i x;
           elsewhere = λ i h. let g = fits.elsewhere i h in mem.high i (omega arith);
           others = λ u h n a i x y. let g = fits.from u h in mem.high i (omega arith);
@@ -166,7 +168,7 @@ module _ (b : Build) (state : State) (s : System) (t : ℕ) (called : Task) (pla
     answer = record {
       one = t;
       other = t;
-      touches = subst (AreOneOf (t ∷ t ∷ [])) (sym eff.touches) (inl refl, tt);
+      touches = subst (AllByRecursion (Contains (t ∷ t ∷ []))) (sym eff.touches) ((0, (omega arith), refl), tt);
       after = next;
       step_is = subst (λ what. OsekStep b.config b.app what s next) (sym (shows_left t service.TerminateTask end elsewhere)) step_is;
       stands = stands_behind;

@@ -1,5 +1,5 @@
 -- Where a task's service begins.
-use Rattle.std.specs.Prelude.{ℕ, ◌+◌, ◌<◌, ◌≡◌, false, List, ◌∷◌, length, Some, None, slice_get}
+use Rattle.std.specs.Prelude.{ℕ, ◌+◌, ◌<◌, ◌≡◌, false, List, ◌∷◌, length, Some, None}
 use Rattle.sloth_base.specs.declared.image.Mark.{Mark}
 use Rattle.sloth_base.specs.declared.image.MarkKind.TheVariants as kind
 use Rattle.sloth_base.specs.declared.service.Service.{Service}
@@ -11,8 +11,10 @@ use Rattle.rv32_instr.specs.Ram.{word_at}
 use Rattle.rv32_routine.specs.Kernel.{IsBelow}
 use Rattle.rv32_expand.specs.Expansion.{block_address}
 use Rattle.service_gen.specs.Back.{CanGoBack}
-use Rattle.observe.specs.Observe.{View, mark_at, services}
-use Rattle.osek_machine.specs.State.{Frame, Task, System, task, function}
+use Rattle.observe.specs.Observe.{View, mark_at}
+use Rattle.sloth_base.specs.ServiceCodes.{service_of}
+use Rattle.osek_machine.specs.State.{Frame, Task, System, task}
+use Rattle.sloth_base.specs.Named.{function}
 use Rattle.osek_machine.specs.Priority.{is_in}
 use Rattle.sim_relation.specs.Bounds.{AreBelow}
 use Rattle.sim_relation.specs.Build.{Build}
@@ -40,11 +42,12 @@ pub record HasBlock (b : Build) (view : View) (served : Service) (object : ℕ) 
   pub mark : Mark
   pub marked : mark_at view (0x8000_0000 + offset) ≡ Some mark
   pub opens : mark.kind ≡ kind.Opening
-  pub calls : slice_get services mark.a ≡ Some served
+  pub calls : service_of mark.a ≡ Some served
 
 -- What holds at a service's opening mark, with the arrivals of the count: no line is taken, and the service's block stands in the
 -- image. The contract is that of the block for an object.
-pub record OpensService (b : Build) (view : View) (state : State) (s : System) (t : ℕ) (served : Service) (Contract : ℕ → List InstrKind → Type 0) : Type 0 where
+pub record OpensService (b : Build) (view : View) (state : State) (s : System) (t : ℕ) (served : Service)
+    (Contract : ℕ → List InstrKind → Type 0) : Type 0 where
   pub none : choose state.core ≡ None
   pub opening : AtOpening b state t (task s t) served
   pub block : HasBlock b view served opening.block.call.object (Contract opening.block.call.object)

@@ -1,12 +1,13 @@
 -- What is asked of each service: its law, said without arrivals.
-use Rattle.std.specs.Prelude.{ℕ, ◌≡◌, List, [], ◌∷◌}
+use Rattle.std.specs.Prelude.{ℕ, ◌≡◌, List, [], ◌∷◌, Contains}
 use Rattle.sloth_base.specs.declared.service.Service.{Service}
 use Rattle.sloth_base.specs.Arrive.{state_arrive}
 use Rattle.sloth_base.specs.Machine.{State}
 use Rattle.osek_machine.specs.State.{Task, System, task}
 use Rattle.osek_machine.specs.Priority.{IsTop}
 use Rattle.osek_machine.specs.Steps.{OsekStep}
-use Rattle.sim_induction.specs.Laws.{AreOneOf, served_event}
+use Rattle.sim_induction.specs.Laws.{served_event}
+use Rattle.std.specs.List.{AllByRecursion}
 use Rattle.sim_relation.specs.Bounds.{AreBelow}
 use Rattle.sim_relation.specs.Build.{Build}
 use Rattle.sim_relation.specs.Stands.{Stands}
@@ -25,7 +26,7 @@ pub record IsServed (b : Build) (state : State) (s : System) (t : ℕ) (own : Ta
 pub record Answers (b : Build) (s : System) (t : ℕ) (served : Service) (touched : List ℕ) (end : State) : Type 0 where
   pub one : ℕ
   pub other : ℕ
-  pub touches : AreOneOf (one ∷ other ∷ []) touched
+  pub touches : AllByRecursion (Contains (one ∷ other ∷ [])) touched
   pub after : System
   pub step_is : OsekStep b.config b.app (served_event t served end) s after
   pub stands : Stands b end after

@@ -1,4 +1,5 @@
-//! Services of the kernel as steps of the abstract scheduler.
+//! Services of the kernel as events of the abstract scheduler. What all share stands once (`specs/Opening`, `specs/Served`,
+//! `proofs/ServiceStretch`); a service adds its own law, by the effect of its block in `service_gen`.
 #![tactic(auto)]
 
 ghost use Rattle.sim_services.specs.Laws.{TerminateTaskEnds};

@@ -46,6 +46,10 @@ pub record IsMark (functions size : ℕ) (mark : Mark) : Type 0 where
   pub below : mark.address < 0x8000_0000 + size
   pub fields : AreFields functions mark.kind mark.a mark.b mark.c
 
+-- the addresses of the marks rise
+abbrev pub AreAscending : List Mark → Type 0
+AreAscending marks = IsStrictlyIncreasing (map (λ mark. mark.address) marks)
+
 -- the image is in the range of the format
 pub record InFormat (image : Image) : Type 0 where
   pub few_tasks : length image.tasks ≤ 30
@@ -56,4 +60,4 @@ pub record InFormat (image : Image) : Type 0 where
   pub whole_words : length image.memory % 4 ≡ 0
   pub few_marks : length image.marks ≤ 16384
   pub marks : All (IsMark (length image.funcs) (length image.memory)) image.marks
-  pub ascending : IsStrictlyIncreasing (map (λ mark. mark.address) image.marks)
+  pub ascending : AreAscending image.marks

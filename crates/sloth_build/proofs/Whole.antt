@@ -12,11 +12,11 @@ use Rattle.rv32_instr.specs.declared.block.Block.{Block}
 use Rattle.rv32_instr.specs.Range.{InRange, Signed}
 use Rattle.rv32_routine.specs.Place.{AreWritten}
 use Rattle.observe.specs.Observe.{View, view_from, view_of_image, mark_at}
-use Rattle.osek_machine.specs.State.{function}
+use Rattle.sloth_base.specs.Named.{function}
 use Rattle.sim_induction.specs.Sound.{Sound}
 use Rattle.sim_relation.specs.Bounds.{AreBelow}
 use Rattle.sim_relation.specs.Build.{Build}
-use Rattle.sim_items.specs.Place.{HasInstruction, IsOwn}
+use Rattle.sim_items.specs.Place.{HasInstruction, ItemStands, IsOwn}
 use Rattle.sim_items.specs.Outside.{HasIdle}
 use Rattle.sim_laws.specs.Kernel.{Computes, Ends}
 use Rattle.sim_laws.specs.Generated.{IsGenerated, HasPrologue}
@@ -77,16 +77,16 @@ module _ (config : Config) (name : List ℕ) (rd rs1 : ℕ) (imm : ℤ) (one : l
   marked : (address : ℕ) (mark : Mark) → mark_at (view_from (kernel_marks rd) 1) address ≡ Some mark → mark_at view address ≡ Some mark
   marked address mark e = ap (λ ms. mark_at (view_from ms 1) address) marks_are ∙ e
 
-  computes : Computes b view 0 0
-  computes = record {
-    computed = (own.0, own.1, small);
-    one = record {
-      code = λ kind e. let f : Addi rd rs1 imm ≡ kind = cc in subst (λ x. HasInstruction b 0x8000_06ac x) f add;
-      more = omega arith;
-      adjacent = refl;
-    };
-    marked = marked 0x8000_06ac (mark_of 0x8000_06ac kind.Item rd 0) refl;
+  stands : (func item : ℕ) → item < length (function app func).items → ItemStands b view func item
+  stands zero zero l = record { code = (add, tt); marked = marked 0x8000_06ac (mark_of 0x8000_06ac kind.Item rd 0) refl; adjacent = λ more. refl }
+  stands zero (suc zero) l = record {
+    code = (jump, tt);
+    marked = marked 0x8000_06b0 (mark_of 0x8000_06b0 kind.Jump 1 1) refl;
+    adjacent = λ more. absurd (omega arith);
   }
+  stands zero (suc (suc item)) l = absurd (omega arith)
+  stands (suc zero) item l = absurd (omega arith)
+  stands (suc (suc func)) item l = absurd (omega arith)
 
   ends : Ends b view 0 1
   ends = record {
@@ -94,19 +94,15 @@ module _ (config : Config) (name : List ℕ) (rd rs1 : ℕ) (imm : ℤ) (one : l
       call = record { service = service.TerminateTask; object = 0; mask = 0 };
       is = refl;
       no_mask = refl;
-      code = jump;
       block = 0x5e4;
       block_is = refl;
       in_ram = omega arith;
       apart = inl (omega arith);
-      mark = mark_of 0x8000_06b0 kind.Jump 1 1;
-      marked = marked 0x8000_06b0 (mark_of 0x8000_06b0 kind.Jump 1 1) refl;
-      jumps = refl;
     };
     ends = refl;
     block = record {
       code = k.terminate_task.code;
-      terminates = is.terminates;
+      serves = is.terminates;
       offset = 0x5e4;
       is = refl;
       placed = terminate_task_placed k p config app r;
@@ -117,12 +113,12 @@ module _ (config : Config) (name : List ℕ) (rd rs1 : ℕ) (imm : ℤ) (one : l
     };
   }
 
-  items : (func item : ℕ) → item < length (function app func).items → Computes b view func item ⊎ Ends b view func item
-  items zero zero l = inl computes
-  items zero (suc zero) l = inr ends
-  items zero (suc (suc item)) l = absurd (omega arith)
-  items (suc zero) item l = absurd (omega arith)
-  items (suc (suc func)) item l = absurd (omega arith)
+  operations : (func item : ℕ) → item < length (function app func).items → Computes b func item ⊎ Ends b view func item
+  operations zero zero l = inl (record { computed = (own.0, own.1, small); more = omega arith })
+  operations zero (suc zero) l = inr ends
+  operations zero (suc (suc item)) l = absurd (omega arith)
+  operations (suc zero) item l = absurd (omega arith)
+  operations (suc (suc func)) item l = absurd (omega arith)
 
   -- ---- the rest
 
@@ -174,7 +170,8 @@ module _ (config : Config) (name : List ℕ) (rd rs1 : ℕ) (imm : ℤ) (one : l
     idle = idle;
     prologues = λ t l. let z : 0 ≡ t = omega (arith, l, one) in subst (λ x. HasPrologue b is.levels kernel_map x) z prologue;
     stacks = λ t u l m d. absurd (d (omega (arith, l, m, one)));
-    items = items;
+    items = stands;
+    operations = operations;
   }
 
   sound : Sound config app image

@@ -24,6 +24,7 @@ use Rattle.sloth_build.specs.Where.{kernel_map}
 abbrev pub item_code : ℕ → ℕ → ℤ → List InstrKind
 item_code result operand number = Addi result operand number ∷ Jal 31 (negsuc 203) ∷ []
 
+-- the block of the one body's items
 abbrev pub items_block : ℕ → ℕ → ℤ → Block
 items_block result operand number = record { at = 0x8000_06ac; code = item_code result operand number; marks = item_marks result }
 

@@ -2,15 +2,19 @@
 use Rattle.std.specs.Prelude.{ℕ, [], ◌∷◌, replicate, slice_set}
 use Rattle.sloth_region.specs.declared.map.Map.{Map}
 
+-- the idle loop
 abbrev pub idle : ℕ
 idle = 0x8000_04b8
 
+-- the prologue of the task
 abbrev pub prologue : ℕ
 prologue = 0x8000_04bc
 
+-- the code of TerminateTask
 abbrev pub terminate_task : ℕ
 terminate_task = 0x8000_05e4
 
+-- the items
 abbrev pub addition : ℕ
 addition = 0x8000_06ac
 

@@ -9,7 +9,6 @@ use Rattle.sloth_base.specs.declared.event.Arrival.{Arrival}
 use Rattle.sloth_base.specs.declared.event.Stamped.{Stamped}
 use Rattle.sloth_base.specs.declared.step.Step.{Step}
 use Rattle.observe.specs.Observe.{observe, view_of_image}
-use Rattle.observe.specs.Touched.{AreLines}
 use Rattle.observe.specs.Progress.{Fed, remaining, view_of, arrivals_of, expected_of, from, here, behind}
 use Rattle.observe.specs.declared.observer.Observer.{Observer}
 use Rattle.observe.proofs.Moments.{here-from, behind-from}
@@ -18,7 +17,7 @@ use Rattle.rv32_machine.specs.Start.{start}
 use Rattle.rv32_machine.specs.Advance.{Outcome, Goes, advance}
 use Rattle.rv32_machine.specs.Run.{Moment, moment, moment_of, arrived, run, run_from, steps_of, state_after}
 use Rattle.sim_induction.specs.Sound.{events_of}
-use Rattle.sloth_cli.specs.Runner.{Stands, Adds, IsRunning, given, sloth_state, run_steps}
+use Rattle.sloth_cli.specs.Runner.{AreLines, HasDone, Adds, IsRunning, given, sloth_state, run_steps}
 use Rattle.sloth_cli.specs.declared.runner.Runner.{Runner}
 use Rattle.rv32_machine.proofs.Runs.{after_more, run_more}
 use Rattle.std.proofs.lemmas.List.Elements.{All-take, All-drop}
@@ -29,7 +28,7 @@ front-is (suc n) [] = refl
 front-is (suc n) (x ∷ xs) = ap (λ ys. x ∷ ys) (front-is n xs)
 
 -- the state with the arrivals of the next moment
-pub arrived-is : (r : Runner) (image : Image) (k : ℕ) (h : List Arrival) (m : State) → Stands r image k
+pub arrived-is : (r : Runner) (image : Image) (k : ℕ) (h : List Arrival) (m : State) → HasDone r image k
     → h ≡ take (length (here r.count r.coming.now)) r.coming.now → m ≡ state_arrive (map (λ a. a.line) h) (sloth_state r.machine)
     → m ≡ arrived (given r) k (sloth_state r.machine)
 arrived-is r image k h m st e n =
@@ -47,14 +46,14 @@ steps-more : (k : ℕ) (A : List Arrival) (m0 m n : State) (s : Step) → state_
 steps-more k A m0 m n s h g = ap steps_of (run_more k A m0 m n s h g) ∙ map-append (run k A m0) (moment_of A k m s n)
 
 -- what the machine does at a moment
-pub moment-is : (r : Runner) (image : Image) (k : ℕ) (h : List Arrival) (m : State) (c : ℕ) (o : Outcome) → Stands r image k
+pub moment-is : (r : Runner) (image : Image) (k : ℕ) (h : List Arrival) (m : State) (c : ℕ) (o : Outcome) → HasDone r image k
     → h ≡ take (length (here r.count r.coming.now)) r.coming.now → m ≡ state_arrive (map (λ a. a.line) h) (sloth_state r.machine) → c ≡ r.machine.count → advance c m ≡ o
     → moment (given r) k (sloth_state r.machine) ≡ o
 moment-is r image k h m c o st e n ec q =
     ap (advance k) (sym (arrived-is r image k h m st e n)) ∙ ap (λ x. advance x m) (sym (ec ∙ st.executed)) ∙ q
 
 -- the events that an instruction adds
-pub adds-is : (r : Runner) (image : Image) (k : ℕ) (s : Step) (n : State) (o : Observer) → Stands r image k
+pub adds-is : (r : Runner) (image : Image) (k : ℕ) (s : Step) (n : State) (o : Observer) → HasDone r image k
     → moment (given r) k (sloth_state r.machine) ≡ Goes s n
     → ((steps : List Step) (events : List Stamped) → Fed r.observer steps events → Fed o (steps ++ s ∷ []) events) → view_of o ≡ view_of r.observer → arrivals_of o ≡ given r
     → Adds image (given r) k (remaining o)
@@ -65,13 +64,13 @@ adds-is r image k s n o st g fed view arrivals =
     ∙ ap (λ w. observe w (given r) (F ++ s ∷ [])) (sym (view ∙ st.view)) ∙ ap (λ B. observe (view_of o) B (F ++ s ∷ [])) (sym arrivals) ∙ sym f.told
 
 -- the runner after an instruction whose events were all handed out
-pub stands-more : (r q : Runner) (image : Image) (k : ℕ) (s : Step) (o : Observer) → Stands r image k
+pub stands-more : (r q : Runner) (image : Image) (k : ℕ) (s : Step) (o : Observer) → HasDone r image k
     → moment (given r) k (sloth_state r.machine) ≡ Goes s (sloth_state q.machine)
     → ((steps : List Step) (events : List Stamped) → Fed r.observer steps events → Fed o (steps ++ s ∷ []) events) → view_of o ≡ view_of r.observer → arrivals_of o ≡ given r → expected_of o ≡ expected_of r.observer + 1
     → ((steps : List Step) (events : List Stamped) → Fed o steps events → Fed q.observer steps (events ++ remaining o)) → view_of q.observer ≡ view_of o → arrivals_of q.observer ≡ arrivals_of o → expected_of q.observer ≡ expected_of o
     → remaining q.observer ≡ []
     → q.coming.now ≡ behind r.count r.coming.now → q.count ≡ r.count + 1 → q.machine.count ≡ r.machine.count + 1 → AreLines q.coming.now
-    → Stands q image (k + 1)
+    → HasDone q image (k + 1)
 stands-more r q image k s o st g fed view arrivals expected fed2 view2 arrivals2 expected2 none coming count executed lines =
     let A : List Arrival = given r in
     let same : given q ≡ A = arrivals2 ∙ arrivals in
@@ -98,8 +97,8 @@ stands-more r q image k s o st g fed view arrivals expected fed2 view2 arrivals2
       expected = expected2 ∙ expected ∙ ap (λ c. c + 1) st.expected;
     }
 
-pub running-at : (q : Runner) (k : ℕ) → Stands q q.image.now k → IsRunning q
-running-at q k st = let P : ℕ → Type 0 = λ n. Stands q q.image.now n in subst P (sym st.count) st
+pub running-at : (q : Runner) (k : ℕ) → HasDone q q.image.now k → IsRunning q
+running-at q k st = let P : ℕ → Type 0 = λ n. HasDone q q.image.now n in subst P (sym st.count) st
 
 -- lines of a front and of a back
 pub lines-take : (n : ℕ) (A : List Arrival) → AreLines A → AreLines (take n A)

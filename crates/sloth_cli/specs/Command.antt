@@ -40,5 +40,6 @@ IsCommand words c = (words ≡ words_by c.oil c.src c.img c.run) × IsInLimit c.
 abbrev pub NoCommand : List (List ℕ) → Type 0
 NoCommand words = (c : Command) → IsCommand words c → ⊥
 
+-- the bytes of each word
 abbrev pub words_of : List (String Global) → List (List ℕ)
 words_of words = map (λ w. string_bytes w) words

@@ -6,11 +6,13 @@ use Rattle.sloth_base.specs.declared.refusal.Code.{Code}
 use Rattle.sloth_base.specs.declared.refusal.Code.TheVariants as code
 use Rattle.sloth_base.specs.declared.refusal.Refusal.{Refusal}
 
+-- the name of a text in a refusal
 abbrev pub part_text : Part → List ℕ
 part_text part.Oil = codes "oil"
 part_text part.Src = codes "src"
 part_text part.Arr = codes "arr"
 
+-- the letters of a refusal's code
 unfoldable pub code_text : Code → List ℕ
 code_text code.O1 = codes "O1"
 code_text code.O2 = codes "O2"

@@ -1,5 +1,5 @@
 -- A runner, between two instructions of its run.
-use Rattle.std.specs.Prelude.{ℕ, ◌≡◌, ◌+◌, List, [], ◌++◌, Option, Some, None, Bool, false}
+use Rattle.std.specs.Prelude.{ℕ, ◌≡◌, ◌+◌, ◌<◌, List, All, [], ◌++◌, Option, Some, None, Bool, false}
 use Rattle.sloth_base.specs.Machine.{State}
 use Rattle.sloth_base.specs.ImageRange.{InFormat}
 use Rattle.sloth_base.specs.declared.image.Image.{Image}
@@ -10,7 +10,6 @@ use Rattle.sloth_io.specs.Sink.{Output, gains, GainsPart}
 use Rattle.trace_text.specs.Texts.{text_after, text_in, ends_idle}
 use Rattle.trace_text.specs.declared.print.Form.{Form}
 use Rattle.observe.specs.Observe.{view_of_image}
-use Rattle.observe.specs.Touched.{AreLines}
 use Rattle.observe.specs.Progress.{Fed, remaining, view_of, arrivals_of, expected_of, from}
 use Rattle.observe.specs.declared.observer.Observer.{Observer}
 use Rattle.sim_induction.specs.Sound.{events_of}
@@ -86,8 +85,12 @@ given runner = arrivals_of runner.observer
 abbrev pub count_of : Runner → ℕ
 count_of runner = runner.count
 
+-- each line is one of the controller's 32
+abbrev pub AreLines : List Arrival → Type 0
+AreLines arrivals = All (λ arrival. arrival.line < 32) arrivals
+
 -- k instructions are done, and all their finished events were handed out
-pub record Stands (runner : Runner) (image : Image) (k : ℕ) : Type 0 where
+pub record HasDone (runner : Runner) (image : Image) (k : ℕ) : Type 0 where
   pub format : InFormat image
   pub lines : AreLines runner.coming.now
   pub view : view_of runner.observer ≡ view_of_image image
@@ -101,7 +104,7 @@ pub record Stands (runner : Runner) (image : Image) (k : ℕ) : Type 0 where
 
 -- between two instructions
 abbrev pub IsRunning : Runner → Type 0
-IsRunning runner = Stands runner runner.image.now runner.count
+IsRunning runner = HasDone runner runner.image.now runner.count
 
 -- it has run nothing
 abbrev pub IsFresh : Runner → Type 0

@@ -6,8 +6,7 @@ ghost use Rattle.sloth_base.specs.Arrive.{state_arrive};
 ghost use Rattle.sloth_io.specs.Sink.{gains, GainsPart};
 ghost use Rattle.trace_text.specs.Texts.{ends_idle, is_idle};
 ghost use Rattle.observe.specs.Progress.{remaining, view_of, arrivals_of, expected_of, here};
-ghost use Rattle.observe.specs.Touched.{AreLines};
-ghost use Rattle.sloth_cli.specs.Runner.{sloth_state, lines_of, HandsOut};
+ghost use Rattle.sloth_cli.specs.Runner.{AreLines, sloth_state, lines_of, HandsOut};
 
 use observe::observer::Observer;
 use rv32_machine::{Machine, SlothBus, Stop};

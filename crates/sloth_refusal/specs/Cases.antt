@@ -4,6 +4,7 @@ use Rattle.sloth_base.specs.declared.refusal.Part.{Part}
 use Rattle.sloth_base.specs.declared.refusal.Code.{Code}
 use Rattle.sloth_base.specs.declared.refusal.Refusal.{Refusal}
 
+-- a fault of this part on a line
 abbrev pub at : Part → ℕ → Code → Refusal
 at part line code = record { part = part; line = line; code = code }
 

@@ -10,9 +10,11 @@ cur = 0
 abbrev pub active : ℕ → ℕ
 active task = 4 + 12 * task
 
+-- a task's events
 abbrev pub events : ℕ → ℕ
 events task = 8 + 12 * task
 
+-- the events that a task waits for
 abbrev pub wait : ℕ → ℕ
 wait task = 12 + 12 * task
 
@@ -37,15 +39,19 @@ idle_context = 884
 abbrev pub context_bytes : ℕ
 context_bytes = 128
 
+-- the pc to go on at
 abbrev pub context_pc : ℕ
 context_pc = 0
 
+-- the level
 abbrev pub context_level : ℕ
 context_level = 4
 
+-- the word `cur`
 abbrev pub context_cur : ℕ
 context_cur = 8
 
+-- the word `below_word`
 abbrev pub context_below : ℕ
 context_below = 12
 
@@ -57,6 +63,7 @@ words_high = 0x8_0000
 abbrev pub controller_base : ℕ
 controller_base = 0x1000_0000
 
+-- bits 31 to 12 of that address
 abbrev pub controller_high : ℕ
 controller_high = 0x1_0000
 
@@ -64,8 +71,10 @@ controller_high = 0x1_0000
 abbrev pub pending_byte : ℕ → ℕ
 pending_byte line = line
 
+-- the enable byte of a line
 abbrev pub enabled_byte : ℕ → ℕ
 enabled_byte line = 32 + line
 
+-- the level byte of a line
 abbrev pub level_byte : ℕ → ℕ
 level_byte line = 64 + line

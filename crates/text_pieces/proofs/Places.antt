@@ -1,5 +1,5 @@
 -- Places of names among lists of names.
-use Rattle.std.proofs.Common.{◌≡◌, ◌∙◌, ⊎_elim, ℕ, suc, ◌<◌, ◌≤◌, ◌+◌, Bool, true, false, cond, Some, None, Option, List, [], ◌∷◌, ◌++◌, length, refl, ap, sym, arith, true≢false}
+use Rattle.std.proofs.Common.{◌≡◌, ◌∙◌, ⊎_elim, ℕ, zero, suc, take, ◌<◌, ◌≤◌, ◌+◌, Bool, true, false, cond, Some, None, Option, List, [], ◌∷◌, ◌++◌, length, refl, ap, sym, arith, true≢false}
 use Rattle.std.specs.Prelude.{◌||◌, not, nat_lt, if◌then◌else◌, position, is_some}
 use Rattle.std.specs.List.{list_any, position_or_len}
 use Rattle.std.specs.Str.{bytes_eq}
@@ -67,3 +67,29 @@ module _ {X : Type 0} (p : X → Bool) (x : X) where
   position_push (y ∷ xs) =
       position-cons p y (xs ++ x ∷ []) ∙ ap (λ (o : Option ℕ). cond (p y) (Some 0) (further o)) (position_push xs) ∙ first_or_last (p y) (p x) (position p xs) (length xs)
       ∙ sym (ap (λ (o : Option ℕ). if is_some o then o else if p x then Some (suc (length xs)) else o) (position-cons p y xs))
+
+abbrev pub below : Option ℕ → ℕ → Bool
+below None k = false
+below (Some i) k = nat_lt i k
+
+below_none : (o : Option ℕ) → below o 0 ≡ false
+below_none None = refl
+below_none (Some i) = le-ltb i 0 (omega arith)
+
+below_further : (o : Option ℕ) (k : ℕ) → below (further o) (suc k) ≡ below o k
+below_further None k = refl
+below_further (Some i) k = ⊎_elim (λ h. let l : suc i < suc k = omega (arith, h) in lt-ltb (suc i) (suc k) l ∙ sym (lt-ltb i k h)) (λ h. let l : suc k ≤ suc i = omega (arith, h) in le-ltb (suc i) (suc k) l ∙ sym (le-ltb i k h)) (cases_lt i k)
+
+-- one of the first k passes where the first of all that passes is among them
+pub any_take : {X : Type 0} (p : X → Bool) (k : ℕ) (xs : List X) → list_any p (take k xs) ≡ below (position p xs) k
+any_take p k [] = by k
+  where
+    by : (k : ℕ) → list_any p (take k []) ≡ false
+    by zero = refl
+    by (suc k) = refl
+any_take p zero (x ∷ xs) = sym (below_none (position p (x ∷ xs)))
+any_take p (suc k) (x ∷ xs) = by (p x) (any_take p k xs) ∙ sym (ap (λ o. below o (suc k)) (position-cons p x xs))
+  where
+    by : (b : Bool) → list_any p (take k xs) ≡ below (position p xs) k → (b || list_any p (take k xs)) ≡ below (if b then Some 0 else further (position p xs)) (suc k)
+    by true e = sym (lt-ltb 0 (suc k) (omega arith))
+    by false e = e ∙ sym (below_further (position p xs) k)

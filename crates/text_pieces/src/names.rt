@@ -1,5 +1,5 @@
 //! The numbers of names.
-ghost use Rattle.std.specs.Prelude.{◌≡◌, ℕ, List, [], ◌∷◌, ◌++◌, IfOk, OnOk, length, position, bytes_eq};
+ghost use Rattle.std.specs.Prelude.{◌≡◌, ℕ, List, [], ◌∷◌, ◌++◌, IfOk, OnOk, length, take, position, bytes_eq};
 ghost use Rattle.std.specs.List.{list_any};
 ghost use Rattle.text_pieces.specs.Names.{number_in, with_first};
 
@@ -80,6 +80,16 @@ impl<'t> Names<'t> {
         ensures { result ≡ list_any (bytes_eq word.now) self.now }
     {
         self.number(word).is_some()
+    }
+
+    /// Whether one of the first `count` names has these bytes.
+    pub fn is_among_first(&self, count: usize, word: &[u8]) -> bool
+        ensures { result ≡ list_any (bytes_eq word.now) (take count self.now) }
+    {
+        match self.number(word) {
+            Some(number) => number < count,
+            None => false,
+        }
     }
 
     /// How many names there are.

@@ -5,16 +5,17 @@ use Rattle.std.proofs.lemmas.Bool.{cases_eq}
 use Rattle.std.proofs.lemmas.List.{length-set, get_or-set_same, get_or-set_other}
 use Rattle.sloth_base.specs.declared.config.TaskDecl.{TaskDecl}
 use Rattle.sloth_base.specs.Machine.{Core, State}
+use Rattle.sloth_region.specs.Layout.{idle_context, context_bytes, controller_base, enabled_byte}
 use Rattle.rv32_instr.specs.declared.InstrKind.{InstrKind}
-use Rattle.rv32_instr.specs.declared.InstrKind.TheVariants.{Lui, Addi, Sb}
-use Rattle.rv32_routine.specs.Constant.{hi}
+use Rattle.rv32_instr.specs.declared.InstrKind.TheVariants.{Sb}
+use Rattle.sloth_base.specs.Arithmetic.{hi}
 use Rattle.rv32_routine.specs.Place.{at}
 use Rattle.rv32_routine.specs.Masked.{Masked, WithArrivals}
 use Rattle.rv32_routine.specs.Owes.{Owes, Pending, Enabled, Level}
 use Rattle.rv32_routine.proofs.Parts.{hi_lo}
-use Rattle.rv32_routine.proofs.Spread.{spread, spread_is, spread_from}
+use Rattle.rv32_routine.proofs.Spread.{spread, spread_is, spread_from, others}
 use Rattle.rv32_routine.proofs.Whole.{handles}
-use Rattle.vector_gen.specs.Boot.{raises, starts_one, starts, finishes, MayBoot, Booted, Boots}
+use Rattle.vector_gen.specs.Boot.{begins, raises, starts_one, starts, finishes, MayBoot, Booted, Boots}
 
 -- the lines' bytes after the tasks from this line on
 abbrev levels_with : ℕ → List TaskDecl → List ℕ → List ℕ → List ℕ
@@ -36,9 +37,9 @@ pending_with line (task ∷ tasks) bytes = pending_with (suc line) tasks (raised
 module _ (from to : ℕ) (E : List ℕ → State → State → Type 0) (start : State) (x2 : ℕ) (tail levels : List ℕ) (small : (k : ℕ) → get_or levels k 0 < 256) where
   -- with the registers that boot has
   abbrev with_x3 : ℕ → Core → Core
-  with_x3 x3 c = record c { registers = 0 ∷ 0x1000_0000 ∷ x2 ∷ x3 ∷ 1 ∷ tail }
+  with_x3 x3 c = record c { registers = 0 ∷ controller_base ∷ x2 ∷ x3 ∷ 1 ∷ tail }
 
-  raises_owe : (auto : Bool) (line o : ℕ) (code : List InstrKind) (c : Core) → line < 32 → ((o' : ℕ) → Owes from to o' code 0 E start (record c { pending = raised_if auto line c.pending })) → get_or c.registers 1 0 ≡ 0x1000_0000 → get_or c.registers 4 0 ≡ 1 → Owes from to o (raises line auto ++ code) 0 E start c
+  raises_owe : (auto : Bool) (line o : ℕ) (code : List InstrKind) (c : Core) → line < 32 → ((o' : ℕ) → Owes from to o' code 0 E start (record c { pending = raised_if auto line c.pending })) → get_or c.registers 1 0 ≡ controller_base → get_or c.registers 4 0 ≡ 1 → Owes from to o (raises line auto ++ code) 0 E start c
   raises_owe true line o code c h go one four = (Pending line, (omega arith, h), inl ((λ e. absurd (omega arith)), go (o + 4)))
   raises_owe false line o code c h go one four = go o
 
@@ -54,10 +55,10 @@ module _ (from to : ℕ) (E : List ℕ → State → State → Type 0) (start : 
       let e : v % 256 ≡ v = omega arith in
       let raised = raises_owe task.autostart line o3 rest d (omega arith) (λ o'. starts_owe tasks (suc line) o' v code (record c { levels = set c.levels line v; enabled = set c.enabled line 1; pending = raised_if task.autostart line c.pending }) (omega arith) go) refl refl in
       let enabled = subst (λ l. Owes from to o3 l 0 E start d) (sym (append_assoc (raises line task.autostart) (starts (suc line) tasks levels) code)) raised in
-      let levelled : Owes from to o2 (Sb 1 4 (pos (32 + line)) ∷ ((raises line task.autostart ++ starts (suc line) tasks levels) ++ code)) 0 E start (with_x3 v (record c { levels = set c.levels line v })) =
+      let levelled : Owes from to o2 (Sb 1 4 (pos (enabled_byte line)) ∷ ((raises line task.autostart ++ starts (suc line) tasks levels) ++ code)) 0 E start (with_x3 v (record c { levels = set c.levels line v })) =
       (Enabled line, (omega arith, omega arith), enabled)
       in
-      (v, omega arith, (Level line, (omega arith, omega arith), subst (λ b. Owes from to o2 (Sb 1 4 (pos (32 + line)) ∷ ((raises line task.autostart ++ starts (suc line) tasks levels) ++ code)) 0 E start (with_x3 v (record c { levels = set c.levels line b }))) (sym e) levelled))
+      (v, omega arith, (Level line, (omega arith, omega arith), subst (λ b. Owes from to o2 (Sb 1 4 (pos (enabled_byte line)) ∷ ((raises line task.autostart ++ starts (suc line) tasks levels) ++ code)) 0 E start (with_x3 v (record c { levels = set c.levels line b }))) (sym e) levelled))
 
 -- ---- line by line
 
@@ -166,20 +167,15 @@ length-starts (task ∷ tasks) line levels =
     length-one true line = omega arith
     length-one false line = omega arith
 
--- the first five registers do not matter for the others
-others : (a b c d x y z w : ℕ) (tail : List ℕ) (i : ℕ) → 5 ≤ i → get_or (0 ∷ a ∷ b ∷ c ∷ d ∷ tail) i 0 ≡ get_or (0 ∷ x ∷ y ∷ z ∷ w ∷ tail) i 0
-others a b c d x y z w tail zero h = absurd (omega arith)
-others a b c d x y z w tail (suc zero) h = absurd (omega arith)
-others a b c d x y z w tail (suc (suc zero)) h = absurd (omega arith)
-others a b c d x y z w tail (suc (suc (suc zero))) h = absurd (omega arith)
-others a b c d x y z w tail (suc (suc (suc (suc zero)))) h = absurd (omega arith)
-others a b c d x y z w tail (suc (suc (suc (suc (suc i))))) h = refl
-
 abbrev pub boot_code : List TaskDecl → List ℕ → ℕ → List InstrKind
-boot_code tasks levels idle = Lui 1 0x1_0000 ∷ Addi 4 0 (pos 1) ∷ (starts 0 tasks levels ++ finishes idle)
+boot_code tasks levels idle = begins ++ (starts 0 tasks levels ++ finishes idle)
+
+-- the end of the idle loop's context
+abbrev idle_end : ℕ
+idle_end = 0x8000_0000 + (idle_context + context_bytes)
 
 module _ (tasks : List TaskDecl) (levels : List ℕ) (idle : ℕ) (few : length tasks ≤ 30) (small : (k : ℕ) → get_or levels k 0 < 256) (fits : idle < 2 ^ 32) (aligned : idle % 4 ≡ 0) (offset : ℕ) (c : Core) (h : MayBoot offset (boot_code tasks levels idle) c) where
-  end_owes : (from to o x2 x3 : ℕ) → Owes from to o (finishes idle) 0 (Booted tasks levels idle) (at offset (spread c)) (record (spread c) { registers = 0 ∷ 0x1000_0000 ∷ x2 ∷ x3 ∷ 1 ∷ spread_from 27 5 c.registers; levels = levels_with 0 tasks levels c.levels; enabled = enabled_with 0 tasks c.enabled; pending = pending_with 0 tasks c.pending })
+  end_owes : (from to o x2 x3 : ℕ) → Owes from to o (finishes idle) 0 (Booted tasks levels idle) (at offset (spread c)) (record (spread c) { registers = 0 ∷ controller_base ∷ x2 ∷ x3 ∷ 1 ∷ spread_from 27 5 c.registers; levels = levels_with 0 tasks levels c.levels; enabled = enabled_with 0 tasks c.enabled; pending = pending_with 0 tasks c.pending })
   end_owes from to o x2 x3 =
       let n = length tasks in
       let long_levels = h.levels in
@@ -189,7 +185,7 @@ module _ (tasks : List TaskDecl) (levels : List ℕ) (idle : ℕ) (few : length 
         0x8000_0000,
         refl,
         (
-          2147484660,
+          idle_end,
           refl,
           (
             128,
@@ -219,16 +215,9 @@ module _ (tasks : List TaskDecl) (levels : List ℕ) (idle : ℕ) (few : length 
                       other_pending = λ line past. pending_other tasks 0 c.pending line (inr (omega arith));
                       lines = (length-pending tasks 0 c.pending ∙ h.can_run.lines, length-enabled tasks 0 c.enabled ∙ h.enabled, length-levels tasks 0 levels c.levels ∙ h.levels);
                       pc = omega arith;
-                      running = refl;
+                      left = record { zero = refl; registers = refl; opened = refl; previous = refl; running = refl; pending = refl; enabled = refl; levels = refl; ram = refl; scratch = refl; controller = refl };
                       x2 = refl;
-                      kept = λ i past. others 0x1000_0000 2147484660 idle 1 (get_or c.registers 1 0) (get_or c.registers 2 0) (get_or c.registers 3 0) (get_or c.registers 4 0) (spread_from 27 5 c.registers) i past;
-                      zero = refl;
-                      registers = refl;
-                      ram = refl;
-                      opened = refl;
-                      previous = refl;
-                      scratch = refl;
-                      controller = refl;
+                      kept = λ i past. others controller_base idle_end idle 1 (get_or c.registers 1 0) (get_or c.registers 2 0) (get_or c.registers 3 0) (get_or c.registers 4 0) (spread_from 27 5 c.registers) i past;
                     },
                   ),
                 ),
@@ -240,7 +229,7 @@ module _ (tasks : List TaskDecl) (levels : List ℕ) (idle : ℕ) (few : length 
 
   owes : (from to : ℕ) → Owes from to offset (boot_code tasks levels idle) 0 (Booted tasks levels idle) (at offset (spread c)) (spread c)
   owes from to = (
-    0x1000_0000,
+    controller_base,
     refl,
     (
       1,

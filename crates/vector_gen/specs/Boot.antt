@@ -2,32 +2,40 @@
 use Rattle.std.specs.Prelude.{ℕ, suc, ◌+◌, ◌*◌, ◌%◌, ◌≡◌, ◌<◌, ◌≤◌, Bool, true, false, pos, List, [], ◌∷◌, ◌++◌, length, slice_index, slice_index_or}
 use Rattle.sloth_base.specs.declared.config.TaskDecl.{TaskDecl}
 use Rattle.sloth_base.specs.Machine.{Core, State}
-use Rattle.sloth_region.specs.Layout.{idle_context, context_bytes}
+use Rattle.sloth_region.specs.Layout.{idle_context, context_bytes, words_high, controller_high, pending_byte, enabled_byte, level_byte}
+use Rattle.rv32_instr.specs.declared.csr.TheConstants.{MSTATUS, MEPC, MPIE}
 use Rattle.rv32_instr.specs.declared.InstrKind.{InstrKind}
 use Rattle.rv32_instr.specs.declared.InstrKind.TheVariants.{Lui, Addi, Sb, Csrrw, Mret}
-use Rattle.rv32_routine.specs.Constant.{hi, lo}
+use Rattle.sloth_base.specs.Arithmetic.{hi, lo}
 use Rattle.rv32_routine.specs.Place.{at}
 use Rattle.rv32_routine.specs.Masked.{Masked, WithArrivals}
-use Rattle.rv32_routine.specs.Kernel.{CanRun}
+use Rattle.rv32_routine.specs.Kernel.{CanRun, LeftAs}
 
 -- ---- the code
 
+-- x1 and x4 as the code of each line expects them
+abbrev pub begins : List InstrKind
+begins = Lui 1 controller_high ∷ Addi 4 0 (pos 1) ∷ []
+
 -- x1 holds the controller's address, x4 holds 1
 abbrev pub raises : ℕ → Bool → List InstrKind
-raises line true = Sb 1 4 (pos line) ∷ []
+raises line true = Sb 1 4 (pos (pending_byte line)) ∷ []
 raises line false = []
 
+-- a task's line has its level and is enabled, and is pending where the task is autostarted
 abbrev pub starts_one : ℕ → ℕ → Bool → List InstrKind
-starts_one line level autostart = Addi 3 0 (pos level) ∷ Sb 1 3 (pos (64 + line)) ∷ Sb 1 4 (pos (32 + line)) ∷ raises line autostart
+starts_one line level autostart = Addi 3 0 (pos level) ∷ Sb 1 3 (pos (level_byte line)) ∷ Sb 1 4 (pos (enabled_byte line)) ∷ raises line autostart
 
+-- those of the tasks from this line on
 abbrev pub starts : ℕ → List TaskDecl → List ℕ → List InstrKind
 starts line [] levels = []
 starts line (task ∷ tasks) levels = starts_one line (slice_index levels line) task.autostart ++ starts (suc line) tasks levels
 
+-- the stack and the state of the idle loop, and the way there
 abbrev pub finishes : ℕ → List InstrKind
 finishes idle =
-    Lui 2 0x8_0000 ∷ Addi 2 2 (pos 1012) ∷ Addi 3 0 (pos 128) ∷ Csrrw 0 3 0x300 ∷ Lui 3 (hi idle) ∷ Addi 3 3 (lo idle) ∷ Csrrw 0 3 0x341
-    ∷ Mret ∷ []
+    Lui 2 words_high ∷ Addi 2 2 (pos (idle_context + context_bytes)) ∷ Addi 3 0 MPIE ∷ Csrrw 0 3 MSTATUS ∷ Lui 3 (hi idle)
+    ∷ Addi 3 3 (lo idle) ∷ Csrrw 0 3 MEPC ∷ Mret ∷ []
 
 -- ---- what it needs, and its effect
 
@@ -38,6 +46,10 @@ pub record MayBoot (offset : ℕ) (code : List InstrKind) (core : Core) : Type 0
   pub levels : length core.levels ≡ 32
   pub can_run : CanRun offset code core
 
+-- a core at the level that was to be gone back to, with the lines' bytes of another
+abbrev pub with_lines_of : Core → Core → Core
+with_lines_of lines core = record core { ilevel = core.plevel; pending = lines.pending; enabled = lines.enabled; levels = lines.levels }
+
 -- Each task's line has its level, is enabled, and is pending where the task is autostarted. All other lines' bytes, and all
 -- of RAM, stay. The idle loop is next, with interrupts open, at the level that was to be gone back to.
 pub record Booted (tasks : List TaskDecl) (levels : List ℕ) (idle : ℕ) (touched : List ℕ) (start end : State) : Type 0 where
@@ -47,22 +59,19 @@ pub record Booted (tasks : List TaskDecl) (levels : List ℕ) (idle : ℕ) (touc
   pub enabled : (line : ℕ) → line < length tasks → slice_index end.core.enabled line ≡ 1
   pub other_enabled : (line : ℕ) → length tasks ≤ line → slice_index end.core.enabled line ≡ slice_index start.core.enabled line
   pub raised : (line : ℕ) (d : TaskDecl) → line < length tasks → (slice_index_or tasks line d).autostart ≡ true → slice_index end.core.pending line ≡ 1
-  pub unraised : (line : ℕ) (d : TaskDecl) → line < length tasks → (slice_index_or tasks line d).autostart ≡ false → slice_index end.core.pending line ≡ slice_index start.core.pending line
+  pub unraised :
+      (line : ℕ) (d : TaskDecl) → line < length tasks → (slice_index_or tasks line d).autostart ≡ false
+      → slice_index end.core.pending line ≡ slice_index start.core.pending line
   pub other_pending : (line : ℕ) → length tasks ≤ line → slice_index end.core.pending line ≡ slice_index start.core.pending line
   pub lines : (length end.core.pending ≡ 32) × (length end.core.enabled ≡ 32) × (length end.core.levels ≡ 32)
   pub pc : end.pc ≡ idle
-  pub running : end.core.ilevel ≡ start.core.plevel
+  pub left : LeftAs (with_lines_of end.core start.core) end.core
   pub x2 : slice_index end.core.registers 2 ≡ 0x8000_0000 + (idle_context + context_bytes)
   pub kept : (i : ℕ) → 5 ≤ i → slice_index end.core.registers i ≡ slice_index start.core.registers i
-  pub zero : slice_index end.core.registers 0 ≡ 0
-  pub registers : length end.core.registers ≡ 32
-  pub ram : end.core.ram ≡ start.core.ram
-  pub opened : end.core.mie ≡ true
-  pub previous : end.core.mpie ≡ true
-  pub scratch : end.core.mscratch ≡ start.core.mscratch
-  pub controller : end.core.controller ≡ start.core.controller
 
 -- Code of boot: at most 130 instructions lead to its effect, whatever lines arrive.
 pub record Boots (tasks : List TaskDecl) (levels : List ℕ) (idle : ℕ) (code : List InstrKind) : Type 0 where
   pub size : length code ≤ 10 + 4 * length tasks
-  pub runs : (offset : ℕ) (core : Core) → idle % 4 ≡ 0 → MayBoot offset code core → Masked 130 (at offset core) (WithArrivals (Booted tasks levels idle) (at offset core))
+  pub runs :
+      (offset : ℕ) (core : Core) → idle % 4 ≡ 0 → MayBoot offset code core
+      → Masked 130 (at offset core) (WithArrivals (Booted tasks levels idle) (at offset core))

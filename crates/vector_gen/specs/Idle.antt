@@ -7,11 +7,14 @@ use Rattle.rv32_instr.specs.declared.InstrKind.{InstrKind}
 use Rattle.rv32_instr.specs.Execute.{Going, step, touched}
 use Rattle.rv32_routine.specs.Place.{at, InPlace}
 
+-- the mark on the idle loop
 abbrev pub idle_mark : ℕ → Mark
 idle_mark address = record { address = address; kind = mark.Idle; a = 0; b = 0; c = 0 }
 
 -- One word, which in place goes back to itself and changes nothing: it never masks, and touches no line.
 pub record Idles (code : List InstrKind) : Type 0 where
   pub word : length code ≡ 1
-  pub stays : (offset : ℕ) (core : Core) → offset % 4 ≡ 0 → offset + 4 ≤ 0x20_0000 → InPlace core.ram offset code → step (at offset core) ≡ Going (at offset core)
+  pub stays :
+      (offset : ℕ) (core : Core) → offset % 4 ≡ 0 → offset + 4 ≤ 0x20_0000 → InPlace core.ram offset code
+      → step (at offset core) ≡ Going (at offset core)
   pub untouched : (offset : ℕ) (core : Core) → InPlace core.ram offset code → touched (at offset core) ≡ None

@@ -3,7 +3,7 @@ use Rattle.std.specs.Prelude.{ℕ, ℤ, ◌+◌, ◌*◌, ◌%◌, ◌≡◌, �
 use Rattle.sloth_base.specs.Machine.{Core}
 use Rattle.rv32_instr.specs.declared.InstrKind.{InstrKind}
 use Rattle.rv32_instr.specs.declared.InstrKind.TheVariants.{Jal}
-use Rattle.rv32_instr.specs.Effect.{plus}
+use Rattle.sloth_base.specs.Arithmetic.{plus}
 use Rattle.rv32_instr.specs.Execute.{Going, step, touched}
 use Rattle.rv32_routine.specs.Place.{at, InPlace}
 
@@ -25,5 +25,7 @@ pub record AreJumps (words : ℕ) (handlers : List ℕ) (code : List InstrKind) 
 
 -- In place at 0x80000400, the word of each line is a step to the line's handler, which changes nothing else and touches no line.
 pub record StepToHandlers (handlers : List ℕ) (code : List InstrKind) : Type 0 where
-  pub steps : (line : ℕ) (core : Core) → line < 32 → InPlace core.ram 0x400 code → step (at (0x400 + 4 * line) core) ≡ Going (record { pc = slice_index handlers line; core = core })
+  pub steps :
+      (line : ℕ) (core : Core) → line < 32 → InPlace core.ram 0x400 code
+      → step (at (0x400 + 4 * line) core) ≡ Going (record { pc = slice_index handlers line; core = core })
   pub untouched : (line : ℕ) (core : Core) → line < 32 → InPlace core.ram 0x400 code → touched (at (0x400 + 4 * line) core) ≡ None

@@ -1,17 +1,21 @@
 //! Boot: the levels and enable bytes of the tasks' lines, and the first activations.
-ghost use Rattle.std.specs.Prelude.{ℕ, ◌^◌, slice_index, ◌≡◌, ◌++◌, ◌∷◌, [], ◌<◌, ◌≤◌, IfOk, OnOk, length, pos};
+ghost use Rattle.std.specs.Prelude.{ℕ, ◌^◌, slice_index, ◌≡◌, ◌++◌, [], ◌<◌, ◌≤◌, IfOk, OnOk, length};
 ghost use Rattle.sloth_base.specs.ConfigRange.{InRange};
-ghost use Rattle.rv32_instr.specs.declared.InstrKind.TheVariants.{Lui, Addi};
-ghost use Rattle.vector_gen.specs.Boot.{starts_one, starts, finishes, Boots};
+ghost use Rattle.vector_gen.specs.Boot.{begins, starts_one, starts, finishes, Boots};
 
-use rv32_instr::{Block, Instr, InstrKind};
+use rv32_instr::asm::{X1, X2, X3, X4, ZERO, addi, csrrw, lui, mret, sb};
+use rv32_instr::csr::{MEPC, MPIE, MSTATUS};
+use rv32_instr::{Block, Instr};
 use rv32_routine::constant::{hi, lo};
 use rv32_routine::emit::emit;
 use sloth_base::config::{Config, TaskDecl};
 use sloth_base::list::List;
 use sloth_base::memory::NoMemory;
-use sloth_base::numbers::Reg;
 use sloth_base::places::Levels;
+use sloth_region::layout::{
+    CONTEXT_BYTES, CONTROLLER_HIGH, IDLE_CONTEXT, WORDS_HIGH, enabled_byte, level_byte,
+    pending_byte,
+};
 use sloth_region::map::Map;
 use std::alloc::{AllocError, Global};
 
@@ -23,6 +27,7 @@ pub fn boot(alloc: Global, config: &Config, levels: &Levels, map: &Map) -> Resul
     requires { InRange config.now }
     ensures at { IfOk result (λ block. block.at ≡ 0x80000480) }
     ensures marks { IfOk result (λ block. block.marks ≡ []) }
+    ensures size { IfOk result (λ block. length block.code ≤ 256) }
     ensures effect { IfOk result (λ block. Boots config.now.tasks levels.now.task map.now.idle block.code) }
 {
     let mut code = Vec::new(alloc);
@@ -38,20 +43,9 @@ pub fn boot(alloc: Global, config: &Config, levels: &Levels, map: &Map) -> Resul
 
 /// x1 := the controller's address, x4 := 1.
 fn begin(code: &mut Vec<Instr>) -> Result<(), AllocError>
-    ensures { OnOk result (code.new.items ≡ code.old.items ++ Lui 1 0x10000 ∷ Addi 4 0 (pos 1) ∷ []) }
+    ensures { OnOk result (code.new.items ≡ code.old.items ++ begins) }
 {
-    let begun = [
-        InstrKind::Lui {
-            rd: Reg(1),
-            imm: 0x1_0000,
-        },
-        InstrKind::Addi {
-            rd: Reg(4),
-            rs1: Reg(0),
-            imm: 1,
-        },
-    ];
-    emit(code, &begun)
+    emit(code, &[lui(X1, CONTROLLER_HIGH), addi(X4, ZERO, 1)])
 }
 
 /// The line of a task gets its level and is enabled, and that of an autostarted task is raised.
@@ -60,32 +54,13 @@ fn start(code: &mut Vec<Instr>, line: u8, level: u8, autostart: bool) -> Result<
     ensures { OnOk result (code.new.items ≡ code.old.items ++ starts_one line level autostart) }
 {
     let enabled = [
-        InstrKind::Addi {
-            rd: Reg(3),
-            rs1: Reg(0),
-            imm: level as i32,
-        },
-        InstrKind::Sb {
-            rs1: Reg(1),
-            rs2: Reg(3),
-            imm: 64 + line as i32,
-        },
-        InstrKind::Sb {
-            rs1: Reg(1),
-            rs2: Reg(4),
-            imm: 32 + line as i32,
-        },
+        addi(X3, ZERO, level as i32),
+        sb(X3, X1, level_byte(line)),
+        sb(X4, X1, enabled_byte(line)),
     ];
     emit(code, &enabled)?;
     if autostart {
-        emit(
-            code,
-            &[InstrKind::Sb {
-                rs1: Reg(1),
-                rs2: Reg(4),
-                imm: line as i32,
-            }],
-        )?;
+        emit(code, &[sb(X4, X1, pending_byte(line))])?;
     }
     Ok(())
 }
@@ -108,40 +83,14 @@ fn finish(code: &mut Vec<Instr>, idle: u32) -> Result<(), AllocError>
     ensures fits { idle < 2 ^ 32 }
 {
     let finished = [
-        InstrKind::Lui {
-            rd: Reg(2),
-            imm: 0x8_0000,
-        },
-        InstrKind::Addi {
-            rd: Reg(2),
-            rs1: Reg(2),
-            imm: 1012,
-        },
-        InstrKind::Addi {
-            rd: Reg(3),
-            rs1: Reg(0),
-            imm: 128,
-        },
-        InstrKind::Csrrw {
-            rd: Reg(0),
-            rs1: Reg(3),
-            csr: 0x300,
-        },
-        InstrKind::Lui {
-            rd: Reg(3),
-            imm: hi(idle),
-        },
-        InstrKind::Addi {
-            rd: Reg(3),
-            rs1: Reg(3),
-            imm: lo(idle),
-        },
-        InstrKind::Csrrw {
-            rd: Reg(0),
-            rs1: Reg(3),
-            csr: 0x341,
-        },
-        InstrKind::Mret,
+        lui(X2, WORDS_HIGH),
+        addi(X2, X2, IDLE_CONTEXT + CONTEXT_BYTES),
+        addi(X3, ZERO, MPIE),
+        csrrw(ZERO, MSTATUS, X3),
+        lui(X3, hi(idle)),
+        addi(X3, X3, lo(idle)),
+        csrrw(ZERO, MEPC, X3),
+        mret(),
     ];
     emit(code, &finished)
 }

@@ -1,13 +1,13 @@
 //! The idle loop: one word that jumps to itself, with interrupts open.
-ghost use Rattle.std.specs.Prelude.{◌≡◌, ◌∷◌, [], IfOk};
+ghost use Rattle.std.specs.Prelude.{◌≡◌, ◌≤◌, ◌∷◌, [], length, IfOk};
 ghost use Rattle.vector_gen.specs.Idle.{idle_mark, Idles};
 
-use rv32_instr::{Block, Instr, InstrKind};
+use rv32_instr::Block;
+use rv32_instr::asm::{ZERO, jal};
 use rv32_routine::emit::emit;
 use sloth_base::image::{Mark, MarkKind};
 use sloth_base::list::List;
 use sloth_base::memory::NoMemory;
-use sloth_base::numbers::Reg;
 use sloth_region::map::Map;
 use std::alloc::Global;
 
@@ -15,10 +15,11 @@ use std::alloc::Global;
 pub fn idle(alloc: Global, map: &Map) -> Result<Block, NoMemory>
     ensures at { IfOk result (λ block. block.at ≡ map.now.idle) }
     ensures marks { IfOk result (λ block. block.marks ≡ idle_mark map.now.idle ∷ []) }
+    ensures size { IfOk result (λ block. length block.code ≤ 256) }
     ensures effect { IfOk result (λ block. Idles block.code) }
 {
     let mut code = Vec::new(alloc);
-    emit(&mut code, &[InstrKind::Jal { rd: Reg(0), imm: 0 }])?;
+    emit(&mut code, &[jal(ZERO, 0)])?;
     let mark = Mark {
         address: map.idle,
         kind: MarkKind::Idle,

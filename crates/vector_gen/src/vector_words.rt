@@ -1,13 +1,13 @@
 //! The vector words: for each line a jump to its handler.
-ghost use Rattle.std.specs.Prelude.{◌≡◌, ◌<◌, ◌+◌, ◌%◌, ◌^◌, [], IfOk};
+ghost use Rattle.std.specs.Prelude.{◌≡◌, ◌<◌, ◌≤◌, ◌+◌, ◌%◌, ◌^◌, [], length, IfOk};
 ghost use Rattle.rv32_instr.specs.Range.{InRange};
 ghost use Rattle.vector_gen.specs.Vectors.{AreInReach, AreJumps, IsJump, StepToHandlers};
 
-use rv32_instr::{Block, Instr, InstrKind};
+use rv32_instr::asm::{ZERO, jal};
+use rv32_instr::{Block, InstrKind};
 use rv32_routine::emit::emit;
 use sloth_base::list::List;
 use sloth_base::memory::NoMemory;
-use sloth_base::numbers::Reg;
 use sloth_region::map::Map;
 use std::alloc::Global;
 
@@ -19,6 +19,7 @@ pub fn vectors(alloc: Global, map: &Map) -> Result<Block, NoMemory>
     requires { AreInReach map.now.handlers }
     ensures at { IfOk result (λ block. block.at ≡ 0x80000400) }
     ensures marks { IfOk result (λ block. block.marks ≡ []) }
+    ensures size { IfOk result (λ block. length block.code ≤ 256) }
     ensures effect { IfOk result (λ block. AreJumps 32 map.now.handlers block.code) }
     ensures steps { IfOk result (λ block. StepToHandlers map.now.handlers block.code) }
 {
@@ -41,8 +42,5 @@ fn jump(from: u32, target: u32) -> InstrKind
     ensures fits { InRange result }
     ensures jumps { IsJump from target result }
 {
-    InstrKind::Jal {
-        rd: Reg(0),
-        imm: (target - from) as i32,
-    }
+    jal(ZERO, (target - from) as i32)
 }

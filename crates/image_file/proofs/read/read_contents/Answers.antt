@@ -8,9 +8,8 @@ use Rattle.std.proofs.lemmas.Bool.{true≢false}
 use Rattle.std.proofs.Common.{◌≡◌, ◌+◌, ◌*◌, ℕ}
 use Rattle.std.proofs.Common.{length, drop, ◌-◌, List}
 use Rattle.image_file.specs.ImageText.{ImageText}
-use Rattle.image_file.specs.Faults.{AreAscending}
 use Rattle.image_file.specs.Reading.{MarksStand, MarksFail, parts_at}
-use Rattle.sloth_base.specs.ImageRange.{AreNames}
+use Rattle.sloth_base.specs.ImageRange.{AreNames, AreAscending}
 use Rattle.image_file.proofs.read.read_contents.Goals as goal
 
 pub returns-in_err-marks-clause-failed : goal.returns-in_err-marks-clause-failed

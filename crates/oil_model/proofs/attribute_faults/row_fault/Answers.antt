@@ -16,7 +16,7 @@ returns c =
     let none = refers_to_none c.args.objects.now c.args.scheduler row a.value in
     let unknown = case_found Oil (is_none row) c.is_unlisted.result a.line O8 c.when-unknown.result c.when-unknown.ensures c.is_unlisted.ensures in
     let second = case_found Oil (is_second_use row before a) c.is_second_use.result a.line O9 c.when-second.result c.when-second.ensures c.is_second_use.ensures in
-    let missing = case_found none c.refers_to_none-missing.result a.line O10 c.when-missing.result c.when-missing.ensures c.refers_to_none-missing.ensures in
+    let missing = case_found Oil none c.refers_to_none-missing.result a.line O10 c.when-missing.result c.when-missing.ensures c.refers_to_none-missing.ensures in
     let refused = case_found Oil (is_refused row a.value) c.is_refused.result a.line O12 c.when-refused.result c.when-refused.ensures c.is_refused.ensures in
     both_are (Case (is_none row) a.line O8) (λ r. Case (is_second_use row before a) a.line O9 r ⊎ (Case none a.line O10 r ⊎ Case (is_refused row a.value) a.line O12 r))
     c.when-unknown.result c.merge-2.result c.merge-3.result unknown

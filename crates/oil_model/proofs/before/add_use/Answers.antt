@@ -4,7 +4,7 @@ use Rattle.std.specs.Borrow.{Bor}
 use Rattle.std.specs.List.{list_any}
 use Rattle.std.specs.Str.{bytes_eq}
 use Rattle.std.proofs.lemmas.Slice.Eq.{bytes_eq-Decides}
-use Rattle.oil_model.proofs.Tests.{any_insert}
+use Rattle.text_pieces.proofs.Tests.{any_insert}
 use Rattle.oil_model.proofs.before.add_use.Goals as goal
 
 pub returns : goal.returns

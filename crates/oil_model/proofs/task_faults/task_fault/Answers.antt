@@ -17,7 +17,7 @@ returns c =
     let repeats = repeats_priority front before.attrs a in
     let shares = shares_bit before.events before.attrs a in
     both_are (Case repeats a.line O13) (Case shares a.line O15) c.when-repeated.result c.when-shared.result c.merge.result
-    (case_found repeats c.repeats_priority-repeated.result a.line O13 c.when-repeated.result c.when-repeated.ensures
+    (case_found Oil repeats c.repeats_priority-repeated.result a.line O13 c.when-repeated.result c.when-repeated.ensures
     (c.repeats_priority-repeated.ensures ∙ ap (λ b. (is_use (codes "PRIORITY") a && not b) && is_taken front (number_of a.value)) c.requires))
-    (case_found shares c.shares_bit.result a.line O15 c.when-shared.result c.when-shared.ensures c.shares_bit.ensures)
+    (case_found Oil shares c.shares_bit.result a.line O15 c.when-shared.result c.when-shared.ensures c.shares_bit.ensures)
     c.merge.ensures

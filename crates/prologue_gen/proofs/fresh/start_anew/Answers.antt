@@ -11,7 +11,7 @@ four all old a b d e h = h ∙ append_assoc ((old ++ a) ++ b) d e ∙ append_ass
 pub returns : goal.returns
 returns c =
     four c.emit.new.code.items c.args.code.now.items (begins c.args.frame c.args.first) (clears_words c.args.words 0 2) (clears 25 5) (Mret ∷ [])
-    (c.in_ok-emit.ensures
+    (c.in_ok-emit.ensures ∙ ap (λ kind. c.clear.new.code.items ++ kind ∷ []) c.mret.ensures
     ∙ ap (λ (x : List InstrKind). x ++ Mret ∷ []) (c.in_ok-clear.ensures
     ∙ ap (λ (x : List InstrKind). x ++ clears 25 5) (c.in_ok-clear_words.ensures
     ∙ ap (λ (x : List InstrKind). x ++ clears_words c.args.words 0 2) c.in_ok-begin.ensures)))

@@ -7,7 +7,7 @@ use Rattle.rv32_words.proofs.kernel.levels.Goals as goal
 
 pub returns : goal.returns
 returns c =
-    let levels = set (set (set (replicate 30 0) 0 3) 1 1) 2 2 in (
+    let levels = set (replicate 30 0) 0 5 in (
       lit< tt,
       λ t. ⊎_elim (λ h. ltb-true (get_or levels t 0) 32 (every_at (λ x. ltb x 32) levels refl t h)) (λ h. let e = get_or_past levels t 0 h in omega arith) (cases_lt t 30),
     )

@@ -6,7 +6,7 @@ use Rattle.rv32_words.proofs.kernel.map.Goals as goal
 
 pub returns-clause-reach : goal.returns-clause-reach
 returns-clause-reach c =
-    let handlers = set (set (set (replicate 32 0x8000_0548) 0 0x8000_0600) 1 0x8000_0800) 2 0x800f_fffc in
+    let handlers = set (replicate 32 0x8000_0548) 0 0x800f_fffc in
     record {
       long = refl;
       aligned = λ k h. eqb-true (get_or handlers k 0 % 4) 0 (every_at (λ x. eqb (x % 4) 0) handlers refl k h);

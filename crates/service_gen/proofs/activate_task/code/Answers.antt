@@ -1,12 +1,12 @@
 use Rattle.std.proofs.Common.{◌≡◌, ◌∷◌, sym, subst}
-use Rattle.rv32_instr.specs.declared.InstrKind.TheVariants.{Csrrci}
+use Rattle.rv32_routine.specs.Kernel.{masking}
 use Rattle.service_gen.specs.ActivateTask.{Activates}
 use Rattle.service_gen.proofs.Activating.{body, activates}
 use Rattle.service_gen.proofs.activate_task.code.Goals as goal
 
 pub returns : goal.returns
 returns c =
-    let e : c.go_back.new.code.items ≡ Csrrci 0 8 0x300 ∷ body c.args.task =
-    rw (c.in_ok-go_back.ensures, c.in_ok-raise.ensures, c.in_ok-emit.ensures, c.in_ok-look_at.ensures, c.in_ok-open.ensures, c.new-code.ensures.items)
+    let e : c.go_back.new.code.items ≡ masking ∷ body c.args.task =
+    rw (c.in_ok-go_back.ensures, c.in_ok-raise.ensures, c.in_ok-tell.ensures, c.in_ok-look_at.ensures, c.in_ok-open.ensures, c.new-code.ensures.items)
     in
     subst (Activates c.args.task) (sym e) (activates c.args.task)

@@ -1,12 +1,12 @@
 use Rattle.std.proofs.Common.{◌≡◌, ◌∷◌, sym, subst}
-use Rattle.rv32_instr.specs.declared.InstrKind.TheVariants.{Csrrci}
+use Rattle.rv32_routine.specs.Kernel.{masking}
 use Rattle.service_gen.specs.ReleaseResource.{Releases}
 use Rattle.service_gen.proofs.Releasing.{body, releases}
 use Rattle.service_gen.proofs.release_resource.code.Goals as goal
 
 pub returns : goal.returns
 returns c =
-    let e : c.release.new.code.items ≡ Csrrci 0 8 0x300 ∷ body c.args.resource =
+    let e : c.release.new.code.items ≡ masking ∷ body c.args.resource =
     rw (c.in_ok-release.ensures, c.in_ok-open.ensures, c.new-code.ensures.items)
     in
     subst (Releases c.args.resource) (sym e) (releases c.args.resource)

@@ -1,12 +1,12 @@
 use Rattle.std.proofs.Common.{◌≡◌, ◌∷◌, sym, subst}
-use Rattle.rv32_instr.specs.declared.InstrKind.TheVariants.{Csrrci}
+use Rattle.rv32_routine.specs.Kernel.{masking}
 use Rattle.service_gen.specs.TerminateTask.{Terminates}
 use Rattle.service_gen.proofs.TerminateTask.{body, terminates}
 use Rattle.service_gen.proofs.terminate_task.code.Goals as goal
 
 pub returns : goal.returns
 returns c =
-    let e : c.leave.new.code.items ≡ Csrrci 0 8 0x300 ∷ body =
+    let e : c.leave.new.code.items ≡ masking ∷ body =
     rw (c.in_ok-leave.ensures, c.in_ok-end.ensures, c.in_ok-open.ensures, c.new-code.ensures.items)
     in
     subst Terminates (sym e) terminates

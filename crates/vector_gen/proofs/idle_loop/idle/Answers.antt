@@ -7,5 +7,5 @@ use Rattle.vector_gen.proofs.idle_loop.idle.Goals as goal
 
 pub returns-clause-effect : goal.returns-clause-effect
 returns-clause-effect c =
-    let e : c.from_vec.result ≡ Jal 0 (pos 0) ∷ [] = rw (c.from_vec.ensures, c.in_ok-emit.ensures, c.new-code.ensures.items) in
+    let e : c.from_vec.result ≡ Jal 0 (pos 0) ∷ [] = rw (c.from_vec.ensures, c.in_ok-emit.ensures, c.jal.ensures, c.new-code.ensures.items) in
     subst Idles (sym e) idles

@@ -7,7 +7,6 @@ pub returns-clause-fed : goal.returns-clause-fed
 unfolding observe
 returns-clause-fed c = record {
   ordered = c.requires.ordered;
-  lines = c.requires.lines;
   told = refl;
   expected = refl;
   coming = sym (from-later 0 0 c.args.arrivals.now c.requires.ordered (omega arith));

@@ -2,7 +2,7 @@ use Rattle.std.proofs.Common.{◌∙◌, ap, sym, List}
 use Rattle.std.specs.Prelude.{◌||◌}
 use Rattle.oil_parse.specs.declared.tree.OilAttr.{OilAttr}
 use Rattle.oil_model.specs.Objects.{is_use, is_used}
-use Rattle.oil_model.proofs.Tests.{any_push}
+use Rattle.text_pieces.proofs.Tests.{any_push}
 use Rattle.oil_model.proofs.before.Before.with.Goals as goal
 
 pub invariant_of-result : goal.invariant_of-result

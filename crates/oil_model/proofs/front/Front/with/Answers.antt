@@ -7,7 +7,7 @@ use Rattle.oil_parse.specs.declared.tree.OilObject.{OilObject}
 use Rattle.oil_model.specs.Objects.{is_of_kind, declares}
 use Rattle.oil_model.specs.TaskFaults.{has_priority}
 use Rattle.oil_model.specs.Fronts.{IsFront}
-use Rattle.oil_model.proofs.Tests.{any_push}
+use Rattle.text_pieces.proofs.Tests.{any_push}
 use Rattle.oil_model.proofs.Fronts.{named_more, count_push}
 use Rattle.oil_model.proofs.front.Front.with.Goals as goal
 

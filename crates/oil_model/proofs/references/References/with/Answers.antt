@@ -5,7 +5,7 @@ use Rattle.oil_parse.specs.declared.tree.OilAttr.{OilAttr}
 use Rattle.oil_model.specs.declared.references.Reference.{Reference}
 use Rattle.oil_model.specs.References.{Referring}
 use Rattle.oil_model.specs.KeptReferences.{is_to, AreKept}
-use Rattle.oil_model.proofs.Tests.{or_split, or_right}
+use Rattle.text_pieces.proofs.Tests.{or_split, or_right}
 use Rattle.oil_model.proofs.KeptReferences.{same_true, kept_bits, kept_again, kept_more}
 use Rattle.oil_model.proofs.references.References.with.Goals as goal
 

@@ -9,9 +9,6 @@ use Rattle.sloth_cli.proofs.runner.Runner.new.Goals as goal
 pub new-requires-clause-ordered : goal.new-requires-clause-ordered
 new-requires-clause-ordered c = weaker 1 0 c.args.arrivals.now (omega arith) c.requires.arrivals.ordered
 
-pub new-requires-clause-lines : goal.new-requires-clause-lines
-new-requires-clause-lines c = controller-lines _ c.args.arrivals.now c.requires.format.few_tasks c.requires.arrivals.lines_of_tasks
-
 pub returns-clause-fresh : goal.returns-clause-fresh
 unfolding run_from after_from
 returns-clause-fresh c =

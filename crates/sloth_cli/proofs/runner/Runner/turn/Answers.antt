@@ -6,11 +6,10 @@ use Rattle.sloth_base.specs.declared.image.Image.{Image}
 use Rattle.sloth_base.specs.declared.event.Arrival.{Arrival}
 use Rattle.sloth_io.specs.Sink.{gains, GainsPart}
 use Rattle.trace_text.specs.Texts.{text_after}
-use Rattle.observe.specs.Touched.{AreLines}
 use Rattle.observe.specs.Progress.{remaining}
 use Rattle.rv32_machine.specs.Advance.{Goes}
 use Rattle.rv32_machine.specs.Run.{moment}
-use Rattle.sloth_cli.specs.Runner.{given, count_of, image_of, sloth_state}
+use Rattle.sloth_cli.specs.Runner.{AreLines, given, count_of, image_of, sloth_state}
 use Rattle.sloth_cli.specs.declared.runner.RunEnd.TheVariants as ends
 use Rattle.sloth_cli.proofs.Turning.{moment-is, arrived-is, adds-is, stands-more, lines-drop, running-at}
 use Rattle.sloth_cli.proofs.runner.Runner.turn.Goals as goal

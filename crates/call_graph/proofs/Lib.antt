@@ -1,0 +1,6 @@
+pub mod Sets
+pub mod Closure
+pub mod Counted
+pub mod Itself
+pub mod Belongs
+pub mod Few

@@ -1,0 +1,72 @@
+use Rattle.std.proofs.Common.{◌≡◌, ◌∙◌, ◌<◌, length, ap, subst, sym, List, ℕ}
+use Rattle.sloth_base.specs.declared.app.App.{App}
+use Rattle.sloth_base.specs.declared.app.Func.{Func}
+use Rattle.sloth_refusal.specs.Order.{NoFault, IsLeast}
+use Rattle.sloth_refusal.proofs.Kept.{least_same}
+use Rattle.app_rules.specs.WellFormed.{CycleFault}
+use Rattle.std.specs.Bool.{Decides}
+use Rattle.call_graph.specs.Cycles.{RowCycle}
+use Rattle.call_graph.specs.Rows.{row_has, RowChain}
+use Rattle.call_graph.specs.Gathered.{Gathered}
+use Rattle.call_graph.specs.Reached.{AreFew, func_of, calls_itself}
+use Rattle.call_graph.proofs.Belongs.{Closed, cycle_is, is_cycle, belongs}
+use Rattle.call_graph.proofs.Few.{few}
+use Rattle.call_graph.proofs.ranks.Goals as goal
+
+few_of : (app : App) (funcs : List Func) → funcs ≡ app.funcs → AreFew app.funcs → AreFew funcs
+few_of app funcs e h = subst (λ (x : List Func). AreFew x) (sym e) h
+
+pub direct_calls-requires : goal.direct_calls-requires
+direct_calls-requires c = few_of c.args.app.now c.items-funcs.result.now c.items-funcs.ensures (few c.args.app.now c.requires)
+
+pub gathered-requires-clause-few : goal.gathered-requires-clause-few
+gathered-requires-clause-few c = few_of c.args.app.now c.items-funcs.result.now c.items-funcs.ensures (few c.args.app.now c.requires)
+
+closed_of : (app : App) (funcs : List Func) (direct rows slice : List ℕ) → funcs ≡ app.funcs → slice ≡ rows → length direct ≡ length funcs
+    → ((f g : ℕ) → f < length funcs → row_has direct f g ≡ calls_itself (func_of funcs f) g)
+    → ((i j : ℕ) → Decides (row_has rows i j) ((between : List ℕ) × RowChain direct i between j)) → Closed app direct slice
+closed_of app funcs direct rows slice e v count calls reach = record {
+  count = count ∙ ap length e;
+  calls = λ f g l. calls f g (subst (λ (n : ℕ). f < n) (ap length (sym e)) l) ∙ ap (λ (x : List Func). calls_itself (func_of x f) g) e;
+  closed = subst (λ (x : List ℕ). (i j : ℕ) → Decides (row_has x i j) ((between : List ℕ) × RowChain direct i between j)) (sym v) reach;
+}
+
+no_cycle : (app : App) (funcs : List Func) (rows slice slice' : List ℕ) → funcs ≡ app.funcs → slice ≡ rows → slice' ≡ rows
+    → NoFault (RowCycle funcs slice) → NoFault (RowCycle app.funcs slice')
+no_cycle app funcs rows slice slice' e v w none =
+    subst (λ (x : List Func). NoFault (RowCycle x slice')) e (subst (λ (x : List ℕ). NoFault (RowCycle funcs x)) (v ∙ sym w) none)
+
+pub returns-in-Some-clause-refused : goal.returns-in-Some-clause-refused
+returns-in-Some-clause-refused c =
+    let app = c.args.app.now in
+    let funcs = c.items-funcs.result.now in
+    let direct = c.in-Ok.direct.items in
+    let slice = c.deref.result.now in
+    let e = c.items-funcs.ensures in
+    let closed = closed_of app funcs direct c.closed-rows.result.items slice e c.deref.ensures.value c.in-Ok.ensures.count c.in-Ok.ensures.calls c.closed-rows.ensures.reach in
+    least_same (RowCycle app.funcs slice) (CycleFault app) (cycle_is app direct slice closed) (is_cycle app direct slice closed) c.in-Some.refusal
+    (subst (λ (x : List Func). IsLeast (RowCycle x slice) c.in-Some.refusal) e c.in-Some.ensures)
+
+pub returns-in-Ok-gathered-clause-belong : goal.returns-in-Ok-gathered-clause-belong
+returns-in-Ok-gathered-clause-belong c =
+    let app = c.args.app.now in
+    let funcs = c.items-funcs.result.now in
+    let direct = c.in-Ok.direct.items in
+    let slice = c.deref-2.result.now in
+    let e = c.items-funcs.ensures in
+    let closed = closed_of app funcs direct c.closed-rows.result.items slice e c.deref-2.ensures.value c.in-Ok.ensures.count c.in-Ok.ensures.calls c.closed-rows.ensures.reach in
+    let ranks = c.in-Ok-gathered.ranks in
+    belongs app direct slice closed ranks
+    (subst (λ (x : List Func). Gathered x slice ranks) e c.in-Ok-gathered.ensures)
+    (no_cycle app funcs c.closed-rows.result.items c.deref.result.now slice e c.deref.ensures.value c.deref-2.ensures.value c.in_default.ensures)
+
+pub returns-in-Ok-gathered-clause-none : goal.returns-in-Ok-gathered-clause-none
+returns-in-Ok-gathered-clause-none c =
+    let app = c.args.app.now in
+    let funcs = c.items-funcs.result.now in
+    let direct = c.in-Ok.direct.items in
+    let slice = c.deref.result.now in
+    let e = c.items-funcs.ensures in
+    let closed = closed_of app funcs direct c.closed-rows.result.items slice e c.deref.ensures.value c.in-Ok.ensures.count c.in-Ok.ensures.calls c.closed-rows.ensures.reach in
+    let none = no_cycle app funcs c.closed-rows.result.items slice slice e c.deref.ensures.value c.deref.ensures.value c.in_default.ensures in
+    λ r fault. none r (is_cycle app direct slice closed r fault)

@@ -1,0 +1,6 @@
+pub mod Bits
+pub mod Rows
+pub mod Cycles
+pub mod Reached
+pub mod Gathered
+pub mod Ranks

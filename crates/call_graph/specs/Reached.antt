@@ -1,0 +1,58 @@
+-- What a function reaches, from its number and its row of bits.
+use Rattle.std.specs.Prelude.{ℕ, zero, suc, ◌<◌, ◌≤◌, ◌≡◌, ◌==◌, ◌||◌, ◌&&◌, Bool, true, false, List, length, get_or, Some}
+use Rattle.std.specs.List.{list_any}
+use Rattle.sloth_base.specs.declared.app.Func.{Func}
+use Rattle.app_rules.specs.Named.{missing, is_body_of}
+use Rattle.call_graph.specs.Bits.{has}
+use Rattle.call_graph.specs.Rows.{is_call, is_taking, is_pause}
+
+-- some number below n passes the test
+abbrev pub any_below : ℕ → (ℕ → Bool) → Bool
+any_below zero test = false
+any_below (suc n) test = any_below n test || test n
+
+abbrev pub func_of : List Func → ℕ → Func
+func_of funcs f = get_or funcs f missing
+
+-- ---- what a function does itself
+
+abbrev pub calls_itself : Func → ℕ → Bool
+calls_itself f g = list_any (λ item. is_call g item.op) f.items
+
+abbrev pub takes_itself : Func → ℕ → Bool
+takes_itself f r = list_any (λ item. is_taking r item.op) f.items
+
+abbrev pub pauses_itself : Func → Bool
+pauses_itself f = list_any (λ item. is_pause item.op) f.items
+
+abbrev pub CallsFew : Func → Type 0
+CallsFew f = (g : ℕ) → calls_itself f g ≡ true → g < 64
+
+abbrev pub TakesFew : Func → Type 0
+TakesFew f = (r : ℕ) → takes_itself f r ≡ true → r < 64
+
+abbrev pub IsOfFew : Func → Type 0
+IsOfFew f = (t : ℕ) → f.task ≡ Some t → t < 32
+
+-- the numbers of functions, resources and tasks fit their sets
+pub record AreFew (funcs : List Func) : Type 0 where
+  pub count : length funcs ≤ 64
+  pub calls : (f : ℕ) → f < length funcs → CallsFew (func_of funcs f)
+  pub resources : (f : ℕ) → f < length funcs → TakesFew (func_of funcs f)
+  pub tasks : (f : ℕ) → f < length funcs → IsOfFew (func_of funcs f)
+
+-- ---- what it reaches
+
+-- the function with this number and this row is the other, or reaches it
+abbrev pub reaches_by : (from row to : ℕ) → Bool
+reaches_by from row to = (from == to) || has row to
+
+abbrev pub takes_by : List Func → (from row r : ℕ) → Bool
+takes_by funcs from row r = any_below (length funcs) (λ g. reaches_by from row g && takes_itself (func_of funcs g) r)
+
+abbrev pub pauses_by : List Func → (from row : ℕ) → Bool
+pauses_by funcs from row = any_below (length funcs) (λ g. reaches_by from row g && pauses_itself (func_of funcs g))
+
+-- the body of task t reaches the function
+abbrev pub used_by : List Func → List ℕ → (to t : ℕ) → Bool
+used_by funcs rows to t = any_below (length funcs) (λ b. reaches_by b (get_or rows b 0) to && is_body_of t (func_of funcs b).task)

@@ -1,0 +1,45 @@
+-- Rows of bits: what each function does itself, and what it reaches.
+use Rattle.std.specs.Prelude.{ℕ, ◌≡◌, ◌==◌, ◌||◌, ◌&&◌, Bool, true, false, List, [], ◌∷◌, get_or}
+use Rattle.sloth_base.specs.declared.app.Op.{Op}
+use Rattle.sloth_base.specs.declared.app.Op.TheVariants as op
+use Rattle.sloth_base.specs.declared.service.Service.{Service}
+use Rattle.sloth_base.specs.declared.service.Service.TheVariants as service
+use Rattle.call_graph.specs.Bits.{has}
+
+-- ---- what an operation does itself
+
+abbrev pub is_call : ℕ → Op → Bool
+is_call g (op.Invoke h) = h == g
+is_call g _ = false
+
+abbrev pub is_get : Service → Bool
+is_get service.GetResource = true
+is_get _ = false
+
+abbrev pub is_taking : ℕ → Op → Bool
+is_taking r (op.Serve call) = is_get call.service && (call.object == r)
+is_taking r _ = false
+
+abbrev pub is_pausing : Service → Bool
+is_pausing service.WaitEvent = true
+is_pausing service.Schedule = true
+is_pausing _ = false
+
+abbrev pub is_pause : Op → Bool
+is_pause (op.Serve call) = is_pausing call.service
+is_pause _ = false
+
+-- ---- rows
+
+-- row i has bit j
+abbrev pub row_has : List ℕ → ℕ → ℕ → Bool
+row_has rows i j = has (get_or rows i 0) j
+
+-- row i has the first of these, the row of each has the next, and that of the last has j
+abbrev pub RowChain : List ℕ → ℕ → List ℕ → ℕ → Type 0
+RowChain rows i [] j = row_has rows i j ≡ true
+RowChain rows i (k ∷ between) j = (row_has rows i k ≡ true) × RowChain rows k between j
+
+-- what a row becomes where ways through k are added
+abbrev pub widened : List ℕ → ℕ → ℕ → ℕ → Bool
+widened rows k i j = row_has rows i j || (row_has rows i k && row_has rows k j)

@@ -1,0 +1,23 @@
+//! V1: functions that lie on a cycle of calls.
+ghost use Rattle.std.specs.Prelude.{◌≡◌, ◌≤◌, length};
+ghost use Rattle.sloth_refusal.specs.Search.{Finds};
+ghost use Rattle.call_graph.specs.Cycles.{RowCycle};
+
+use crate::bits::has;
+use sloth_base::app::Func;
+use sloth_base::refusal::{Code, Part, Refusal};
+use sloth_refusal::{merge, when};
+
+/// The least function that its own row has, by its header's line.
+pub fn cycle(funcs: &[Func], rows: &[u64]) -> Option<Refusal>
+    requires same { length rows.now ≡ length funcs.now }
+    requires few { length funcs.now ≤ 64 }
+    ensures { Finds (RowCycle funcs.now rows.now) result }
+{
+    let mut least = None;
+    for (number, func) in funcs.iter().enumerate() {
+        let itself = has(rows[number], number);
+        least = merge(least, when(itself, Part::Src, func.line, Code::V1));
+    }
+    least
+}

@@ -1,0 +1,46 @@
+//! Which functions call which: no function may call itself by way of others (V1), and of each is known what its calls reach.
+#![tactic(auto)]
+
+ghost use Rattle.std.specs.Prelude.{◌≡◌, IfErr, IfOk, OnOk};
+ghost use Rattle.sloth_refusal.specs.Order.{NoFault, ErrorIs};
+ghost use Rattle.app_rules.specs.AppRange.{IsTaskCode};
+ghost use Rattle.app_rules.specs.WellFormed.{CycleFault};
+ghost use Rattle.call_graph.specs.Ranks.{RanksOf};
+
+pub mod bits;
+pub mod calls;
+pub mod cycles;
+pub mod lists;
+pub mod ranking;
+pub mod reached;
+pub mod rows;
+
+use crate::cycles::cycle;
+use crate::lists::{direct_calls, gathered};
+use crate::ranking::Ranks;
+use crate::rows::closed;
+use sloth_base::app::App;
+use sloth_base::refusal::BuildError;
+use std::alloc::Global;
+
+/// What the calls of the task code reach, unless a function calls itself by way of others.
+pub fn ranks(alloc: Global, app: &App) -> Result<Ranks, BuildError>
+    requires { IsTaskCode app.now }
+    ensures belong { IfOk result (RanksOf app.now) }
+    ensures none { OnOk result (NoFault (CycleFault app.now)) }
+    ensures refused { IfErr result (ErrorIs (CycleFault app.now)) }
+{
+    let funcs = app.funcs.items();
+    let direct = match direct_calls(alloc, funcs) {
+        Ok(direct) => direct,
+        Err(_) => return Err(BuildError::Memory),
+    };
+    let rows = closed(direct);
+    if let Some(refusal) = cycle(funcs, &rows) {
+        return Err(BuildError::Refused(refusal));
+    }
+    match gathered(alloc, funcs, &rows) {
+        Ok(ranks) => Ok(ranks),
+        Err(_) => Err(BuildError::Memory),
+    }
+}

@@ -1,0 +1,110 @@
+//! Lists with an entry for each function.
+ghost use Rattle.std.specs.Prelude.{◌≡◌, ℕ, ◌<◌, ◌≤◌, false, length, map, get_or, count_ones, IfOk};
+ghost use Rattle.call_graph.specs.Bits.{has};
+ghost use Rattle.call_graph.specs.Rows.{row_has};
+ghost use Rattle.call_graph.specs.Reached.{AreFew, func_of, calls_itself, takes_by, pauses_by, used_by};
+ghost use Rattle.call_graph.specs.Gathered.{Gathered};
+
+use crate::calls::called;
+use crate::ranking::Ranks;
+use crate::reached::{pauses_of, resources_of, users_of};
+use sloth_base::app::Func;
+use sloth_base::list::List;
+use sloth_base::memory::NoMemory;
+use std::alloc::Global;
+
+/// The rows of direct calls.
+pub fn direct_calls(alloc: Global, funcs: &[Func]) -> Result<Vec<u64>, NoMemory>
+    requires { AreFew funcs.now }
+    ensures count { IfOk result (λ rows. length rows.items ≡ length funcs.now) }
+    ensures calls { IfOk result (λ rows. (f g : ℕ) → f < length funcs.now → row_has rows.items f g ≡ calls_itself (func_of funcs.now f) g) }
+{
+    let mut rows = Vec::new(alloc);
+    for func in funcs {
+        match rows.push(called(func.items.items())) {
+            Ok(()) => {}
+            Err(_) => return Err(NoMemory),
+        }
+    }
+    Ok(rows)
+}
+
+/// The number of functions that each row has.
+fn rank_list(alloc: Global, rows: &[u64]) -> Result<List<u32>, NoMemory>
+    ensures { IfOk result (λ list. list ≡ map count_ones rows.now) }
+{
+    let mut list = Vec::new(alloc);
+    for row in rows {
+        match list.push(row.count_ones()) {
+            Ok(()) => {}
+            Err(_) => return Err(NoMemory),
+        }
+    }
+    Ok(List::from_vec(list))
+}
+
+/// The resources that each function reaches taking.
+fn resource_sets(alloc: Global, funcs: &[Func], rows: &[u64]) -> Result<List<u64>, NoMemory>
+    requires small { AreFew funcs.now }
+    ensures count { IfOk result (λ list. length list ≡ length rows.now) }
+    ensures sets { IfOk result (λ list. (f r : ℕ) → f < length rows.now
+        → has (get_or list f 0) r ≡ takes_by funcs.now f (get_or rows.now f 0) r) }
+{
+    let mut list = Vec::new(alloc);
+    for (number, row) in rows.iter().enumerate() {
+        match list.push(resources_of(funcs, number, *row)) {
+            Ok(()) => {}
+            Err(_) => return Err(NoMemory),
+        }
+    }
+    Ok(List::from_vec(list))
+}
+
+/// Whether each function reaches a WaitEvent or a Schedule.
+fn pausing_functions(alloc: Global, funcs: &[Func], rows: &[u64]) -> Result<List<bool>, NoMemory>
+    requires { length funcs.now ≤ 64 }
+    ensures count { IfOk result (λ list. length list ≡ length rows.now) }
+    ensures pauses { IfOk result (λ list. (f : ℕ) → f < length rows.now
+        → get_or list f false ≡ pauses_by funcs.now f (get_or rows.now f 0)) }
+{
+    let mut list = Vec::new(alloc);
+    for (number, row) in rows.iter().enumerate() {
+        match list.push(pauses_of(funcs, number, *row)) {
+            Ok(()) => {}
+            Err(_) => return Err(NoMemory),
+        }
+    }
+    Ok(List::from_vec(list))
+}
+
+/// The tasks that reach each function.
+fn user_sets(alloc: Global, funcs: &[Func], rows: &[u64]) -> Result<List<u32>, NoMemory>
+    requires small { AreFew funcs.now }
+    requires same { length rows.now ≡ length funcs.now }
+    ensures count { IfOk result (λ list. length list ≡ length funcs.now) }
+    ensures sets { IfOk result (λ list. (f t : ℕ) → f < length funcs.now
+        → has (get_or list f 0) t ≡ used_by funcs.now rows.now f t) }
+{
+    let mut list = Vec::new(alloc);
+    for number in 0..funcs.len() {
+        match list.push(users_of(funcs, rows, number)) {
+            Ok(()) => {}
+            Err(_) => return Err(NoMemory),
+        }
+    }
+    Ok(List::from_vec(list))
+}
+
+/// What closed rows say of each function.
+pub fn gathered(alloc: Global, funcs: &[Func], rows: &[u64]) -> Result<Ranks, NoMemory>
+    requires few { AreFew funcs.now }
+    requires same { length rows.now ≡ length funcs.now }
+    ensures { IfOk result (Gathered funcs.now rows.now) }
+{
+    Ok(Ranks {
+        rank: rank_list(alloc, rows)?,
+        resources: resource_sets(alloc, funcs, rows)?,
+        pauses: pausing_functions(alloc, funcs, rows)?,
+        users: user_sets(alloc, funcs, rows)?,
+    })
+}

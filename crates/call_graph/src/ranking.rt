@@ -1,0 +1,16 @@
+//! What is known of the functions of task code from their calls.
+
+use sloth_base::list::List;
+
+/// What the calls of task code reach, function by function.
+#[derive(Drop)]
+pub struct Ranks {
+    /// A rank above that of every function that it calls.
+    pub rank: List<u32>,
+    /// The resources that it reaches taking, as bits.
+    pub resources: List<u64>,
+    /// Whether it reaches a WaitEvent or a Schedule.
+    pub pauses: List<bool>,
+    /// The tasks that reach it, as bits.
+    pub users: List<u32>,
+}

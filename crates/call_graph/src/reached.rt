@@ -1,0 +1,82 @@
+//! What a function reaches, from its number and its row.
+ghost use Rattle.std.specs.Prelude.{◌≡◌, ℕ, ◌<◌, ◌≤◌, ◌||◌, ◌&&◌, length};
+ghost use Rattle.app_rules.specs.Named.{is_body_of};
+ghost use Rattle.call_graph.specs.Bits.{has};
+ghost use Rattle.call_graph.specs.Reached.{AreFew, TakesFew, IsOfFew, takes_itself, pauses_itself, reaches_by, takes_by, pauses_by, used_by};
+
+use crate::bits::{has, union, with_task};
+use crate::calls::{pauses, taken};
+use sloth_base::app::Func;
+
+/// Whether the function with this number and this row is the other, or reaches it.
+fn is_reached(from: usize, row: u64, to: usize) -> bool
+    requires { to < 64 }
+    ensures { result ≡ reaches_by from row to }
+{
+    from == to || has(row, to)
+}
+
+fn with_taken(resources: u64, reached: bool, func: &Func) -> u64
+    requires { TakesFew func.now }
+    ensures { (r : ℕ) → has result r ≡ (has resources r || (reached && takes_itself func.now r)) }
+{
+    if reached {
+        union(resources, taken(func.items.items()))
+    } else {
+        resources
+    }
+}
+
+/// The resources that the function with this number and this row reaches taking.
+pub fn resources_of(funcs: &[Func], from: usize, row: u64) -> u64
+    requires { AreFew funcs.now }
+    ensures { (r : ℕ) → has result r ≡ takes_by funcs.now from row r }
+{
+    let mut resources = 0;
+    for (number, func) in funcs.iter().enumerate() {
+        resources = with_taken(resources, is_reached(from, row, number), func);
+    }
+    resources
+}
+
+fn pauses_with(pausing: bool, reached: bool, func: &Func) -> bool
+    ensures { result ≡ (pausing || (reached && pauses_itself func.now)) }
+{
+    pausing || (reached && pauses(func.items.items()))
+}
+
+/// Whether the function with this number and this row reaches a WaitEvent or a Schedule.
+pub fn pauses_of(funcs: &[Func], from: usize, row: u64) -> bool
+    requires { length funcs.now ≤ 64 }
+    ensures { result ≡ pauses_by funcs.now from row }
+{
+    let mut pausing = false;
+    for (number, func) in funcs.iter().enumerate() {
+        pausing = pauses_with(pausing, is_reached(from, row, number), func);
+    }
+    pausing
+}
+
+fn with_user(users: u32, reaches: bool, func: &Func) -> u32
+    requires { IsOfFew func.now }
+    ensures { (t : ℕ) → has result t ≡ (has users t || (reaches && is_body_of t func.now.task)) }
+{
+    match func.task {
+        Some(task) if reaches => with_task(users, task.0),
+        _ => users,
+    }
+}
+
+/// The tasks whose body is the function, or reaches it by these rows.
+pub fn users_of(funcs: &[Func], rows: &[u64], to: usize) -> u32
+    requires few { AreFew funcs.now }
+    requires same { length rows.now ≡ length funcs.now }
+    requires known { to < length funcs.now }
+    ensures { (t : ℕ) → has result t ≡ used_by funcs.now rows.now to t }
+{
+    let mut users = 0;
+    for (number, func) in funcs.iter().enumerate() {
+        users = with_user(users, is_reached(number, rows[number], to), func);
+    }
+    users
+}

@@ -1,0 +1,66 @@
+-- The way back to the caller: what its end leaves.
+use Rattle.std.proofs.Common.{◌≡◌, ℕ, ◌+◌, ◌-◌, ◌%◌, ◌<◌, ◌≤◌, ◌⊎◌, List, ◌∷◌, length, get_or, refl, ◌∙◌, arith, ⊎_elim}
+use Rattle.std.specs.Prelude.{true, set, ◌≢◌}
+use Rattle.std.proofs.lemmas.List.{get_or-set_other}
+use Rattle.sloth_base.specs.Machine.{Core, State}
+use Rattle.rv32_instr.specs.declared.InstrKind.{InstrKind}
+use Rattle.rv32_routine.specs.Place.{at}
+use Rattle.rv32_routine.proofs.Spread.{spread, spread_from, others}
+use Rattle.service_gen.specs.Back.{CanGoBack, WentBack, a0, a1}
+
+module _ (offset : ℕ) (code : List InstrKind) (c : Core) (can : CanGoBack offset code c) where
+  abbrev x2 : ℕ
+  x2 = get_or c.registers 2 0
+
+  abbrev x31 : ℕ
+  x31 = get_or c.registers 31 0
+
+  abbrev tail : List ℕ
+  tail = spread_from 27 5 c.registers
+
+  -- the state at the start, where these lines are pending
+  abbrev start : List ℕ → State
+  start pending = at offset (record (spread c) { pending = pending })
+
+  -- the core that is left, and the state at the end, with x1, the level in x3, and the registers from x5 on
+  abbrev left : ℕ → List ℕ → List ℕ → Core
+  left level pending ram = record (spread c) { ilevel = level; pending = pending; ram = ram }
+
+  abbrev end : ℕ → ℕ → List ℕ → List ℕ → List ℕ → State
+  end x1 x3 rest pending ram =
+      record {
+        pc = x31 - x31 % 4;
+        core = record (spread c) { registers = 0 ∷ x1 ∷ x2 ∷ x3 ∷ 0x8000_0000 ∷ rest; mepc = x31 - x31 % 4; plevel = x3 % 256; ilevel = x3 % 256; mie = c.mpie; mpie = true; pending = pending; ram = ram };
+      }
+
+  returned : (last x1 x3 level : ℕ) (rest before pending ram : List ℕ) → length rest ≡ 27 → x3 % 256 ≡ level → ((i : ℕ) → 5 ≤ i → (i < a0) ⊎ (last < i) → get_or (0 ∷ x1 ∷ x2 ∷ x3 ∷ 0x8000_0000 ∷ rest) i 0 ≡ get_or (spread c).registers i 0) → WentBack last (left level pending ram) (start before) (end x1 x3 rest pending ram)
+  returned last x1 x3 level rest before pending ram long running kept =
+      let aligned = can.back in
+      record {
+        left = record { zero = refl; registers = omega arith; opened = can.previous; previous = refl; running = running; pending = refl; enabled = refl; levels = refl; ram = refl; scratch = refl; controller = refl };
+        pc = omega arith;
+        x2 = refl;
+        kept = kept;
+      }
+
+  other : (x1 x3 i : ℕ) → 5 ≤ i → get_or (0 ∷ x1 ∷ x2 ∷ x3 ∷ 0x8000_0000 ∷ tail) i 0 ≡ get_or (spread c).registers i 0
+  other x1 x3 i past = others x1 x2 x3 0x8000_0000 (get_or c.registers 1 0) x2 (get_or c.registers 3 0) (get_or c.registers 4 0) tail i past
+
+  not_a0 : (last i : ℕ) → a0 ≤ last → (i < a0) ⊎ (last < i) → i ≢ 10
+  not_a0 last i h apart e = ⊎_elim (λ below. absurd (omega arith)) (λ above. absurd (omega arith)) apart
+
+  not_a1 : (i : ℕ) → (i < a0) ⊎ (a1 < i) → i ≢ 11
+  not_a1 i apart e = ⊎_elim (λ below. absurd (omega arith)) (λ above. absurd (omega arith)) apart
+
+  -- with a status
+  pub answered : (x1 x3 level status : ℕ) (before pending ram : List ℕ) → x3 % 256 ≡ level → WentBack a0 (left level pending ram) (start before) (end x1 x3 (set tail 5 status) pending ram)
+  answered x1 x3 level status before pending ram running =
+      returned a0 x1 x3 level (set tail 5 status) before pending ram refl running
+      (λ i past apart. get_or-set_other (0 ∷ x1 ∷ x2 ∷ x3 ∷ 0x8000_0000 ∷ tail) 10 i status 0 (not_a0 a0 i (omega arith) apart) ∙ other x1 x3 i past)
+
+  -- with a status and an answer
+  pub answered_with : (x1 x3 level status answer : ℕ) (before pending ram : List ℕ) → x3 % 256 ≡ level → WentBack a1 (left level pending ram) (start before) (end x1 x3 (set (set tail 6 answer) 5 status) pending ram)
+  answered_with x1 x3 level status answer before pending ram running =
+      let low = 0 ∷ x1 ∷ x2 ∷ x3 ∷ 0x8000_0000 ∷ tail in
+      returned a1 x1 x3 level (set (set tail 6 answer) 5 status) before pending ram refl running
+      (λ i past apart. get_or-set_other (set low 11 answer) 10 i status 0 (not_a0 a1 i (omega arith) apart) ∙ get_or-set_other low 11 i answer 0 (not_a1 i apart) ∙ other x1 x3 i past)

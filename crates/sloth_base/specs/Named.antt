@@ -1,0 +1,67 @@
+-- What the numbers in a configuration and in task code name.
+use Rattle.std.specs.Prelude.{ℕ, suc, ◌<◌, ◌≡◌, List, [], ◌∷◌, false, cond, length, Some, None, get_or}
+use Rattle.sloth_base.specs.declared.config.Config.{Config}
+use Rattle.sloth_base.specs.declared.config.TaskDecl.{TaskDecl}
+use Rattle.sloth_base.specs.declared.app.App.{App}
+use Rattle.sloth_base.specs.declared.app.Func.{Func}
+use Rattle.sloth_base.specs.declared.app.Item.{Item}
+use Rattle.sloth_base.specs.declared.app.Label.{Label}
+use Rattle.sloth_base.specs.declared.app.Op.{Op}
+use Rattle.sloth_base.specs.declared.app.Op.TheVariants as op
+use Rattle.sloth_base.specs.declared.app.Symbol.{Symbol}
+use Rattle.sloth_base.specs.Options.{is_number}
+
+-- what stands in the place of a task that is not declared
+abbrev pub undeclared : TaskDecl
+undeclared = record { name = []; priority = 0; extended = false; non = false; autostart = false; resources = []; events = 0 }
+
+-- a task's declaration
+abbrev pub declaration : Config → ℕ → TaskDecl
+declaration config t = get_or config.tasks t undeclared
+
+-- what stands in the place of a function that is not there
+abbrev pub missing : Func
+missing = record { name = []; line = 0; task = None; frame_words = 0; items = []; labels = [] }
+
+-- a function by its number
+abbrev pub function : App → ℕ → Func
+function app f = get_or app.funcs f missing
+
+-- what stands in the place of a label that is not there
+abbrev pub nowhere : Label
+nowhere = record { name = []; line = 0; item = 0; holds = [] }
+
+-- a label of a function
+abbrev pub label_of : Func → ℕ → Label
+label_of f k = get_or f.labels k nowhere
+
+-- what stands in the place of an item that is not there
+abbrev pub no_item : Item
+no_item = record { line = 0; op = op.Return }
+
+-- an item of a function
+abbrev pub item_of : Func → ℕ → Item
+item_of f i = get_or f.items i no_item
+
+-- what item i of body f does
+abbrev pub operation : App → ℕ → ℕ → Op
+operation app f i = (item_of (function app f) i).op
+
+-- what stands in the place of a symbol that is not there
+abbrev pub no_symbol : Symbol
+no_symbol = record { name = []; bytes = [] }
+
+-- the number of bytes of a symbol
+abbrev pub symbol_size : App → ℕ → ℕ
+symbol_size app y = length (get_or app.symbols y no_symbol).bytes
+
+-- ---- bodies of tasks
+
+-- body f is that of task t
+abbrev pub IsBodyOf : App → ℕ → ℕ → Type 0
+IsBodyOf app t f = (f < length app.funcs) × ((function app f).task ≡ Some t)
+
+-- the number of a task's body
+abbrev pub body_of : List Func → ℕ → ℕ
+body_of [] t = 0
+body_of (f ∷ rest) t = cond (is_number t f.task) 0 (suc (body_of rest t))
