@@ -8,7 +8,7 @@ use Rattle.std.proofs.Math.ListN.{get_or-map}
 use Rattle.sloth_base.specs.declared.app.App.{App}
 use Rattle.sloth_base.specs.declared.refusal.Refusal.{Refusal}
 use Rattle.sloth_refusal.specs.Order.{NoFault}
-use Rattle.app_rules.specs.Named.{is_body_of}
+use Rattle.sloth_base.specs.Options.{is_number}
 use Rattle.app_rules.specs.Code.{Calls, CallChain, Reaches, TaskReaches, ReachesTaking, ReachesPause}
 use Rattle.app_rules.specs.WellFormed.{CycleFault, on_cycle}
 use Rattle.call_graph.specs.declared.ranking.Ranks.{Ranks}
@@ -94,13 +94,13 @@ module _ (app : App) (direct rows : List ℕ) (c : Closed app direct rows) where
 
   pub Decides-used : (f t : ℕ) → Decides (used_by app.funcs rows f t) (TaskReaches app t f)
   Decides-used f t =
-      let test : ℕ → Bool = λ b. reaches_by b (get_or rows b 0) f && is_body_of t (func_of app.funcs b).task in (
+      let test : ℕ → Bool = λ b. reaches_by b (get_or rows b 0) f && is_number t (func_of app.funcs b).task in (
         λ h.
             let x = number_found test (length app.funcs) h in
-            let parts = and_parts (reaches_by x.0 (get_or rows x.0 0) f) (is_body_of t (func_of app.funcs x.0).task) x.2 in
+            let parts = and_parts (reaches_by x.0 (get_or rows x.0 0) f) (is_number t (func_of app.funcs x.0).task) x.2 in
             (x.0, (x.1, body_is t _ parts.1), (Decides-reaches x.0 f).0 parts.0),
         λ x. number_counts test (length app.funcs) x.0 x.1.0
-            (both (reaches_by x.0 (get_or rows x.0 0) f) (is_body_of t (func_of app.funcs x.0).task) ((Decides-reaches x.0 f).1 x.2) (is_body t _ x.1.1)),
+            (both (reaches_by x.0 (get_or rows x.0 0) f) (is_number t (func_of app.funcs x.0).task) ((Decides-reaches x.0 f).1 x.2) (is_body t _ x.1.1)),
       )
 
   -- ---- cycles

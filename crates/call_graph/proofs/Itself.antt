@@ -13,7 +13,8 @@ use Rattle.sloth_base.specs.declared.app.Op.{Op}
 use Rattle.sloth_base.specs.declared.app.Op.TheVariants as op
 use Rattle.sloth_base.specs.declared.service.Service.{Service}
 use Rattle.sloth_base.specs.declared.service.Service.TheVariants as service
-use Rattle.app_rules.specs.Named.{function, missing, no_item, is_body_of}
+use Rattle.sloth_base.specs.Named.{function, missing, no_item}
+use Rattle.sloth_base.specs.Options.{is_number}
 use Rattle.app_rules.specs.Code.{IsItem, serve, Calls, Pauses}
 use Rattle.call_graph.specs.Rows.{is_call, is_get, is_taking, is_pausing, is_pause}
 use Rattle.call_graph.specs.Reached.{any_below, func_of, calls_itself, takes_itself, pauses_itself}
@@ -115,12 +116,12 @@ module _ (app : App) (f : ℕ) (known : f < length app.funcs) where
   are_pauses i object mask s is pauses =
       list_any_at (λ item. is_pause item.op) (function app f).items i no_item is.inside (ap is_pause is.is ∙ is_pausing_of s pauses)
 
-pub body_is : (t : ℕ) (o : Option ℕ) → is_body_of t o ≡ true → o ≡ Some t
+pub body_is : (t : ℕ) (o : Option ℕ) → is_number t o ≡ true → o ≡ Some t
 body_is t None e = absurd (false≢true e)
 body_is t (Some u) e = ap (λ x. Some x) (eqb-true u t e)
 
-pub is_body : (t : ℕ) (o : Option ℕ) → o ≡ Some t → is_body_of t o ≡ true
-is_body t o e = ap (is_body_of t) e ∙ eq-eqb t t refl
+pub is_body : (t : ℕ) (o : Option ℕ) → o ≡ Some t → is_number t o ≡ true
+is_body t o e = ap (is_number t) e ∙ eq-eqb t t refl
 
 pub func_is : (funcs : List Func) (i : ℕ) (f : Func) → i < length funcs → f ≡ get_or funcs i f → f ≡ func_of funcs i
 func_is funcs i f l e = e ∙ get_or_default funcs i f missing l

@@ -3,7 +3,7 @@ use Rattle.std.specs.Prelude.{ℕ, ◌<◌, ◌≡◌, true, List, length, get_o
 use Rattle.sloth_base.specs.declared.app.Func.{Func}
 use Rattle.sloth_base.specs.declared.refusal.Code.TheVariants as code
 use Rattle.sloth_base.specs.declared.refusal.Refusal.{Refusal}
-use Rattle.app_rules.specs.Named.{missing}
+use Rattle.sloth_base.specs.Named.{missing}
 use Rattle.app_rules.specs.WellFormed.{at_line}
 use Rattle.call_graph.specs.Rows.{row_has}
 

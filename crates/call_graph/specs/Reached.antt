@@ -2,7 +2,8 @@
 use Rattle.std.specs.Prelude.{ℕ, zero, suc, ◌<◌, ◌≤◌, ◌≡◌, ◌==◌, ◌||◌, ◌&&◌, Bool, true, false, List, length, get_or, Some}
 use Rattle.std.specs.List.{list_any}
 use Rattle.sloth_base.specs.declared.app.Func.{Func}
-use Rattle.app_rules.specs.Named.{missing, is_body_of}
+use Rattle.sloth_base.specs.Named.{missing}
+use Rattle.sloth_base.specs.Options.{is_number}
 use Rattle.call_graph.specs.Bits.{has}
 use Rattle.call_graph.specs.Rows.{is_call, is_taking, is_pause}
 
@@ -55,4 +56,4 @@ pauses_by funcs from row = any_below (length funcs) (λ g. reaches_by from row g
 
 -- the body of task t reaches the function
 abbrev pub used_by : List Func → List ℕ → (to t : ℕ) → Bool
-used_by funcs rows to t = any_below (length funcs) (λ b. reaches_by b (get_or rows b 0) to && is_body_of t (func_of funcs b).task)
+used_by funcs rows to t = any_below (length funcs) (λ b. reaches_by b (get_or rows b 0) to && is_number t (func_of funcs b).task)

@@ -1,6 +1,6 @@
 //! What a function reaches, from its number and its row.
 ghost use Rattle.std.specs.Prelude.{◌≡◌, ℕ, ◌<◌, ◌≤◌, ◌||◌, ◌&&◌, length};
-ghost use Rattle.app_rules.specs.Named.{is_body_of};
+ghost use Rattle.sloth_base.specs.Options.{is_number};
 ghost use Rattle.call_graph.specs.Bits.{has};
 ghost use Rattle.call_graph.specs.Reached.{AreFew, TakesFew, IsOfFew, takes_itself, pauses_itself, reaches_by, takes_by, pauses_by, used_by};
 
@@ -59,7 +59,7 @@ pub fn pauses_of(funcs: &[Func], from: usize, row: u64) -> bool
 
 fn with_user(users: u32, reaches: bool, func: &Func) -> u32
     requires { IsOfFew func.now }
-    ensures { (t : ℕ) → has result t ≡ (has users t || (reaches && is_body_of t func.now.task)) }
+    ensures { (t : ℕ) → has result t ≡ (has users t || (reaches && is_number t func.now.task)) }
 {
     match func.task {
         Some(task) if reaches => with_task(users, task.0),
