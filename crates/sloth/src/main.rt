@@ -23,17 +23,17 @@ fn code(status: Status) -> u8 {
     }
 }
 
-// The words without the program's own name, or the status to end with: 5 for want of memory, and 1 where a word is not UTF-8.
-fn words(rt: &(impl Env + AllocGlobal)) -> Result<Vec<String>, u8> {
+// The words without the program's own name, or how the program ends without them: a word that is not UTF-8 is none of a command's.
+fn words(rt: &(impl Env + AllocGlobal)) -> Result<Vec<String>, Status> {
     let mut words = Vec::new(rt.alloc());
     let args = match env::args(rt) {
         Ok(args) => args,
-        Err(fault) if fault.kind() == ErrorKind::OutOfMemory => return Err(5),
-        Err(_) => return Err(1),
+        Err(fault) if fault.kind() == ErrorKind::OutOfMemory => return Err(Status::NoMemory),
+        Err(_) => return Err(Status::Usage),
     };
     for word in args.skip(1) {
         if words.push(word).is_err() {
-            return Err(5);
+            return Err(Status::NoMemory);
         }
     }
     Ok(words)
@@ -42,7 +42,7 @@ fn words(rt: &(impl Env + AllocGlobal)) -> Result<Vec<String>, u8> {
 fn main(rt: HostRuntime) -> ExitCode {
     let words = match words(&rt) {
         Ok(words) => words,
-        Err(status) => return ExitCode::from(status),
+        Err(status) => return ExitCode::from(code(status)),
     };
     let mut files = FileStore::new(&rt);
     let mut out = OutSink::new(&rt);
