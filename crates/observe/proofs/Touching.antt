@@ -9,7 +9,8 @@ use Rattle.std.proofs.Math.ListN.{set}
 use Rattle.std.proofs.lemmas.Grind.{get_or-set_at}
 use Rattle.sloth_base.specs.declared.event.Arrival.{Arrival}
 use Rattle.sloth_base.specs.declared.step.Step.{Step}
-use Rattle.observe.specs.Observe.{touches, is_early, is_line}
+use Rattle.observe.specs.Observe.{touches, is_early}
+use Rattle.sloth_base.specs.Options.{is_number}
 use Rattle.observe.specs.Touched.{was_touched, noted, AreLines, Tells}
 
 or_false : (b : Bool) → (b || false) ≡ b
@@ -28,11 +29,11 @@ any-more : (at line : ℕ) (steps : List Step) (step : Step) → list_any (touch
 any-more at line steps step = list_any-append (touches at line) steps (step ∷ []) ∙ ap (λ b. list_any (touches at line) steps || b) (or_false (touches at line step))
 
 -- a step that does not touch the line
-any-same : (at line : ℕ) (steps : List Step) (step : Step) → is_line step.touched line ≡ false → list_any (touches at line) (steps ++ step ∷ []) ≡ list_any (touches at line) steps
+any-same : (at line : ℕ) (steps : List Step) (step : Step) → is_number line step.touched ≡ false → list_any (touches at line) (steps ++ step ∷ []) ≡ list_any (touches at line) steps
 any-same at line steps step off = any-more at line steps step ∙ rw (off, and_false, or_false) refl
 
 -- a step that does
-any-here : (at line : ℕ) (table : List ℕ) (count : ℕ) (steps : List Step) (step : Step) → Tells table count steps → line < 32 → step.count ≡ count → is_line step.touched line ≡ true
+any-here : (at line : ℕ) (table : List ℕ) (count : ℕ) (steps : List Step) (step : Step) → Tells table count steps → line < 32 → step.count ≡ count → is_number line step.touched ≡ true
     → nat_lt at (step.count + 1) ≡ list_any (touches at line) (steps ++ step ∷ [])
 any-here at line table count steps step t lt e on = elim (leb_tells at step.count) [
   | inl early ↦ (let now : nat_lt at (step.count + 1) ≡ true = lt-ltb at (step.count + 1) (omega arith) in
@@ -44,7 +45,7 @@ any-here at line table count steps step t lt e on = elim (leb_tells at step.coun
 ]
 
 -- a step that touches none of the 32 lines
-noted-none : (table : List ℕ) (count : ℕ) (steps : List Step) (step : Step) → ((line : ℕ) → line < 32 → is_line step.touched line ≡ false) → Tells table count steps → Tells table (count + 1) (steps ++ step ∷ [])
+noted-none : (table : List ℕ) (count : ℕ) (steps : List Step) (step : Step) → ((line : ℕ) → line < 32 → is_number line step.touched ≡ false) → Tells table count steps → Tells table (count + 1) (steps ++ step ∷ [])
 noted-none table count steps step other t = record {
   long = t.long;
   earlier = λ line. let bound : slice_index table line ≤ count = t.earlier line in omega arith;

@@ -13,7 +13,7 @@ use Rattle.sloth_base.specs.Arrivals.{NeverFalls, moments}
 use Rattle.observe.specs.Pieces.{Outside, Stretch, begins}
 use Rattle.observe.specs.Observe.{View, piece_events, found_admits, placed, masked_from, admit, last_of, outside_events, events_of_kind, mark_at, stamp, stretch_event}
 use Rattle.observe.specs.Touched.{was_touched, noted, AreLines, Tells}
-use Rattle.observe.specs.Progress.{Progress, left_over, advanced_from, passed, begun, joined, ended, noting, stood_outside, only, here, behind, within, one_or_none, IsOpen, IsStretch, from}
+use Rattle.observe.specs.Progress.{Progress, left_over, advanced_from, passed, begun, joined, noting, stood_outside, only, here, behind, within, one_or_none, IsOpen, IsStretch, from, behind_stretch}
 use Rattle.observe.proofs.Growing.{kept, Brings}
 use Rattle.observe.proofs.Moments.{here-from, behind-from, within-from, moments-none}
 use Rattle.observe.proofs.Touching.{noted-keeps, tells-none, filter-early, filter-late}
@@ -89,7 +89,7 @@ turned-next view arrivals p first more step r h true on = record {
       let m : Progress = noting (passed p step) step in
       let P : Bool → Type 0 = λ b.
       flat_map (piece_events view arrivals) (if b then Stretch (first ∷ (more ++ step ∷ [])) ∷ [] else []) ++ found_admits view arrivals (if b then [] else first ∷ (more ++ step ∷ []))
-      ≡ found_admits view arrivals (first ∷ more) ++ left_over view (if b then ended view m first step else record m { first = Some first }) in
+      ≡ found_admits view arrivals (first ∷ more) ++ left_over view (if b then behind_stretch view m first step else record m { first = Some first }) in
       let body : P true =
       rw (
         last-more first more step,
@@ -108,7 +108,7 @@ turned-next view arrivals p first more step r h false off = record {
   coming = rw off (coming-is arrivals p step r);
   stretch =
       let m : Progress = noting (passed p step) step in
-      let now : Bool → Progress = λ b. if b then ended view m first step else record m { first = Some first } in
+      let now : Bool → Progress = λ b. if b then behind_stretch view m first step else record m { first = Some first } in
       let P : Bool → Type 0 = λ b. IsOpen arrivals (now b) (now b).first (if b then [] else first ∷ (more ++ step ∷ [])) in
       subst P (sym off) (
         refl,
@@ -143,7 +143,7 @@ turned-first view arrivals p step r opens true on = record {
       let P : Bool → Type 0 = λ b.
       flat_map (piece_events view arrivals) (if not (begins step) then Outside step ∷ [] else if b then Stretch (step ∷ []) ∷ [] else [])
       ++ found_admits view arrivals (if not (begins step) then [] else if b then [] else step ∷ [])
-      ≡ left_over view (if b then ended view m step step else record m { first = Some step }) in
+      ≡ left_over view (if b then behind_stretch view m step step else record m { first = Some step }) in
       let body : P true =
       rw (
         opens,
@@ -164,7 +164,7 @@ turned-first view arrivals p step r opens false off = record {
   coming = rw off (coming-is arrivals p step r);
   stretch =
       let m : Progress = noting (begun p step) step in
-      let now : Bool → Progress = λ b. if b then ended view m step step else record m { first = Some step } in
+      let now : Bool → Progress = λ b. if b then behind_stretch view m step step else record m { first = Some step } in
       let P : Bool → Type 0 = λ b. IsOpen arrivals (now b) (now b).first (if not (begins step) then [] else if b then [] else step ∷ []) in
       let Q : ℕ → Type 0 = λ n. Tells (noted step.touched step.count (replicate 32 0)) n (step ∷ []) in
       let K : Bool → Type 0 = λ b. IsOpen arrivals (now false) (Some step) (if not b then [] else step ∷ []) in

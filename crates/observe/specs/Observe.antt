@@ -1,9 +1,8 @@
 -- The events of a run.
-use Rattle.std.specs.Prelude.{ℕ, ◌+◌, ◌-◌, ◌==◌, nat_lt, nat_le, Bool, false, not, ◌&&◌, if◌then◌else◌, List, [], ◌∷◌, ◌++◌, map, filter, length, Option, Some, None, slice_index, slice_get, find}
+use Rattle.std.specs.Prelude.{ℕ, ◌+◌, ◌-◌, ◌==◌, nat_lt, nat_le, Bool, false, not, ◌&&◌, if◌then◌else◌, List, [], ◌∷◌, ◌++◌, map, filter, length, Option, Some, None, slice_index, find}
 use Rattle.std.specs.List.{flat_map, list_any}
 use Rattle.std.specs.List.Sorted.{IsStrictlyIncreasing}
 use Rattle.sloth_base.specs.declared.service.Service.{Service}
-use Rattle.sloth_base.specs.declared.service.Service.TheVariants as service
 use Rattle.sloth_base.specs.declared.image.Image.{Image}
 use Rattle.sloth_base.specs.declared.image.Mark.{Mark}
 use Rattle.sloth_base.specs.declared.image.MarkKind.{MarkKind}
@@ -14,6 +13,8 @@ use Rattle.sloth_base.specs.declared.event.Event.TheVariants as event
 use Rattle.sloth_base.specs.declared.event.Stamped.{Stamped}
 use Rattle.sloth_base.specs.declared.step.Step.{Step}
 use Rattle.sloth_base.specs.Arrivals.{moments}
+use Rattle.sloth_base.specs.ServiceCodes.{service_of}
+use Rattle.sloth_base.specs.Options.{is_number}
 use Rattle.observe.specs.Pieces.{Piece, Outside, Stretch, pieces, cut_off}
 
 -- what a run is observed by: the marks of the image, and its number of tasks
@@ -21,9 +22,11 @@ pub record View : Type 0 where
   pub marks : List Mark
   pub tasks : ℕ
 
+-- the view of these marks and this number of tasks
 abbrev pub view_from : List Mark → ℕ → View
 view_from marks tasks = record { marks = marks; tasks = tasks }
 
+-- what a run of an image is observed by
 abbrev pub view_of_image : Image → View
 view_of_image image = view_from image.marks (length image.tasks)
 
@@ -45,16 +48,13 @@ task_of tasks cur = if nat_lt 0 cur && nat_le cur tasks then cur - 1 else NO_TAS
 abbrev pub task_of_line : ℕ → ℕ → ℕ
 task_of_line tasks line = if nat_lt line tasks then line else NO_TASK
 
--- the services in the order of their codes
-abbrev pub services : List Service
-services = service.ActivateTask ∷ service.TerminateTask ∷ service.ChainTask ∷ service.Schedule ∷ service.GetTaskID ∷ service.GetTaskState ∷ service.GetResource ∷ service.ReleaseResource ∷ service.SetEvent ∷ service.ClearEvent ∷ service.GetEvent ∷ service.WaitEvent ∷ []
-
 -- the mark on the instruction at this address
 abbrev pub mark_at : View → ℕ → Option Mark
 mark_at view address = find (λ mark. mark.address == address) view.marks
 
 -- ---- the event of a piece
 
+-- an event with its stamp
 abbrev pub stamp : ℕ → ℕ → Event → Stamped
 stamp from at what = record { stamp = record { from = from; at = at }; event = what }
 
@@ -67,8 +67,9 @@ service_event (Some called) view first last =
     else event.Left (task_of view.tasks first.cur_before) called
 service_event None view first last = event.Stray
 
+-- the event of a stretch that begins at this mark, which no line began
 abbrev pub marked_event : MarkKind → View → Mark → Step → Step → Event
-marked_event kind.Opening view mark first last = service_event (slice_get services mark.a) view first last
+marked_event kind.Opening view mark first last = service_event (service_of mark.a) view first last
 marked_event kind.Back view mark first last = event.Back (task_of view.tasks first.cur_before)
 marked_event kind.Item view mark first last = event.Stray
 marked_event kind.Jump view mark first last = event.Stray
@@ -103,16 +104,13 @@ outside_events None view step = []
 
 -- ---- the admits
 
+-- the event of an arrival at its own moment
 abbrev pub admit : View → Arrival → Stamped
 admit view arrival = stamp arrival.at arrival.at (event.Admit (task_of_line view.tasks arrival.line))
 
-abbrev pub is_line : Option ℕ → ℕ → Bool
-is_line (Some touched) line = touched == line
-is_line None line = false
-
 -- the step, at that moment or later, loads the pending byte of the line or stores zero to it
 abbrev pub touches : ℕ → ℕ → Step → Bool
-touches at line step = nat_le at step.count && is_line step.touched line
+touches at line step = nat_le at step.count && is_number line step.touched
 
 -- the arrival comes before a step of these that touches its line
 abbrev pub is_early : List Step → Arrival → Bool
@@ -122,6 +120,7 @@ is_early steps arrival = list_any (touches arrival.at arrival.line) steps
 abbrev pub masked_from : Step → ℕ
 masked_from first = if first.enabled_before then first.count + 1 else first.count
 
+-- the last of steps that begin with this one
 abbrev pub last_of : Step → List Step → Step
 last_of step [] = step
 last_of step (next ∷ more) = last_of next more
@@ -138,11 +137,13 @@ placed view steps inside first last =
     ++ (stamp first.count last.count (stretch_event view first last)
     ∷ map (admit view) (filter (λ arrival. not (is_early steps arrival)) inside))
 
+-- the event of a stretch, and the arrivals while interrupts are masked
 abbrev pub stretch_events : View → List Arrival → List Step → List Stamped
 stretch_events view arrivals [] = []
 stretch_events view arrivals (first ∷ more) =
     placed view (first ∷ more) (moments (masked_from first) ((last_of first more).count + 1) arrivals) first (last_of first more)
 
+-- the events of a piece of a run
 abbrev pub piece_events : View → List Arrival → Piece → List Stamped
 piece_events view arrivals (Outside step) =
     map (admit view) (moments step.count (step.count + 1) arrivals)

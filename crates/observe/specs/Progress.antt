@@ -27,14 +27,17 @@ pub record Progress : Type 0 where
   pub event : Option Stamped
   pub after : List Arrival
 
+-- what an observer keeps
 abbrev pub progress_of : Observer → Progress
 progress_of o = record { expected = o.expected; coming = o.coming.now; first = o.first; inside = o.inside.now; touched = o.touched; found = o.found.now; before = o.before.now; event = o.event; after = o.after.now }
 
 -- ---- what other crates name of an observer
 
+-- what an observer observes by
 abbrev pub view_of : Observer → View
 view_of o = o.view
 
+-- the arrivals that an observer was made with
 abbrev pub arrivals_of : Observer → List Arrival
 arrivals_of o = o.arrivals.now
 
@@ -44,10 +47,12 @@ expected_of o = o.expected
 
 -- ---- what is still to be handed out
 
+-- the list of what there is
 abbrev pub one_or_none : Option Stamped → List Stamped
 one_or_none None = []
 one_or_none (Some what) = what ∷ []
 
+-- the events that are still to be told
 abbrev pub left_over : View → Progress → List Stamped
 left_over view p =
     map (admit view) p.found
@@ -65,6 +70,7 @@ remaining o = left_over (view_of o) (progress_of o)
 abbrev pub here : ℕ → List Arrival → List Arrival
 here count coming = take_while (λ arrival. nat_le arrival.at count) coming
 
+-- the arrivals behind those of a count
 abbrev pub behind : ℕ → List Arrival → List Arrival
 behind count coming = drop (length (here count coming)) coming
 
@@ -72,8 +78,9 @@ behind count coming = drop (length (here count coming)) coming
 abbrev pub within : List Arrival → List Arrival → List Arrival
 within inside coming = take (length inside - length coming) inside
 
-abbrev pub ended : View → Progress → Step → Step → Progress
-ended view p first last = record p {
+-- after the last step of a stretch
+abbrev pub behind_stretch : View → Progress → Step → Step → Progress
+behind_stretch view p first last = record p {
   first = None;
   before = within p.inside p.coming;
   event = Some (stamp first.count last.count (stretch_event view first last));
@@ -87,12 +94,13 @@ noting p step = record p { touched = noted step.touched step.count p.touched }
 -- the stretch of the first step goes on with this one
 abbrev pub joined : View → Progress → Step → Step → Progress
 joined view p first step =
-    if step.enabled_after then ended view (noting p step) first step else record (noting p step) { first = Some first }
+    if step.enabled_after then behind_stretch view (noting p step) first step else record (noting p step) { first = Some first }
 
 -- the step is counted, and its arrivals have passed
 abbrev pub passed : Progress → Step → Progress
 passed p step = record p { expected = p.expected + 1; coming = behind step.count p.coming; found = []; before = []; event = None; after = [] }
 
+-- after the first step of a stretch
 abbrev pub begun : Progress → Step → Progress
 begun p step = record (passed p step) {
   touched = replicate 32 0;
@@ -105,16 +113,19 @@ abbrev pub only : List Stamped → Option Stamped
 only [] = None
 only (what ∷ more) = Some what
 
+-- after a step outside the stretches
 abbrev pub stood_outside : View → Progress → Step → Progress
 stood_outside view p step = record (passed p step) {
   found = here step.count p.coming;
   event = only (map (stamp step.count step.count) (outside_events (mark_at view step.pc) view step));
 }
 
+-- after a step; the first step of the stretch that it may be in is given
 abbrev pub advanced_from : Option Step → View → Progress → Step → Progress
 advanced_from None view p step = if begins step then joined view (begun p step) step step else stood_outside view p step
 advanced_from (Some first) view p step = joined view (passed p step) first step
 
+-- after a step
 abbrev pub advanced : View → Progress → Step → Progress
 advanced view p step = advanced_from p.first view p step
 
@@ -128,6 +139,7 @@ settled p = record p { found = []; before = []; event = None; after = [] }
 abbrev pub from : ℕ → List Arrival → List Arrival
 from moment arrivals = filter (λ arrival. nat_le moment arrival.at) arrivals
 
+-- what is kept of the stretch that began with `first`, after these steps of it
 pub record IsStretch (arrivals : List Arrival) (p : Progress) (first : Step) (steps : List Step) : Type 0 where
   pub inside : p.inside ≡ from (masked_from first) arrivals
   pub begun : masked_from first ≤ p.expected
@@ -140,6 +152,7 @@ IsOpen arrivals p None (step ∷ steps) = ⊥
 IsOpen arrivals p (Some first) [] = ⊥
 IsOpen arrivals p (Some first) (step ∷ steps) = (first ≡ step) × IsStretch arrivals p first (step ∷ steps)
 
+-- what is kept after these steps, when these events have been told
 pub record FedProgress (view : View) (arrivals : List Arrival) (p : Progress) (steps : List Step) (events : List Stamped) : Type 0 where
   pub ordered : NeverFalls 0 arrivals
   pub lines : AreLines arrivals

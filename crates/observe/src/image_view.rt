@@ -7,22 +7,6 @@ use sloth_base::service::Service;
 use sloth_base::step::Step;
 use std::marker::Model;
 
-// In the order of their codes.
-const SERVICES: [Service; 12] = [
-    Service::ActivateTask,
-    Service::TerminateTask,
-    Service::ChainTask,
-    Service::Schedule,
-    Service::GetTaskID,
-    Service::GetTaskState,
-    Service::GetResource,
-    Service::ReleaseResource,
-    Service::SetEvent,
-    Service::ClearEvent,
-    Service::GetEvent,
-    Service::WaitEvent,
-];
-
 /// The marks of an image and its number of tasks.
 #[derive(Drop)]
 pub struct ImageView<'a> {
@@ -41,8 +25,9 @@ impl<'a> Model for ImageView<'a> {
 }
 
 impl ImageView<'_> {
-    ghost use Rattle.std.specs.Prelude.{◌≡◌, map, slice_get, slice_index};
-    ghost use Rattle.observe.specs.Observe.{task_of, task_of_line, services, mark_at, service_event, marked_event, unentered_event, stretch_event, outside_events, stamp};
+    ghost use Rattle.std.specs.Prelude.{◌≡◌, map, slice_index};
+    ghost use Rattle.observe.specs.Observe.{task_of, task_of_line, mark_at, service_event, marked_event, unentered_event, stretch_event, outside_events, stamp};
+    ghost use Rattle.sloth_base.specs.ServiceCodes.{service_of};
     ghost use Rattle.observe.specs.Progress.{only};
 
     // The mark on the instruction at this address.
@@ -104,9 +89,9 @@ impl ImageView<'_> {
 
     // The event of a stretch that begins at an opening mark.
     fn service_event(&self, code: u8, first: &Step, last: &Step) -> Event
-        ensures { result ≡ service_event (slice_get services code) self.now first.now last.now }
+        ensures { result ≡ service_event (service_of code) self.now first.now last.now }
     {
-        let Some(service) = service_of_code(code) else {
+        let Some(service) = Service::from_code(code) else {
             return Event::Stray;
         };
         let task = self.task(first.cur_before);
@@ -149,15 +134,7 @@ impl ImageView<'_> {
     }
 }
 
-ghost use Rattle.std.specs.Prelude.{◌≡◌, slice_get, slice_index};
-ghost use Rattle.observe.specs.Observe.{services};
-
-// The service of a code.
-fn service_of_code(code: u8) -> Option<Service>
-    ensures { result ≡ slice_get services code }
-{
-    SERVICES.get(usize::from(code)).copied()
-}
+ghost use Rattle.std.specs.Prelude.{◌≡◌, slice_index};
 
 fn register(regs: &[u32; 32], number: u8) -> u32
     ensures { result ≡ slice_index regs.now number }

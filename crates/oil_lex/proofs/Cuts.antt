@@ -212,9 +212,9 @@ refused t rest n ts k on s m span es em Memory f = tt
 refused t rest n ts k on s m span es em (Refused r) f =
     least t rest n ts k on s r (subst (λ (x : Meaning). FaultBy x n r) (em ∙ ap (meaning k.0) es) f)
 
-pub ended : (t rest : List ℕ) (n : ℕ) (ts : List Lexeme) → GoesOn t rest n ts → true ≡ (length rest == 0) → AreTokens t ts × NoFault (TextFault t)
-ended t [] n ts on e = ends t n ts on
-ended t (b ∷ rest) n ts on e = absurd (let z = eqb-true (length (b ∷ rest)) 0 (sym e) in omega (arith, z))
+pub cut_ends : (t rest : List ℕ) (n : ℕ) (ts : List Lexeme) → GoesOn t rest n ts → true ≡ (length rest == 0) → AreTokens t ts × NoFault (TextFault t)
+cut_ends t [] n ts on e = ends t n ts on
+cut_ends t (b ∷ rest) n ts on e = absurd (let z = eqb-true (length (b ∷ rest)) 0 (sym e) in omega (arith, z))
 
 -- Pieces have a fault, or none.
 pieces_judged : (ps : List Piece) (n : ℕ) → ((r : Refusal) × FaultOf n ps r) ⊎ NoFault (FaultOf n ps)

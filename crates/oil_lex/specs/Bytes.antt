@@ -13,6 +13,7 @@ is_plain_sign b = list_any (λ s. b == s) (123 ∷ 125 ∷ 61 ∷ 59 ∷ 58 ∷ 
 abbrev pub is_blank : ℕ → Bool
 is_blank b = (b == 32) || (b == 9) || (b == 13) || (b == 10)
 
+-- the class of a byte
 unfoldable pub class_of : ℕ → Class
 class_of b =
     if is_blank b then class.Blank
@@ -27,9 +28,11 @@ class_of b =
 unfoldable pub is_word_byte : ℕ → Bool
 is_word_byte b = is_ascii_alphanumeric b || (b == 95)
 
+-- a decimal digit
 unfoldable pub is_digit : ℕ → Bool
 is_digit b = is_ascii_digit b
 
+-- a hexadecimal digit
 unfoldable pub is_hex_digit : ℕ → Bool
 is_hex_digit b = is_ascii_hexdigit b
 
@@ -37,6 +40,7 @@ is_hex_digit b = is_ascii_hexdigit b
 unfoldable pub is_quoted : ℕ → Bool
 is_quoted b = not (b == 34) && not (b == 10)
 
+-- a byte that is no LF
 unfoldable pub is_not_lf : ℕ → Bool
 is_not_lf b = not (b == 10)
 

@@ -10,6 +10,7 @@ use Rattle.oil_lex.specs.declared.pieces.PieceKind.TheVariants as kind
 use Rattle.oil_lex.specs.Bytes.{class_of, is_word_byte, is_digit, is_hex_digit, is_quoted, is_not_lf}
 use Rattle.oil_lex.specs.Pieces.{closes, begins_hex}
 
+-- a byte goes on with a run
 abbrev pub passes : Run → ℕ → Bool
 passes WordBytes b = is_word_byte b
 passes Digits b = is_digit b
@@ -31,15 +32,18 @@ unfoldable pub text_piece : List ℕ → PieceKind × ℕ
 text_piece s =
     if slice_index s (prefix_len (passes Quoted) s) == 34 then (kind.Text, prefix_len (passes Quoted) s + 2) else (kind.UnclosedText, prefix_len (passes Quoted) s + 1)
 
+-- a comment, or the sign `/`
 unfoldable pub slash_piece : List ℕ → PieceKind × ℕ
 slash_piece t =
     if slice_index t 1 == 47 then (kind.LineComment, prefix_len (passes CommentLine) (drop 2 t) + 2)
     else (if slice_index t 1 == 42 then comment_piece (drop 2 t) else (kind.Sign, 1))
 
+-- a number, hexadecimal or decimal
 unfoldable pub number_piece : List ℕ → PieceKind × ℕ
 number_piece t =
     if begins_hex t then (kind.Hexadecimal, prefix_len (passes HexDigits) (drop 3 t) + 3) else (kind.Decimal, prefix_len (passes Digits) (drop 1 t) + 1)
 
+-- the kind and length of the piece at the front, by the class of its first byte
 unfoldable pub piece_by : Class → List ℕ → PieceKind × ℕ
 piece_by class.Blank t = (kind.Blank, 1)
 piece_by class.Letter t = (kind.Word, prefix_len (passes WordBytes) (drop 1 t) + 1)
@@ -49,5 +53,6 @@ piece_by class.Slash t = slash_piece t
 piece_by class.Sign t = (kind.Sign, 1)
 piece_by class.Other t = (kind.Stray, 1)
 
+-- the kind and length of the piece at the front of a text
 abbrev pub front_piece : List ℕ → PieceKind × ℕ
 front_piece t = piece_by (class_of (slice_index t 0)) t

@@ -53,6 +53,7 @@ pub data IsPiece : PieceKind → List ℕ → List ℕ → Type 0 where
   is_unclosed_text_lf : {w rest : List ℕ} → EachPasses is_quoted w → IsPiece kind.UnclosedText (34 ∷ w) (10 ∷ rest)
   is_unclosed_text_end : {w : List ℕ} → EachPasses is_quoted w → IsPiece kind.UnclosedText (34 ∷ w) []
 
+-- a piece: its kind and its bytes
 pub record Piece : Type 0 where
   pub kind : PieceKind
   pub bytes : List ℕ

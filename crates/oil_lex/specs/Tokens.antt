@@ -25,6 +25,7 @@ pub record Lexeme : Type 0 where
   pub line : ℕ
   pub bytes : List ℕ
 
+-- a token as the grammar sees it
 abbrev pub lexeme : Token → Lexeme
 lexeme t = record { kind = t.kind; line = t.line; bytes = t.span.now }
 

@@ -19,7 +19,8 @@ use Rattle.oil_model.specs.Table.{allows}
 use Rattle.oil_model.specs.Objects.{is_of_kind, is_use, is_used, first_number, number_of, number_given}
 use Rattle.oil_model.specs.Events.{events_of}
 use Rattle.oil_model.specs.ObjectFaults.{lacks_attribute}
-use Rattle.oil_model.specs.TaskFaults.{is_number, has_priority, is_taken, repeats_priority, shares_bit, TaskFault}
+use Rattle.oil_model.specs.TaskFaults.{has_priority, is_taken, repeats_priority, shares_bit, TaskFault}
+use Rattle.sloth_base.specs.Options.{is_number}
 use Rattle.oil_model.specs.ModelFaults.{ModelFault}
 use Rattle.oil_model.specs.Configs.{resource_number, listed_resource, with_number, with_resource, resources_of}
 use Rattle.oil_model.proofs.NoFaults.{nowhere, case_false, inner_at}

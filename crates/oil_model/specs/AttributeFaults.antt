@@ -16,6 +16,7 @@ use Rattle.oil_model.specs.Cases.{Case}
 use Rattle.oil_model.specs.Table.{attribute_of, is_single, allows, block_place}
 use Rattle.oil_model.specs.Objects.{is_use, has}
 
+-- the place that the last attribute opened, with one more attribute
 abbrev pub opened : Place → Place → OilAttr → Place
 opened place inner attr = if attr.depth == 0 then block_place place attr else inner
 
@@ -43,14 +44,17 @@ misses objects scheduler attribute.Resource word = not (scheduler && bytes_eq wo
 misses objects scheduler attribute.Event word = not (has objects (codes "EVENT") word)
 misses objects scheduler _ word = false
 
+-- a value names an object that is not there
 abbrev pub misses_value : List OilObject → Bool → Attribute → OilValue → Bool
 misses_value objects scheduler row (Word word) = misses objects scheduler row word
 misses_value objects scheduler row _ = false
 
+-- a value of an attribute names an object that is not there
 abbrev pub refers_to_none : List OilObject → Bool → Option Attribute → OilValue → Bool
 refers_to_none objects scheduler None value = false
 refers_to_none objects scheduler (Some row) value = misses_value objects scheduler row value
 
+-- an attribute does not allow a value
 abbrev pub is_refused : Option Attribute → OilValue → Bool
 is_refused None value = false
 is_refused (Some row) value = not (allows row value)

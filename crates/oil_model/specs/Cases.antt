@@ -4,6 +4,7 @@ use Rattle.sloth_base.specs.declared.refusal.Part.TheVariants.{Oil}
 use Rattle.sloth_base.specs.declared.refusal.Code.{Code}
 use Rattle.sloth_base.specs.declared.refusal.Refusal.{Refusal}
 
+-- a fault of the OIL text on a line
 abbrev pub at : ℕ → Code → Refusal
 at line code = record { part = Oil; line = line; code = code }
 

@@ -31,6 +31,7 @@ listed_resource names attr = if is_use (codes "RESOURCE") attr then resource_num
 abbrev pub with_number : List ℕ → ℕ → List ℕ
 with_number listed number = if list_any (λ earlier. earlier == number) listed then listed else listed ++ number ∷ []
 
+-- the resources with one more, where there is one
 abbrev pub with_resource : List ℕ → Option ℕ → List ℕ
 with_resource listed None = listed
 with_resource listed (Some number) = with_number listed number
@@ -39,10 +40,12 @@ with_resource listed (Some number) = with_number listed number
 abbrev pub resources_of : List (List ℕ) → List OilAttr → List ℕ
 resources_of names attrs = fold (λ listed attr. with_resource listed (listed_resource names attr)) [] attrs
 
+-- the mask of the event that a value names
 abbrev pub mask_of_value : List EventDecl → OilValue → ℕ
 mask_of_value events (Word word) = mask_named events word
 mask_of_value events _ = 0
 
+-- the mask of the event that an attribute lists
 abbrev pub listed_mask : List EventDecl → OilAttr → ℕ
 listed_mask events attr = if is_use (codes "EVENT") attr then mask_of_value events attr.value else 0
 
@@ -50,6 +53,7 @@ listed_mask events attr = if is_use (codes "EVENT") attr then mask_of_value even
 abbrev pub event_mask : List EventDecl → List OilAttr → ℕ
 event_mask events attrs = fold (λ mask attr. bit_or mask (listed_mask events attr)) 0 attrs
 
+-- the task that an object declares
 abbrev pub task_of : List (List ℕ) → List EventDecl → OilObject → TaskDecl
 task_of names events object = record {
   name = object.name;
@@ -61,6 +65,7 @@ task_of names events object = record {
   events = event_mask events object.attrs;
 }
 
+-- the tasks that objects declare
 abbrev pub tasks_of : List (List ℕ) → List EventDecl → List OilObject → List TaskDecl
 tasks_of names events objects = map (task_of names events) (filter (is_of_kind (codes "TASK")) objects)
 
@@ -73,5 +78,6 @@ config_of objects = record {
   res_scheduler = has_scheduler objects;
 }
 
+-- the configuration that a tree means
 abbrev pub IsConfig : OilTree → Config → Type 0
 IsConfig tree config = config ≡ config_of tree.objects

@@ -15,6 +15,7 @@ bits =
     ∷ 0x1_0000 ∷ 0x2_0000 ∷ 0x4_0000 ∷ 0x8_0000 ∷ 0x10_0000 ∷ 0x20_0000 ∷ 0x40_0000 ∷ 0x80_0000
     ∷ 0x100_0000 ∷ 0x200_0000 ∷ 0x400_0000 ∷ 0x800_0000 ∷ 0x1000_0000 ∷ 0x2000_0000 ∷ 0x4000_0000 ∷ 0x8000_0000 ∷ []
 
+-- an object is an EVENT
 abbrev pub is_event : OilObject → Bool
 is_event object = is_of_kind (codes "EVENT") object
 
@@ -26,6 +27,7 @@ is_auto event = not (is_used event.attrs (codes "MASK")) || first_is event.attrs
 abbrev pub number_mask : OilObject → ℕ
 number_mask event = unwrap_or (first_number event.attrs (codes "MASK")) 0
 
+-- the mask that an EVENT object gives as a number, or 0
 abbrev pub number_bits : OilObject → ℕ
 number_bits object = if is_event object then number_mask object else 0
 
@@ -41,6 +43,7 @@ free_bit taken = find (λ bit. bit_and taken bit == 0) bits
 abbrev pub mask_by : ℕ → OilObject → ℕ
 mask_by taken event = if is_auto event then unwrap_or (free_bit taken) 0 else number_mask event
 
+-- the bits that are taken, with those of one more object
 abbrev pub taken_more : ℕ → OilObject → ℕ
 taken_more taken object = if is_event object then bit_or taken (mask_by taken object) else taken
 
@@ -48,6 +51,7 @@ taken_more taken object = if is_event object then bit_or taken (mask_by taken ob
 abbrev pub taken_before : List OilObject → List OilObject → ℕ
 taken_before objects front = fold taken_more (number_masks objects) front
 
+-- an EVENT object is to get a bit, and none is free
 abbrev pub lacks_bit : ℕ → OilObject → Bool
 lacks_bit taken object = is_event object && (is_auto object && is_none (free_bit taken))
 
@@ -66,6 +70,7 @@ event_decls taken (object ∷ objects) =
 abbrev pub events_of : List OilObject → List EventDecl
 events_of objects = event_decls (number_masks objects) objects
 
+-- the mask of an event, or 0 where there is none
 abbrev pub mask_given : Option EventDecl → ℕ
 mask_given None = 0
 mask_given (Some event) = event.mask

@@ -9,9 +9,11 @@ use Rattle.oil_model.specs.Events.{mask_named}
 use Rattle.oil_model.specs.References.{refers_to_clash}
 use Rattle.oil_model.specs.declared.references.Reference.{Reference}
 
+-- a reference names this word
 abbrev pub is_to : List ℕ → Reference → Bool
 is_to word reference = bytes_eq reference.word.now word
 
+-- the mask of a reference has this bit
 abbrev pub has_bit : ℕ → Reference → Bool
 has_bit bit reference = bit_at reference.mask bit == 1
 

@@ -9,6 +9,7 @@ use Rattle.oil_model.specs.Cases.{Case}
 use Rattle.oil_model.specs.Table.{is_nowhere, place_of}
 use Rattle.oil_model.specs.Objects.{is_of_kind, is_used, declares}
 
+-- the kind of an object is one of the subset
 abbrev pub is_known : OilObject → Bool
 is_known object = not (is_nowhere (place_of object.kind))
 
@@ -16,6 +17,7 @@ is_known object = not (is_nowhere (place_of object.kind))
 abbrev pub doubles : OilObject → OilObject → Bool
 doubles object earlier = bytes_eq earlier.kind object.kind && (bytes_eq earlier.name object.name || bytes_eq object.kind (codes "OS"))
 
+-- an object has the name of an earlier one of its kind, or that of RES_SCHEDULER where that resource exists
 abbrev pub is_doubled : Bool → List OilObject → OilObject → Bool
 is_doubled scheduler front object = list_any (doubles object) front || (scheduler && declares (codes "RESOURCE") (codes "RES_SCHEDULER") object)
 

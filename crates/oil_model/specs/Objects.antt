@@ -12,9 +12,11 @@ use Rattle.oil_model.specs.Table.{is_word}
 abbrev pub is_use : List ℕ → OilAttr → Bool
 is_use name attr = (attr.depth == 0) && bytes_eq attr.name name
 
+-- a list of attributes has this name
 abbrev pub is_used : List OilAttr → List ℕ → Bool
 is_used attrs name = list_any (is_use name) attrs
 
+-- an attribute is there, and its value is this word
 abbrev pub is_given : Option OilAttr → List ℕ → Bool
 is_given None word = false
 is_given (Some attr) word = is_word attr.value word
@@ -23,10 +25,12 @@ is_given (Some attr) word = is_word attr.value word
 abbrev pub first_is : List OilAttr → List ℕ → List ℕ → Bool
 first_is attrs name word = is_given (find (is_use name) attrs) word
 
+-- the number that a value is
 abbrev pub number_of : OilValue → Option ℕ
 number_of (Number number) = Some number
 number_of _ = None
 
+-- the number that an attribute gives
 abbrev pub number_given : Option OilAttr → Option ℕ
 number_given None = None
 number_given (Some attr) = number_of attr.value
@@ -35,6 +39,7 @@ number_given (Some attr) = number_of attr.value
 abbrev pub first_number : List OilAttr → List ℕ → Option ℕ
 first_number attrs name = number_given (find (is_use name) attrs)
 
+-- an object of this kind and name
 abbrev pub declares : List ℕ → List ℕ → OilObject → Bool
 declares kind name object = bytes_eq object.kind kind && bytes_eq object.name name
 
@@ -42,6 +47,7 @@ declares kind name object = bytes_eq object.kind kind && bytes_eq object.name na
 abbrev pub has : List OilObject → List ℕ → List ℕ → Bool
 has objects kind name = list_any (declares kind name) objects
 
+-- an object of this kind
 abbrev pub is_of_kind : List ℕ → OilObject → Bool
 is_of_kind kind object = bytes_eq object.kind kind
 
@@ -49,9 +55,11 @@ is_of_kind kind object = bytes_eq object.kind kind
 abbrev pub names_of : List ℕ → List OilObject → List (List ℕ)
 names_of kind objects = map (λ object. object.name) (filter (is_of_kind kind) objects)
 
+-- the OS object wants RES_SCHEDULER
 abbrev pub os_scheduler : OilObject → Bool
 os_scheduler os = not (first_is os.attrs (codes "USERESSCHEDULER") (codes "FALSE"))
 
+-- RES_SCHEDULER exists, by the OS object if there is one
 abbrev pub scheduler_by : Option OilObject → Bool
 scheduler_by None = true
 scheduler_by (Some os) = os_scheduler os

@@ -12,13 +12,14 @@ pub record Referring : Type 0 where
   pub events : List EventDecl
   pub attrs : List OilAttr
 
-abbrev pub word_of : OilValue → Option (List ℕ)
-word_of (Word word) = Some word
-word_of _ = None
+-- the word that a value is
+abbrev pub referred_word : OilValue → Option (List ℕ)
+referred_word (Word word) = Some word
+referred_word _ = None
 
 -- the event that an attribute refers to
 abbrev pub event_word : OilAttr → Option (List ℕ)
-event_word attr = if is_use (codes "EVENT") attr then word_of attr.value else None
+event_word attr = if is_use (codes "EVENT") attr then referred_word attr.value else None
 
 -- an attribute refers to another event that shares a bit with this one
 abbrev pub refers_to_clash : List EventDecl → List ℕ → OilAttr → Bool

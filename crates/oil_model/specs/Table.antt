@@ -19,14 +19,17 @@ place_of kind =
     else if bytes_eq kind (codes "EVENT") then place.Event
     else place.Nowhere
 
+-- the name of a hook
 abbrev pub is_hook : List ℕ → Bool
 is_hook name =
     bytes_eq name (codes "STARTUPHOOK") || (bytes_eq name (codes "ERRORHOOK") || (bytes_eq name (codes "SHUTDOWNHOOK")
     || (bytes_eq name (codes "PRETASKHOOK") || bytes_eq name (codes "POSTTASKHOOK"))))
 
+-- the name of an attribute that is TRUE or FALSE
 abbrev pub is_flag : List ℕ → Bool
 is_flag name = bytes_eq name (codes "USEGETSERVICEID") || (bytes_eq name (codes "USEPARAMETERACCESS") || bytes_eq name (codes "USERESSCHEDULER"))
 
+-- the attributes of an OS object
 abbrev pub os_attribute : List ℕ → Option Attribute
 os_attribute name =
     if bytes_eq name (codes "STATUS") then Some attribute.Status
@@ -34,6 +37,7 @@ os_attribute name =
     else if is_flag name then Some attribute.Flag
     else None
 
+-- the attributes of a TASK object
 abbrev pub task_attribute : List ℕ → Option Attribute
 task_attribute name =
     if bytes_eq name (codes "PRIORITY") then Some attribute.Priority
@@ -44,6 +48,7 @@ task_attribute name =
     else if bytes_eq name (codes "EVENT") then Some attribute.Event
     else None
 
+-- the one attribute of an object
 abbrev pub only : List ℕ → List ℕ → Attribute → Option Attribute
 only name word row = if bytes_eq name word then Some row else None
 
@@ -64,6 +69,7 @@ is_single attribute.Resource = false
 is_single attribute.Event = false
 is_single _ = true
 
+-- a word that an attribute allows
 abbrev pub allows_word : Attribute → List ℕ → Bool
 allows_word attribute.Status word = bytes_eq word (codes "STANDARD") || bytes_eq word (codes "EXTENDED")
 allows_word attribute.Hook word = bytes_eq word (codes "FALSE")
@@ -78,6 +84,7 @@ allows_word attribute.Property word = bytes_eq word (codes "STANDARD")
 allows_word attribute.Mask word = bytes_eq word (codes "AUTO")
 allows_word _ word = false
 
+-- a number that an attribute allows
 abbrev pub allows_number : Attribute → ℕ → Bool
 allows_number attribute.Value number = true
 allows_number attribute.Priority number = nat_le number 65535
@@ -91,10 +98,12 @@ allows row (Word word) = allows_word row word
 allows row (Number number) = allows_number row number
 allows row (Text bytes) = false
 
+-- a value is this word
 abbrev pub is_word : OilValue → List ℕ → Bool
 is_word (Word given) word = bytes_eq given word
 is_word _ word = false
 
+-- the place that the block of AUTOSTART = TRUE is
 abbrev pub activation_place : OilAttr → Place
 activation_place attr = if bytes_eq attr.name (codes "AUTOSTART") && is_word attr.value (codes "TRUE") then place.Activation else place.Nowhere
 
@@ -103,6 +112,7 @@ abbrev pub block_place : Place → OilAttr → Place
 block_place place.Task attr = activation_place attr
 block_place _ attr = place.Nowhere
 
+-- no attribute may stand there
 abbrev pub is_nowhere : Place → Bool
 is_nowhere place.Nowhere = true
 is_nowhere _ = false

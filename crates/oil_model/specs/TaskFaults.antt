@@ -1,5 +1,6 @@
 -- The faults of an attribute of a task that rest on other tasks and on events.
 use Rattle.std.specs.Prelude.{ℕ, Bool, false, ◌⊎◌, not, ◌&&◌, ◌==◌, bit_and, List, codes, Option, Some, None}
+use Rattle.sloth_base.specs.Options.{is_number}
 use Rattle.std.specs.List.{list_any}
 use Rattle.std.specs.Str.{bytes_eq}
 use Rattle.sloth_base.specs.declared.config.EventDecl.{EventDecl}
@@ -13,14 +14,11 @@ use Rattle.oil_model.specs.Cases.{Case}
 use Rattle.oil_model.specs.Objects.{is_of_kind, is_use, is_used, number_of, first_number}
 use Rattle.oil_model.specs.Events.{mask_named}
 
-abbrev pub is_number : ℕ → Option ℕ → Bool
-is_number number None = false
-is_number number (Some given) = given == number
-
 -- a task of this priority
 abbrev pub has_priority : ℕ → OilObject → Bool
 has_priority priority object = is_of_kind (codes "TASK") object && is_number priority (first_number object.attrs (codes "PRIORITY"))
 
+-- an object in front is a task of this priority
 abbrev pub is_taken : List OilObject → Option ℕ → Bool
 is_taken front None = false
 is_taken front (Some priority) = list_any (has_priority priority) front
@@ -33,10 +31,12 @@ repeats_priority front before attr = (is_use (codes "PRIORITY") attr && not (is_
 abbrev pub have_common_bit : List EventDecl → List ℕ → List ℕ → Bool
 have_common_bit events one other = not (bytes_eq one other) && not (bit_and (mask_named events one) (mask_named events other) == 0)
 
+-- two values name events that share a bit
 abbrev pub clashes : List EventDecl → OilValue → OilValue → Bool
 clashes events (Word one) (Word other) = have_common_bit events one other
 clashes events _ _ = false
 
+-- an earlier EVENT attribute names an event that shares a bit with that of this one
 abbrev pub shares_with : List EventDecl → OilAttr → OilAttr → Bool
 shares_with events attr earlier = is_use (codes "EVENT") earlier && clashes events earlier.value attr.value
 

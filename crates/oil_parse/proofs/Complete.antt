@@ -15,7 +15,7 @@ use Rattle.oil_parse.specs.Shapes.{shape, IsWordToken}
 use Rattle.oil_parse.specs.declared.tree.OilObject.{OilObject}
 use Rattle.oil_parse.specs.declared.tree.OilTree.{OilTree}
 use Rattle.oil_parse.specs.Grammar.{IsValue, IsEnd, bare, described, IsAttrs, no_attr, attr, block, attr_of, IsObject, plain_object, block_object, IsObjects, no_object, object, IsBalanced, no_token, token_in, braces, IsSection, no_section, section, IsHead, head, IsFile, file}
-use Rattle.oil_parse.specs.Machine.{fresh, next, behind, Built, taken, pushed, ended}
+use Rattle.oil_parse.specs.Machine.{fresh, next, behind, Built, taken, pushed, at_end}
 use Rattle.oil_parse.proofs.Steps.{step, build}
 use Rattle.oil_parse.proofs.Steps.{step_append}
 
@@ -49,7 +49,7 @@ takes_by {e} {b = b} {x = x} {t = t} {ts = ts} e1 s n a = record {
 takes_to : {e e2 : Expect} {b b1 b2 : Built} {ts : List Lexeme} → Takes e b ts e2 b1 → b1 ≡ b2 → Takes e b ts e2 b2
 takes_to a q = record { leads = a.leads; builds = a.builds ∙ q }
 
-end_takes : {f : List Lexeme} → IsEnd f → (p : Construct) (b : Built) → Takes (Ending p) b f (behind p) (ended p b)
+end_takes : {f : List Lexeme} → IsEnd f → (p : Construct) (b : Built) → Takes (Ending p) b f (behind p) (at_end p b)
 unfolding next taken
 end_takes (bare s) p b = takes_by (behind p) s refl none_takes
 end_takes (described c x s) p b = takes_by (Describing p) c refl (takes_by (Closing p) x refl (takes_by (behind p) s refl none_takes))

@@ -19,6 +19,7 @@ Viable ts = (more : List Lexeme) × (tree : OilTree) × IsFile (ts ++ more) tree
 abbrev pub InCpu : List Lexeme → Type 0
 InCpu ts = (hs xs front : List Lexeme) × (c : Lexeme) × (ts ≡ hs ++ (xs ++ c ∷ front)) × IsHead hs × IsSection xs × (shape c ≡ Word Cpu)
 
+-- a number above 2^32 - 1
 abbrev pub is_too_big : Shape → Type 0
 is_too_big (Number n) = 4294967295 < n
 is_too_big _ = ⊥
@@ -55,5 +56,6 @@ pub record EndFault (ts : List Lexeme) (r : Refusal) : Type 0 where
   pub unfinished : (tree : OilTree) → IsFile ts tree → ⊥
   pub is : r ≡ record { part = Oil; line = last_line 1 ts; code = code.O6 }
 
+-- a fault of the grammar
 abbrev pub GrammarFault : List Lexeme → Refusal → Type 0
 GrammarFault ts r = NumberFault ts r ⊎ (TokenFault ts r ⊎ EndFault ts r)

@@ -16,6 +16,7 @@ use Rattle.oil_parse.specs.Shapes.{shape, IsWordToken}
 abbrev pub IsValue : Lexeme → Type 0
 IsValue t = IsWordToken t ⊎ (((n : ℕ) × (shape t ≡ Number n)) ⊎ (shape t ≡ Text))
 
+-- the value that a token of this kind is
 abbrev pub value_by : TokenKind → List ℕ → OilValue
 value_by token.Word bs = value.Word bs
 value_by (token.Number n) bs = value.Number n
@@ -40,12 +41,14 @@ pub data IsAttrs : ℕ → List Lexeme → List OilAttr → Type 0 where
       → shape o ≡ Open → IsAttrs (suc d) us bl → shape c ≡ Close → IsEnd f → IsAttrs d ts al
       → IsAttrs d (n ∷ e ∷ v ∷ o ∷ (us ++ c ∷ (f ++ ts))) (attr_of d n v ∷ (bl ++ al))
 
+-- the tokens of an object, with a block or without one
 pub data IsObject : List Lexeme → OilObject → Type 0 where
   plain_object : {k n : Lexeme} {f : List Lexeme} → IsWordToken k → IsWordToken n → IsEnd f
       → IsObject (k ∷ n ∷ f) (record { kind = k.bytes; name = n.bytes; line = k.line; attrs = [] })
   block_object : {k n o : Lexeme} (c : Lexeme) (us f : List Lexeme) {al : List OilAttr} → IsWordToken k → IsWordToken n → shape o ≡ Open → IsAttrs 0 us al → shape c ≡ Close → IsEnd f
       → IsObject (k ∷ n ∷ o ∷ (us ++ c ∷ f)) (record { kind = k.bytes; name = n.bytes; line = k.line; attrs = al })
 
+-- the tokens of objects one after the other
 pub data IsObjects : List Lexeme → List OilObject → Type 0 where
   no_object : IsObjects [] []
   object : (ts us : List Lexeme) {o : OilObject} {os : List OilObject} → IsObject ts o → IsObjects us os → IsObjects (ts ++ us) (o ∷ os)
@@ -62,9 +65,11 @@ pub data IsSection : List Lexeme → Type 0 where
   section : {i n o : Lexeme} (c : Lexeme) (us f : List Lexeme) → shape i ≡ Word Implementation → IsWordToken n → shape o ≡ Open → IsBalanced us → shape c ≡ Close → IsEnd f
       → IsSection (i ∷ n ∷ o ∷ (us ++ c ∷ f))
 
+-- the tokens of the version
 pub data IsHead : List Lexeme → Type 0 where
   head : {v e x : Lexeme} {f : List Lexeme} → shape v ≡ Word Version → shape e ≡ Equals → shape x ≡ Text → IsEnd f → IsHead (v ∷ e ∷ x ∷ f)
 
+-- the tokens of a whole file
 pub data IsFile : List Lexeme → OilTree → Type 0 where
   file : (c n o z : Lexeme) (hs xs us f : List Lexeme) {os : List OilObject} → IsHead hs → IsSection xs → shape c ≡ Word Cpu → IsWordToken n → shape o ≡ Open
       → IsObjects us os → shape z ≡ Close → IsEnd f

@@ -100,9 +100,9 @@ abbrev pub pushed : Built → Built
 pushed b = record b { objects = b.objects ++ record { kind = b.kind; name = b.name; line = b.line; attrs = b.attrs } ∷ []; attrs = [] }
 
 -- a construct is whole
-abbrev pub ended : Construct → Built → Built
-ended Object b = pushed b
-ended _ b = b
+abbrev pub at_end : Construct → Built → Built
+at_end Object b = pushed b
+at_end _ b = b
 
 -- what a token adds where it may stand
 unfoldable pub taken : Expect → Shape → Lexeme → Built → Built
@@ -111,8 +111,8 @@ taken CpuWord x t b = record b { cpu_line = t.line }
 taken Objects (Word k) t b = record b { kind = t.bytes; line = t.line; attrs = [] }
 taken ObjectName x t b = record b { name = t.bytes }
 taken ObjectTail Semicolon t b = pushed b
-taken (Ending p) Semicolon t b = ended p b
-taken (Closing p) x t b = ended p b
+taken (Ending p) Semicolon t b = at_end p b
+taken (Closing p) x t b = at_end p b
 taken (Attrs d) (Word k) t b = record b { attr_name = t.bytes; attr_line = t.line }
 taken (AttrValue d) x t b = record b { attrs = b.attrs ++ record { name = b.attr_name; value = value_by t.kind t.bytes; line = b.attr_line; depth = d } ∷ [] }
 taken _ _ t b = b

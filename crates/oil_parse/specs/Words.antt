@@ -11,10 +11,12 @@ abbrev pub IsValueOfWord : OilValue → Type 0
 IsValueOfWord (value.Word bytes) = IsWord bytes
 IsValueOfWord _ = Unit {0}
 
+-- an attribute whose name and word are words
 pub record IsAttrOfWords (attr : OilAttr) : Type 0 where
   pub name : IsWord attr.name
   pub value : IsValueOfWord attr.value
 
+-- an object whose kind, name and attributes are words
 pub record IsObjectOfWords (object : OilObject) : Type 0 where
   pub kind : IsWord object.kind
   pub name : IsWord object.name

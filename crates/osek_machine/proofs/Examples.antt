@@ -16,7 +16,7 @@ use Rattle.sloth_base.specs.declared.event.Event.TheVariants as event
 use Rattle.sloth_base.specs.declared.service.Service.{Service}
 use Rattle.sloth_base.specs.declared.service.Service.TheVariants as service
 use Rattle.osek_machine.specs.State.{opening}
-use Rattle.osek_machine.specs.Next.{state_after}
+use Rattle.osek_machine.specs.Next.{system_after}
 
 abbrev full : (priority : ℕ) (autostart : Bool) (resources : List ℕ) (events : ℕ) → TaskDecl
 full priority autostart resources events = record { name = []; priority = priority; extended = false; non = false; autostart = autostart; resources = resources; events = events }
@@ -44,7 +44,7 @@ abbrev serve : Service → ℕ → ℕ → Op
 serve s object mask = op.Serve (record { service = s; object = object; mask = mask })
 
 abbrev accepts : Config → App → List Event → Bool
-accepts config app events = is_some (state_after config app events (opening config app))
+accepts config app events = is_some (system_after config app events (opening config app))
 
 -- A task runs and ends.
 abbrev one_task : List Event → Bool

@@ -1,5 +1,6 @@
 -- When arrivals are admitted: at their moment, or when the stretch that is running then ends.
 use Rattle.std.specs.Prelude.{ℕ, ◌-◌, ◌<◌, ◌≤◌, ◌≡◌, ◌⊎◌, ◌==◌, ◌&&◌, not, List, [], ◌∷◌, ◌++◌, Bool, true, false, cond, map, filter, count_by, All, AllPairs, IsTrue, is_some, Option, Some, None}
+use Rattle.sloth_base.specs.Options.{is_number}
 use Rattle.sloth_base.specs.declared.event.Arrival.{Arrival}
 use Rattle.sloth_base.specs.declared.event.Event.{Event}
 use Rattle.sloth_base.specs.declared.event.Event.TheVariants as event
@@ -18,13 +19,11 @@ admitted_task (event.Back t) = None
 admitted_task event.Idle = None
 admitted_task event.Stray = None
 
-abbrev pub is_task : ℕ → Option ℕ → Bool
-is_task t None = false
-is_task t (Some u) = u == t
-
+-- an event is an arrival's activation
 abbrev pub is_admit : Stamped → Bool
 is_admit e = is_some (admitted_task e.event)
 
+-- an event is the start of the system
 abbrev pub is_boot : Event → Bool
 is_boot event.Boot = true
 is_boot (event.Admit t) = false
@@ -42,8 +41,9 @@ others events = filter (λ e. not (is_admit e)) events
 
 -- how many admits of a task, and arrivals of its line, a moment has
 abbrev pub admits_at : ℕ → ℕ → List Stamped → ℕ
-admits_at k t events = count_by (λ e. is_task t (admitted_task e.event) && (e.stamp.at == k)) events
+admits_at k t events = count_by (λ e. is_number t (admitted_task e.event) && (e.stamp.at == k)) events
 
+-- how many arrivals of a task's line a moment has
 abbrev pub arrivals_at : ℕ → ℕ → List Arrival → ℕ
 arrivals_at k t arrivals = count_by (λ a. (a.line == t) && (a.at == k)) arrivals
 
@@ -53,6 +53,7 @@ arrivals_at k t arrivals = count_by (λ a. (a.line == t) && (a.at == k)) arrival
 abbrev pub IsAlone : Stamped → Type 0
 IsAlone e = e.stamp.from ≡ e.stamp.at
 
+-- how many counts an event of this kind spans: one, or any number
 abbrev pub SpansFor : Event → Stamped → Type 0
 SpansFor event.Idle e = IsAlone e
 SpansFor (event.Run t func item result) e = IsAlone e
@@ -64,6 +65,7 @@ SpansFor (event.Left t served) e = Unit {0}
 SpansFor (event.Back t) e = Unit {0}
 SpansFor event.Stray e = Unit {0}
 
+-- the stamp of an event of the first `n` instructions
 pub record IsStamped (n : ℕ) (e : Stamped) : Type 0 where
   pub ordered : e.stamp.from ≤ e.stamp.at
   pub spans : SpansFor e.event e
@@ -98,6 +100,7 @@ StandsBefore true false admit later = admit.at ≤ later.at
 StandsBefore false true earlier admit = earlier.from < admit.at
 StandsBefore true true admit other = Unit {0}
 
+-- an event's stamp may stand before that of a later event
 abbrev pub IsOrdered : Stamped → Stamped → Type 0
 IsOrdered earlier later = StandsBefore (is_admit earlier) (is_admit later) earlier.stamp later.stamp
 
@@ -113,6 +116,7 @@ KeepsOrder arrivals events =
     (before group behind : List Stamped) → events ≡ before ++ (group ++ behind) → All (λ e. IsTrue (is_admit e)) group
     → IsSubsequence (map (λ e. (e.stamp.at, admitted_task e.event)) group) (map (λ a. (a.at, Some a.line)) arrivals)
 
+-- the events of `n` instructions stand where the arrivals allow
 pub record InTime (n : ℕ) (arrivals : List Arrival) (events : List Stamped) : Type 0 where
   pub stamped : All (IsStamped n) events
   pub placed : AllPairs IsOrdered events

@@ -7,6 +7,7 @@ use Rattle.osek_machine.specs.State.{System}
 use Rattle.osek_machine.specs.Steps.{OsekStep}
 use Rattle.osek_machine.specs.Next.{next_state}
 
+-- the computed next state is the one that a step leads to
 abbrev pub StepIsComputed : Type 0
 StepIsComputed = (config : Config) (app : App) (event : Event) (s next : System)
     → (next_state config app event s ≡ Some next) ↔ OsekStep config app event s next

@@ -11,18 +11,21 @@ use Rattle.sloth_base.specs.declared.service.Service.{Service}
 use Rattle.sloth_base.specs.declared.service.Service.TheVariants as service
 use Rattle.osek_machine.specs.declared.state.TaskState.{TaskState}
 use Rattle.osek_machine.specs.declared.state.TaskState.TheVariants as mode
-use Rattle.osek_machine.specs.State.{Frame, Task, System, task, with_task, declaration, function}
+use Rattle.osek_machine.specs.State.{Frame, Task, System, task, with_task, declaration}
+use Rattle.sloth_base.specs.Functions.{function}
 use Rattle.osek_machine.specs.Priority.{rank, is_in, is_active}
 use Rattle.osek_machine.specs.Meaning.{Meant, meaning, on_some}
 use Rattle.osek_machine.specs.Services.{Outcome, GoesOn, Leaves, outcome, entered}
 use Rattle.osek_machine.specs.Steps.{settled, autostarted, admitted}
 
+-- a task is Ready
 abbrev pub is_ready : TaskState → Bool
 is_ready mode.Suspended = false
 is_ready mode.Ready = true
 is_ready mode.Active = false
 is_ready (mode.Waiting mask) = false
 
+-- a task is Ready or Active
 abbrev pub is_due : System → ℕ → Bool
 is_due s t = is_ready (task s t).state || is_active (task s t).state
 
@@ -31,13 +34,16 @@ abbrev pub all_below : ℕ → (ℕ → Bool) → Bool
 all_below zero test = true
 all_below (suc n) test = test n && all_below n test
 
+-- the task u is not due, or left out, or of no greater rank than t
 abbrev pub yields_to : Config → System → List ℕ → ℕ → ℕ → Bool
 yields_to config s others t u = not (is_due s u) || (is_in u others || leb (rank config s u) (rank config s t))
 
+-- a task is the greatest of those that are due and not left out
 abbrev pub is_top : Config → System → List ℕ → ℕ → Bool
 is_top config s others t =
     ltb t (length config.tasks) && (is_due s t && (not (is_in t others) && all_below (length config.tasks) (yields_to config s others t)))
 
+-- what there is, where a test holds
 abbrev pub if_true : {A : Type 0} → Bool → Option A → Option A
 if_true true a = a
 if_true false a = None
@@ -53,10 +59,12 @@ operation_of app (frame ∷ outer) =
 abbrev pub operation_at : App → Task → Option Op
 operation_at app t = if_true (is_active t.state && not t.owed) (operation_of app t.frames)
 
+-- the meaning of an operation for a task with these frames
 abbrev pub meaning_of : App → Op → Task → List Frame → System → Option Meant
 meaning_of app operation t [] s = None
 meaning_of app operation t (frame ∷ outer) s = meaning app operation t.registers frame outer s.symbols
 
+-- the next item of these frames is this one of this function
 abbrev pub is_position : ℕ → ℕ → List Frame → Bool
 is_position func item [] = false
 is_position func item (frame ∷ outer) = (frame.func == func) && (frame.item == item)
@@ -79,22 +87,27 @@ served s caller before (op.Jump a) = None
 served s caller before (op.Invoke a) = None
 served s caller before op.Return = None
 
+-- the state after an outcome that goes on with this status
 abbrev pub going_on_with : ℕ → Outcome → Option System
 going_on_with status (GoesOn given after) = if_true (given == status) (Some (settled after))
 going_on_with status (Leaves after) = None
 
+-- the state after an outcome with which the caller leaves
 abbrev pub leaving : Outcome → Option System
 leaving (GoesOn given after) = None
 leaving (Leaves after) = Some (settled after)
 
+-- the state after an item with this meaning, where it shows this result
 abbrev pub executed : ℕ → ℕ → System → Meant → Option System
 executed t result s meant = if_true (meant.result == result)
     (Some (settled (record (with_task s t (record (task s t) { registers = meant.registers; frames = meant.frames })) { symbols = meant.symbols })))
 
+-- the outcome of a call of this service by this task, where that is its next item
 abbrev pub answer_to : Config → App → ℕ → Service → System → Option Outcome
 answer_to config app t s before =
     if_true (before.booted && is_top config before before.fresh t) (on_some (operation_at app (task before t)) (served s t before))
 
+-- the state after an event, where it may come
 abbrev pub next_state : Config → App → Event → System → Option System
 next_state config app event.Boot s = if_true (not s.booted) (Some (settled (record s { tasks = autostarted config.tasks s.tasks; booted = true })))
 next_state config app (event.Admit t) s = if_true (s.booted && ltb t (length config.tasks)) (Some (admitted t s))
@@ -112,6 +125,6 @@ next_state config app event.Idle s = if_true (s.booted && all_below (length conf
 next_state config app event.Stray s = None
 
 -- the state after events without their counts, where each has a next state
-abbrev pub state_after : Config → App → List Event → System → Option System
-state_after config app [] s = Some s
-state_after config app (e ∷ events) s = on_some (next_state config app e s) (state_after config app events)
+abbrev pub system_after : Config → App → List Event → System → Option System
+system_after config app [] s = Some s
+system_after config app (e ∷ events) s = on_some (next_state config app e s) (system_after config app events)

@@ -11,6 +11,7 @@ abbrev pub greatest : List ℕ → ℕ
 greatest [] = 0
 greatest (x ∷ xs) = max x (greatest xs)
 
+-- a number is in a list
 abbrev pub is_in : ℕ → List ℕ → Bool
 is_in x [] = false
 is_in x (y ∷ ys) = (y == x) || is_in x ys
@@ -27,6 +28,7 @@ ceiling config r = cond (r == 32) (highest config) (greatest (map (λ d. d.prior
 abbrev pub current_priority : Config → TaskDecl → Task → ℕ
 current_priority config d t = max d.priority (max (greatest (map (ceiling config) t.held)) (cond t.raised (highest config) 0))
 
+-- a task is Active
 abbrev pub is_active : TaskState → Bool
 is_active mode.Suspended = false
 is_active mode.Ready = false
@@ -39,6 +41,7 @@ rank config s t = cond (is_active (task s t).state)
     (2 * current_priority config (declaration config t) (task s t) + 1)
     (2 * (declaration config t).priority)
 
+-- a task is Ready or Active
 abbrev pub IsDue : System → ℕ → Type 0
 IsDue s t = ((task s t).state ≡ mode.Ready) ⊎ ((task s t).state ≡ mode.Active)
 

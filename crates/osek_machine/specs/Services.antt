@@ -4,6 +4,7 @@ use Rattle.sloth_base.specs.declared.config.Config.{Config}
 use Rattle.sloth_base.specs.declared.app.App.{App}
 use Rattle.sloth_base.specs.declared.service.Service.{Service}
 use Rattle.sloth_base.specs.declared.service.Service.TheVariants as service
+use Rattle.sloth_base.specs.Status.{E_OK, E_OS_LIMIT, E_OS_STATE}
 use Rattle.osek_machine.specs.declared.state.TaskState.{TaskState}
 use Rattle.osek_machine.specs.declared.state.TaskState.TheVariants as mode
 use Rattle.osek_machine.specs.State.{Frame, Task, System, task, with_task, zero_registers, declaration, body_of, entry_frame}
@@ -16,9 +17,11 @@ if_suspended mode.Ready first second = second
 if_suspended mode.Active first second = second
 if_suspended (mode.Waiting mask) first second = second
 
+-- the system with a task in this state
 abbrev pub with_state : System → ℕ → TaskState → System
 with_state s t state = with_task s t (record (task s t) { state = state })
 
+-- the system with a task Ready
 abbrev pub activated : System → ℕ → System
 activated s t = with_state s t mode.Ready
 
@@ -33,13 +36,15 @@ moved (frame ∷ outer) = going_on frame ∷ outer
 abbrev pub answers : ℕ → Task → Task
 answers status t = record t { registers = set t.registers 5 status; frames = moved t.frames }
 
--- status 0 in a0 and a value in a1, x11
+-- E_OK in a0 and a value in a1, x11
 abbrev pub answers_with : ℕ → Task → Task
-answers_with value t = record t { registers = set (set t.registers 5 0) 6 value; frames = moved t.frames }
+answers_with value t = record t { registers = set (set t.registers 5 E_OK) 6 value; frames = moved t.frames }
 
+-- the system after its caller went on with a status
 abbrev pub answered : ℕ → ℕ → System → System
 answered status t s = with_task s t (answers status (task s t))
 
+-- the system after its caller went on with E_OK and a value
 abbrev pub answered_with : ℕ → ℕ → System → System
 answered_with value t s = with_task s t (answers_with value (task s t))
 
@@ -51,6 +56,7 @@ ended t s = with_task s t (record (task s t) { state = mode.Suspended; registers
 abbrev pub waits : ℕ → Task → Task
 waits mask t = record t { state = mode.Waiting mask; frames = moved t.frames; raised = false }
 
+-- the list without its last number
 abbrev pub without_last : List ℕ → List ℕ
 without_last [] = []
 without_last (x ∷ []) = []
@@ -65,9 +71,11 @@ woken mode.Suspended events t s = s
 woken mode.Ready events t s = s
 woken mode.Active events t s = s
 
+-- the system with these events of a task set
 abbrev pub with_events : System → ℕ → ℕ → System
 with_events s t events = with_task s t (record (task s t) { events = events })
 
+-- the system after events of a task are set
 abbrev pub set_events : ℕ → ℕ → System → System
 set_events t mask s =
     let events = bit_or (task s t).events mask in woken (task s t).state events t (with_events s t events)
@@ -89,36 +97,36 @@ pub data Outcome : Type 0 where
 -- `object` is the service's task or resource, `mask` that of its events
 abbrev pub outcome : Service → (object mask caller : ℕ) → System → Outcome
 outcome service.ActivateTask t mask caller s =
-    if_suspended (task s t).state (GoesOn 0 (activated (answered 0 caller s) t)) (GoesOn 4 (answered 4 caller s))
+    if_suspended (task s t).state (GoesOn E_OK (activated (answered E_OK caller s) t)) (GoesOn E_OS_LIMIT (answered E_OS_LIMIT caller s))
 outcome service.TerminateTask t mask caller s = Leaves (ended caller s)
 outcome service.ChainTask t mask caller s =
     cond (t == caller) (Leaves (activated (ended caller s) caller))
-    (if_suspended (task s t).state (Leaves (activated (ended caller s) t)) (GoesOn 4 (answered 4 caller s)))
+    (if_suspended (task s t).state (Leaves (activated (ended caller s) t)) (GoesOn E_OS_LIMIT (answered E_OS_LIMIT caller s)))
 outcome service.Schedule t mask caller s =
-    GoesOn 0 (with_task s caller (record (answers 0 (task s caller)) { raised = false; owed = true }))
-outcome service.GetTaskID t mask caller s = GoesOn 0 (answered_with caller caller s)
-outcome service.GetTaskState t mask caller s = GoesOn 0 (answered_with (state_number caller t (task s t).state) caller s)
+    GoesOn E_OK (with_task s caller (record (answers E_OK (task s caller)) { raised = false; owed = true }))
+outcome service.GetTaskID t mask caller s = GoesOn E_OK (answered_with caller caller s)
+outcome service.GetTaskState t mask caller s = GoesOn E_OK (answered_with (state_number caller t (task s t).state) caller s)
 outcome service.GetResource r mask caller s =
-    GoesOn 0 (with_task s caller (record (answers 0 (task s caller)) { held = (task s caller).held ++ (r ∷ []) }))
+    GoesOn E_OK (with_task s caller (record (answers E_OK (task s caller)) { held = (task s caller).held ++ (r ∷ []) }))
 outcome service.ReleaseResource r mask caller s =
-    GoesOn 0 (with_task s caller (record (answers 0 (task s caller)) { held = without_last (task s caller).held }))
+    GoesOn E_OK (with_task s caller (record (answers E_OK (task s caller)) { held = without_last (task s caller).held }))
 outcome service.SetEvent t mask caller s =
-    if_suspended (task s t).state (GoesOn 7 (answered 7 caller s)) (GoesOn 0 (set_events t mask (answered 0 caller s)))
+    if_suspended (task s t).state (GoesOn E_OS_STATE (answered E_OS_STATE caller s)) (GoesOn E_OK (set_events t mask (answered E_OK caller s)))
 outcome service.ClearEvent t mask caller s =
-    GoesOn 0 (with_task s caller (record (answers 0 (task s caller)) { events = bit_and (task s caller).events (4294967295 - mask) }))
+    GoesOn E_OK (with_task s caller (record (answers E_OK (task s caller)) { events = bit_and (task s caller).events (4294967295 - mask) }))
 outcome service.GetEvent t mask caller s =
-    if_suspended (task s t).state (GoesOn 7 (answered 7 caller s)) (GoesOn 0 (answered_with (task s t).events caller s))
+    if_suspended (task s t).state (GoesOn E_OS_STATE (answered E_OS_STATE caller s)) (GoesOn E_OK (answered_with (task s t).events caller s))
 outcome service.WaitEvent t mask caller s =
     cond (bit_and (task s caller).events mask == 0)
     (Leaves (with_task s caller (waits mask (task s caller))))
-    (GoesOn 0 (answered 0 caller s))
+    (GoesOn E_OK (answered E_OK caller s))
 
 -- ---- entries
 
--- a task starts at the first item of its body with zero registers, or goes on behind its wait with a0 0
+-- a task starts at the first item of its body with zero registers, or goes on behind its wait with E_OK in a0
 abbrev pub starts : App → ℕ → List Frame → Task → Task
 starts app t [] old = record old { registers = zero_registers; frames = entry_frame app (body_of app.funcs t) ∷ [] }
-starts app t (frame ∷ outer) old = record old { registers = set old.registers 5 0 }
+starts app t (frame ∷ outer) old = record old { registers = set old.registers 5 E_OK }
 
 -- a task that runs, with its internal resource where its scheduling is NON
 abbrev pub entered : Config → App → ℕ → System → System

@@ -1,9 +1,11 @@
 -- The state of the abstract machine: tasks, their registers, frames, events and resources, and the data.
-use Rattle.std.specs.Prelude.{ℕ, suc, ◌==◌, List, [], ◌∷◌, Bool, false, cond, Option, Some, None, get_or, set, map, replicate}
+use Rattle.std.specs.Prelude.{ℕ, suc, List, [], ◌∷◌, Bool, false, cond, None, get_or, set, map, replicate}
 use Rattle.sloth_base.specs.declared.config.Config.{Config}
 use Rattle.sloth_base.specs.declared.config.TaskDecl.{TaskDecl}
 use Rattle.sloth_base.specs.declared.app.App.{App}
 use Rattle.sloth_base.specs.declared.app.Func.{Func}
+use Rattle.sloth_base.specs.Functions.{function}
+use Rattle.sloth_base.specs.Options.{is_number}
 use Rattle.osek_machine.specs.declared.state.TaskState.{TaskState}
 use Rattle.osek_machine.specs.declared.state.TaskState.TheVariants as mode
 
@@ -13,6 +15,7 @@ pub record Frame : Type 0 where
   pub item : ℕ
   pub words : List ℕ
 
+-- a task as it stands
 pub record Task : Type 0 where
   pub state : TaskState
   -- the 25 words x5 to x29
@@ -28,6 +31,7 @@ pub record Task : Type 0 where
   -- its Schedule has not come back yet
   pub owed : Bool
 
+-- the system as it stands
 pub record System : Type 0 where
   -- by task number
   pub tasks : List Task
@@ -37,9 +41,11 @@ pub record System : Type 0 where
   -- the tasks that admitted arrivals made Ready since the last event of another kind
   pub fresh : List ℕ
 
+-- the registers of a task that starts
 abbrev pub zero_registers : List ℕ
 zero_registers = replicate 25 0
 
+-- a task that was not activated yet
 abbrev pub sleeping : Task
 sleeping = record { state = mode.Suspended; registers = zero_registers; frames = []; events = 0; held = []; raised = false; owed = false }
 
@@ -47,11 +53,13 @@ sleeping = record { state = mode.Suspended; registers = zero_registers; frames =
 abbrev pub task : System → ℕ → Task
 task s t = get_or s.tasks t sleeping
 
+-- the system with a task replaced
 abbrev pub with_task : System → ℕ → Task → System
 with_task s t new = record s { tasks = set s.tasks t new }
 
 -- ---- what is declared
 
+-- what stands in the place of a declaration that is not there
 abbrev pub undeclared : TaskDecl
 undeclared = record { name = []; priority = 0; extended = false; non = false; autostart = false; resources = []; events = 0 }
 
@@ -59,20 +67,10 @@ undeclared = record { name = []; priority = 0; extended = false; non = false; au
 abbrev pub declaration : Config → ℕ → TaskDecl
 declaration config t = get_or config.tasks t undeclared
 
-abbrev pub missing : Func
-missing = record { name = []; line = 0; task = None; frame_words = 0; items = []; labels = [] }
-
-abbrev pub function : App → ℕ → Func
-function app f = get_or app.funcs f missing
-
-abbrev pub is_body_of : ℕ → Option ℕ → Bool
-is_body_of t None = false
-is_body_of t (Some u) = u == t
-
 -- the number of a task's body
 abbrev pub body_of : List Func → ℕ → ℕ
 body_of [] t = 0
-body_of (f ∷ rest) t = cond (is_body_of t f.task) 0 (suc (body_of rest t))
+body_of (f ∷ rest) t = cond (is_number t f.task) 0 (suc (body_of rest t))
 
 -- a function as it is entered
 abbrev pub entry_frame : App → ℕ → Frame

@@ -10,7 +10,8 @@ use Rattle.sloth_base.specs.declared.event.Event.{Event}
 use Rattle.sloth_base.specs.declared.event.Event.TheVariants as event
 use Rattle.sloth_base.specs.declared.service.Service.{Service}
 use Rattle.osek_machine.specs.declared.state.TaskState.TheVariants as mode
-use Rattle.osek_machine.specs.State.{Frame, Task, System, task, with_task, declaration, function}
+use Rattle.osek_machine.specs.State.{Frame, Task, System, task, with_task, declaration}
+use Rattle.sloth_base.specs.Functions.{function}
 use Rattle.osek_machine.specs.Priority.{IsTop, IsDue}
 use Rattle.osek_machine.specs.Meaning.{Meant, meaning}
 use Rattle.osek_machine.specs.Services.{if_suspended, activated, Outcome, GoesOn, Leaves, outcome, entered}
@@ -19,6 +20,7 @@ use Rattle.osek_machine.specs.Services.{if_suspended, activated, Outcome, GoesOn
 abbrev pub settled : System → System
 settled s = record s { fresh = [] }
 
+-- the tasks with each Ready that the configuration starts by itself
 abbrev pub autostarted : List TaskDecl → List Task → List Task
 autostarted [] tasks = tasks
 autostarted (d ∷ declarations) [] = []

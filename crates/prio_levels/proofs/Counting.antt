@@ -1,10 +1,10 @@
--- A rank is at least 1, and grows with the priority.
+-- A level is at least 1, and grows with the priority.
 use Rattle.std.proofs.Common.{◌≡◌, ℕ, ◌<◌, ◌≤◌, Bool, true, false, cond, List, [], ◌∷◌, length, get_or, suc, zero, refl, ap, arith}
 use Rattle.std.specs.Prelude.{count_by, nat_le}
 use Rattle.std.proofs.lemmas.List.Sums.{sum_by-cons}
 use Rattle.std.proofs.lemmas.Bool.{le-leb, leb-true, lt-leb}
 use Rattle.sloth_base.specs.declared.config.TaskDecl.{TaskDecl}
-use Rattle.prio_levels.specs.Levels.{rank}
+use Rattle.sloth_base.specs.PriorityLevels.{level_among}
 
 module _ {X : Type 0} (p q : X → Bool) (weaker : (x : X) → p x ≡ true → q x ≡ true) where
   pub ones : (x : X) → cond (p x) 1 0 ≤ cond (q x) 1 0
@@ -41,13 +41,13 @@ module _ {X : Type 0} (p q : X → Bool) (weaker : (x : X) → p x ≡ true → 
       omega (arith, a, b, l, o)
 
 module _ (tasks : List TaskDecl) (t : ℕ) (d : TaskDecl) (within : t < length tasks) where
-  pub rank-lt : (priority : ℕ) → priority < (get_or tasks t d).priority → rank tasks priority < rank tasks (get_or tasks t d).priority
-  rank-lt priority h =
+  pub level-lt : (priority : ℕ) → priority < (get_or tasks t d).priority → level_among tasks priority < level_among tasks (get_or tasks t d).priority
+  level-lt priority h =
       count_by-lt (λ s. nat_le s.priority priority) (λ s. nat_le s.priority (get_or tasks t d).priority)
       (λ s e. le-leb s.priority (get_or tasks t d).priority (let l = leb-true s.priority priority e in omega (arith, l, h)))
       tasks t d within (lt-leb (get_or tasks t d).priority priority h) (le-leb (get_or tasks t d).priority (get_or tasks t d).priority (omega arith))
 
-  pub rank-positive : 0 < rank tasks (get_or tasks t d).priority
-  rank-positive =
+  pub level-positive : 0 < level_among tasks (get_or tasks t d).priority
+  level-positive =
       let l = count_by-lt (λ s. false) (λ s. nat_le s.priority (get_or tasks t d).priority) (λ s e. cc)
       tasks t d within refl (le-leb (get_or tasks t d).priority (get_or tasks t d).priority (omega arith)) in omega (arith, l)

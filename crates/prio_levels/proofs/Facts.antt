@@ -1,4 +1,4 @@
--- What follows from ranks and ceilings.
+-- What follows from levels and ceilings.
 use Rattle.std.proofs.Common.{◌≡◌, ℕ, ◌<◌, ◌≤◌, ◌⊎◌, ⊎_elim, false, List, [], ◌∷◌, length, get_or, ap, arith, IsTrue}
 use Rattle.std.specs.Prelude.{◌==◌, nat_le, Contains, slice_index}
 use Rattle.std.proofs.lemmas.Bool.{eq-eqb, ne_eqb}
@@ -8,8 +8,9 @@ use Rattle.std.proofs.lemmas.List.Sums.{count_by-le-length}
 use Rattle.sloth_base.specs.declared.config.TaskDecl.{TaskDecl}
 use Rattle.sloth_base.specs.declared.config.Config.{Config}
 use Rattle.sloth_base.specs.ConfigRange.{InRange, IsTask}
-use Rattle.prio_levels.specs.Levels.{rank, lists, ceiling, AreRanks, AreCeilings}
-use Rattle.prio_levels.proofs.Counting.{rank-lt, rank-positive}
+use Rattle.prio_levels.specs.Levels.{lists, ceiling, AreCeilings, AreTaskLevels}
+use Rattle.sloth_base.specs.PriorityLevels.{level_among}
+use Rattle.prio_levels.proofs.Counting.{level-lt, level-positive}
 use Rattle.prio_levels.proofs.Greatest.{greatest_covers, greatest_none}
 
 -- a resource of a task
@@ -23,37 +24,37 @@ lists_no config r h k task t =
 
 pub no_resource : (config : Config) → InRange config → (r : ℕ) → length config.resources ≤ r → r < 32 → ceiling config.tasks r ≡ 0
 no_resource config range r h k =
-    greatest_none (lists r) (λ t. rank config.tasks t.priority) config.tasks (All-weaker (IsTask config) (λ t. lists r t ≡ false) (lists_no config r h k) config.tasks range.tasks)
+    greatest_none (lists r) (λ t. level_among config.tasks t.priority) config.tasks (All-weaker (IsTask config) (λ t. lists r t ≡ false) (lists_no config r h k) config.tasks range.tasks)
 
-pub within : (tasks : List TaskDecl) (levels : List ℕ) → AreRanks tasks levels → (t : ℕ) → t < length tasks → (0 < slice_index levels t) × (slice_index levels t ≤ length tasks)
-within [] levels ranks t h = absurd (omega arith)
-within (d ∷ rest) levels ranks t h =
+pub within : (tasks : List TaskDecl) (levels : List ℕ) → AreTaskLevels tasks levels → (t : ℕ) → t < length tasks → (0 < slice_index levels t) × (slice_index levels t ≤ length tasks)
+within [] levels levels_are t h = absurd (omega arith)
+within (d ∷ rest) levels levels_are t h =
     let tasks = d ∷ rest in
-    let a = ranks.tasks_ranked t d h in
-    let p = rank-positive tasks t d h in
+    let a = levels_are.of_task t d h in
+    let p = level-positive tasks t d h in
     let n = count_by-le-length (λ s. nat_le s.priority (get_or tasks t d).priority) tasks in
     (omega (arith, a, p), omega (arith, a, n))
 
-module _ (config : Config) (levels ceilings : List ℕ) (range : InRange config) (ranks : AreRanks config.tasks levels) where
+module _ (config : Config) (levels ceilings : List ℕ) (range : InRange config) (levels_are : AreTaskLevels config.tasks levels) where
   pub ordered : (s t : ℕ) (d : TaskDecl) → s < length config.tasks → t < length config.tasks → (get_or config.tasks s d).priority < (get_or config.tasks t d).priority
       → slice_index levels s < slice_index levels t
   ordered s t d h k l =
-      let a = ranks.tasks_ranked s d h in
-      let b = ranks.tasks_ranked t d k in
-      let m = rank-lt config.tasks t d k (get_or config.tasks s d).priority l in
+      let a = levels_are.of_task s d h in
+      let b = levels_are.of_task t d k in
+      let m = level-lt config.tasks t d k (get_or config.tasks s d).priority l in
       omega (arith, a, b, m)
 
   pub covers : AreCeilings config.tasks ceilings → (t r : ℕ) (d : TaskDecl) → t < length config.tasks → Contains (get_or config.tasks t d).resources r
       → slice_index levels t ≤ slice_index ceilings r
   covers are t r d h c =
       let task = get_or config.tasks t d in
-      let a = ranks.tasks_ranked t d h in
+      let a = levels_are.of_task t d h in
       let listed = All-contains (IsListed config) task.resources r (range.tasks t d h).resources c in
       let few = range.few_resources in
       ⊎_elim
       (λ b. let below : r < 32 = omega (arith, b, few) in
       let e = are.listed r below in
-      let m = greatest_covers (lists r) (λ s. rank config.tasks s.priority) config.tasks 0 t d h
+      let m = greatest_covers (lists r) (λ s. level_among config.tasks s.priority) config.tasks 0 t d h
       (list_any_at (λ n. n == r) task.resources c.0 r c.1 (eq-eqb (get_or task.resources c.0 r) r c.2)) in
       omega (arith, a, e, m))
       (λ b. let s = are.scheduler in

@@ -4,14 +4,15 @@
 ghost use Rattle.std.specs.Prelude.{◌≡◌, ◌<◌, ◌≤◌, ℕ, if◌then◌else◌, max, length, Contains, slice_index, slice_index_or};
 ghost use Rattle.sloth_base.specs.declared.config.TaskDecl.{TaskDecl};
 ghost use Rattle.sloth_base.specs.ConfigRange.{InRange};
-ghost use Rattle.prio_levels.specs.Levels.{rank, lists, ceiling, AreRanks, AreCeilings, AreLevels};
+ghost use Rattle.prio_levels.specs.Levels.{lists, ceiling, AreCeilings, AreLevels, AreTaskLevels};
+ghost use Rattle.sloth_base.specs.PriorityLevels.{level_among};
 
 use sloth_base::config::{Config, TaskDecl};
 use sloth_base::places::Levels;
 
-/// How many of the tasks have at most this priority.
-fn rank_of(tasks: &[TaskDecl], priority: u32) -> usize
-    ensures rank { result ≡ rank tasks.now priority }
+/// The level of a priority: how many of the tasks have no greater one.
+fn level_of(tasks: &[TaskDecl], priority: u32) -> usize
+    ensures level { result ≡ level_among tasks.now priority }
     ensures few { result ≤ length tasks.now }
 {
     tasks
@@ -21,13 +22,13 @@ fn rank_of(tasks: &[TaskDecl], priority: u32) -> usize
 }
 
 /// The levels of the tasks in the order of their numbers, then zeros.
-fn ranks(tasks: &[TaskDecl]) -> [u8; 30]
+fn task_levels(tasks: &[TaskDecl]) -> [u8; 30]
     requires { length tasks.now ≤ 30 }
-    ensures { AreRanks tasks.now result }
+    ensures { AreTaskLevels tasks.now result }
 {
     let mut levels = [0; 30];
     for (number, task) in tasks.iter().enumerate() {
-        levels[number] = rank_of(tasks, task.priority) as u8;
+        levels[number] = level_of(tasks, task.priority) as u8;
     }
     levels
 }
@@ -59,7 +60,7 @@ fn ceiling_of(tasks: &[TaskDecl], resource: u32) -> u8
 {
     let mut greatest = 0;
     for task in tasks {
-        let level = rank_of(tasks, task.priority) as u8;
+        let level = level_of(tasks, task.priority) as u8;
         greatest = raised(greatest, lists_resource(task, resource), level);
     }
     greatest
@@ -78,7 +79,7 @@ fn ceilings(tasks: &[TaskDecl]) -> [u8; 33]
     ceilings
 }
 
-/// The level of a task is its rank by priority, from 1. The ceiling of a resource is the level of the highest task that lists it,
+/// The level of a task is that of its priority, from 1. The ceiling of a resource is the level of the highest task that lists it,
 /// 0 where none does (OSEK OS 2.2.3, section 8.5). The ceiling of RES_SCHEDULER, entry 32, is the highest task's level.
 pub fn assign(config: &Config) -> Levels
     requires { InRange config.now }
@@ -96,7 +97,7 @@ pub fn assign(config: &Config) -> Levels
 {
     let tasks = config.tasks.items();
     Levels {
-        task: ranks(tasks),
+        task: task_levels(tasks),
         ceiling: ceilings(tasks),
         top: tasks.len() as u8,
     }

@@ -5,8 +5,7 @@ use Rattle.sloth_base.specs.Machine.{Core, State}
 use Rattle.rv32_instr.specs.declared.InstrKind.{InstrKind}
 use Rattle.rv32_instr.specs.declared.InstrKind.TheVariants.{Lui, Addi, Lw, Sw, Csrrs, Csrrw, Csrrwi, Mret}
 use Rattle.rv32_instr.specs.Ram.{word_at, with_word, with_words}
-use Rattle.rv32_instr.specs.Effect.{plus}
-use Rattle.rv32_routine.specs.Constant.{hi, lo}
+use Rattle.sloth_base.specs.Arithmetic.{plus, hi, lo}
 use Rattle.rv32_routine.specs.Place.{at}
 use Rattle.rv32_routine.specs.Masked.{Masked, WithArrivals}
 use Rattle.rv32_routine.specs.Owes.{IsWordAt, IsApart, Owes}

@@ -5,7 +5,7 @@ use Rattle.sloth_region.specs.Layout.{cur, active, below_word, idle_context, con
 use Rattle.rv32_instr.specs.declared.InstrKind.{InstrKind}
 use Rattle.rv32_instr.specs.declared.InstrKind.TheVariants.{Jal}
 use Rattle.rv32_instr.specs.Ram.{word_at, with_word, with_words}
-use Rattle.rv32_instr.specs.Effect.{plus}
+use Rattle.sloth_base.specs.Arithmetic.{plus}
 use Rattle.rv32_routine.specs.Masked.{Masked, WithArrivals}
 use Rattle.rv32_routine.specs.Place.{at, InPlace}
 use Rattle.rv32_routine.specs.Pieces.{registers_from}

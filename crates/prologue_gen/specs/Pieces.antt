@@ -2,7 +2,7 @@
 use Rattle.std.specs.Prelude.{ℕ, ◌+◌, ◌*◌, pos, negsuc, List, [], ◌∷◌, ◌++◌}
 use Rattle.rv32_instr.specs.declared.InstrKind.{InstrKind}
 use Rattle.rv32_instr.specs.declared.InstrKind.TheVariants.{Lui, Addi, Lw, Sw, Csrrs, Csrrw, Csrrwi, Mret}
-use Rattle.rv32_routine.specs.Constant.{hi, lo}
+use Rattle.sloth_base.specs.Arithmetic.{hi, lo}
 use Rattle.rv32_routine.specs.Pieces.{saves, clears, clears_words}
 
 -- leaves 0x80000000 in x4

@@ -1,8 +1,8 @@
 -- The instructions of each item. The last one, which commits the item, changes what task code sees; those before it use x30 and x31 alone.
-use Rattle.std.specs.Prelude.{ℕ, zero, suc, ◌+◌, ◌*◌, ◌/◌, ◌%◌, ◌^◌, ℤ, pos, ◌-ℤ◌, neg_ℤ, List, [], ◌∷◌, ◌++◌, length, get_or, None}
+use Rattle.std.specs.Prelude.{ℕ, zero, suc, ◌+◌, ◌*◌, ◌/◌, ◌%◌, ◌^◌, ℤ, pos, ◌-ℤ◌, neg_ℤ, List, [], ◌∷◌, ◌++◌, length, get_or}
 use Rattle.sloth_base.specs.ServiceCodes.{code_of}
 use Rattle.sloth_base.specs.declared.app.App.{App}
-use Rattle.sloth_base.specs.declared.app.Func.{Func}
+use Rattle.sloth_base.specs.Functions.{function}
 use Rattle.sloth_base.specs.declared.app.Call.{Call}
 use Rattle.sloth_base.specs.declared.app.Op.{Op}
 use Rattle.sloth_base.specs.declared.app.Op.TheVariants as op
@@ -17,25 +17,21 @@ use Rattle.sloth_base.specs.declared.app.Width.TheVariants as width
 use Rattle.sloth_base.specs.declared.service.Service.{Service}
 use Rattle.sloth_base.specs.declared.service.Service.TheVariants as service
 use Rattle.sloth_base.specs.declared.places.Places.{Places}
-use Rattle.rv32_instr.specs.Fields.{signed}
+use Rattle.sloth_base.specs.Arithmetic.{hi, lo}
 use Rattle.rv32_instr.specs.declared.InstrKind.{InstrKind}
 use Rattle.rv32_instr.specs.declared.InstrKind.TheVariants.{Lui, Auipc, Jal, Jalr, Beq, Bne, Blt, Bge, Bltu, Bgeu, Lb, Lh, Lw, Lbu, Lhu, Sb, Sh, Sw, Addi, Slti, Sltiu, Xori, Ori, Andi, Slli, Srli, Srai, Add, Sub, Sll, Slt, Sltu, Xor, Srl, Sra, Or, And}
 
--- a word is high * 4096 + low modulo 2^32
-abbrev pub high : ℕ → ℕ
-high value = (value + 0x800) / 4096 % 2 ^ 20
-
-abbrev pub low : ℕ → ℤ
-low value = signed 12 (value % 4096)
-
 -- ---- addresses
 
+-- the address of an item of a function
 abbrev pub item_address : Places → ℕ → ℕ → ℕ
 item_address places func index = get_or places.items (get_or places.first func 0 + index) 0
 
+-- the address of a symbol
 abbrev pub symbol_address : Places → ℕ → ℕ
 symbol_address places symbol = get_or places.symbols symbol 0
 
+-- the address of the code of a service with its object
 abbrev pub block_address : Places → Service → ℕ → ℕ
 block_address places s object = get_or places.blocks (code_of s * 40 + object) 0
 
@@ -43,18 +39,14 @@ block_address places s object = get_or places.blocks (code_of s * 40 + object) 0
 abbrev pub distance : ℕ → ℕ → ℤ
 distance from to = pos to -ℤ pos from
 
-abbrev pub missing : Func
-missing = record { name = []; line = 0; task = None; frame_words = 0; items = []; labels = [] }
-
-abbrev pub function : App → ℕ → Func
-function app f = get_or app.funcs f missing
-
+-- the address of the item behind a label
 abbrev pub label_address : App → Places → ℕ → ℕ → ℕ
 label_address app places func label =
     item_address places func (get_or (function app func).labels label (record { name = []; line = 0; item = 0; holds = [] })).item
 
 -- ---- one instruction
 
+-- an operation on two registers
 abbrev pub register_operation : AluKind → ℕ → ℕ → ℕ → InstrKind
 register_operation alu.Add rd rs1 rs2 = Add rd rs1 rs2
 register_operation alu.Sub rd rs1 rs2 = Sub rd rs1 rs2
@@ -72,6 +64,7 @@ abbrev pub amount : ℤ → ℕ
 amount (pos n) = n
 amount z = 0
 
+-- an operation on a register and a number
 abbrev pub number_operation : ImmKind → ℕ → ℕ → ℤ → InstrKind
 number_operation imm.Addi rd rs1 number = Addi rd rs1 number
 number_operation imm.Slti rd rs1 number = Slti rd rs1 number
@@ -83,6 +76,7 @@ number_operation imm.Slli rd rs1 number = Slli rd rs1 (amount number)
 number_operation imm.Srli rd rs1 number = Srli rd rs1 (amount number)
 number_operation imm.Srai rd rs1 number = Srai rd rs1 (amount number)
 
+-- a load of a width
 abbrev pub load : Width → ℕ → ℕ → ℤ → InstrKind
 load width.Byte rd base offset = Lb rd base offset
 load width.Half rd base offset = Lh rd base offset
@@ -90,6 +84,7 @@ load width.Word rd base offset = Lw rd base offset
 load width.ByteU rd base offset = Lbu rd base offset
 load width.HalfU rd base offset = Lhu rd base offset
 
+-- a store of a width
 abbrev pub store : Width → ℕ → ℕ → ℤ → InstrKind
 store width.Byte rs base offset = Sb base rs offset
 store width.Half rs base offset = Sh base rs offset
@@ -110,11 +105,11 @@ opposite branch.Bgeu a b = Bltu a b (pos 12)
 
 -- a word in a register
 abbrev pub number_in : ℕ → ℕ → List InstrKind
-number_in rd value = Lui rd (high value) ∷ Addi rd rd (low value) ∷ []
+number_in rd value = Lui rd (hi value) ∷ Addi rd rd (lo value) ∷ []
 
 -- x31 is the address of a masked index into a symbol, less the low part
 abbrev pub indexed : ℕ → ℕ → ℕ → List InstrKind
-indexed index mask address = Andi 31 index (pos mask) ∷ Lui 30 (high address) ∷ Add 31 31 30 ∷ []
+indexed index mask address = Andi 31 index (pos mask) ∷ Lui 30 (hi address) ∷ Add 31 31 30 ∷ []
 
 -- zeros in so many words of a new frame, from word k on
 abbrev pub zeros : ℕ → ℕ → List InstrKind
@@ -150,21 +145,22 @@ served places call address =
 
 -- ---- an item, at its address
 
+-- the instructions of an operation of a function, at its address
 abbrev pub expanded : App → Places → (func address : ℕ) → Op → List InstrKind
 expanded app places func address (op.Alu kind rd rs1 rs2) = register_operation kind rd rs1 rs2 ∷ []
 expanded app places func address (op.AluImm kind rd rs1 number) = number_operation kind rd rs1 number ∷ []
 expanded app places func address (op.Lui rd number) = Lui rd number ∷ []
-expanded app places func address (op.Li rd value) = Lui 31 (high value) ∷ Addi rd 31 (low value) ∷ []
+expanded app places func address (op.Li rd value) = Lui 31 (hi value) ∷ Addi rd 31 (lo value) ∷ []
 expanded app places func address (op.FrameLoad rd word) = Lw rd 2 (pos (4 * word)) ∷ []
 expanded app places func address (op.FrameStore rs word) = Sw 2 rs (pos (4 * word)) ∷ []
 expanded app places func address (op.Load w rd symbol offset) =
-    Lui 31 (high (symbol_address places symbol + offset)) ∷ load w rd 31 (low (symbol_address places symbol + offset)) ∷ []
+    Lui 31 (hi (symbol_address places symbol + offset)) ∷ load w rd 31 (lo (symbol_address places symbol + offset)) ∷ []
 expanded app places func address (op.Store w rs symbol offset) =
-    Lui 31 (high (symbol_address places symbol + offset)) ∷ store w rs 31 (low (symbol_address places symbol + offset)) ∷ []
+    Lui 31 (hi (symbol_address places symbol + offset)) ∷ store w rs 31 (lo (symbol_address places symbol + offset)) ∷ []
 expanded app places func address (op.LoadAt w rd symbol index mask) =
-    indexed index mask (symbol_address places symbol) ++ (load w rd 31 (low (symbol_address places symbol)) ∷ [])
+    indexed index mask (symbol_address places symbol) ++ (load w rd 31 (lo (symbol_address places symbol)) ∷ [])
 expanded app places func address (op.StoreAt w rs symbol index mask) =
-    indexed index mask (symbol_address places symbol) ++ (store w rs 31 (low (symbol_address places symbol)) ∷ [])
+    indexed index mask (symbol_address places symbol) ++ (store w rs 31 (lo (symbol_address places symbol)) ∷ [])
 expanded app places func address (op.Branch kind rs1 rs2 label) =
     number_in 31 (address + 24)
     ++ (opposite kind rs1 rs2 ∷ (number_in 31 (label_address app places func label) ++ (Jalr 0 31 (pos 0) ∷ [])))
@@ -178,5 +174,6 @@ expanded app places func address (op.Serve call) = served places call address
 abbrev pub operation : App → ℕ → ℕ → Op
 operation app func index = (get_or (function app func).items index (record { line = 0; op = op.Return })).op
 
+-- those of an item of a function
 abbrev pub expansion : App → Places → (func index : ℕ) → List InstrKind
 expansion app places func index = expanded app places func (item_address places func index) (operation app func index)

@@ -12,7 +12,8 @@ use Rattle.sloth_base.specs.declared.places.Places.{Places}
 use Rattle.rv32_instr.specs.Encode.{Encode}
 use Rattle.rv32_instr.specs.Ram.{word_at}
 use Rattle.rv32_instr.specs.declared.InstrKind.{InstrKind}
-use Rattle.rv32_expand.specs.Expansion.{function, operation, expansion, item_address}
+use Rattle.rv32_expand.specs.Expansion.{operation, expansion, item_address}
+use Rattle.sloth_base.specs.Functions.{function}
 
 -- the register of an item's result: its destination, a store's source, or x0
 abbrev pub result_register : Op → ℕ
@@ -41,6 +42,7 @@ mark_of operation address func index = record { address = address; kind = kind.I
 abbrev pub last_address : App → Places → (func index : ℕ) → ℕ
 last_address app places func index = item_address places func index + 4 * (length (expansion app places func index) - 1)
 
+-- the mark of an item, on its last instruction
 abbrev pub item_mark : App → Places → (func index : ℕ) → Mark
 item_mark app places func index = mark_of (operation app func index) (last_address app places func index) func index
 

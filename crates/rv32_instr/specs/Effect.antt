@@ -1,39 +1,14 @@
 -- What each instruction does: the RISC-V unprivileged manual's chapters on RV32I and Zicsr, and MRET.
-use Rattle.std.specs.Prelude.{ℕ, ◌+◌, ◌-◌, ◌*◌, ◌/◌, ◌%◌, ◌^◌, ℤ, pos, negsuc, List, Bool, not, if◌then◌else◌, ◌==◌, int_lt, nat_lt, bit_and, bit_or, bit_xor, slice_index}
+use Rattle.std.specs.Prelude.{ℕ, ◌-◌, ◌*◌, ◌%◌, ◌^◌, List, not, if◌then◌else◌, ◌==◌, int_lt, nat_lt, bit_and, bit_or, bit_xor, slice_index}
 use Rattle.sloth_base.specs.declared.app.Width.TheVariants as width
-use Rattle.rv32_instr.specs.Fields.{signed, complement}
+use Rattle.sloth_base.specs.Arithmetic.{signed, complement, sum32, difference32, plus, signed_less, one_if, shifted_left, shifted_right, shifted_right_signed}
 use Rattle.rv32_instr.specs.declared.effect.Change.TheVariants.{Keep, Replace, Set, Clear}
 use Rattle.rv32_instr.specs.declared.effect.Effect.{Effect}
 use Rattle.rv32_instr.specs.declared.effect.Effect.TheVariants.{Nothing, Write, Branch, Jump, Load, Store, Csr, Environment, Return}
 use Rattle.rv32_instr.specs.declared.InstrKind.{InstrKind}
 use Rattle.rv32_instr.specs.declared.InstrKind.TheVariants.{Lui, Auipc, Jal, Jalr, Beq, Bne, Blt, Bge, Bltu, Bgeu, Lb, Lh, Lw, Lbu, Lhu, Sb, Sh, Sw, Addi, Slti, Sltiu, Xori, Ori, Andi, Slli, Srli, Srai, Add, Sub, Sll, Slt, Sltu, Xor, Srl, Sra, Or, And, Fence, Csrrw, Csrrs, Csrrc, Csrrwi, Csrrsi, Csrrci, Ecall, Ebreak, Mret}
 
--- sums wrap
-abbrev pub sum32 : ℕ → ℕ → ℕ
-sum32 a b = (a + b) % 2 ^ 32
-
--- a sum with a signed number
-abbrev pub plus : ℕ → ℤ → ℕ
-plus a imm = sum32 a (complement imm)
-
-abbrev pub signed_less : ℕ → ℕ → Bool
-signed_less a b = int_lt (signed 32 a) (signed 32 b)
-
-abbrev pub number_of : Bool → ℕ
-number_of test = if test then 1 else 0
-
-abbrev pub shifted_left : ℕ → ℕ → ℕ
-shifted_left a count = a * 2 ^ count % 2 ^ 32
-
--- the signed number halved so many times, rounding down
-abbrev pub halved : ℤ → ℕ → ℤ
-halved (pos a) count = pos (a / 2 ^ count)
-halved (negsuc a) count = negsuc (a / 2 ^ count)
-
-abbrev pub shifted_right_signed : ℕ → ℕ → ℕ
-shifted_right_signed a count = complement (halved (signed 32 a) count)
-
--- at the instruction's address `pc` and with the registers `x`
+-- the effect of an instruction at the address `pc`, with the registers `x`
 abbrev pub effect : InstrKind → ℕ → List ℕ → Effect
 effect (Lui rd imm) pc x = Write rd (imm * 2 ^ 12)
 effect (Auipc rd imm) pc x = Write rd (sum32 pc (imm * 2 ^ 12))
@@ -54,21 +29,21 @@ effect (Sb rs1 rs2 imm) pc x = Store width.Byte (plus (slice_index x rs1) imm) (
 effect (Sh rs1 rs2 imm) pc x = Store width.Half (plus (slice_index x rs1) imm) (slice_index x rs2)
 effect (Sw rs1 rs2 imm) pc x = Store width.Word (plus (slice_index x rs1) imm) (slice_index x rs2)
 effect (Addi rd rs1 imm) pc x = Write rd (plus (slice_index x rs1) imm)
-effect (Slti rd rs1 imm) pc x = Write rd (number_of (int_lt (signed 32 (slice_index x rs1)) imm))
-effect (Sltiu rd rs1 imm) pc x = Write rd (number_of (nat_lt (slice_index x rs1) (complement imm)))
+effect (Slti rd rs1 imm) pc x = Write rd (one_if (int_lt (signed 32 (slice_index x rs1)) imm))
+effect (Sltiu rd rs1 imm) pc x = Write rd (one_if (nat_lt (slice_index x rs1) (complement imm)))
 effect (Xori rd rs1 imm) pc x = Write rd (bit_xor (slice_index x rs1) (complement imm))
 effect (Ori rd rs1 imm) pc x = Write rd (bit_or (slice_index x rs1) (complement imm))
 effect (Andi rd rs1 imm) pc x = Write rd (bit_and (slice_index x rs1) (complement imm))
 effect (Slli rd rs1 amount) pc x = Write rd (shifted_left (slice_index x rs1) amount)
-effect (Srli rd rs1 amount) pc x = Write rd (slice_index x rs1 / 2 ^ amount)
+effect (Srli rd rs1 amount) pc x = Write rd (shifted_right (slice_index x rs1) amount)
 effect (Srai rd rs1 amount) pc x = Write rd (shifted_right_signed (slice_index x rs1) amount)
 effect (Add rd rs1 rs2) pc x = Write rd (sum32 (slice_index x rs1) (slice_index x rs2))
-effect (Sub rd rs1 rs2) pc x = Write rd (sum32 (slice_index x rs1) (2 ^ 32 - slice_index x rs2))
+effect (Sub rd rs1 rs2) pc x = Write rd (difference32 (slice_index x rs1) (slice_index x rs2))
 effect (Sll rd rs1 rs2) pc x = Write rd (shifted_left (slice_index x rs1) (slice_index x rs2 % 32))
-effect (Slt rd rs1 rs2) pc x = Write rd (number_of (signed_less (slice_index x rs1) (slice_index x rs2)))
-effect (Sltu rd rs1 rs2) pc x = Write rd (number_of (nat_lt (slice_index x rs1) (slice_index x rs2)))
+effect (Slt rd rs1 rs2) pc x = Write rd (one_if (signed_less (slice_index x rs1) (slice_index x rs2)))
+effect (Sltu rd rs1 rs2) pc x = Write rd (one_if (nat_lt (slice_index x rs1) (slice_index x rs2)))
 effect (Xor rd rs1 rs2) pc x = Write rd (bit_xor (slice_index x rs1) (slice_index x rs2))
-effect (Srl rd rs1 rs2) pc x = Write rd (slice_index x rs1 / 2 ^ (slice_index x rs2 % 32))
+effect (Srl rd rs1 rs2) pc x = Write rd (shifted_right (slice_index x rs1) (slice_index x rs2 % 32))
 effect (Sra rd rs1 rs2) pc x = Write rd (shifted_right_signed (slice_index x rs1) (slice_index x rs2 % 32))
 effect (Or rd rs1 rs2) pc x = Write rd (bit_or (slice_index x rs1) (slice_index x rs2))
 effect (And rd rs1 rs2) pc x = Write rd (bit_and (slice_index x rs1) (slice_index x rs2))

@@ -14,12 +14,15 @@ use Rattle.rv32_instr.specs.Encode.{Encode}
 use Rattle.rv32_instr.specs.Table.{Decode}
 use Rattle.rv32_instr.specs.Ram.{word_at}
 use Rattle.rv32_instr.specs.Memory.{memory_of, with_memory, in_ram, refusal, loaded, stored}
-use Rattle.rv32_instr.specs.Effect.{effect, sum32}
+use Rattle.rv32_instr.specs.Effect.{effect}
+use Rattle.sloth_base.specs.Arithmetic.{sum32}
 
+-- the state after an instruction, or why there is none
 pub data Next : Type 0 where
   Going : State → Next
   Stopped : Stop → Next
 
+-- a register by its number
 abbrev pub register_of : Core → ℕ → ℕ
 register_of core number = slice_index core.registers number
 
@@ -52,19 +55,23 @@ with_csr core csr value =
     else if csr == 0x7C1 then record core { plevel = value % 256 }
     else core
 
+-- what a change of a CSR with this old value leaves
 abbrev pub changed : Change → ℕ → ℕ → Core → Core
 changed Keep csr old core = core
 changed (Replace value) csr old core = with_csr core csr value
 changed (Set bits) csr old core = with_csr core csr (bit_or old bits)
 changed (Clear bits) csr old core = with_csr core csr (bit_and old (2 ^ 32 - 1 - bits))
 
+-- the next instruction is the one behind
 abbrev pub goes_on : ℕ → Core → Next
 goes_on pc core = Going (record { pc = sum32 pc 4; core = core })
 
+-- the next instruction is at the target, a multiple of 4
 abbrev pub jumps : ℕ → Core → Next
 jumps target core =
     if target % 4 == 0 then Going (record { pc = target; core = core }) else Stopped (stop.Misaligned target)
 
+-- an access, unless it is refused
 abbrev pub unless_refused : Option Bad → ℕ → Next → Next
 unless_refused None address next = next
 unless_refused (Some bad.Misaligned) address next = Stopped (stop.Misaligned address)
@@ -97,9 +104,10 @@ unfoldable pub execute : InstrKind → ℕ → Core → Next
 execute kind pc core = perform (effect kind pc core.registers) (Encode kind) pc core
 
 -- the word that pc points to
-abbrev pub word_of : State → ℕ
-word_of state = word_at state.core.ram (state.pc - 0x8000_0000)
+abbrev pub fetched : State → ℕ
+fetched state = word_at state.core.ram (state.pc - 0x8000_0000)
 
+-- a word that is an instruction, or that is none
 abbrev pub execute_word : Option InstrKind → ℕ → State → Next
 execute_word None word state = Stopped (stop.Illegal word)
 execute_word (Some kind) word state = execute kind state.pc state.core
@@ -107,7 +115,7 @@ execute_word (Some kind) word state = execute kind state.pc state.core
 -- fetch, decode and execute
 unfoldable pub step : State → Next
 step state =
-    if in_ram state.pc 4 then execute_word (Decode (word_of state)) (word_of state) state
+    if in_ram state.pc 4 then execute_word (Decode (fetched state)) (fetched state) state
     else Stopped (stop.Fetch state.pc)
 
 -- the line that a controller address is the pending byte of
@@ -121,10 +129,11 @@ touched_by (Load width rd address) = pending_line address
 touched_by (Store width address value) = if value % 256 == 0 then pending_line address else None
 touched_by effect = None
 
+-- the line that the decoded instruction touches in this state
 abbrev pub touched_on : Option InstrKind → State → Option ℕ
 touched_on None state = None
 touched_on (Some kind) state = touched_by (effect kind state.pc state.core.registers)
 
 -- the line that the next instruction touches
 unfoldable pub touched : State → Option ℕ
-touched state = touched_on (Decode (word_of state)) state
+touched state = touched_on (Decode (fetched state)) state

@@ -6,18 +6,21 @@ use Rattle.sloth_base.specs.Machine.{Core}
 use Rattle.sloth_base.specs.Lines.{Lines, lines_of, controller_byte, with_controller_byte}
 use Rattle.rv32_instr.specs.declared.stop.Bad.{Bad}
 use Rattle.rv32_instr.specs.declared.stop.Bad.TheVariants as bad
-use Rattle.rv32_instr.specs.Fields.{signed, complement}
+use Rattle.sloth_base.specs.Arithmetic.{sign_extended, size_of}
 use Rattle.rv32_instr.specs.Ram.{half_at, word_at, with_byte, with_half, with_word}
 
+-- what an access sees
 pub record Memory : Type 0 where
   pub ram : List ℕ
   pub lines : Lines
   -- whether the controller is there
   pub controller : Bool
 
+-- that of a machine
 abbrev pub memory_of : Core → Memory
 memory_of core = record { ram = core.ram; lines = lines_of core; controller = core.controller }
 
+-- the machine with this memory
 abbrev pub with_memory : Core → Memory → Core
 with_memory core memory = record core {
   ram = memory.ram;
@@ -27,18 +30,11 @@ with_memory core memory = record core {
   controller = memory.controller;
 }
 
--- the bytes of an access
-abbrev pub size_of : Width → ℕ
-size_of width.Byte = 1
-size_of width.Half = 2
-size_of width.Word = 4
-size_of width.ByteU = 1
-size_of width.HalfU = 2
-
 -- so many bytes from an address on are in RAM
 abbrev pub in_ram : ℕ → ℕ → Bool
 in_ram address size = nat_le 0x8000_0000 address && nat_le (address + size) 0x8020_0000
 
+-- an address is one of the controller's bytes
 abbrev pub in_controller : ℕ → Bool
 in_controller address = nat_le 0x1000_0000 address && nat_lt address 0x1000_0060
 
@@ -57,9 +53,10 @@ loaded_byte memory address =
     if in_ram address 1 then slice_index memory.ram (address - 0x8000_0000)
     else controller_byte memory.lines (address - 0x1000_0000)
 
+-- the word that a load of this width gives
 unfoldable pub loaded : Memory → ℕ → Width → ℕ
-loaded memory address width.Byte = complement (signed 8 (loaded_byte memory address))
-loaded memory address width.Half = complement (signed 16 (half_at memory.ram (address - 0x8000_0000)))
+loaded memory address width.Byte = sign_extended 8 (loaded_byte memory address)
+loaded memory address width.Half = sign_extended 16 (half_at memory.ram (address - 0x8000_0000))
 loaded memory address width.Word = word_at memory.ram (address - 0x8000_0000)
 loaded memory address width.ByteU = loaded_byte memory address
 loaded memory address width.HalfU = half_at memory.ram (address - 0x8000_0000)
@@ -70,6 +67,7 @@ stored_byte memory address value =
     if in_ram address 1 then record memory { ram = with_byte memory.ram (address - 0x8000_0000) value }
     else record memory { lines = with_controller_byte memory.lines (address - 0x1000_0000) (value % 256) }
 
+-- the memory after a store of this width
 unfoldable pub stored : Memory → ℕ → Width → ℕ → Memory
 stored memory address width.Byte value = stored_byte memory address value
 stored memory address width.Half value =

@@ -1,7 +1,8 @@
 //! Parts of a word.
 
 ghost use Rattle.std.specs.Prelude.{◌≡◌, ◌≤◌, ◌<◌, ◌+◌, ◌^◌};
-ghost use Rattle.rv32_instr.specs.Fields.{bits, signed, part};
+ghost use Rattle.rv32_instr.specs.Fields.{bits, part};
+ghost use Rattle.sloth_base.specs.Arithmetic.{signed};
 ghost use Rattle.rv32_instr.specs.Range.{Signed};
 
 /// `count` bits of a word, from bit `low` up.

@@ -4,8 +4,9 @@ use Rattle.sloth_base.specs.declared.app.Width.{Width}
 use Rattle.sloth_base.specs.declared.app.Width.TheVariants as width
 use Rattle.sloth_base.specs.Lines.{controller_byte, with_controller_byte}
 use Rattle.std.specs.Prelude.{◌%◌}
-use Rattle.rv32_instr.specs.Memory.{Memory, size_of, in_ram, refusal, loaded, stored}
-use Rattle.rv32_machine.specs.Place.{bare, bytes_at, with_bytes, extended}
+use Rattle.rv32_instr.specs.Memory.{Memory, in_ram, refusal, loaded, stored}
+use Rattle.sloth_base.specs.Arithmetic.{size_of, extended}
+use Rattle.rv32_machine.specs.Place.{bare, bytes_at, with_bytes}
 
 -- a refusal depends on the controller's being there alone
 pub refusal_bare

@@ -7,6 +7,7 @@ use Rattle.rv32_instr.specs.declared.stop.Stop.{Stop}
 use Rattle.rv32_instr.specs.Ram.{word_at}
 use Rattle.rv32_instr.specs.Execute.{Next, Going, Stopped, step, touched}
 
+-- a step with the state behind it, or why there is none
 pub data Outcome : Type 0 where
   Goes : Step → State → Outcome
   Halts : Stop → Outcome
@@ -25,6 +26,7 @@ seen count before after = record {
   regs = after.core.registers;
 }
 
+-- that of what an instruction leaves
 abbrev pub outcome : ℕ → State → Next → Outcome
 outcome count before (Going after) = Goes (seen count before after) after
 outcome count before (Stopped stop) = Halts stop

@@ -3,6 +3,7 @@ use Rattle.std.specs.Prelude.{◌<◌}
 use Rattle.rv32_instr.specs.declared.effect.Effect.{Effect}
 use Rattle.rv32_instr.specs.declared.effect.Effect.TheVariants.{Nothing, Write, Branch, Jump, Load, Store, Csr, Environment, Return}
 
+-- the register that an effect writes is one of the 32
 abbrev pub Fits : Effect → Type 0
 Fits Nothing = Unit {0}
 Fits (Write rd value) = rd < 32

@@ -3,9 +3,9 @@ use Rattle.std.specs.Prelude.{◌≡◌, ◌≤◌, ◌<◌, ◌+◌, ◌-◌, �
 use Rattle.sloth_base.specs.declared.app.Width.{Width}
 use Rattle.sloth_base.specs.declared.app.Width.TheVariants as width
 use Rattle.irq_ctrl.specs.Fresh.{fresh_lines}
-use Rattle.rv32_instr.specs.Fields.{signed, complement}
+use Rattle.sloth_base.specs.Arithmetic.{size_of}
 use Rattle.rv32_instr.specs.Ram.{half_at, word_at, with_byte, with_half, with_word}
-use Rattle.rv32_instr.specs.Memory.{Memory, size_of, in_ram}
+use Rattle.rv32_instr.specs.Memory.{Memory, in_ram}
 use Rattle.rv32_machine.specs.declared.place.Place.{Place}
 use Rattle.rv32_machine.specs.declared.place.Place.TheVariants as place
 
@@ -35,11 +35,3 @@ with_bytes ram offset width.Half value = with_half ram offset value
 with_bytes ram offset width.Word value = with_word ram offset value
 with_bytes ram offset width.ByteU value = with_byte ram offset value
 with_bytes ram offset width.HalfU value = with_half ram offset value
-
--- the word that a load makes of its bytes
-abbrev pub extended : Width → ℕ → ℕ
-extended width.Byte value = complement (signed 8 value)
-extended width.Half value = complement (signed 16 value)
-extended width.Word value = value
-extended width.ByteU value = value
-extended width.HalfU value = value

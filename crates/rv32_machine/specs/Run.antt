@@ -31,6 +31,7 @@ pub record Moment : Type 0 where
   pub after : State
   pub step : Step
 
+-- that of a step
 abbrev pub moment_of : List Arrival → ℕ → State → Step → State → Moment
 moment_of arrivals count state step after = record {
   arrived_state = arrived arrivals count state;
@@ -45,6 +46,7 @@ run_from zero arrivals count state = []
 run_from (suc n) arrivals count state =
     on_goes (moment arrivals count state) [] (λ step after. moment_of arrivals count state step after ∷ run_from n arrivals (count + 1) after)
 
+-- the moments of the first `n` instructions
 abbrev pub run : ℕ → List Arrival → State → List Moment
 run n arrivals start = run_from n arrivals 0 start
 
@@ -58,6 +60,7 @@ after_from zero arrivals count state = Some state
 after_from (suc n) arrivals count state =
     on_goes (moment arrivals count state) None (λ step after. after_from n arrivals (count + 1) after)
 
+-- the state after `n` instructions, where each could be executed
 abbrev pub state_after : ℕ → List Arrival → State → Option State
 state_after n arrivals start = after_from n arrivals 0 start
 
@@ -66,6 +69,7 @@ pub record Stopping : Type 0 where
   pub pc : ℕ
   pub stop : Stop
 
+-- where and why the machine stops, if it does
 abbrev pub stopping : State → Outcome → Option Stopping
 stopping state (Goes step after) = None
 stopping state (Halts stop) = Some (record { pc = (entered state).pc; stop = stop })
@@ -76,5 +80,6 @@ stop_from zero arrivals count state = None
 stop_from (suc n) arrivals count state =
     on_goes (moment arrivals count state) (stopping (arrived arrivals count state) (moment arrivals count state)) (λ step after. stop_from n arrivals (count + 1) after)
 
+-- where and why one of the first `n` instructions stops the machine, if one does
 abbrev pub stop_of : ℕ → List Arrival → State → Option Stopping
 stop_of n arrivals start = stop_from n arrivals 0 start

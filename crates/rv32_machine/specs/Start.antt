@@ -37,5 +37,6 @@ start_over memory = record {
   };
 }
 
+-- the state in which an image starts
 abbrev pub start : Image → State
 start image = start_over (sloth_start image)

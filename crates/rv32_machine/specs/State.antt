@@ -5,6 +5,7 @@ use Rattle.rv32_instr.specs.Memory.{Memory}
 use Rattle.rv32_machine.specs.declared.machine.Hart.{Hart}
 use Rattle.rv32_machine.specs.declared.machine.Machine.{Machine}
 
+-- the machine of a hart and its memory, without the pc
 abbrev pub core_of : Hart → Memory → Core
 core_of hart memory = record {
   registers = hart.registers;
@@ -21,6 +22,7 @@ core_of hart memory = record {
   controller = memory.controller;
 }
 
+-- the same with the pc
 abbrev pub state_of : Hart → Memory → State
 state_of hart memory = record { pc = hart.pc; core = core_of hart memory }
 

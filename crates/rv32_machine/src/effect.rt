@@ -1,7 +1,8 @@
 //! What each instruction does.
 ghost use Rattle.std.specs.Prelude.{◌≡◌, ◌<◌, ◌-◌, ◌%◌, slice_index, if◌then◌else◌, ◌==◌};
 ghost use Rattle.rv32_instr.specs.Range.{InRange, Signed};
-ghost use Rattle.rv32_instr.specs.Effect.{effect, plus};
+ghost use Rattle.rv32_instr.specs.Effect.{effect};
+ghost use Rattle.sloth_base.specs.Arithmetic.{plus};
 ghost use Rattle.rv32_instr.specs.declared.effect.Effect.TheVariants as asks;
 ghost use Rattle.rv32_instr.specs.declared.effect.Change.TheVariants as change;
 ghost use Rattle.rv32_machine.specs.Fits.{Fits};

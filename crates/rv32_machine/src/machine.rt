@@ -1,6 +1,6 @@
 //! The hart over its bus.
 ghost use Rattle.std.specs.Prelude.{◌≡◌, ◌<◌, ◌%◌, OnOk, OnErr, IfOk, IfErr, None, true};
-ghost use Rattle.rv32_instr.specs.Effect.{sum32};
+ghost use Rattle.sloth_base.specs.Arithmetic.{sum32};
 ghost use Rattle.rv32_instr.specs.Execute.{Next, Going, Stopped, with_register, csr_value, with_csr, changed, goes_on, jumps, perform, unless_refused};
 ghost use Rattle.rv32_instr.specs.Memory.{memory_of, with_memory, refusal, loaded, stored};
 ghost use Rattle.rv32_machine.specs.Fits.{Fits};

@@ -1,7 +1,8 @@
 //! Where an access goes.
 ghost use Rattle.std.specs.Prelude.{◌≡◌, ◌<◌, ◌*◌, ◌^◌, None, Some, IfOk, IfErr};
-ghost use Rattle.rv32_instr.specs.Memory.{refusal, size_of};
-ghost use Rattle.rv32_machine.specs.Place.{IsPlace, bare, extended};
+ghost use Rattle.rv32_instr.specs.Memory.{refusal};
+ghost use Rattle.sloth_base.specs.Arithmetic.{size_of, extended};
+ghost use Rattle.rv32_machine.specs.Place.{IsPlace, bare};
 
 use rv32_instr::Bad;
 use sloth_base::app::Width;

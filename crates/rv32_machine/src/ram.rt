@@ -1,7 +1,7 @@
 //! RAM: 2 MiB of bytes. An offset is an address less 0x80000000.
 ghost use Rattle.std.specs.Prelude.{◌≡◌, ◌≤◌, ◌<◌, ◌+◌, ◌^◌, IfOk, length, slice_index};
 ghost use Rattle.rv32_instr.specs.Ram.{half_at, word_at, with_byte, with_half, with_word};
-ghost use Rattle.rv32_instr.specs.Memory.{size_of};
+ghost use Rattle.sloth_base.specs.Arithmetic.{size_of};
 ghost use Rattle.rv32_machine.specs.Place.{bytes_at, with_bytes};
 ghost use Rattle.rv32_machine.specs.Start.{ram_of};
 

@@ -8,7 +8,7 @@ use Rattle.rv32_instr.specs.declared.InstrKind.TheVariants.{Csrrci, Jal}
 use Rattle.rv32_instr.specs.Range.{InRange}
 use Rattle.rv32_instr.specs.Table.{Decode}
 use Rattle.rv32_instr.proofs.Table.{decode_encode}
-use Rattle.rv32_instr.specs.Effect.{plus}
+use Rattle.sloth_base.specs.Arithmetic.{plus}
 use Rattle.rv32_instr.specs.Execute.{Going, step, touched, touched_by, jumps, perform, mstatus_of, with_csr, goes_on}
 use Rattle.rv32_routine.specs.Trace.{Trace, touched_lines, early, late}
 use Rattle.rv32_routine.specs.Masked.{OnGoing, Masked, WithArrivals, FromOpening}

@@ -3,6 +3,5 @@ pub mod Masked
 pub mod Place
 pub mod Owes
 pub mod Pieces
-pub mod Constant
 pub mod Emit
 pub mod Kernel

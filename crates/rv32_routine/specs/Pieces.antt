@@ -35,6 +35,7 @@ restored zero first ram place registers = registers
 restored (suc count) first ram place registers =
     restored count (suc first) ram place (slice_set registers first (word_at ram (place + 4 * first)))
 
+-- the registers with so many of them 0, from this one on
 abbrev pub cleared : ℕ → ℕ → List ℕ → List ℕ
 cleared zero first registers = registers
 cleared (suc count) first registers = cleared count (suc first) (slice_set registers first 0)

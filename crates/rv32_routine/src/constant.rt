@@ -1,12 +1,12 @@
 //! The two parts of a 32-bit constant: `lui` loads the one, and `addi` adds the other.
 ghost use Rattle.std.specs.Prelude.{◌≡◌, ◌<◌, ◌^◌};
 ghost use Rattle.rv32_instr.specs.Range.{Signed};
-ghost use Rattle.rv32_routine.specs.Constant.{hi, lo};
+ghost use Rattle.sloth_base.specs.Arithmetic.{hi, lo};
 
-use rv32_instr::fields::{bits, signed};
+use rv32_instr::fields::signed;
 
 /// Bits 31 to 12 of a constant, rounded so that `lo` is all that is left.
-#[tactic(auto, unfolding(crate::specs::Constant::hi))]
+#[tactic(auto, unfolding(sloth_base::specs::Arithmetic::hi))]
 pub fn hi(value: u32) -> u32
     ensures is { result ≡ hi value }
     ensures fits { result < 2 ^ 20 }
@@ -15,10 +15,10 @@ pub fn hi(value: u32) -> u32
 }
 
 /// What is left of a constant behind `hi`.
-#[tactic(auto, unfolding(crate::specs::Constant::lo))]
+#[tactic(auto, unfolding(sloth_base::specs::Arithmetic::lo))]
 pub fn lo(value: u32) -> i32
     ensures is { result ≡ lo value }
     ensures fits { Signed 12 result }
 {
-    signed(bits(value, 0, 12), 12)
+    signed(value % 0x1000, 12)
 }

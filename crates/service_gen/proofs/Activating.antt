@@ -7,7 +7,7 @@ use Rattle.sloth_base.specs.Arrive.{arrive}
 use Rattle.rv32_instr.specs.declared.InstrKind.{InstrKind}
 use Rattle.rv32_instr.specs.declared.InstrKind.TheVariants.{Lui, Slli, Csrrci}
 use Rattle.rv32_instr.specs.Ram.{word_at}
-use Rattle.rv32_instr.specs.Effect.{shifted_left}
+use Rattle.sloth_base.specs.Arithmetic.{shifted_left}
 use Rattle.rv32_routine.specs.Place.{at}
 use Rattle.rv32_routine.specs.Masked.{FromOpening}
 use Rattle.rv32_routine.specs.Owes.{Owes, Pending, Enabled}

@@ -8,7 +8,7 @@ use Rattle.sloth_base.specs.Arrive.{arrive, state_arrive}
 use Rattle.rv32_instr.specs.declared.InstrKind.{InstrKind}
 use Rattle.rv32_instr.specs.declared.InstrKind.TheVariants.{Lui, Addi, Csrrci}
 use Rattle.rv32_instr.specs.Ram.{word_at}
-use Rattle.rv32_instr.specs.Effect.{plus}
+use Rattle.sloth_base.specs.Arithmetic.{plus}
 use Rattle.rv32_routine.specs.Place.{at}
 use Rattle.rv32_routine.specs.Masked.{FromOpening}
 use Rattle.rv32_routine.specs.Owes.{AreOf, Owes, Pending, Enabled}

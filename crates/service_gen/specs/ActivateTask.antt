@@ -1,6 +1,7 @@
 -- ActivateTask (OSEK OS 2.2.3, section 13.2.3.1).
 use Rattle.std.specs.Prelude.{ℕ, ◌≡◌, ◌≢◌, ◌<◌, ◌≤◌, ◌⊎◌, List, [], ◌∷◌, slice_index, slice_set}
 use Rattle.sloth_base.specs.Machine.{Core, State}
+use Rattle.sloth_base.specs.Status.{E_OK, E_OS_LIMIT}
 use Rattle.sloth_region.specs.Layout.{active}
 use Rattle.rv32_instr.specs.declared.InstrKind.{InstrKind}
 use Rattle.rv32_instr.specs.declared.InstrKind.TheVariants.{Csrrci}
@@ -22,13 +23,13 @@ pub record MayActivate (offset task : ℕ) (code : List InstrKind) (core : Core)
   pub pending_bit : slice_index core.pending task < 2
   pub enabled_bit : slice_index core.enabled task < 2
 
--- The task's line is pending. a0 is E_OK (0) where it was Suspended, else E_OS_LIMIT (4).
+-- The task's line is pending. a0 is E_OK where it was Suspended, else E_OS_LIMIT.
 pub record Activated (task : ℕ) (touched : List ℕ) (start end : State) : Type 0 where
   pub touches : touched ≡ task ∷ []
   pub pending : end.core.pending ≡ slice_set start.core.pending task 1
   pub status :
-      (LooksSuspended task start.core × (slice_index end.core.registers 10 ≡ 0))
-      ⊎ ((LooksSuspended task start.core → ⊥) × (slice_index end.core.registers 10 ≡ 4))
+      (LooksSuspended task start.core × (slice_index end.core.registers 10 ≡ E_OK))
+      ⊎ ((LooksSuspended task start.core → ⊥) × (slice_index end.core.registers 10 ≡ E_OS_LIMIT))
   pub back : WentBack start end
   pub running : end.core.ilevel ≡ start.core.ilevel
   pub kept : (i : ℕ) → 5 ≤ i → i ≢ 10 → slice_index end.core.registers i ≡ slice_index start.core.registers i

@@ -1,6 +1,7 @@
 -- ChainTask (OSEK OS 2.2.3, section 13.2.3.3).
 use Rattle.std.specs.Prelude.{ℕ, ◌+◌, ◌≡◌, ◌≢◌, ◌<◌, ◌≤◌, ◌⊎◌, List, [], ◌∷◌, slice_index}
 use Rattle.sloth_base.specs.Machine.{Core, State}
+use Rattle.sloth_base.specs.Status.{E_OS_LIMIT}
 use Rattle.sloth_base.specs.Arrive.{state_arrive}
 use Rattle.sloth_region.specs.Layout.{cur, active}
 use Rattle.rv32_instr.specs.declared.InstrKind.{InstrKind}
@@ -32,13 +33,13 @@ pub record HasChained (task own place : ℕ) (touched : List ℕ) (start end : S
   pub ended : Terminated own place (own ∷ []) start middle
   pub raised : end ≡ state_arrive (task ∷ []) middle
 
--- Nothing happens; a0 is E_OS_LIMIT (4).
+-- Nothing happens; a0 is E_OS_LIMIT.
 pub record HasNotChained (task own : ℕ) (touched : List ℕ) (start end : State) : Type 0 where
   pub other : task ≢ own
   pub not_suspended : LooksSuspended task start.core → ⊥
   pub touches : touched ≡ task ∷ []
   pub pending : end.core.pending ≡ start.core.pending
-  pub status : slice_index end.core.registers 10 ≡ 4
+  pub status : slice_index end.core.registers 10 ≡ E_OS_LIMIT
   pub back : WentBack start end
   pub running : end.core.ilevel ≡ start.core.ilevel
   pub kept : (i : ℕ) → 5 ≤ i → i ≢ 10 → slice_index end.core.registers i ≡ slice_index start.core.registers i

@@ -1,6 +1,7 @@
 -- GetResource (OSEK OS 2.2.3, section 13.4.3.1), with the priority ceiling protocol.
 use Rattle.std.specs.Prelude.{ℕ, max, ◌≡◌, ◌≢◌, ◌<◌, ◌≤◌, List, [], ◌∷◌, slice_index}
 use Rattle.sloth_base.specs.Machine.{Core, State}
+use Rattle.sloth_base.specs.Status.{E_OK}
 use Rattle.sloth_region.specs.Layout.{saved}
 use Rattle.rv32_instr.specs.declared.InstrKind.{InstrKind}
 use Rattle.rv32_instr.specs.declared.InstrKind.TheVariants.{Csrrci}
@@ -15,11 +16,11 @@ pub record MayTake (offset resource : ℕ) (code : List InstrKind) (core : Core)
   pub is_resource : resource ≤ 32
   pub level : core.ilevel < 256
 
--- The level that ran is saved, and then at least the resource's ceiling runs; a0 is E_OK (0).
+-- The level that ran is saved, and then at least the resource's ceiling runs; a0 is E_OK.
 pub record Taken (resource ceiling : ℕ) (touched : List ℕ) (start end : State) : Type 0 where
   pub touches : touched ≡ []
   pub pending : end.core.pending ≡ start.core.pending
-  pub status : slice_index end.core.registers 10 ≡ 0
+  pub status : slice_index end.core.registers 10 ≡ E_OK
   pub back : WentBack start end
   pub running : end.core.ilevel ≡ max start.core.ilevel ceiling
   pub kept : (i : ℕ) → 5 ≤ i → i ≢ 10 → slice_index end.core.registers i ≡ slice_index start.core.registers i

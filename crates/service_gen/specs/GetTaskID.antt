@@ -1,6 +1,7 @@
 -- GetTaskID (OSEK OS 2.2.3, section 13.2.3.5).
 use Rattle.std.specs.Prelude.{ℕ, ◌+◌, ◌≡◌, ◌≢◌, ◌<◌, ◌≤◌, List, [], ◌∷◌, slice_index}
 use Rattle.sloth_base.specs.Machine.{Core, State}
+use Rattle.sloth_base.specs.Status.{E_OK}
 use Rattle.sloth_region.specs.Layout.{cur}
 use Rattle.rv32_instr.specs.declared.InstrKind.{InstrKind}
 use Rattle.rv32_instr.specs.declared.InstrKind.TheVariants.{Csrrci}
@@ -16,11 +17,11 @@ pub record MayTell (offset task : ℕ) (code : List InstrKind) (core : Core) : T
   pub runs : word_at core.ram cur ≡ task + 1
   pub is_task : task < 30
 
--- a1 is the running task's number, a0 E_OK (0).
+-- a1 is the running task's number, a0 E_OK.
 pub record Told (task : ℕ) (touched : List ℕ) (start end : State) : Type 0 where
   pub touches : touched ≡ []
   pub pending : end.core.pending ≡ start.core.pending
-  pub status : slice_index end.core.registers 10 ≡ 0
+  pub status : slice_index end.core.registers 10 ≡ E_OK
   pub number : slice_index end.core.registers 11 ≡ task
   pub back : WentBack start end
   pub running : end.core.ilevel ≡ start.core.ilevel

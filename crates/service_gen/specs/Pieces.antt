@@ -1,5 +1,6 @@
 -- Pieces of code that several services have.
 use Rattle.std.specs.Prelude.{ℕ, ◌+◌, ◌*◌, pos, negsuc, List, [], ◌∷◌}
+use Rattle.sloth_base.specs.Status.{E_OK, E_OS_LIMIT}
 use Rattle.rv32_instr.specs.declared.InstrKind.{InstrKind}
 use Rattle.rv32_instr.specs.declared.InstrKind.TheVariants.{Beq, Bgeu, Lui, Lw, Lbu, Sw, Sb, Add, Addi, Or, Xori, Slli, Csrrs, Csrrw, Mret}
 
@@ -27,9 +28,9 @@ back_at = Csrrw 0 3 0x7C1 ∷ Csrrw 0 31 0x341 ∷ Mret ∷ []
 abbrev pub back : List InstrKind
 back = Csrrs 3 0 0x7C0 ∷ back_at
 
--- at the level in x3, with the status E_OK (0)
+-- at the level in x3, with the status E_OK
 abbrev pub goes_on_at : List InstrKind
-goes_on_at = Addi 10 0 (pos 0) ∷ back_at
+goes_on_at = Addi 10 0 (pos E_OK) ∷ back_at
 
 -- to the level that was saved for a resource, and back to the caller
 abbrev pub releases : ℕ → List InstrKind
@@ -39,9 +40,9 @@ releases resource = Lw 3 4 (pos (752 + 4 * resource)) ∷ goes_on_at
 abbrev pub asks : ℕ → List InstrKind
 asks task = Lw 3 4 (pos 0) ∷ Addi 1 0 (pos (task + 1)) ∷ Beq 3 1 (pos 56) ∷ []
 
--- it goes on behind the refusal where the task is Suspended; the status is E_OS_LIMIT (4)
+-- it goes on behind the refusal where the task is Suspended; the status is E_OS_LIMIT
 abbrev pub refuses : List InstrKind
-refuses = Beq 3 0 (pos 24) ∷ Addi 10 0 (pos 4) ∷ []
+refuses = Beq 3 0 (pos 24) ∷ Addi 10 0 (pos E_OS_LIMIT) ∷ []
 
 -- saves the level that runs for a resource, and leaves the greater of it and the ceiling in x3
 abbrev pub takes : ℕ → ℕ → List InstrKind

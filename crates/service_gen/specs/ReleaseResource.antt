@@ -1,6 +1,7 @@
 -- ReleaseResource (OSEK OS 2.2.3, section 13.4.3.2).
 use Rattle.std.specs.Prelude.{ℕ, ◌≡◌, ◌≢◌, ◌<◌, ◌≤◌, List, [], ◌∷◌, slice_index}
 use Rattle.sloth_base.specs.Machine.{Core, State}
+use Rattle.sloth_base.specs.Status.{E_OK}
 use Rattle.sloth_region.specs.Layout.{saved}
 use Rattle.rv32_instr.specs.declared.InstrKind.{InstrKind}
 use Rattle.rv32_instr.specs.declared.InstrKind.TheVariants.{Csrrci}
@@ -15,11 +16,11 @@ pub record MayRelease (offset resource : ℕ) (code : List InstrKind) (core : Co
   pub is_resource : resource ≤ 32
   pub level : word_at core.ram (saved resource) < 256
 
--- The level is the one at which the resource was taken, a0 E_OK (0).
+-- The level is the one at which the resource was taken, a0 E_OK.
 pub record Released (resource : ℕ) (touched : List ℕ) (start end : State) : Type 0 where
   pub touches : touched ≡ []
   pub pending : end.core.pending ≡ start.core.pending
-  pub status : slice_index end.core.registers 10 ≡ 0
+  pub status : slice_index end.core.registers 10 ≡ E_OK
   pub back : WentBack start end
   pub running : end.core.ilevel ≡ word_at start.core.ram (saved resource)
   pub kept : (i : ℕ) → 5 ≤ i → i ≢ 10 → slice_index end.core.registers i ≡ slice_index start.core.registers i

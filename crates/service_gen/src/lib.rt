@@ -38,7 +38,7 @@ pub fn block(
     ensures marks { IfOk result (λ block. block.marks ≡ opening block.at (code_of service) ∷ []) }
     ensures effect { IfOk result (λ block. Serves service object levels.now block.code) }
 {
-    let number = number_of(service);
+    let number = service.code();
     let at = map.places.blocks[number as usize * 40 + small(service, object) as usize];
     let code = code(alloc, service, small(service, object), levels)?;
     let mark = Mark {
@@ -54,27 +54,6 @@ pub fn block(
         code: List::from_vec(code),
         marks: List::from_vec(marks),
     })
-}
-
-/// The code of a service.
-fn number_of(service: Service) -> u8
-    ensures is { result ≡ code_of service }
-    ensures below { result < 12 }
-{
-    match service {
-        Service::ActivateTask => 0,
-        Service::TerminateTask => 1,
-        Service::ChainTask => 2,
-        Service::Schedule => 3,
-        Service::GetTaskID => 4,
-        Service::GetTaskState => 5,
-        Service::GetResource => 6,
-        Service::ReleaseResource => 7,
-        Service::SetEvent => 8,
-        Service::ClearEvent => 9,
-        Service::GetEvent => 10,
-        Service::WaitEvent => 11,
-    }
 }
 
 /// The object's number, which is below 40.

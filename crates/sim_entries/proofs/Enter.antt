@@ -9,7 +9,8 @@ use Rattle.rv32_instr.specs.Ram.{word_at}
 use Rattle.rv32_routine.specs.Pieces.{registers_from}
 use Rattle.rv32_routine.proofs.Words.{word_below}
 use Rattle.osek_machine.specs.declared.state.TaskState.TheVariants as mode
-use Rattle.osek_machine.specs.State.{Task, System, task, with_task, declaration, function, body_of, entry_frame, zero_registers}
+use Rattle.osek_machine.specs.State.{Task, System, task, with_task, declaration, body_of, entry_frame, zero_registers}
+use Rattle.sloth_base.specs.Functions.{function}
 use Rattle.osek_machine.specs.Priority.{is_active}
 use Rattle.osek_machine.specs.Services.{starts, entered}
 use Rattle.osek_machine.specs.Steps.{OsekStep, settled}

@@ -11,12 +11,13 @@ use Rattle.sloth_base.specs.declared.places.Levels.{Levels}
 use Rattle.sloth_region.specs.declared.map.Map.{Map}
 use Rattle.rv32_instr.specs.declared.InstrKind.{InstrKind}
 use Rattle.rv32_expand.specs.Expansion.{item_address}
-use Rattle.osek_machine.specs.State.{declaration, undeclared, function, body_of, missing}
+use Rattle.osek_machine.specs.State.{declaration, undeclared, body_of}
+use Rattle.sloth_base.specs.Functions.{function, missing}
 use Rattle.osek_machine.specs.Priority.{greatest, highest}
 use Rattle.prologue_gen.specs.Fresh.{Enters}
 use Rattle.prologue_gen.specs.Places.{EntersTask, frame_at, first_item}
 use Rattle.prologue_gen.specs.Places as generator
-use Rattle.sim_induction.specs.Mirror.{level_of}
+use Rattle.sloth_base.specs.PriorityLevels.{level_of}
 use Rattle.sim_relation.specs.Build.{Build, Fits, start_level}
 use Rattle.sim_relation.proofs.Levels.{levels_in}
 use Rattle.sim_entries.specs.Entries.{EntersBuilt, first_words}

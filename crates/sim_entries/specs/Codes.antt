@@ -2,8 +2,9 @@
 use Rattle.std.specs.Prelude.{ℕ, ℤ, ◌+◌, ◌<◌, ◌≤◌, ◌≡◌, List, [], ◌∷◌, length}
 use Rattle.rv32_instr.specs.declared.InstrKind.{InstrKind}
 use Rattle.rv32_instr.specs.declared.InstrKind.TheVariants.{Jal}
-use Rattle.rv32_instr.specs.Effect.{plus}
-use Rattle.osek_machine.specs.State.{body_of, function}
+use Rattle.sloth_base.specs.Arithmetic.{plus}
+use Rattle.osek_machine.specs.State.{body_of}
+use Rattle.sloth_base.specs.Functions.{function}
 use Rattle.vector_gen.specs.Boot.{Boots}
 use Rattle.prologue_gen.specs.Fresh.{vector}
 use Rattle.sim_relation.specs.Build.{Build}

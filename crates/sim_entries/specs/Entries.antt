@@ -4,7 +4,8 @@ use Rattle.sloth_base.specs.Machine.{State}
 use Rattle.sloth_base.specs.Take.{take}
 use Rattle.rv32_instr.specs.declared.InstrKind.{InstrKind}
 use Rattle.rv32_expand.specs.Expansion.{item_address}
-use Rattle.osek_machine.specs.State.{System, task, function, body_of}
+use Rattle.osek_machine.specs.State.{System, task, body_of}
+use Rattle.sloth_base.specs.Functions.{function}
 use Rattle.prologue_gen.specs.Fresh.{Entered, Enters}
 use Rattle.sim_relation.specs.Build.{Build, start_level}
 use Rattle.sim_relation.specs.Stands.{IsAlive, AreApart}

@@ -10,7 +10,8 @@ use Rattle.rv32_machine.specs.Run.{arrived}
 use Rattle.rv32_machine.specs.Start.{start}
 use Rattle.rv32_routine.specs.Trace.{Trace}
 use Rattle.observe.specs.Observe.{View}
-use Rattle.osek_machine.specs.State.{System, task, function, body_of, opening}
+use Rattle.osek_machine.specs.State.{System, task, body_of, opening}
+use Rattle.sloth_base.specs.Functions.{function}
 use Rattle.osek_machine.specs.Services.{entered}
 use Rattle.osek_machine.specs.Steps.{OsekStep, settled}
 use Rattle.sim_induction.specs.Admits.{IsSetting, lines_at, with_admits}

@@ -15,7 +15,8 @@ use Rattle.sloth_base.specs.Arrive.{state_arrive}
 use Rattle.rv32_instr.specs.Execute.{touched}
 use Rattle.rv32_machine.specs.Advance.{Goes}
 use Rattle.rv32_machine.specs.Run.{after_from, moment, run_from, arrived}
-use Rattle.rv32_routine.specs.Trace.{Trace, is_line, touches, touched_of, touched_lines, lines_of, early, late}
+use Rattle.rv32_routine.specs.Trace.{Trace, touches, touched_of, touched_lines, lines_of, early, late}
+use Rattle.sloth_base.specs.Options.{is_number}
 use Rattle.observe.specs.Pieces.{EachPiece, Stretch, pieces, cut_off}
 use Rattle.observe.specs.Observe.{observe, piece_events, found_admits, admit, stamp, is_early, last_of}
 use Rattle.observe.proofs.Cutting.{pieces-append, cut_off-append}
@@ -49,7 +50,7 @@ use Rattle.sim_induction.proofs.WholeRun.{WholeRun}
 nil_cons : {x : ℕ} {a : List ℕ} → x ∷ a ≡ [] → ⊥
 nil_cons e = cc
 
-no_line : (o : Option ℕ) (rest : List ℕ) (line : ℕ) → lines_of o rest ≡ [] → (is_line o line ≡ false) × (rest ≡ [])
+no_line : (o : Option ℕ) (rest : List ℕ) (line : ℕ) → lines_of o rest ≡ [] → (is_number line o ≡ false) × (rest ≡ [])
 no_line None rest line h = (refl, h)
 no_line (Some l) rest line h = absurd (nil_cons h)
 

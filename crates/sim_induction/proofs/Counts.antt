@@ -6,18 +6,19 @@ use Rattle.std.proofs.lemmas.List.Sums.{sum_by-cons, sum_by-append}
 use Rattle.sloth_base.specs.declared.event.Arrival.{Arrival}
 use Rattle.sloth_base.specs.declared.event.Stamped.{Stamped}
 use Rattle.sloth_base.specs.Arrivals.{moments}
-use Rattle.osek_machine.specs.InTime.{is_admit, is_task, admitted_task, admits_at, arrivals_at}
+use Rattle.osek_machine.specs.InTime.{is_admit, admitted_task, admits_at, arrivals_at}
+use Rattle.sloth_base.specs.Options.{is_number}
 use Rattle.sim_induction.specs.Admits.{admit_event}
 use Rattle.sim_induction.specs.Advances.{EachEvent}
 
-pub admits-cons : (i t : ℕ) (e : Stamped) (a : List Stamped) → admits_at i t (e ∷ a) ≡ cond (is_task t (admitted_task e.event) && (e.stamp.at == i)) 1 0 + admits_at i t a
-admits-cons i t e a = sum_by-cons (λ (e : Stamped). cond (is_task t (admitted_task e.event) && (e.stamp.at == i)) 1 0) e a
+pub admits-cons : (i t : ℕ) (e : Stamped) (a : List Stamped) → admits_at i t (e ∷ a) ≡ cond (is_number t (admitted_task e.event) && (e.stamp.at == i)) 1 0 + admits_at i t a
+admits-cons i t e a = sum_by-cons (λ (e : Stamped). cond (is_number t (admitted_task e.event) && (e.stamp.at == i)) 1 0) e a
 
 pub arrivals-cons : (i t : ℕ) (x : Arrival) (a : List Arrival) → arrivals_at i t (x ∷ a) ≡ cond ((x.line == t) && (x.at == i)) 1 0 + arrivals_at i t a
 arrivals-cons i t x a = sum_by-cons (λ (x : Arrival). cond ((x.line == t) && (x.at == i)) 1 0) x a
 
 pub admits-append : (i t : ℕ) (a b : List Stamped) → admits_at i t (a ++ b) ≡ admits_at i t a + admits_at i t b
-admits-append i t a b = sum_by-append (λ (e : Stamped). cond (is_task t (admitted_task e.event) && (e.stamp.at == i)) 1 0) a b
+admits-append i t a b = sum_by-append (λ (e : Stamped). cond (is_number t (admitted_task e.event) && (e.stamp.at == i)) 1 0) a b
 
 pub arrivals-append : (i t : ℕ) (a b : List Arrival) → arrivals_at i t (a ++ b) ≡ arrivals_at i t a + arrivals_at i t b
 arrivals-append i t a b = sum_by-append (λ (x : Arrival). cond ((x.line == t) && (x.at == i)) 1 0) a b
@@ -28,7 +29,7 @@ admits_of i t [] = refl
 admits_of i t (x ∷ a) =
     admits-cons i t (admit_event x) (map admit_event a) ∙ ap (λ n. cond ((x.line == t) && (x.at == i)) 1 0 + n) (admits_of i t a) ∙ sym (arrivals-cons i t x a)
 
-no_task : (i t at n : ℕ) (o : Option ℕ) → is_some o ≡ false → cond (is_task t o && (at == i)) 1 0 + n ≡ n
+no_task : (i t at n : ℕ) (o : Option ℕ) → is_some o ≡ false → cond (is_number t o && (at == i)) 1 0 + n ≡ n
 no_task i t at n None h = omega arith
 no_task i t at n (Some u) h = cc
 

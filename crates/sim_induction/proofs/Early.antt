@@ -11,29 +11,25 @@ use Rattle.sloth_base.specs.Arrivals.{moments, NeverFalls}
 use Rattle.observe.specs.Observe.{is_early}
 use Rattle.observe.specs.Observe as observer
 use Rattle.observe.proofs.Moments.{moments-none}
-use Rattle.rv32_routine.specs.Trace.{is_line, touches, touched_of, untouched_of}
+use Rattle.rv32_routine.specs.Trace.{touches, touched_of, untouched_of}
+use Rattle.sloth_base.specs.Options.{is_number}
 use Rattle.sim_induction.specs.Admits.{lines_at, at_moment, before_event, behind_event}
 use Rattle.sim_induction.specs.Observed.{trace_of, AreFrom, AreBefore}
 use Rattle.sim_induction.proofs.Schedule.{moments-split, moment_is}
-
-line_is : (touched : Option ℕ) (line : ℕ) → observer.is_line touched line ≡ is_line touched line
-line_is None line = refl
-line_is (Some l) line = refl
 
 -- steps before the moment do not touch it
 none_before : (k line : ℕ) (steps : List Step) → AreBefore k steps → list_any (observer.touches k line) steps ≡ false
 none_before k line [] h = refl
 none_before k line (s ∷ steps) h =
-    ap (λ b. (b && observer.is_line s.touched line) || list_any (observer.touches k line) steps) (lt-leb k s.count h.0) ∙ none_before k line steps h.1
+    ap (λ b. (b && is_number line s.touched) || list_any (observer.touches k line) steps) (lt-leb k s.count h.0) ∙ none_before k line steps h.1
 
 -- those from the moment on do where the trace does
 as_traced : (arrivals : List Arrival) (k from line : ℕ) (steps : List Step) → k ≤ from → AreFrom from steps → list_any (observer.touches k line) steps ≡ touches (trace_of arrivals steps) line
 as_traced arrivals k from line [] l h = refl
 as_traced arrivals k from line (s ∷ steps) l h =
     let c : s.count ≡ from = h.0 in
-    ap (λ b. (b && observer.is_line s.touched line) || list_any (observer.touches k line) steps) (le-leb k s.count (omega arith))
-    ∙ ap (λ b. b || list_any (observer.touches k line) steps) (line_is s.touched line)
-    ∙ ap (λ b. is_line s.touched line || b) (as_traced arrivals k (from + 1) line steps (omega arith) h.1)
+    ap (λ b. (b && is_number line s.touched) || list_any (observer.touches k line) steps) (le-leb k s.count (omega arith))
+    ∙ ap (λ b. is_number line s.touched || b) (as_traced arrivals k (from + 1) line steps (omega arith) h.1)
 
 is_touched : (arrivals : List Arrival) (k line : ℕ) (done steps : List Step) → AreBefore k done → AreFrom k steps
     → is_early (done ++ steps) (record { at = k; line = line }) ≡ touches (trace_of arrivals steps) line

@@ -1,6 +1,6 @@
 -- What events stretches and single instructions show.
 use Rattle.std.proofs.Common.{◌≡◌, ℕ, List, [], ◌∷◌, refl, Bool, true, false, cond, Option, Some, None}
-use Rattle.std.specs.Prelude.{◌==◌, slice_get, slice_index}
+use Rattle.std.specs.Prelude.{◌==◌, slice_index}
 use Rattle.sloth_base.specs.declared.service.Service.{Service}
 use Rattle.sloth_base.specs.declared.image.Mark.{Mark}
 use Rattle.sloth_base.specs.declared.image.MarkKind.{MarkKind}
@@ -9,7 +9,8 @@ use Rattle.sloth_base.specs.declared.event.Event.{Event}
 use Rattle.sloth_base.specs.declared.event.Event.TheVariants as event
 use Rattle.sloth_base.specs.declared.event.Stamped.{Stamped}
 use Rattle.sloth_base.specs.declared.step.Step.{Step}
-use Rattle.observe.specs.Observe.{View, stretch_event, later_event, unentered_event, marked_event, service_event, services, task_of, mark_at, outside_events, events_of_kind, stamp}
+use Rattle.observe.specs.Observe.{View, stretch_event, later_event, unentered_event, marked_event, service_event, task_of, mark_at, outside_events, events_of_kind, stamp}
+use Rattle.sloth_base.specs.ServiceCodes.{service_of}
 use Rattle.osek_machine.specs.InTime.{is_admit, SpansFor}
 
 -- an event that is no admit, and may have more than one instruction
@@ -30,7 +31,7 @@ service_long (Some s) view first last =
 service_long None view first last = (refl, λ e. tt)
 
 marked_long : (k : MarkKind) (view : View) (mark : Mark) (first last : Step) → IsLong (marked_event k view mark first last)
-marked_long kind.Opening view mark first last = service_long (slice_get services mark.a) view first last
+marked_long kind.Opening view mark first last = service_long (service_of mark.a) view first last
 marked_long kind.Back view mark first last = (refl, λ e. tt)
 marked_long kind.Item view mark first last = (refl, λ e. tt)
 marked_long kind.Jump view mark first last = (refl, λ e. tt)

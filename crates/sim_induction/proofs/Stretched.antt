@@ -1,6 +1,6 @@
 -- The laws of stretches, from what contracts say of the code that runs.
 use Rattle.std.proofs.Common.{◌≡◌, ℕ, ◌+◌, ◌-◌, ◌<◌, List, [], ◌∷◌, ◌++◌, length, sym, ap, ◌∙◌, subst, arith, Bool, true, false, cond, Option, Some, None, nat_le}
-use Rattle.std.specs.Prelude.{◌&&◌, ◌==◌, map, IfSome, slice_get, slice_index}
+use Rattle.std.specs.Prelude.{◌&&◌, ◌==◌, map, IfSome, slice_index}
 use Rattle.std.proofs.lemmas.Bool.{ne_eqb, eq-eqb, lt-ltb, le-leb}
 use Rattle.sloth_base.specs.declared.service.Service.{Service}
 use Rattle.sloth_base.specs.declared.image.Mark.{Mark}
@@ -15,7 +15,8 @@ use Rattle.rv32_instr.specs.Ram.{word_at}
 use Rattle.rv32_instr.specs.Execute.{touched}
 use Rattle.rv32_machine.specs.Run.{arrived}
 use Rattle.rv32_routine.specs.Trace.{Trace, lines_of, touched_lines, early, late}
-use Rattle.observe.specs.Observe.{mark_at, marked_event, services, service_event, task_of}
+use Rattle.observe.specs.Observe.{mark_at, marked_event, service_event, task_of}
+use Rattle.sloth_base.specs.ServiceCodes.{service_of}
 use Rattle.osek_machine.specs.declared.state.TaskState.TheVariants as mode
 use Rattle.osek_machine.specs.State.{System, task}
 use Rattle.osek_machine.specs.Priority.{IsTop}
@@ -90,7 +91,7 @@ both_pass given past s k t called status false h = h
 
 pub service_law : (given : Setting) → IsSetting given → (R : State → System → Type 0) (k : ℕ) (m : State) (s : System) (t : ℕ) (called : Service) (mark : Mark) (Effect : List ℕ → State → State → Type 0)
     → 0 < k → m.core.mie ≡ true → line_to_take (arrived given.arrivals k m) ≡ None
-    → mark_at given.view (entered (arrived given.arrivals k m)).pc ≡ Some mark → mark.kind ≡ kind.Opening → slice_get services mark.a ≡ Some called
+    → mark_at given.view (entered (arrived given.arrivals k m)).pc ≡ Some mark → mark.kind ≡ kind.Opening → service_of mark.a ≡ Some called
     → t < given.view.tasks → word_at m.core.ram 0 ≡ t + 1
     → s.booted ≡ true → IsTop given.config (with_admits (lines_at given.arrivals k) s) [] t → (task (with_admits (lines_at given.arrivals k) s) t).state ≡ mode.Active
     → (e : Masking given.arrivals 159 k m Effect) → touched (entered (arrived given.arrivals k m)) ≡ None → (one other : ℕ) → AreOneOf (one ∷ other ∷ []) (touched_lines e.trace)

@@ -1,8 +1,9 @@
 -- The interrupt controller mirrors the abstract scheduler (Sloth, RTSS 2009; Sleepy Sloth, RTSS 2011). Said of a state that finds
 -- MIE 1, after the arrivals of its count and before a line is taken.
-use Rattle.std.specs.Prelude.{ℕ, ◌+◌, ◌<◌, ◌≤◌, ◌≡◌, count_by, nat_le, length, slice_index}
+use Rattle.std.specs.Prelude.{ℕ, ◌+◌, ◌<◌, ◌≤◌, ◌≡◌, length, slice_index}
 use Rattle.sloth_base.specs.declared.config.Config.{Config}
 use Rattle.sloth_base.specs.Machine.{Core}
+use Rattle.sloth_base.specs.PriorityLevels.{level_of}
 use Rattle.rv32_instr.specs.Ram.{word_at}
 use Rattle.osek_machine.specs.declared.state.TaskState.TheVariants as mode
 use Rattle.osek_machine.specs.State.{System, task, declaration}
@@ -17,10 +18,6 @@ pub record Runs (config : Config) (s : System) (t : ℕ) : Type 0 where
   pub declared : t < length config.tasks
   pub active : (task s t).state ≡ mode.Active
   pub is_greatest : (u : ℕ) → u < length config.tasks → (task s u).state ≡ mode.Active → priority_of config s u ≤ priority_of config s t
-
--- the interrupt level of a priority: the number of tasks of no greater priority
-abbrev pub level_of : Config → ℕ → ℕ
-level_of config priority = count_by (λ d. nat_le d.priority priority) config.tasks
 
 pub record Mirror (config : Config) (core : Core) (s : System) : Type 0 where
   pub suspended : (t : ℕ) → t < length config.tasks → (task s t).state ≡ mode.Suspended

@@ -10,7 +10,7 @@ use Rattle.sloth_base.specs.Machine.{State}
 use Rattle.rv32_instr.specs.declared.InstrKind.{InstrKind}
 use Rattle.rv32_instr.specs.declared.InstrKind.TheVariants.{Jal}
 use Rattle.rv32_instr.specs.Ram.{word_at}
-use Rattle.rv32_instr.specs.Effect.{plus}
+use Rattle.sloth_base.specs.Arithmetic.{plus}
 use Rattle.rv32_instr.specs.Execute.{Going, step, touched, touched_by, perform, jumps}
 use Rattle.rv32_routine.specs.Place.{at}
 use Rattle.rv32_routine.proofs.Machine.{Here, step_at, touched_at, jump_at}

@@ -10,7 +10,7 @@ use Rattle.sloth_base.specs.declared.app.AluKind.TheVariants as alu
 use Rattle.sloth_base.specs.declared.app.ImmKind.{ImmKind}
 use Rattle.sloth_base.specs.declared.app.ImmKind.TheVariants as imm
 use Rattle.sloth_base.specs.declared.places.Places.{Places}
-use Rattle.sloth_base.specs.Arithmetic.{word_of, signed_value, register_result, number_result}
+use Rattle.sloth_base.specs.Arithmetic.{register_result, number_result, complement, signed}
 use Rattle.rv32_instr.specs.declared.InstrKind.{InstrKind}
 use Rattle.rv32_instr.specs.declared.InstrKind.TheVariants.{Lui}
 use Rattle.rv32_instr.specs.declared.effect.Effect.TheVariants.{Write}
@@ -24,7 +24,7 @@ use Rattle.osek_machine.specs.Meaning.{register, writes, meaning}
 use Rattle.sim_items.specs.Place.{IsOwn, IsNumber, IsComputed}
 
 -- a signed number and its word
-signed_word : (z : ℤ) → Signed 12 z → signed_value 32 (word_of z) ≡ z
+signed_word : (z : ℤ) → Signed 12 z → signed 32 (complement z) ≡ z
 signed_word (pos n) h = signed_pos 32 n n refl (omega (arith, ints))
 signed_word (negsuc n) h = signed_neg 32 (4294967295 - n) n (omega (arith, ints)) (omega (arith, ints))
 
@@ -41,24 +41,24 @@ register_value alu.Sra rd rs1 rs2 pc x = refl
 register_value alu.Or rd rs1 rs2 pc x = refl
 register_value alu.And rd rs1 rs2 pc x = refl
 
-word_value : (z : ℤ) (n : ℕ) → z ≡ pos n → word_of z ≡ n
-word_value z n e = ap word_of e
+word_value : (z : ℤ) (n : ℕ) → z ≡ pos n → complement z ≡ n
+word_value z n e = ap complement e
 
 number_value : (kind : ImmKind) (rd rs1 : ℕ) (number : ℤ) (pc : ℕ) (x : List ℕ) → IsNumber kind number
-    → effect (number_operation kind rd rs1 number) pc x ≡ Write rd (number_result kind (slice_index x rs1) (word_of number))
+    → effect (number_operation kind rd rs1 number) pc x ≡ Write rd (number_result kind (slice_index x rs1) (complement number))
 number_value imm.Addi rd rs1 number pc x h = refl
 number_value imm.Slti rd rs1 number pc x h =
-    ap (λ z. Write rd (if int_lt (signed_value 32 (slice_index x rs1)) z then 1 else 0)) (sym (signed_word number h))
+    ap (λ z. Write rd (if int_lt (signed 32 (slice_index x rs1)) z then 1 else 0)) (sym (signed_word number h))
 number_value imm.Sltiu rd rs1 number pc x h = refl
 number_value imm.Xori rd rs1 number pc x h = refl
 number_value imm.Ori rd rs1 number pc x h = refl
 number_value imm.Andi rd rs1 number pc x h = refl
 number_value imm.Slli rd rs1 number pc x h =
-    subst (λ z. effect (number_operation imm.Slli rd rs1 z) pc x ≡ Write rd (number_result imm.Slli (slice_index x rs1) (word_of z))) (sym h.1) refl
+    subst (λ z. effect (number_operation imm.Slli rd rs1 z) pc x ≡ Write rd (number_result imm.Slli (slice_index x rs1) (complement z))) (sym h.1) refl
 number_value imm.Srli rd rs1 number pc x h =
-    subst (λ z. effect (number_operation imm.Srli rd rs1 z) pc x ≡ Write rd (number_result imm.Srli (slice_index x rs1) (word_of z))) (sym h.1) refl
+    subst (λ z. effect (number_operation imm.Srli rd rs1 z) pc x ≡ Write rd (number_result imm.Srli (slice_index x rs1) (complement z))) (sym h.1) refl
 number_value imm.Srai rd rs1 number pc x h =
-    subst (λ z. effect (number_operation imm.Srai rd rs1 z) pc x ≡ Write rd (number_result imm.Srai (slice_index x rs1) (word_of z))) (sym h.1) refl
+    subst (λ z. effect (number_operation imm.Srai rd rs1 z) pc x ≡ Write rd (number_result imm.Srai (slice_index x rs1) (complement z))) (sym h.1) refl
 
 -- One instruction, which writes a value to a register of task code, and the item means the same.
 pub record Computed (app : App) (places : Places) (func address : ℕ) (operation : Op) (core own : List ℕ) : Type 0 where
@@ -88,11 +88,11 @@ computed app places func address (op.Alu kind rd rs1 rs2) core own agree h = rec
 computed app places func address (op.AluImm kind rd rs1 number) core own agree h = record {
   rd = rd;
   is_own = h.0;
-  value = number_result kind (slice_index core rs1) (word_of number);
+  value = number_result kind (slice_index core rs1) (complement number);
   kind = number_operation kind rd rs1 number;
   expands = refl;
   effect_is = λ pc. number_value kind rd rs1 number pc core h.2;
-  means = λ frame outer symbols. ap (λ v. writes rd (number_result kind v (word_of number)) own frame outer symbols) (sym (agree rs1 h.1));
+  means = λ frame outer symbols. ap (λ v. writes rd (number_result kind v (complement number)) own frame outer symbols) (sym (agree rs1 h.1));
   result = refl;
 }
 computed app places func address (op.Lui rd number) core own agree h = record {

@@ -6,7 +6,8 @@ use Rattle.rv32_instr.specs.declared.InstrKind.{InstrKind}
 use Rattle.rv32_instr.specs.Execute.{Going, step, touched}
 use Rattle.rv32_expand.specs.Expansion.{item_address, operation, expansion}
 use Rattle.rv32_expand.specs.InPlace.{result_register}
-use Rattle.osek_machine.specs.State.{System, function}
+use Rattle.osek_machine.specs.State.{System}
+use Rattle.sloth_base.specs.Functions.{function}
 use Rattle.osek_machine.specs.Priority.{IsTop}
 use Rattle.osek_machine.specs.Steps.{OsekStep}
 use Rattle.sim_relation.specs.Build.{Build, Fits}

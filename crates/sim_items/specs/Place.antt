@@ -11,7 +11,8 @@ use Rattle.rv32_instr.specs.Encode.{Encode}
 use Rattle.rv32_instr.specs.Range.{InRange, Signed}
 use Rattle.rv32_instr.specs.Ram.{word_at}
 use Rattle.rv32_expand.specs.Expansion.{item_address}
-use Rattle.osek_machine.specs.State.{Frame, System, task, function}
+use Rattle.osek_machine.specs.State.{Frame, System, task}
+use Rattle.sloth_base.specs.Functions.{function}
 use Rattle.sim_relation.specs.Build.{Build}
 use Rattle.sim_relation.specs.Position.{thread_of, FramesAt}
 use Rattle.sim_relation.specs.Context.{Context}

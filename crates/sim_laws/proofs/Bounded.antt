@@ -23,7 +23,7 @@ use Rattle.rv32_instr.specs.Table.{Decode}
 use Rattle.rv32_instr.specs.Effect.{effect}
 use Rattle.rv32_instr.specs.Ram.{half_at, with_byte, with_half, with_word}
 use Rattle.rv32_instr.specs.Memory.{Memory, memory_of, with_memory, in_ram, refusal, loaded_byte, loaded, stored_byte, stored}
-use Rattle.rv32_instr.specs.Execute.{Next, Going, Stopped, with_register, mstatus_of, csr_value, with_csr, changed, goes_on, jumps, unless_refused, csr_access, perform, execute, execute_word, word_of, step}
+use Rattle.rv32_instr.specs.Execute.{Next, Going, Stopped, with_register, mstatus_of, csr_value, with_csr, changed, goes_on, jumps, unless_refused, csr_access, perform, execute, execute_word, step, fetched}
 use Rattle.rv32_instr.proofs.Table.{decode_is}
 use Rattle.rv32_routine.proofs.Words.{word_below}
 use Rattle.rv32_machine.specs.Advance.{Goes, advance, outcome}
@@ -260,7 +260,7 @@ step_fits : (state : State) → CoreBounded state.core → NextBounded (step sta
 unfolding step
 step_fits state h =
     pick_next (in_ram state.pc 4) _ _
-    (executed_fits (Decode (word_of state)) (word_of state) state (word_below state.core.ram (state.pc - 0x8000_0000) h.bytes) refl h) tt
+    (executed_fits (Decode (fetched state)) (fetched state) state (word_below state.core.ram (state.pc - 0x8000_0000) h.bytes) refl h) tt
 
 -- ---- arrivals, and lines that are taken
 

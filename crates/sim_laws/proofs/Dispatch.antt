@@ -15,7 +15,8 @@ use Rattle.rv32_instr.specs.declared.InstrKind.{InstrKind}
 use Rattle.rv32_expand.specs.Expansion.{item_address, operation, expansion, expanded, mask_of}
 use Rattle.observe.specs.Observe.{View, view_of_image}
 use Rattle.osek_machine.specs.declared.state.TaskState.TheVariants as mode
-use Rattle.osek_machine.specs.State.{System, task, function}
+use Rattle.osek_machine.specs.State.{System, task}
+use Rattle.sloth_base.specs.Functions.{function}
 use Rattle.osek_machine.specs.Priority.{is_in, is_active}
 use Rattle.sim_induction.specs.Admits.{IsSetting, lines_at, with_admits}
 use Rattle.sim_induction.specs.Advances.{Advances}

@@ -6,7 +6,7 @@ use Rattle.sloth_base.specs.declared.places.Levels.{Levels}
 use Rattle.sloth_region.specs.declared.map.Map.{Map}
 use Rattle.rv32_instr.specs.declared.InstrKind.{InstrKind}
 use Rattle.rv32_instr.specs.declared.InstrKind.TheVariants.{Jal, Mret}
-use Rattle.rv32_instr.specs.Effect.{plus}
+use Rattle.sloth_base.specs.Arithmetic.{plus}
 use Rattle.rv32_instr.specs.Ram.{word_at}
 use Rattle.rv32_instr.specs.Table.{Decode}
 use Rattle.rv32_routine.specs.Place.{InPlace}
@@ -54,7 +54,7 @@ vector_of b handlers code t l jumps p =
 
 module _ (b : Build) (image : Image) (levels : Levels) (map : Map) (g : IsGenerated b image levels map) where
   built : IsBuiltFrom b levels map
-  built = record { places = g.places; idle = g.idle_is; tops = g.tops; ranks = λ t l. g.are_levels.ranks.tasks_ranked t undeclared l; highest = g.are_levels.top }
+  built = record { places = g.places; idle = g.idle_is; tops = g.tops; ranks = λ t l. g.are_levels.tasks.of_task t undeclared l; highest = g.are_levels.top }
 
   prologue : (t : ℕ) → t < length b.config.tasks → PrologueStands b t
   prologue t l =

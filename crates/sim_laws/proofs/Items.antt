@@ -23,7 +23,7 @@ use Rattle.rv32_instr.specs.Range.{InRange}
 use Rattle.rv32_expand.specs.Expansion.{item_address, block_address, distance, mask_of, operation, expansion, expanded, register_operation, number_operation, amount}
 use Rattle.rv32_expand.specs.InPlace.{IsItem, CodeAt, item_mark, mark_of, last_address}
 use Rattle.observe.specs.Observe.{AreAscending, mark_at, view_of_image}
-use Rattle.osek_machine.specs.State.{function}
+use Rattle.sloth_base.specs.Functions.{function}
 use Rattle.sim_relation.specs.Build.{Build}
 use Rattle.sim_items.specs.Place.{IsOwn, IsNumber, IsComputed}
 use Rattle.sim_laws.specs.Kernel.{Computes, Ends}

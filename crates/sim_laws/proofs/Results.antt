@@ -11,9 +11,9 @@ use Rattle.rv32_instr.specs.declared.effect.Effect.{Effect}
 use Rattle.rv32_instr.specs.declared.effect.Effect.TheVariants.{Nothing, Write, Branch, Jump, Load, Store, Csr, Environment, Return}
 use Rattle.rv32_instr.specs.declared.InstrKind.{InstrKind}
 use Rattle.rv32_instr.specs.declared.InstrKind.TheVariants.{Lui, Auipc, Jal, Jalr, Beq, Bne, Blt, Bge, Bltu, Bgeu, Lb, Lh, Lw, Lbu, Lhu, Sb, Sh, Sw, Addi, Slti, Sltiu, Xori, Ori, Andi, Slli, Srli, Srai, Add, Sub, Sll, Slt, Sltu, Xor, Srl, Sra, Or, And, Fence, Csrrw, Csrrs, Csrrc, Csrrwi, Csrrsi, Csrrci, Ecall, Ebreak, Mret}
-use Rattle.rv32_instr.specs.Fields.{signed, complement}
+use Rattle.sloth_base.specs.Arithmetic.{signed, complement, one_if, halved}
 use Rattle.rv32_instr.specs.Range.{Signed, InRange}
-use Rattle.rv32_instr.specs.Effect.{effect, number_of, halved}
+use Rattle.rv32_instr.specs.Effect.{effect}
 use Rattle.rv32_instr.proofs.Words.{signed_pos, signed_neg}
 use Rattle.sim_relation.specs.Bounds.{AreBelow}
 
@@ -29,7 +29,7 @@ set_below bound (x ∷ xs) (suc k) v h l (suc i) = set_below bound xs k v (λ j.
 pub mod_fits : (x : ℕ) → x % 4294967296 < 4294967296
 mod_fits x = omega arith
 
-bit_fits : (b : Bool) → number_of b < 4294967296
+bit_fits : (b : Bool) → one_if b < 4294967296
 bit_fits true = omega arith
 bit_fits false = omega arith
 

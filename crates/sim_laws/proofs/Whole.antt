@@ -13,7 +13,8 @@ use Rattle.rv32_machine.specs.Start.{start}
 use Rattle.rv32_routine.specs.Trace.{late}
 use Rattle.rv32_expand.specs.Expansion.{item_address, operation, expansion, expanded}
 use Rattle.observe.specs.Observe.{View, view_of_image}
-use Rattle.osek_machine.specs.State.{Frame, System, task, function}
+use Rattle.osek_machine.specs.State.{Frame, System, task}
+use Rattle.sloth_base.specs.Functions.{function}
 use Rattle.sim_induction.specs.Sound.{Sound}
 use Rattle.sim_induction.specs.Admits.{IsSetting, lines_at, with_admits, admit_event}
 use Rattle.sim_induction.specs.Laws.{BootLaw}

@@ -6,7 +6,8 @@ use Rattle.sloth_region.specs.declared.extent.Extent.{Extent}
 use Rattle.sloth_region.specs.declared.map.Map.{Map}
 use Rattle.rv32_instr.specs.declared.InstrKind.{InstrKind}
 use Rattle.observe.specs.Observe.{view_of_image}
-use Rattle.osek_machine.specs.State.{body_of, function}
+use Rattle.osek_machine.specs.State.{body_of}
+use Rattle.sloth_base.specs.Functions.{function}
 use Rattle.prio_levels.specs.Levels.{AreLevels}
 use Rattle.vector_gen.specs.Boot.{Boots}
 use Rattle.vector_gen.specs.Vectors.{AreJumps}

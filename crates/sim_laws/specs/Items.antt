@@ -9,7 +9,7 @@ use Rattle.rv32_instr.specs.Range.{Even}
 use Rattle.rv32_expand.specs.Expansion.{item_address, block_address, distance, operation, expansion}
 use Rattle.rv32_expand.specs.InPlace.{IsItem, ItemsInPlace}
 use Rattle.observe.specs.Observe.{AreAscending, mark_at, view_of_image}
-use Rattle.osek_machine.specs.State.{function}
+use Rattle.sloth_base.specs.Functions.{function}
 use Rattle.sim_relation.specs.Build.{Build}
 use Rattle.sim_items.specs.Place.{IsComputed}
 use Rattle.sim_services.specs.Stretch.{HasTerminateTask}

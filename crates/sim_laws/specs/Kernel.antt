@@ -5,7 +5,7 @@ use Rattle.sloth_base.specs.declared.service.Service.TheVariants as service
 use Rattle.rv32_expand.specs.Expansion.{item_address, operation}
 use Rattle.rv32_expand.specs.InPlace.{item_mark}
 use Rattle.observe.specs.Observe.{View, mark_at, view_of_image}
-use Rattle.osek_machine.specs.State.{function}
+use Rattle.sloth_base.specs.Functions.{function}
 use Rattle.sim_induction.specs.Sound.{Sound}
 use Rattle.sim_relation.specs.Bounds.{AreBelow}
 use Rattle.sim_relation.specs.Build.{Build, Fits}

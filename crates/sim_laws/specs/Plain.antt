@@ -8,7 +8,8 @@ use Rattle.sloth_base.specs.declared.event.Event.{Event}
 use Rattle.sloth_base.specs.declared.service.Service.TheVariants as service
 use Rattle.rv32_expand.specs.Expansion.{operation}
 use Rattle.osek_machine.specs.declared.state.TaskState.TheVariants as mode
-use Rattle.osek_machine.specs.State.{Task, System, task, function}
+use Rattle.osek_machine.specs.State.{Task, System, task}
+use Rattle.sloth_base.specs.Functions.{function}
 use Rattle.osek_machine.specs.Priority.{is_in, is_active}
 use Rattle.osek_machine.specs.Steps.{OsekStep}
 use Rattle.sim_items.specs.Place.{IsComputed}

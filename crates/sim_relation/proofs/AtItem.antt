@@ -8,7 +8,8 @@ use Rattle.sloth_base.specs.declared.app.Op.TheVariants as op
 use Rattle.sloth_base.specs.declared.places.Places.{Places}
 use Rattle.rv32_instr.specs.Ram.{word_at}
 use Rattle.rv32_expand.specs.Expansion.{item_address, operation, expanded}
-use Rattle.osek_machine.specs.State.{Frame, Task, function}
+use Rattle.osek_machine.specs.State.{Frame, Task}
+use Rattle.sloth_base.specs.Functions.{function}
 use Rattle.sim_relation.specs.Build.{Build}
 use Rattle.sim_relation.specs.Position.{Thread, FramesAt, InExpansion, Position}
 use Rattle.sim_relation.specs.Context.{Context, Rested}

@@ -10,7 +10,8 @@ use Rattle.osek_machine.specs.declared.state.TaskState.{TaskState}
 use Rattle.osek_machine.specs.declared.state.TaskState.TheVariants as mode
 use Rattle.osek_machine.specs.State.{System, task, declaration}
 use Rattle.osek_machine.specs.Priority.{is_in, IsDue, IsTop}
-use Rattle.sim_induction.specs.Mirror.{priority_of, level_of}
+use Rattle.sim_induction.specs.Mirror.{priority_of}
+use Rattle.sloth_base.specs.PriorityLevels.{level_of}
 use Rattle.sim_relation.specs.Build.{Build}
 use Rattle.sim_relation.specs.Context.{Running, RunsTask, RunsIdle}
 use Rattle.sim_relation.specs.Stands.{Stands, IsLineOf, Falling, AreActive}

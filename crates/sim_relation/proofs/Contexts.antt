@@ -3,7 +3,7 @@ use Rattle.std.specs.Prelude.{slice_index}
 use Rattle.std.proofs.Common.{true, ◌≡◌, ℕ, ◌+◌, ◌*◌, ◌≤◌, List, [], ◌∷◌, refl, sym, ap, ◌∙◌, subst, arith}
 use Rattle.osek_machine.specs.State.{Task, System, task, declaration}
 use Rattle.osek_machine.specs.Priority.{current_priority}
-use Rattle.sim_induction.specs.Mirror.{level_of}
+use Rattle.sloth_base.specs.PriorityLevels.{level_of}
 use Rattle.sim_relation.specs.Build.{Build}
 use Rattle.sim_relation.specs.Position.{Thread, thread_at}
 use Rattle.sim_relation.specs.Context.{Context, Saved, Chain}

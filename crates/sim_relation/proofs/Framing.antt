@@ -6,7 +6,8 @@ use Rattle.sloth_base.specs.declared.app.Op.TheVariants as op
 use Rattle.rv32_instr.specs.Ram.{word_at}
 use Rattle.rv32_routine.proofs.Words.{word_at-agree}
 use Rattle.rv32_expand.specs.Expansion.{item_address, operation}
-use Rattle.osek_machine.specs.State.{Frame, Task, function}
+use Rattle.osek_machine.specs.State.{Frame, Task}
+use Rattle.sloth_base.specs.Functions.{function}
 use Rattle.sim_relation.specs.Build.{Build}
 use Rattle.sim_relation.specs.Position.{Thread, AreWords, OuterAt, FramesAt, HasIndexed, HasTarget, HasScratch, InExpansion, AtBlock, Standing, Owing, Calling, Returning, Position}
 use Rattle.sim_relation.specs.Framing.{Agree, SamePlace}

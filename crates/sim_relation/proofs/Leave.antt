@@ -7,7 +7,7 @@ use Rattle.rv32_instr.specs.Ram.{word_at}
 use Rattle.osek_machine.specs.declared.state.TaskState.TheVariants as mode
 use Rattle.osek_machine.specs.State.{System, task, declaration}
 use Rattle.osek_machine.specs.Priority.{is_in, current_priority}
-use Rattle.sim_induction.specs.Mirror.{level_of}
+use Rattle.sloth_base.specs.PriorityLevels.{level_of}
 use Rattle.sim_relation.specs.Build.{Build}
 use Rattle.sim_relation.specs.Position.{thread_of, thread_at}
 use Rattle.sim_relation.specs.Context.{Context, Chain, Running}

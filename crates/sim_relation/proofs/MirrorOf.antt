@@ -8,7 +8,8 @@ use Rattle.osek_machine.specs.declared.state.TaskState.{TaskState}
 use Rattle.osek_machine.specs.declared.state.TaskState.TheVariants as mode
 use Rattle.osek_machine.specs.State.{System, task}
 use Rattle.osek_machine.specs.Priority.{is_in}
-use Rattle.sim_induction.specs.Mirror.{Mirror, Runs, priority_of, level_of}
+use Rattle.sim_induction.specs.Mirror.{Mirror, Runs, priority_of}
+use Rattle.sloth_base.specs.PriorityLevels.{level_of}
 use Rattle.sim_relation.specs.Build.{Build}
 use Rattle.sim_relation.specs.Context.{Running}
 use Rattle.sim_relation.specs.Stands.{Stands, IsLineOf, AreActive}

@@ -9,7 +9,7 @@ use Rattle.rv32_instr.specs.Ram.{word_at, with_word}
 use Rattle.rv32_routine.proofs.Words.{word_at-other}
 use Rattle.osek_machine.specs.State.{Frame, Task, System, sleeping, task, with_task, declaration}
 use Rattle.osek_machine.specs.Priority.{is_in, is_active, ceiling, current_priority}
-use Rattle.sim_induction.specs.Mirror.{level_of}
+use Rattle.sloth_base.specs.PriorityLevels.{level_of}
 use Rattle.sim_relation.specs.Build.{Build}
 use Rattle.sim_relation.specs.Position.{thread_of}
 use Rattle.sim_relation.specs.Context.{Running, Rested, Resumes}

@@ -8,7 +8,7 @@ use Rattle.sloth_region.specs.Layout.{active, events, wait, resume, saved}
 use Rattle.rv32_instr.specs.Ram.{word_at}
 use Rattle.osek_machine.specs.State.{Frame, Task, System, task, declaration}
 use Rattle.osek_machine.specs.Priority.{is_in, is_active, highest, ceiling, greatest, current_priority}
-use Rattle.sim_induction.specs.Mirror.{level_of}
+use Rattle.sloth_base.specs.PriorityLevels.{level_of}
 use Rattle.sim_relation.specs.Build.{Build, Fits}
 use Rattle.sim_relation.specs.Context.{Running, RunsTask, Resumes}
 use Rattle.sim_relation.specs.ServiceWords.{ServiceWords, HeldWords, IsWaitWord, active_word}

@@ -6,9 +6,10 @@ use Rattle.sloth_base.specs.declared.places.Places.{Places}
 use Rattle.sloth_base.specs.declared.app.Call.{Call}
 use Rattle.sloth_base.specs.declared.app.Op.TheVariants as op
 use Rattle.rv32_expand.specs.Expansion.{item_address, block_address, operation}
-use Rattle.osek_machine.specs.State.{declaration, function, body_of}
+use Rattle.osek_machine.specs.State.{declaration, body_of}
+use Rattle.sloth_base.specs.Functions.{function}
 use Rattle.osek_machine.specs.Priority.{highest}
-use Rattle.sim_induction.specs.Mirror.{level_of}
+use Rattle.sloth_base.specs.PriorityLevels.{level_of}
 
 pub record Build : Type 0 where
   pub config : Config

@@ -4,8 +4,10 @@ use Rattle.sloth_base.specs.Machine.{State}
 use Rattle.sloth_region.specs.Layout.{cur, below_word, resume, idle_context}
 use Rattle.rv32_instr.specs.Ram.{word_at}
 use Rattle.rv32_expand.specs.Expansion.{item_address}
-use Rattle.osek_machine.specs.State.{Frame, Task, System, task, function}
-use Rattle.sim_induction.specs.Mirror.{priority_of, level_of}
+use Rattle.osek_machine.specs.State.{Frame, Task, System, task}
+use Rattle.sloth_base.specs.Functions.{function}
+use Rattle.sim_induction.specs.Mirror.{priority_of}
+use Rattle.sloth_base.specs.PriorityLevels.{level_of}
 use Rattle.sim_relation.specs.Build.{Build}
 use Rattle.sim_relation.specs.Position.{Thread, thread_of, thread_at, FramesAt, Position}
 

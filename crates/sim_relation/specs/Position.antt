@@ -1,15 +1,16 @@
 -- Where a task stands: its pc, its frames and the registers that an expansion uses.
 use Rattle.std.specs.Prelude.{ℕ, ◌+◌, ◌*◌, ◌<◌, ◌≤◌, ◌≡◌, ◌⊎◌, Bool, true, false, cond, List, [], ◌∷◌, length, slice_index, bit_and}
 use Rattle.sloth_base.specs.Machine.{State}
-use Rattle.sloth_base.specs.Arithmetic.{sum_of_words, branch_holds}
+use Rattle.sloth_base.specs.Arithmetic.{branch_holds, sum32, hi}
 use Rattle.sloth_base.specs.declared.app.App.{App}
 use Rattle.sloth_base.specs.declared.app.Call.{Call}
 use Rattle.sloth_base.specs.declared.app.Op.{Op}
 use Rattle.sloth_base.specs.declared.app.Op.TheVariants as op
 use Rattle.sloth_region.specs.Layout.{context_bytes}
 use Rattle.rv32_instr.specs.Ram.{word_at}
-use Rattle.rv32_expand.specs.Expansion.{item_address, symbol_address, block_address, label_address, high, mask_of, operation, expansion}
-use Rattle.osek_machine.specs.State.{Frame, Task, function}
+use Rattle.rv32_expand.specs.Expansion.{item_address, symbol_address, block_address, label_address, mask_of, operation, expansion}
+use Rattle.osek_machine.specs.State.{Frame, Task}
+use Rattle.sloth_base.specs.Functions.{function}
 use Rattle.osek_machine.specs.Meaning.{register}
 use Rattle.sim_relation.specs.Build.{Build, start_level}
 
@@ -60,27 +61,27 @@ FramesAt b ram frame outer place top =
 -- the address of a masked index into a symbol, less the low part
 pub record HasIndexed (address masked done : ℕ) (th : Thread) : Type 0 where
   pub index : 1 ≤ done → done ≤ 2 → th.x 31 ≡ masked
-  pub upper : 2 ≤ done → th.x 30 ≡ high address * 4096
-  pub sum : 3 ≤ done → th.x 31 ≡ sum_of_words masked (high address * 4096)
+  pub upper : 2 ≤ done → th.x 30 ≡ hi address * 4096
+  pub sum : 3 ≤ done → th.x 31 ≡ sum32 masked (hi address * 4096)
 
 -- where a branch goes on: at `next` where it is not taken
 pub record HasTarget (holds : Bool) (next target done : ℕ) (th : Thread) : Type 0 where
-  pub upper_next : done ≡ 1 → th.x 31 ≡ high next * 4096
+  pub upper_next : done ≡ 1 → th.x 31 ≡ hi next * 4096
   pub next_one : 2 ≤ done → done ≤ 3 → th.x 31 ≡ next
   pub taken : 3 ≤ done → done ≤ 4 → holds ≡ true
-  pub upper_target : done ≡ 4 → th.x 31 ≡ high target * 4096
+  pub upper_target : done ≡ 4 → th.x 31 ≡ hi target * 4096
   pub chosen : done ≡ 5 → th.x 31 ≡ cond holds target next
 
 -- the mask of a service
 pub record HasMask (mask done : ℕ) (th : Thread) : Type 0 where
-  pub upper : done ≡ 1 → th.x 30 ≡ high mask * 4096
+  pub upper : done ≡ 1 → th.x 30 ≡ hi mask * 4096
   pub whole : done ≡ 2 → th.x 30 ≡ mask
 
 -- what x30 and x31 hold where so many instructions of the expansion are done, and x2 has not moved
 abbrev pub HasScratch : Build → List ℕ → Frame → Op → ℕ → Thread → Type 0
-HasScratch b x frame (op.Li rd value) done th = 1 ≤ done → th.x 31 ≡ high value * 4096
-HasScratch b x frame (op.Load width rd symbol offset) done th = 1 ≤ done → th.x 31 ≡ high (symbol_address b.places symbol + offset) * 4096
-HasScratch b x frame (op.Store width rs symbol offset) done th = 1 ≤ done → th.x 31 ≡ high (symbol_address b.places symbol + offset) * 4096
+HasScratch b x frame (op.Li rd value) done th = 1 ≤ done → th.x 31 ≡ hi value * 4096
+HasScratch b x frame (op.Load width rd symbol offset) done th = 1 ≤ done → th.x 31 ≡ hi (symbol_address b.places symbol + offset) * 4096
+HasScratch b x frame (op.Store width rs symbol offset) done th = 1 ≤ done → th.x 31 ≡ hi (symbol_address b.places symbol + offset) * 4096
 HasScratch b x frame (op.LoadAt width rd symbol index mask) done th =
     HasIndexed (symbol_address b.places symbol) (bit_and (register x index) mask) done th
 HasScratch b x frame (op.StoreAt width rs symbol index mask) done th =

@@ -5,7 +5,8 @@ use Rattle.osek_machine.specs.declared.state.TaskState.{TaskState}
 use Rattle.osek_machine.specs.declared.state.TaskState.TheVariants as mode
 use Rattle.osek_machine.specs.State.{Task, System, task, declaration}
 use Rattle.osek_machine.specs.Priority.{is_in, is_active}
-use Rattle.sim_induction.specs.Mirror.{priority_of, level_of}
+use Rattle.sim_induction.specs.Mirror.{priority_of}
+use Rattle.sloth_base.specs.PriorityLevels.{level_of}
 use Rattle.sim_relation.specs.Build.{Build}
 use Rattle.sim_relation.specs.Context.{Running}
 use Rattle.sim_relation.specs.ServiceWords.{ServiceWords}

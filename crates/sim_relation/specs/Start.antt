@@ -3,7 +3,7 @@ use Rattle.std.specs.Prelude.{ℕ, ◌+◌, ◌<◌, ◌≤◌, ◌≡◌, lengt
 use Rattle.sloth_base.specs.Machine.{State}
 use Rattle.osek_machine.specs.State.{System, declaration, opening}
 use Rattle.osek_machine.specs.Steps.{settled, autostarted}
-use Rattle.sim_induction.specs.Mirror.{level_of}
+use Rattle.sloth_base.specs.PriorityLevels.{level_of}
 use Rattle.sim_relation.specs.Build.{Build}
 use Rattle.sim_relation.specs.DataStands.{DataStands}
 use Rattle.sim_relation.specs.Stands.{Fixed}

@@ -1,5 +1,5 @@
 -- The services as stretches of a run, whatever lines arrive.
-use Rattle.std.specs.Prelude.{ℕ, ◌+◌, ◌<◌, ◌≡◌, List, [], false, Some, None, slice_get}
+use Rattle.std.specs.Prelude.{ℕ, ◌+◌, ◌<◌, ◌≡◌, List, [], false, Some, None}
 use Rattle.sloth_base.specs.declared.image.Mark.{Mark}
 use Rattle.sloth_base.specs.declared.image.MarkKind.TheVariants as kind
 use Rattle.sloth_base.specs.declared.event.Arrival.{Arrival}
@@ -10,7 +10,8 @@ use Rattle.rv32_instr.specs.declared.InstrKind.{InstrKind}
 use Rattle.rv32_machine.specs.Run.{arrived}
 use Rattle.rv32_routine.specs.Trace.{Trace}
 use Rattle.rv32_expand.specs.Expansion.{block_address}
-use Rattle.observe.specs.Observe.{View, mark_at, services}
+use Rattle.observe.specs.Observe.{View, mark_at}
+use Rattle.sloth_base.specs.ServiceCodes.{service_of}
 use Rattle.service_gen.specs.TerminateTask.{Terminates}
 use Rattle.osek_machine.specs.State.{System, task}
 use Rattle.osek_machine.specs.Priority.{is_in}
@@ -32,7 +33,7 @@ pub record HasTerminateTask (b : Build) (view : View) (object : ℕ) : Type 0 wh
   pub mark : Mark
   pub marked : mark_at view (0x8000_0000 + offset) ≡ Some mark
   pub opens : mark.kind ≡ kind.Opening
-  pub calls : slice_get services mark.a ≡ Some service.TerminateTask
+  pub calls : service_of mark.a ≡ Some service.TerminateTask
 
 -- what holds at the opening mark of TerminateTask, with the arrivals of the count: no line is taken, and the running task holds nothing
 pub record OpensTerminateTask (b : Build) (view : View) (state : State) (s : System) (t : ℕ) : Type 0 where

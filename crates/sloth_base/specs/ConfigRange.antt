@@ -23,6 +23,7 @@ pub record IsTask (config : Config) (task : TaskDecl) : Type 0 where
   pub events : IsUnionOf config.events task.events
   pub extended : task.extended ≡ not (task.events == 0)
 
+-- the configuration is in range
 pub record InRange (config : Config) : Type 0 where
   pub few_tasks : length config.tasks ≤ 30
   pub few_resources : length config.resources ≤ 32

@@ -8,3 +8,7 @@ pub mod Take
 pub mod Arrive
 pub mod Arithmetic
 pub mod ServiceCodes
+pub mod Status
+pub mod Functions
+pub mod PriorityLevels
+pub mod Options

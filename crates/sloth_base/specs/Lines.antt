@@ -2,11 +2,13 @@
 use Rattle.std.specs.Prelude.{ℕ, ◌-◌, List, if◌then◌else◌, nat_lt, ◌==◌, slice_index, slice_set}
 use Rattle.sloth_base.specs.Machine.{Core}
 
+-- the three kinds of bytes
 pub record Lines : Type 0 where
   pub pending : List ℕ
   pub enabled : List ℕ
   pub levels : List ℕ
 
+-- those of a machine
 abbrev pub lines_of : Core → Lines
 lines_of core = record { pending = core.pending; enabled = core.enabled; levels = core.levels }
 

@@ -21,6 +21,7 @@ pub record Core : Type 0 where
   pub levels : List ℕ
   pub controller : Bool
 
+-- the machine: where it is, and all else
 pub record State : Type 0 where
   pub pc : ℕ
   pub core : Core

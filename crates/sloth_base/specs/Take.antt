@@ -26,6 +26,7 @@ take line state = record {
 abbrev pub line_to_take : State → Option ℕ
 line_to_take state = if state.core.mie then choose state.core else None
 
+-- the state after the entry of a line, if there is one
 abbrev pub enter : Option ℕ → State → State
 enter None state = state
 enter (Some line) state = take line state

@@ -20,10 +20,10 @@ at : (memory before rest : List ℕ) (offset k : ℕ) → memory ≡ before ++ r
 at memory before rest offset k e l =
     ap (λ m. slice_index m (offset + k)) e ∙ ap (λ o. slice_index (before ++ rest) (o + k)) (sym l) ∙ get_or-append-add before rest k 0
 
-word_of : (memory : List ℕ) (o n : ℕ) → n < 2 ^ 32 → slice_index memory (o + 0) ≡ n % 256 → slice_index memory (o + 1) ≡ n / 256 % 256
+word_from : (memory : List ℕ) (o n : ℕ) → n < 2 ^ 32 → slice_index memory (o + 0) ≡ n % 256 → slice_index memory (o + 1) ≡ n / 256 % 256
     → slice_index memory (o + 2) ≡ n / 65536 % 256 → slice_index memory (o + 3) ≡ n / 16777216 % 256 → word_at memory o ≡ n
 unfolding word_at
-word_of memory o n fits a b c d =
+word_from memory o n fits a b c d =
     let z : slice_index memory (o + 0) ≡ slice_index memory o = ap (slice_index memory) (omega arith) in
     let w = from_le_bytes-to_le_bytes_4 n fits in
     omega (arith, z, a, b, c, d, w)
@@ -43,7 +43,7 @@ written (kind ∷ code) memory offset r h =
     let four : length (to_le_bytes w32 n) ≡ 4 = refl in
     let long = h.long in
     let more = length-append {A = ℕ} h.before (to_le_bytes w32 n) in (
-      word_of memory offset n (encode_fits kind (r 0 kind (omega arith))) (at memory h.before rest offset 0 h.is h.long) (at memory h.before rest offset 1 h.is h.long)
+      word_from memory offset n (encode_fits kind (r 0 kind (omega arith))) (at memory h.before rest offset 0 h.is h.long) (at memory h.before rest offset 1 h.is h.long)
           (at memory h.before rest offset 2 h.is h.long) (at memory h.before rest offset 3 h.is h.long),
       written code memory (offset + 4) (λ k d below. r (suc k) d (omega arith)) (record {
         before = h.before ++ to_le_bytes w32 n;

@@ -88,7 +88,7 @@ small_levels config levels few long are within t =
     let top = are.top in
     elim (cases_lt t (length config.tasks)) [
       | inl l ↦ let w = (within t l).1 in omega (arith, w)
-      | inr g ↦ elim (cases_lt t 30) [ inl l ↦ let z = are.ranks.no_task t g l in omega (arith, z) | inr h ↦ let z = beyond levels.task t (omega arith) in omega (arith, z) ]
+      | inr g ↦ elim (cases_lt t 30) [ inl l ↦ let z = are.tasks.no_task t g l in omega (arith, z) | inr h ↦ let z = beyond levels.task t (omega arith) in omega (arith, z) ]
     ]
 
 -- ---- the code

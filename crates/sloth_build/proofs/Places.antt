@@ -7,7 +7,8 @@ use Rattle.sloth_base.specs.declared.app.App.{App}
 use Rattle.sloth_base.specs.declared.app.Func.{Func}
 use Rattle.sloth_region.specs.declared.extent.Extent.{Extent}
 use Rattle.sloth_base.specs.ServiceCodes.{code_of}
-use Rattle.osek_machine.specs.State.{body_of, function, opening}
+use Rattle.osek_machine.specs.State.{body_of, opening}
+use Rattle.sloth_base.specs.Functions.{function}
 use Rattle.sim_relation.specs.Build.{Build, Fits, IsElsewhere}
 use Rattle.sim_relation.specs.DataStands.{DataStands}
 use Rattle.sloth_build.specs.Form.{one_body}

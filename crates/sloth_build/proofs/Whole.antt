@@ -12,7 +12,7 @@ use Rattle.rv32_instr.specs.declared.block.Block.{Block}
 use Rattle.rv32_instr.specs.Range.{InRange, Signed}
 use Rattle.rv32_routine.specs.Place.{AreWritten}
 use Rattle.observe.specs.Observe.{View, view_from, view_of_image, mark_at}
-use Rattle.osek_machine.specs.State.{function}
+use Rattle.sloth_base.specs.Functions.{function}
 use Rattle.sim_induction.specs.Sound.{Sound}
 use Rattle.sim_relation.specs.Bounds.{AreBelow}
 use Rattle.sim_relation.specs.Build.{Build}

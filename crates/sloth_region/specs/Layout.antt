@@ -9,9 +9,11 @@ cur = 0
 abbrev pub active : ℕ → ℕ
 active task = 4 + 12 * task
 
+-- a task's events
 abbrev pub events : ℕ → ℕ
 events task = 8 + 12 * task
 
+-- the events that a task waits for
 abbrev pub wait : ℕ → ℕ
 wait task = 12 + 12 * task
 

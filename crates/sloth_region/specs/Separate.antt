@@ -29,22 +29,26 @@ pub data Piece : Type 0 where
   Stack : ℕ → Piece
   Words : Piece
 
+-- what a piece of memory is for
 pub data Kind : Type 0 where
   Code : Kind
   Data : Kind
   Stacks : Kind
   Service : Kind
 
+-- what a piece is for
 abbrev pub kind_of : Piece → Kind
 kind_of (Symbol number) = Data
 kind_of (Stack number) = Stacks
 kind_of Words = Service
 kind_of piece = Code
 
+-- the bytes of a symbol, 0 where there is none
 abbrev pub bytes_of : Option NamedData → ℕ
 bytes_of None = 0
 bytes_of (Some symbol) = length symbol.bytes
 
+-- a stack, or an empty extent where there is none
 abbrev pub stack_of : Option Extent → Extent
 stack_of None = record { base = 0; len = 0 }
 stack_of (Some stack) = stack
@@ -70,12 +74,15 @@ Exists sizes map config app (Symbol number) = number < length app.symbols
 Exists sizes map config app (Stack task) = task < length config.tasks
 Exists sizes map config app piece = Unit {0}
 
+-- two extents share no byte
 abbrev pub AreApart : Extent → Extent → Type 0
 AreApart a b = (a.base + a.len ≤ b.base) ⊎ (b.base + b.len ≤ a.base)
 
+-- an extent lies in another
 abbrev pub IsWithin : Extent → Extent → Type 0
 IsWithin inner outer = (outer.base ≤ inner.base) × (inner.base + inner.len ≤ outer.base + outer.len)
 
+-- the pieces of an image lie apart, each where it may
 pub record Separate (sizes : Sizes) (map : Map) (config : Config) (app : App) : Type 0 where
   -- the extents lie in RAM, apart from one another
   pub extents : AreApartWithin 0x8000_0000 0x8020_0000 map.extents

@@ -9,6 +9,7 @@ use Rattle.trace_text.specs.Lines.{line_of}
 use Rattle.trace_text.specs.declared.print.Form.{Form}
 use Rattle.trace_text.specs.declared.print.Form.TheVariants as form
 
+-- an event is that of the idle loop
 abbrev pub is_idle : Event → Bool
 is_idle event.Idle = true
 is_idle _ = false
@@ -45,5 +46,6 @@ text_in image form events = text_after image form false events
 abbrev pub text_of : Image → List Stamped → List ℕ
 text_of image events = text_in image form.Counted events
 
+-- the lines of events without their counts
 abbrev pub order_text : Image → List Stamped → List ℕ
 order_text image events = text_in image form.Bare events

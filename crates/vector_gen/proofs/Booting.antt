@@ -7,7 +7,7 @@ use Rattle.sloth_base.specs.declared.config.TaskDecl.{TaskDecl}
 use Rattle.sloth_base.specs.Machine.{Core, State}
 use Rattle.rv32_instr.specs.declared.InstrKind.{InstrKind}
 use Rattle.rv32_instr.specs.declared.InstrKind.TheVariants.{Lui, Addi, Sb}
-use Rattle.rv32_routine.specs.Constant.{hi}
+use Rattle.sloth_base.specs.Arithmetic.{hi}
 use Rattle.rv32_routine.specs.Place.{at}
 use Rattle.rv32_routine.specs.Masked.{Masked, WithArrivals}
 use Rattle.rv32_routine.specs.Owes.{Owes, Pending, Enabled, Level}

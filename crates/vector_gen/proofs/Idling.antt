@@ -3,7 +3,7 @@ use Rattle.std.proofs.Common.{refl, ◌≡◌, ℕ, ◌+◌, ◌%◌, ◌≤◌,
 use Rattle.std.specs.Prelude.{pos}
 use Rattle.sloth_base.specs.Machine.{Core}
 use Rattle.rv32_instr.specs.declared.InstrKind.TheVariants.{Jal}
-use Rattle.rv32_instr.specs.Effect.{plus}
+use Rattle.sloth_base.specs.Arithmetic.{plus}
 use Rattle.rv32_instr.specs.Execute.{Going, step, touched, perform, touched_by, jumps}
 use Rattle.rv32_routine.specs.Place.{at, InPlace}
 use Rattle.rv32_routine.proofs.Machine.{step_at, touched_at, jump_at}

@@ -5,7 +5,7 @@ use Rattle.sloth_base.specs.Machine.{Core, State}
 use Rattle.sloth_region.specs.Layout.{idle_context, context_bytes}
 use Rattle.rv32_instr.specs.declared.InstrKind.{InstrKind}
 use Rattle.rv32_instr.specs.declared.InstrKind.TheVariants.{Lui, Addi, Sb, Csrrw, Mret}
-use Rattle.rv32_routine.specs.Constant.{hi, lo}
+use Rattle.sloth_base.specs.Arithmetic.{hi, lo}
 use Rattle.rv32_routine.specs.Place.{at}
 use Rattle.rv32_routine.specs.Masked.{Masked, WithArrivals}
 use Rattle.rv32_routine.specs.Kernel.{CanRun}

@@ -1,7 +1,7 @@
 use Rattle.std.proofs.Common.{arith, map}
 use Rattle.std.proofs.lemmas.Result.{err_from_is_err_and}
 use Rattle.oil_lex.specs.Tokens.{lexeme}
-use Rattle.oil_lex.proofs.Cuts.{next, refused, ended}
+use Rattle.oil_lex.proofs.Cuts.{next, refused, cut_ends}
 use Rattle.oil_lex.proofs.lexer.tokens.Goals as goal
 
 pub returns-in_err-keep-clause-refused : goal.returns-in_err-keep-clause-refused
@@ -19,7 +19,7 @@ loop-rest-preserved c = record {
 }
 
 pub returns-clause-tokens : goal.returns-clause-tokens
-returns-clause-tokens c = (ended c.args.text.now c.loop-rest.rest.now c.loop-rest.line (map lexeme c.loop-rest.tokens.items) c.loop-rest.invariant.reads c.loop-rest-test.ensures).0
+returns-clause-tokens c = (cut_ends c.args.text.now c.loop-rest.rest.now c.loop-rest.line (map lexeme c.loop-rest.tokens.items) c.loop-rest.invariant.reads c.loop-rest-test.ensures).0
 
 pub returns-clause-none : goal.returns-clause-none
-returns-clause-none c = (ended c.args.text.now c.loop-rest.rest.now c.loop-rest.line (map lexeme c.loop-rest.tokens.items) c.loop-rest.invariant.reads c.loop-rest-test.ensures).1
+returns-clause-none c = (cut_ends c.args.text.now c.loop-rest.rest.now c.loop-rest.line (map lexeme c.loop-rest.tokens.items) c.loop-rest.invariant.reads c.loop-rest-test.ensures).1
