@@ -5,6 +5,7 @@ use Rattle.sloth_base.specs.Machine.{Core, State}
 use Rattle.sloth_base.specs.Lines.{controller_byte, with_controller_byte}
 use Rattle.sloth_base.specs.Choose.{choose, choose_line, best_below}
 use Rattle.sloth_base.specs.Take.{entered}
+use Rattle.rv32_instr.specs.declared.csr.TheConstants.{MSTATUS, ILEVEL}
 use Rattle.rv32_instr.specs.declared.InstrKind.TheVariants.{Jal, Jalr, Lb, Lw, Lh, Sb, Sw, Csrrs, Csrrw, Csrrci, Mret}
 use Rattle.rv32_instr.specs.declared.stop.Stop.TheVariants as stop
 use Rattle.rv32_instr.specs.Words.{word}
@@ -76,11 +77,11 @@ jump_through_its_register : execute (Jalr 2 2 (pos 1)) 0x8000_0000 core ≡ Goin
 unfolding execute perform word core goes-to
 jump_through_its_register = refl
 
-mask : execute (Csrrci 5 8 0x300) 0x8000_0000 core ≡ Going (goes-to 0x8000_0004 (record core { mie = false; registers = set core.registers 5 8 }))
+mask : execute (Csrrci 5 8 MSTATUS) 0x8000_0000 core ≡ Going (goes-to 0x8000_0004 (record core { mie = false; registers = set core.registers 5 8 }))
 unfolding execute perform word core goes-to
 mask = refl
 
-level_keeps_a_byte : execute (Csrrw 5 2 0x7C0) 0x8000_0000 core ≡ Going (goes-to 0x8000_0004 (record core { ilevel = 4; registers = set core.registers 5 1 }))
+level_keeps_a_byte : execute (Csrrw 5 2 ILEVEL) 0x8000_0000 core ≡ Going (goes-to 0x8000_0004 (record core { ilevel = 4; registers = set core.registers 5 1 }))
 unfolding execute perform word core goes-to
 level_keeps_a_byte = refl
 

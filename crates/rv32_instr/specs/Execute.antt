@@ -5,6 +5,7 @@ use Rattle.rv32_instr.specs.declared.stop.Bad.{Bad}
 use Rattle.rv32_instr.specs.declared.stop.Bad.TheVariants as bad
 use Rattle.rv32_instr.specs.declared.stop.Stop.{Stop}
 use Rattle.rv32_instr.specs.declared.stop.Stop.TheVariants as stop
+use Rattle.rv32_instr.specs.declared.csr.TheConstants.{MSTATUS, MSCRATCH, MEPC, ILEVEL, PLEVEL}
 use Rattle.rv32_instr.specs.declared.effect.Change.{Change}
 use Rattle.rv32_instr.specs.declared.effect.Change.TheVariants.{Keep, Replace, Set, Clear}
 use Rattle.rv32_instr.specs.declared.effect.Effect.{Effect}
@@ -35,24 +36,24 @@ with_register core (suc number) value = record core { registers = slice_set core
 abbrev pub mstatus_of : Core → ℕ
 mstatus_of core = (if core.mie then 8 else 0) + (if core.mpie then 128 else 0)
 
--- the value of a CSR, where it is there: mstatus, mscratch, mepc, ilevel, plevel
+-- the value of a CSR, where it is there
 abbrev pub csr_value : Core → ℕ → Option ℕ
 csr_value core csr =
-    if csr == 0x300 then Some (mstatus_of core)
-    else if csr == 0x340 then Some core.mscratch
-    else if csr == 0x341 then Some core.mepc
-    else if csr == 0x7C0 then Some core.ilevel
-    else if csr == 0x7C1 then Some core.plevel
+    if csr == MSTATUS then Some (mstatus_of core)
+    else if csr == MSCRATCH then Some core.mscratch
+    else if csr == MEPC then Some core.mepc
+    else if csr == ILEVEL then Some core.ilevel
+    else if csr == PLEVEL then Some core.plevel
     else None
 
 -- what a write leaves: mepc ends in two zero bits, ilevel and plevel keep the low 8
 abbrev pub with_csr : Core → ℕ → ℕ → Core
 with_csr core csr value =
-    if csr == 0x300 then record core { mie = value / 8 % 2 == 1; mpie = value / 128 % 2 == 1 }
-    else if csr == 0x340 then record core { mscratch = value }
-    else if csr == 0x341 then record core { mepc = value - value % 4 }
-    else if csr == 0x7C0 then record core { ilevel = value % 256 }
-    else if csr == 0x7C1 then record core { plevel = value % 256 }
+    if csr == MSTATUS then record core { mie = value / 8 % 2 == 1; mpie = value / 128 % 2 == 1 }
+    else if csr == MSCRATCH then record core { mscratch = value }
+    else if csr == MEPC then record core { mepc = value - value % 4 }
+    else if csr == ILEVEL then record core { ilevel = value % 256 }
+    else if csr == PLEVEL then record core { plevel = value % 256 }
     else core
 
 -- what a change of a CSR with this old value leaves

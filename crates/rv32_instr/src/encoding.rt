@@ -148,6 +148,7 @@ fn encode_kind(kind: InstrKind) -> u32
 pub fn encode(instr: Instr) -> u32
     ensures is { result ≡ Encode instr }
     ensures back { Decode result ≡ Some instr }
+    ensures fits { InRange instr }
 {
     encode_kind(instr.kind())
 }

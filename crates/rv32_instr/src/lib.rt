@@ -6,7 +6,9 @@ ghost use Rattle.std.specs.Prelude.{◌≡◌};
 use sloth_base::numbers::Reg;
 use std::marker::Model;
 
+pub mod asm;
 pub mod block;
+pub mod csr;
 pub mod decoding;
 pub mod effect;
 pub mod encoding;

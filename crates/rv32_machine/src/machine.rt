@@ -6,20 +6,10 @@ ghost use Rattle.rv32_instr.specs.Memory.{memory_of, with_memory, refusal, loade
 ghost use Rattle.rv32_machine.specs.Fits.{Fits};
 
 use crate::bus::Bus;
+use rv32_instr::csr::{ILEVEL, MEPC, MSCRATCH, MSTATUS, PLEVEL};
 use rv32_instr::{Bad, Change, Effect, Stop};
 use sloth_base::app::Width;
 use sloth_base::numbers::Reg;
-
-/// The number of mstatus: MIE in bit 3, MPIE in bit 7.
-const MSTATUS: u16 = 0x300;
-
-const MSCRATCH: u16 = 0x340;
-
-const MEPC: u16 = 0x341;
-
-const ILEVEL: u16 = 0x7c0;
-
-const PLEVEL: u16 = 0x7c1;
 
 /// The registers and CSRs of the hart.
 #[derive(Clone, Copy)]

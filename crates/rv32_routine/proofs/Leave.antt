@@ -2,6 +2,7 @@
 use Rattle.std.proofs.Common.{◌≡◌, ℕ, zero, suc, ◌+◌, ◌-◌, ◌*◌, ◌%◌, ◌≤◌, List, [], ◌∷◌, length, refl, ◌∙◌, arith, inl, inr}
 use Rattle.std.specs.Prelude.{false}
 use Rattle.sloth_base.specs.Machine.{Core, State}
+use Rattle.sloth_region.specs.Layout.{cur, below_word, context_bytes, context_level, context_cur, context_below}
 use Rattle.rv32_instr.specs.declared.InstrKind.TheVariants.{Mret}
 use Rattle.rv32_instr.specs.Ram.{word_at, with_word}
 use Rattle.rv32_routine.specs.Owes.{Owes}
@@ -21,18 +22,18 @@ module _ (from to : ℕ) (E : List ℕ → State → State → Type 0) (start : 
       let fits = b.inside in
       let past = b.behind in
       let v0 = word_at c.ram place in
-      let v4 = word_at c.ram (place + 4) in
-      let v8 = word_at c.ram (place + 8) in
-      let v12 = word_at c.ram (place + 12) in
-      let ram1 = with_word c.ram 0 v8 in
-      let ram2 = with_word ram1 628 v12 in
-      let regs = 0 ∷ (0x8000_0000 + place) ∷ (0x8000_0000 + (place + 128)) ∷ v12 ∷ 0x8000_0000 ∷ tail in
+      let v4 = word_at c.ram (place + context_level) in
+      let v8 = word_at c.ram (place + context_cur) in
+      let v12 = word_at c.ram (place + context_below) in
+      let ram1 = with_word c.ram cur v8 in
+      let ram2 = with_word ram1 below_word v12 in
+      let regs = 0 ∷ (0x8000_0000 + place) ∷ (0x8000_0000 + (place + context_bytes)) ∷ v12 ∷ 0x8000_0000 ∷ tail in
       let d = record c { registers = regs; mepc = v0 - v0 % 4; plevel = v4 % 256; ram = ram2 } in
-      let same : (k : ℕ) → word_at ram2 (place + k) ≡ word_at c.ram (place + k) = λ k. word_at-other ram1 628 v12 (place + k) (inr (omega arith)) ∙ word_at-other c.ram 0 v8 (place + k) (inr (omega arith)) in
+      let same : (k : ℕ) → word_at ram2 (place + k) ≡ word_at c.ram (place + k) = λ k. word_at-other ram1 below_word v12 (place + k) (inr (omega arith)) ∙ word_at-other c.ram cur v8 (place + k) (inr (omega arith)) in
       let returns = b.returns in
       let level = b.level in
       let lengths = length-restored 27 5 ram2 place regs in (
-        628,
+        below_word,
         record { is = refl; aligned = refl; inside = omega arith },
         0x8000_0000 + place,
         b.is,
@@ -46,7 +47,7 @@ module _ (from to : ℕ) (E : List ℕ → State → State → Type 0) (start : 
             refl,
             masked,
             (
-              place + 4,
+              place + context_level,
               record { is = omega arith; aligned = omega arith; inside = omega arith },
               v4,
               refl,
@@ -55,25 +56,25 @@ module _ (from to : ℕ) (E : List ℕ → State → State → Type 0) (start : 
                 refl,
                 masked,
                 (
-                  place + 8,
+                  place + context_cur,
                   record { is = omega arith; aligned = omega arith; inside = omega arith },
                   v8,
                   refl,
                   (
-                    0,
+                    cur,
                     record { is = refl; aligned = refl; inside = omega arith },
                     inl (omega arith),
                     (
-                      place + 12,
+                      place + context_below,
                       record { is = omega arith; aligned = omega arith; inside = omega arith },
                       v12,
-                      word_at-other c.ram 0 v8 (place + 12) (inr (omega arith)),
+                      word_at-other c.ram cur v8 (place + context_below) (inr (omega arith)),
                       (
-                        628,
+                        below_word,
                         record { is = refl; aligned = refl; inside = omega arith },
                         inl (omega arith),
                         (
-                          0x8000_0000 + (place + 128),
+                          0x8000_0000 + (place + context_bytes),
                           omega arith,
                           restores_owes from to E start (Mret ∷ []) place al 27 5 1 (behind 10 o) (behind 10 o + 108) d refl (omega arith) refl (omega arith) (go _ (record {
                             pc = omega arith;

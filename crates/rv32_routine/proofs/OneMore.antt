@@ -37,5 +37,5 @@ clears_words_more end k b z h g =
     ap (λ n. clears_words n k b) e ∙ ap (λ x. Sw b 0 x ∷ clears_words (end - (k + 1)) (suc k) b) (sym g) ∙ ap (λ s. Sw b 0 z ∷ clears_words (end - (k + 1)) s b) f
 
 -- one more, of which the rest is still to come
-pub one_more : (code new all rest rest' : List InstrKind) (kind : InstrKind) → new ≡ code ++ kind ∷ [] → rest ≡ kind ∷ rest' → code ++ rest ≡ all → new ++ rest' ≡ all
-one_more code new all rest rest' kind e f g = rw (e, append_assoc) (rw (← f) g)
+pub one_more : (code new all rest rest' : List InstrKind) (kind named : InstrKind) → new ≡ code ++ kind ∷ [] → kind ≡ named → rest ≡ named ∷ rest' → code ++ rest ≡ all → new ++ rest' ≡ all
+one_more code new all rest rest' kind named e n f g = rw (e, n, append_assoc) (rw (← f) g)

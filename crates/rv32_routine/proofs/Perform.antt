@@ -6,6 +6,7 @@ use Rattle.sloth_base.specs.declared.app.Width.TheVariants as width
 use Rattle.sloth_base.specs.Machine.{Core}
 use Rattle.sloth_base.specs.Lines.{flag_of}
 use Rattle.sloth_base.specs.Arrive.{core_arrive}
+use Rattle.rv32_instr.specs.declared.csr.TheConstants.{MSTATUS, MSCRATCH, MEPC, ILEVEL, PLEVEL}
 use Rattle.rv32_instr.specs.declared.effect.Change.{Change}
 use Rattle.rv32_instr.specs.declared.effect.Change.TheVariants.{Keep, Replace, Set, Clear}
 use Rattle.rv32_instr.specs.declared.effect.Effect.TheVariants.{Load, Store}
@@ -155,7 +156,7 @@ written_changes m c v false false false false true = record { arrives = refl; ra
 written_changes m c v false false false false false = record { arrives = refl; ram_is = refl; pending_is = refl; controller_is = refl }
 
 with_csr_changes : (m : List ℕ) (c : Core) (csr v : ℕ) → Changed m c (with_csr (core_arrive m c) csr v) (with_csr c csr v)
-with_csr_changes m c csr v = written_changes m c v (csr == 0x300) (csr == 0x340) (csr == 0x341) (csr == 0x7C0) (csr == 0x7C1)
+with_csr_changes m c csr v = written_changes m c v (csr == MSTATUS) (csr == MSCRATCH) (csr == MEPC) (csr == ILEVEL) (csr == PLEVEL)
 
 pub changed_changes : (m : List ℕ) (c : Core) (change : Change) (csr old : ℕ) → Changed m c (changed change csr old (core_arrive m c)) (changed change csr old c)
 changed_changes m c Keep csr old = record { arrives = refl; ram_is = refl; pending_is = refl; controller_is = refl }

@@ -4,7 +4,8 @@ use Rattle.std.specs.Prelude.{ℤ, All, Bool, true, false, bit_and}
 use Rattle.sloth_base.specs.Machine.{Core, State}
 use Rattle.sloth_base.specs.Arrive.{core_arrive, state_arrive}
 use Rattle.rv32_instr.specs.declared.InstrKind.{InstrKind}
-use Rattle.rv32_instr.specs.declared.InstrKind.TheVariants.{Csrrci, Jal}
+use Rattle.rv32_instr.specs.declared.InstrKind.TheVariants.{Jal}
+use Rattle.rv32_instr.specs.declared.csr.TheConstants.{MSTATUS}
 use Rattle.rv32_instr.specs.Range.{InRange}
 use Rattle.rv32_instr.specs.Table.{Decode}
 use Rattle.rv32_instr.proofs.Table.{decode_encode}
@@ -14,6 +15,7 @@ use Rattle.rv32_routine.specs.Trace.{Trace, touched_lines, early, late}
 use Rattle.rv32_routine.specs.Masked.{OnGoing, Masked, WithArrivals, FromOpening}
 use Rattle.rv32_routine.specs.Place.{at, InPlace, AreWritten}
 use Rattle.rv32_routine.specs.Owes.{Owes}
+use Rattle.rv32_routine.specs.Kernel.{masking}
 use Rattle.rv32_routine.proofs.Arrivals.{taken_early, left_late, taken, left}
 use Rattle.rv32_routine.proofs.Masked.{masked_map, masked_step}
 use Rattle.rv32_routine.proofs.Machine.{step_at, touched_at, next_at, jump_at}
@@ -43,23 +45,23 @@ handles o n code c E start e le h =
     (run o (o + 4 * length code) c.ram e.fits code 0 n o o c [] E start le (omega arith) al (omega arith) (omega arith) e.placed
     (record { masked = e.masked; there = e.there; lines = e.lines; same = record { by = λ i a b. refl } }) h)
 
-mask_bits : (mie mpie : Bool) (c : Core) → with_csr c 0x300 (bit_and (mstatus_of (record c { mie = mie; mpie = mpie })) 4294967287) ≡ record c { mie = false; mpie = mpie }
+mask_bits : (mie mpie : Bool) (c : Core) → with_csr c MSTATUS (bit_and (mstatus_of (record c { mie = mie; mpie = mpie })) 4294967287) ≡ record c { mie = false; mpie = mpie }
 mask_bits true true c = refl
 mask_bits true false c = refl
 mask_bits false true c = refl
 mask_bits false false c = refl
 
 -- `csrrci x0, mstatus, 8` makes MIE 0 and changes nothing else
-pub masks : (o : ℕ) (c : Core) (code : List InstrKind) → o + 4 ≤ 0x20_0000 → InPlace c.ram o (Csrrci 0 8 0x300 ∷ code) → step (at o c) ≡ Going (at (o + 4) (record c { mie = false }))
+pub masks : (o : ℕ) (c : Core) (code : List InstrKind) → o + 4 ≤ 0x20_0000 → InPlace c.ram o (masking ∷ code) → step (at o c) ≡ Going (at (o + 4) (record c { mie = false }))
 unfolding perform
-masks o c code h p = step_at o c (Csrrci 0 8 0x300) (p.0, h) ∙ ap (goes_on (0x8000_0000 + o)) (mask_bits c.mie c.mpie c) ∙ next_at o (record c { mie = false }) h
+masks o c code h p = step_at o c masking (p.0, h) ∙ ap (goes_on (0x8000_0000 + o)) (mask_bits c.mie c.mpie c) ∙ next_at o (record c { mie = false }) h
 
 pub record IsOpened (o : ℕ) (code : List InstrKind) (c : Core) : Type 0 where
   pub there : c.controller ≡ true
   pub lines : length c.pending ≡ 32
   pub aligned : o % 4 ≡ 0
   pub fits : o + 4 + 4 * length code ≤ 0x20_0000
-  pub placed : InPlace c.ram o (Csrrci 0 8 0x300 ∷ code)
+  pub placed : InPlace c.ram o (masking ∷ code)
 
 -- the state behind the masking instruction
 abbrev pub masked : Core → Core

@@ -1,9 +1,10 @@
 -- The code that ends a stretch by going back to what runs below, and the state that this leaves.
 use Rattle.std.specs.Prelude.{ℕ, ◌+◌, ◌*◌, ◌%◌, ◌≡◌, ◌<◌, ◌≤◌, true, pos, List, [], ◌∷◌, ◌++◌, length, slice_index}
 use Rattle.sloth_base.specs.Machine.{Core, State}
-use Rattle.sloth_region.specs.Layout.{cur, below_word, idle_context, context_bytes}
+use Rattle.sloth_region.specs.Layout.{cur, below_word, idle_context, context_bytes, context_pc, context_level, context_cur, context_below}
+use Rattle.rv32_instr.specs.declared.csr.TheConstants.{MSTATUS, MEPC, PLEVEL}
 use Rattle.rv32_instr.specs.declared.InstrKind.{InstrKind}
-use Rattle.rv32_instr.specs.declared.InstrKind.TheVariants.{Addi, Lw, Sw, Csrrw, Mret}
+use Rattle.rv32_instr.specs.declared.InstrKind.TheVariants.{Addi, Lw, Sw, Csrrw, Csrrci, Mret}
 use Rattle.rv32_instr.specs.Ram.{word_at, with_word}
 use Rattle.rv32_routine.specs.Place.{InPlace}
 use Rattle.rv32_routine.specs.Pieces.{restores}
@@ -26,19 +27,28 @@ pub record IsBelow (place : ℕ) (core : Core) : Type 0 where
   pub behind : idle_context ≤ place
   pub inside : place + context_bytes ≤ 0x20_0000
   pub returns : word_at core.ram place % 4 ≡ 0
-  pub level : word_at core.ram (place + 4) < 256
+  pub level : word_at core.ram (place + context_level) < 256
+
+-- the instruction that masks interrupts
+abbrev pub masking : InstrKind
+masking = Csrrci 0 8 MSTATUS
+
+-- x1 := the address of the context of what runs below; what it says goes to mepc, plevel, the service words and x2
+abbrev pub takes_up : List InstrKind
+takes_up =
+    Lw 1 4 (pos below_word) ∷ Lw 3 1 (pos context_pc) ∷ Csrrw 0 3 MEPC ∷ Lw 3 1 (pos context_level) ∷ Csrrw 0 3 PLEVEL
+    ∷ Lw 3 1 (pos context_cur) ∷ Sw 4 3 (pos cur) ∷ Lw 3 1 (pos context_below) ∷ Sw 4 3 (pos below_word)
+    ∷ Addi 2 1 (pos context_bytes) ∷ []
 
 -- x4 holds 0x80000000
 abbrev pub leave : List InstrKind
-leave =
-    Lw 1 4 (pos 628) ∷ Lw 3 1 (pos 0) ∷ Csrrw 0 3 0x341 ∷ Lw 3 1 (pos 4) ∷ Csrrw 0 3 0x7C1 ∷ Lw 3 1 (pos 8) ∷ Sw 4 3 (pos 0)
-    ∷ Lw 3 1 (pos 12) ∷ Sw 4 3 (pos 628) ∷ Addi 2 1 (pos 128) ∷ (restores 27 5 1 ++ Mret ∷ [])
+leave = takes_up ++ (restores 27 5 1 ++ Mret ∷ [])
 
 -- the state after it: all is as the context says
 pub record HasLeft (place : ℕ) (core : Core) (end : State) : Type 0 where
   pub pc : end.pc ≡ word_at core.ram place
-  pub level : end.core.ilevel ≡ word_at core.ram (place + 4)
-  pub ram : end.core.ram ≡ with_word (with_word core.ram cur (word_at core.ram (place + 8))) below_word (word_at core.ram (place + 12))
+  pub level : end.core.ilevel ≡ word_at core.ram (place + context_level)
+  pub ram : end.core.ram ≡ with_word (with_word core.ram cur (word_at core.ram (place + context_cur))) below_word (word_at core.ram (place + context_below))
   pub x2 : slice_index end.core.registers 2 ≡ 0x8000_0000 + (place + context_bytes)
   pub loaded : (i : ℕ) → 5 ≤ i → i < 32 → slice_index end.core.registers i ≡ word_at core.ram (place + 4 * i)
   pub zero : slice_index end.core.registers 0 ≡ 0

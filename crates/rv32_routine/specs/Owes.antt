@@ -4,6 +4,7 @@ use Rattle.sloth_base.specs.declared.app.Width.TheVariants as width
 use Rattle.sloth_base.specs.Machine.{Core, State}
 use Rattle.sloth_base.specs.Lines.{flag_of}
 use Rattle.sloth_base.specs.Arrive.{core_arrive, state_arrive}
+use Rattle.sloth_region.specs.Layout.{controller_base, pending_byte, enabled_byte, level_byte}
 use Rattle.rv32_instr.specs.declared.effect.Effect.{Effect}
 use Rattle.rv32_instr.specs.declared.effect.Effect.TheVariants.{Nothing, Write, Branch, Jump, Load, Store, Csr, Environment, Return}
 use Rattle.rv32_instr.specs.declared.InstrKind.{InstrKind}
@@ -19,9 +20,9 @@ pub data LineByte : Type 0 where
 
 -- the address of a line's byte
 abbrev pub IsAt : ℕ → LineByte → Type 0
-IsAt address (Pending line) = (address ≡ 0x1000_0000 + line) × (line < 32)
-IsAt address (Enabled line) = (address ≡ 0x1000_0000 + (32 + line)) × (line < 32)
-IsAt address (Level line) = (address ≡ 0x1000_0000 + (64 + line)) × (line < 32)
+IsAt address (Pending line) = (address ≡ controller_base + pending_byte line) × (line < 32)
+IsAt address (Enabled line) = (address ≡ controller_base + enabled_byte line) × (line < 32)
+IsAt address (Level line) = (address ≡ controller_base + level_byte line) × (line < 32)
 
 -- a word of RAM, given by its offset
 pub record IsWordAt (address offset : ℕ) : Type 0 where

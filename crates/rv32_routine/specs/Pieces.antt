@@ -1,8 +1,12 @@
 -- Runs of instructions over registers one after the other, and what they leave.
-use Rattle.std.specs.Prelude.{ℕ, zero, suc, ◌+◌, ◌*◌, pos, List, [], ◌∷◌, slice_index, slice_set}
+use Rattle.std.specs.Prelude.{ℕ, zero, suc, ◌+◌, ◌*◌, ℤ, pos, List, [], ◌∷◌, length, slice_index, slice_set}
 use Rattle.rv32_instr.specs.declared.InstrKind.{InstrKind}
 use Rattle.rv32_instr.specs.declared.InstrKind.TheVariants.{Sw, Lw, Addi}
 use Rattle.rv32_instr.specs.Ram.{word_at}
+
+-- how far a branch goes that passes this code
+abbrev pub past : List InstrKind → ℤ
+past code = pos (4 + 4 * length code)
 
 -- stores `count` registers from x_first on, register i at 4 i bytes behind the address in a register
 abbrev pub saves : ℕ → ℕ → ℕ → List InstrKind

@@ -4,6 +4,7 @@ ghost use Rattle.rv32_instr.specs.Range.{InRange, Signed};
 ghost use Rattle.rv32_routine.specs.Emit.{AreInRange};
 ghost use Rattle.rv32_routine.specs.Pieces.{saves, restores, clears, clears_words};
 
+use rv32_instr::asm::{ZERO, addi, lw, sw};
 use rv32_instr::{Instr, InstrKind};
 use sloth_base::numbers::Reg;
 use std::alloc::AllocError;
@@ -15,6 +16,14 @@ fn offset_of(words: u32) -> i32
     ensures fits { Signed 12 result }
 {
     4 * words as i32
+}
+
+/// How far a branch goes that passes so many instructions.
+pub fn past(instructions: u32) -> i32
+    requires { instructions < 500 }
+    ensures { result ≡ pos (4 + 4 * instructions) }
+{
+    4 + 4 * instructions as i32
 }
 
 /// Adds one instruction.
@@ -43,14 +52,7 @@ pub fn save(code: &mut Vec<Instr>, first: u8, end: u8, base: Reg) -> Result<(), 
     ensures { OnOk result (code.new.items ≡ code.old.items ++ saves (end - first) first base) }
 {
     for number in first..end {
-        put(
-            code,
-            InstrKind::Sw {
-                rs1: base,
-                rs2: Reg(number),
-                imm: offset_of(number as u32),
-            },
-        )?;
+        put(code, sw(Reg(number), base, offset_of(number as u32)))?;
     }
     Ok(())
 }
@@ -61,14 +63,7 @@ pub fn restore(code: &mut Vec<Instr>, first: u8, end: u8, base: Reg) -> Result<(
     ensures { OnOk result (code.new.items ≡ code.old.items ++ restores (end - first) first base) }
 {
     for number in first..end {
-        put(
-            code,
-            InstrKind::Lw {
-                rd: Reg(number),
-                rs1: base,
-                imm: offset_of(number as u32),
-            },
-        )?;
+        put(code, lw(Reg(number), base, offset_of(number as u32)))?;
     }
     Ok(())
 }
@@ -79,14 +74,7 @@ pub fn clear(code: &mut Vec<Instr>, first: u8, end: u8) -> Result<(), AllocError
     ensures { OnOk result (code.new.items ≡ code.old.items ++ clears (end - first) first) }
 {
     for number in first..end {
-        put(
-            code,
-            InstrKind::Addi {
-                rd: Reg(number),
-                rs1: Reg(0),
-                imm: 0,
-            },
-        )?;
+        put(code, addi(Reg(number), ZERO, 0))?;
     }
     Ok(())
 }
@@ -97,14 +85,7 @@ pub fn clear_words(code: &mut Vec<Instr>, count: u32, base: Reg) -> Result<(), A
     ensures { OnOk result (code.new.items ≡ code.old.items ++ clears_words count 0 base) }
 {
     for number in 0..count {
-        put(
-            code,
-            InstrKind::Sw {
-                rs1: base,
-                rs2: Reg(0),
-                imm: offset_of(number),
-            },
-        )?;
+        put(code, sw(ZERO, base, offset_of(number)))?;
     }
     Ok(())
 }

@@ -1,4 +1,5 @@
 -- The first 1,024 bytes of RAM: the service words, at offsets from 0x80000000, and the contexts that they point to.
+-- `src/layout.rt` has them under the same names.
 use Rattle.std.specs.Prelude.{ℕ, ◌+◌, ◌*◌}
 
 -- the running task's number and 1 more, or 0
@@ -33,7 +34,40 @@ saved resource = 752 + 4 * resource
 abbrev pub idle_context : ℕ
 idle_context = 884
 
--- Bytes of a context. It holds at 0 the pc to go on at, at 4 the level, at 8 the word `cur` and at 12 the word
--- `below_word` of what was preempted, and at 4 i its register x_i, 5 to 31.
+-- A context has 128 bytes. It holds the pc to go on at, the level, the words `cur` and `below_word` of what was preempted,
+-- and at 4 i its register x_i, 5 to 31.
 abbrev pub context_bytes : ℕ
 context_bytes = 128
+
+abbrev pub context_pc : ℕ
+context_pc = 0
+
+abbrev pub context_level : ℕ
+context_level = 4
+
+abbrev pub context_cur : ℕ
+context_cur = 8
+
+abbrev pub context_below : ℕ
+context_below = 12
+
+-- Bits 31 to 12 of the address of the service words, 0x80000000.
+abbrev pub words_high : ℕ
+words_high = 0x8_0000
+
+-- The address of the controller, and its bits 31 to 12.
+abbrev pub controller_base : ℕ
+controller_base = 0x1000_0000
+
+abbrev pub controller_high : ℕ
+controller_high = 0x1_0000
+
+-- The bytes of the controller, at offsets from its address: whether a line is pending, whether it is enabled, its level.
+abbrev pub pending_byte : ℕ → ℕ
+pending_byte line = line
+
+abbrev pub enabled_byte : ℕ → ℕ
+enabled_byte line = 32 + line
+
+abbrev pub level_byte : ℕ → ℕ
+level_byte line = 64 + line

@@ -2,5 +2,6 @@
 #![tactic(auto)]
 
 pub mod extent;
+pub mod layout;
 pub mod map;
 pub mod region;

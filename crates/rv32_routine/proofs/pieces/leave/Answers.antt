@@ -9,5 +9,6 @@ three all old first second third e = e ∙ append_assoc (old ++ first) second th
 
 pub returns : goal.returns
 returns c =
-    three c.emit-2.new.code.items c.args.code.now.items _ (restores 27 5 1) (Mret ∷ [])
-    (c.in_ok-emit-2.ensures ∙ ap (λ (x : List InstrKind). x ++ Mret ∷ []) (c.in_ok-restore.ensures ∙ ap (λ (x : List InstrKind). x ++ restores 27 5 1) c.in_ok-emit.ensures))
+    three c.emit.new.code.items c.args.code.now.items _ (restores 27 5 1) (Mret ∷ [])
+    (c.in_ok-emit.ensures ∙ ap (λ kind. c.restore.new.code.items ++ kind ∷ []) c.mret.ensures
+    ∙ ap (λ (x : List InstrKind). x ++ Mret ∷ []) (c.in_ok-restore.ensures ∙ ap (λ (x : List InstrKind). x ++ restores 27 5 1) c.in_ok-take_up.ensures))

@@ -1,0 +1,72 @@
+//! The offsets of `specs/Layout.antt` as numbers for instructions: service words, contexts, and the controller's bytes.
+ghost use Rattle.std.specs.Prelude.{◌≡◌, ◌<◌, ◌≤◌, pos};
+ghost use Rattle.sloth_region.specs.Layout.{active, saved, pending_byte, enabled_byte, level_byte};
+
+/// Bits 31 to 12 of the address of the service words.
+pub const WORDS_HIGH: u32 = 0x8_0000;
+
+/// The running task's number and 1 more, or 0.
+pub const CUR: i32 = 0;
+
+/// The address of the context of what runs below.
+pub const BELOW_WORD: i32 = 628;
+
+/// The context of the idle loop.
+pub const IDLE_CONTEXT: i32 = 884;
+
+pub const CONTEXT_BYTES: i32 = 128;
+
+/// The pc in a context.
+pub const CONTEXT_PC: i32 = 0;
+
+/// The level in a context.
+pub const CONTEXT_LEVEL: i32 = 4;
+
+/// The word `CUR` of what was preempted.
+pub const CONTEXT_CUR: i32 = 8;
+
+/// The word `BELOW_WORD` of what was preempted.
+pub const CONTEXT_BELOW: i32 = 12;
+
+/// Bits 31 to 12 of the address of the controller.
+pub const CONTROLLER_HIGH: u32 = 0x1_0000;
+
+/// Whether a task is Active.
+pub fn active(task: u8) -> i32
+    requires { task < 30 }
+    ensures { result ≡ pos (active task) }
+{
+    4 + 12 * task as i32
+}
+
+/// The level at which a held resource was taken.
+pub fn saved(resource: u8) -> i32
+    requires { resource ≤ 32 }
+    ensures { result ≡ pos (saved resource) }
+{
+    752 + 4 * resource as i32
+}
+
+/// Whether a line is pending.
+pub fn pending_byte(line: u8) -> i32
+    requires { line < 32 }
+    ensures { result ≡ pos (pending_byte line) }
+{
+    line as i32
+}
+
+/// Whether a line is enabled.
+pub fn enabled_byte(line: u8) -> i32
+    requires { line < 32 }
+    ensures { result ≡ pos (enabled_byte line) }
+{
+    32 + line as i32
+}
+
+/// The level of a line.
+pub fn level_byte(line: u8) -> i32
+    requires { line < 32 }
+    ensures { result ≡ pos (level_byte line) }
+{
+    64 + line as i32
+}
