@@ -1,2 +1,4 @@
 pub mod Named
 pub mod AppRange
+pub mod Code
+pub mod WellFormed

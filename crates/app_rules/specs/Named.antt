@@ -4,7 +4,10 @@ use Rattle.sloth_base.specs.declared.config.Config.{Config}
 use Rattle.sloth_base.specs.declared.config.TaskDecl.{TaskDecl}
 use Rattle.sloth_base.specs.declared.app.App.{App}
 use Rattle.sloth_base.specs.declared.app.Func.{Func}
+use Rattle.sloth_base.specs.declared.app.Item.{Item}
 use Rattle.sloth_base.specs.declared.app.Label.{Label}
+use Rattle.sloth_base.specs.declared.app.Op.{Op}
+use Rattle.sloth_base.specs.declared.app.Op.TheVariants as op
 use Rattle.sloth_base.specs.declared.app.Symbol.{Symbol}
 
 abbrev pub undeclared : TaskDecl
@@ -23,9 +26,18 @@ function app f = get_or app.funcs f missing
 abbrev pub nowhere : Label
 nowhere = record { name = []; line = 0; item = 0; holds = [] }
 
--- label k of function f
-abbrev pub label : App → ℕ → ℕ → Label
-label app f k = get_or (function app f).labels k nowhere
+abbrev pub label_of : Func → ℕ → Label
+label_of f k = get_or f.labels k nowhere
+
+abbrev pub no_item : Item
+no_item = record { line = 0; op = op.Return }
+
+abbrev pub item_of : Func → ℕ → Item
+item_of f i = get_or f.items i no_item
+
+-- what item i of body f does
+abbrev pub operation : App → ℕ → ℕ → Op
+operation app f i = (item_of (function app f) i).op
 
 abbrev pub no_symbol : Symbol
 no_symbol = record { name = []; bytes = [] }
