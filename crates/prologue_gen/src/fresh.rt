@@ -2,8 +2,8 @@
 ghost use Rattle.std.specs.Prelude.{◌≡◌, ◌+◌, ◌<◌, ◌≤◌, ◌^◌, ◌++◌, OnOk};
 ghost use Rattle.prologue_gen.specs.Pieces.{saves_context, marks_active, begins, starts_anew};
 
+use rv32_instr::constant::{hi, lo};
 use rv32_instr::{Instr, InstrKind};
-use rv32_routine::constant::{hi, lo};
 use rv32_routine::emit::{clear, clear_words, emit, save};
 use sloth_base::numbers::Reg;
 use std::alloc::AllocError;

@@ -4,8 +4,8 @@ ghost use Rattle.sloth_base.specs.ConfigRange.{InRange};
 ghost use Rattle.rv32_instr.specs.declared.InstrKind.TheVariants.{Lui, Addi};
 ghost use Rattle.vector_gen.specs.Boot.{starts_one, starts, finishes, Boots};
 
+use rv32_instr::constant::{hi, lo};
 use rv32_instr::{Block, Instr, InstrKind};
-use rv32_routine::constant::{hi, lo};
 use rv32_routine::emit::emit;
 use sloth_base::config::{Config, TaskDecl};
 use sloth_base::list::List;
