@@ -1,5 +1,5 @@
 -- How many instructions an item has, whatever the addresses are.
-use Rattle.std.proofs.Common.{◌≡◌, ◌∙◌, ℕ, zero, suc, ◌+◌, ◌*◌, ◌≤◌, Bool, true, false, List, [], ◌∷◌, length, refl, sym, ap, subst, arith, length-append}
+use Rattle.std.proofs.Common.{◌≡◌, ◌∙◌, ℕ, zero, suc, ◌+◌, ◌*◌, ◌≤◌, ◌<◌, Bool, true, false, List, [], ◌∷◌, length, refl, sym, ap, subst, arith, length-append}
 use Rattle.std.specs.Prelude.{pos, if◌then◌else◌, nat_le}
 use Rattle.sloth_base.specs.Functions.{function}
 use Rattle.sloth_base.specs.declared.app.App.{App}
@@ -38,6 +38,10 @@ either : (b : Bool) (near near' far far' : List InstrKind) → length near ≡ l
 either true near near' far far' e f = e
 either false near near' far far' e f = f
 
+some_of : (b : Bool) (near far : List InstrKind) → 0 < length near → 0 < length far → 0 < length (if b then near else far)
+some_of true near far e f = e
+some_of false near far e f = f
+
 module _ (app : App) (places : Places) (func address : ℕ) where
   pub size_is : (long : Bool) (o : Op) → length (expanded app places func address long o) ≡ size app long o
   unfolding size
@@ -59,6 +63,25 @@ module _ (app : App) (places : Places) (func address : ℕ) where
       calls_length address n (item_address places callee 0) ∙ sym (calls_length 0 n (item_address nowhere callee 0))
   size_is long op.Return = refl
   size_is long (op.Serve call) = served_length places call address ∙ sym (served_length nowhere call 0)
+
+-- each item has an instruction
+pub expanded_some : (app : App) (places : Places) (func address : ℕ) (long : Bool) (o : Op) → 0 < length (expanded app places func address long o)
+expanded_some app places func address long (op.Alu kind rd rs1 rs2) = omega arith
+expanded_some app places func address long (op.AluImm kind rd rs1 number) = omega arith
+expanded_some app places func address long (op.Lui rd number) = omega arith
+expanded_some app places func address long (op.Li rd value) = omega arith
+expanded_some app places func address long (op.FrameLoad rd word) = omega arith
+expanded_some app places func address long (op.FrameStore rs word) = omega arith
+expanded_some app places func address long (op.Load w rd symbol offset) = omega arith
+expanded_some app places func address long (op.Store w rs symbol offset) = omega arith
+expanded_some app places func address long (op.LoadAt w rd symbol index mask) = some_of (nat_le mask 2047) _ _ (omega arith) (omega arith)
+expanded_some app places func address long (op.StoreAt w rs symbol index mask) = some_of (nat_le mask 2047) _ _ (omega arith) (omega arith)
+expanded_some app places func address true (op.Branch kind rs1 rs2 label) = omega arith
+expanded_some app places func address false (op.Branch kind rs1 rs2 label) = omega arith
+expanded_some app places func address long (op.Jump label) = omega arith
+expanded_some app places func address long (op.Invoke callee) = omega arith
+expanded_some app places func address long op.Return = omega arith
+expanded_some app places func address long (op.Serve call) = let l = served_length places call address in omega (arith, l)
 
 -- ---- the lengths one by one
 

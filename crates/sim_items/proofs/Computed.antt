@@ -13,7 +13,7 @@ use Rattle.rv32_instr.proofs.Table.{decode_encode}
 use Rattle.rv32_routine.specs.Place.{at}
 use Rattle.rv32_routine.proofs.Words.{word_at-agree}
 use Rattle.rv32_routine.proofs.Machine.{Here, step_at, touched_at, next_at}
-use Rattle.rv32_expand.specs.Expansion.{item_address, operation}
+use Rattle.rv32_expand.specs.Expansion.{item_address, operation, is_long}
 use Rattle.rv32_expand.specs.InPlace.{result_register}
 use Rattle.osek_machine.specs.declared.state.TaskState.TheVariants as mode
 use Rattle.osek_machine.specs.State.{Frame, Task, System, task}
@@ -124,7 +124,7 @@ module _ (b : Build) (state : State) (s : System) (t : ℕ) (fits : Fits b) (k :
   -- the rest over the parts of this record
   module _ (v : Computed b.app b.places frame.func address this state.core.registers own.registers) where
     instruction : HasInstruction b address v.kind
-    instruction = one.code v.kind v.expands
+    instruction = one.code v.kind (v.expands (is_long b.places frame.func frame.item))
 
     code : Here state.core.ram instruction.offset v.kind
     code = code_here b state s address v.kind k instruction

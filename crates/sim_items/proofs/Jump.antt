@@ -14,7 +14,7 @@ use Rattle.sloth_base.specs.Arithmetic.{plus}
 use Rattle.rv32_instr.specs.Execute.{Going, step, touched, touched_by, perform, jumps}
 use Rattle.rv32_routine.specs.Place.{at}
 use Rattle.rv32_routine.proofs.Machine.{Here, step_at, touched_at, jump_at}
-use Rattle.rv32_expand.specs.Expansion.{item_address, block_address, mask_of, distance, expanded, expansion}
+use Rattle.rv32_expand.specs.Expansion.{item_address, block_address, mask_of, distance, is_long, expanded, expansion}
 use Rattle.observe.specs.Observe.{View, mark_at, events_of_kind}
 use Rattle.osek_machine.specs.declared.state.TaskState.{TaskState}
 use Rattle.osek_machine.specs.declared.state.TaskState.TheVariants as mode
@@ -111,7 +111,7 @@ module _ (b : Build) (view : View) (arrivals : List Arrival) (count : ℕ) (stat
 
   -- the jump is all of the item
   one : length (expansion b.app b.places item.frame.func item.frame.item) ≡ 1
-  one = ap (λ o. length (expanded b.app b.places item.frame.func address o)) jump.is
+  one = ap (λ o. length (expanded b.app b.places item.frame.func address (is_long b.places item.frame.func item.frame.item) o)) jump.is
       ∙ ap (λ (m : List InstrKind). length (m ++ (Jal 31 (distance (address + 4 * length m) target) ∷ []))) jump.no_mask
 
   linked : link ≡ address + 4 * length (expansion b.app b.places item.frame.func item.frame.item)

@@ -1,5 +1,5 @@
 -- What an instruction of an item computes is what the item means.
-use Rattle.std.proofs.Common.{◌≡◌, ℕ, ◌-◌, ◌*◌, ℤ, pos, negsuc, List, [], ◌∷◌, refl, sym, ap, ◌∙◌, subst, arith}
+use Rattle.std.proofs.Common.{◌≡◌, ℕ, ◌-◌, ◌*◌, ℤ, pos, negsuc, List, [], ◌∷◌, refl, sym, ap, ◌∙◌, subst, arith, Bool}
 use Rattle.std.specs.Prelude.{slice_index, int_lt, if◌then◌else◌}
 use Rattle.std.proofs.lemmas.Int.{ints}
 use Rattle.sloth_base.specs.declared.app.App.{App}
@@ -66,7 +66,7 @@ pub record Computed (app : App) (places : Places) (func address : ℕ) (operatio
   pub is_own : IsOwn rd
   pub value : ℕ
   pub kind : InstrKind
-  pub expands : expanded app places func address operation ≡ kind ∷ []
+  pub expands : (long : Bool) → expanded app places func address long operation ≡ kind ∷ []
   pub effect_is : (pc : ℕ) → effect kind pc core ≡ Write rd value
   pub means : (frame : Frame) (outer : List Frame) (symbols : List (List ℕ)) → meaning app operation own frame outer symbols ≡ writes rd value own frame outer symbols
   pub result : result_register operation ≡ rd
@@ -78,7 +78,7 @@ computed app places func address (op.Alu kind rd rs1 rs2) core own agree h = rec
   is_own = h.0;
   value = register_result kind (slice_index core rs1) (slice_index core rs2);
   kind = register_operation kind rd rs1 rs2;
-  expands = refl;
+  expands = λ long. refl;
   effect_is = λ pc. register_value kind rd rs1 rs2 pc core;
   means = λ frame outer symbols.
       ap (λ v. writes rd (register_result kind v (register own rs2)) own frame outer symbols) (sym (agree rs1 h.1))
@@ -90,7 +90,7 @@ computed app places func address (op.AluImm kind rd rs1 number) core own agree h
   is_own = h.0;
   value = number_result kind (slice_index core rs1) (complement number);
   kind = number_operation kind rd rs1 number;
-  expands = refl;
+  expands = λ long. refl;
   effect_is = λ pc. number_value kind rd rs1 number pc core h.2;
   means = λ frame outer symbols. ap (λ v. writes rd (number_result kind v (complement number)) own frame outer symbols) (sym (agree rs1 h.1));
   result = refl;
@@ -100,7 +100,7 @@ computed app places func address (op.Lui rd number) core own agree h = record {
   is_own = h.0;
   value = number * 4096;
   kind = Lui rd number;
-  expands = refl;
+  expands = λ long. refl;
   effect_is = λ pc. refl;
   means = λ frame outer symbols. refl;
   result = refl;

@@ -12,7 +12,7 @@ use Rattle.sloth_base.specs.Machine.{State}
 use Rattle.rv32_machine.specs.Run.{arrived}
 use Rattle.rv32_routine.specs.Trace.{Trace, late}
 use Rattle.rv32_instr.specs.declared.InstrKind.{InstrKind}
-use Rattle.rv32_expand.specs.Expansion.{item_address, operation, expansion, expanded, mask_of}
+use Rattle.rv32_expand.specs.Expansion.{item_address, operation, expansion, expanded, is_long, mask_of}
 use Rattle.observe.specs.Observe.{View, view_of_image}
 use Rattle.osek_machine.specs.declared.state.TaskState.TheVariants as mode
 use Rattle.osek_machine.specs.State.{System, task}
@@ -47,28 +47,28 @@ use Rattle.sim_laws.specs.Kernel.{Kernel, Computes, Ends}
 use Rattle.sim_laws.specs.Plain.{IsPlain}
 
 -- an item that computes has one instruction
-pub one_long : (app : App) (places : Places) (func address : ℕ) (o : Op) → IsComputed o → length (expanded app places func address o) ≡ 1
-one_long app places func address (op.Alu kind rd rs1 rs2) h = refl
-one_long app places func address (op.AluImm kind rd rs1 number) h = refl
-one_long app places func address (op.Lui rd number) h = refl
-one_long app places func address (op.Li rd value) h = absurd h
-one_long app places func address (op.FrameLoad rd word) h = absurd h
-one_long app places func address (op.FrameStore rs word) h = absurd h
-one_long app places func address (op.Load width rd symbol offset) h = absurd h
-one_long app places func address (op.Store width rs symbol offset) h = absurd h
-one_long app places func address (op.LoadAt width rd symbol index mask) h = absurd h
-one_long app places func address (op.StoreAt width rs symbol index mask) h = absurd h
-one_long app places func address (op.Branch kind rs1 rs2 label) h = absurd h
-one_long app places func address (op.Jump label) h = absurd h
-one_long app places func address (op.Invoke callee) h = absurd h
-one_long app places func address op.Return h = absurd h
-one_long app places func address (op.Serve call) h = absurd h
+pub one_long : (app : App) (places : Places) (func address : ℕ) (long : Bool) (o : Op) → IsComputed o → length (expanded app places func address long o) ≡ 1
+one_long app places func address long (op.Alu kind rd rs1 rs2) h = refl
+one_long app places func address long (op.AluImm kind rd rs1 number) h = refl
+one_long app places func address long (op.Lui rd number) h = refl
+one_long app places func address long (op.Li rd value) h = absurd h
+one_long app places func address long (op.FrameLoad rd word) h = absurd h
+one_long app places func address long (op.FrameStore rs word) h = absurd h
+one_long app places func address long (op.Load width rd symbol offset) h = absurd h
+one_long app places func address long (op.Store width rs symbol offset) h = absurd h
+one_long app places func address long (op.LoadAt width rd symbol index mask) h = absurd h
+one_long app places func address long (op.StoreAt width rs symbol index mask) h = absurd h
+one_long app places func address long (op.Branch kind rs1 rs2 label) h = absurd h
+one_long app places func address long (op.Jump label) h = absurd h
+one_long app places func address long (op.Invoke callee) h = absurd h
+one_long app places func address long op.Return h = absurd h
+one_long app places func address long (op.Serve call) h = absurd h
 
 longer : (code : List InstrKind) (last : InstrKind) → code ≡ [] → length (code ++ last ∷ []) ≡ 1
 longer code last e = ap (λ c. length (c ++ last ∷ [])) e
 
-call_long : (app : App) (places : Places) (func address : ℕ) (o : Op) (call : Call) → o ≡ op.Serve call → mask_of call.service call.mask ≡ [] → length (expanded app places func address o) ≡ 1
-call_long app places func address o call e h = ap (λ v. length (expanded app places func address v)) e ∙ longer (mask_of call.service call.mask) _ h
+call_long : (app : App) (places : Places) (func address : ℕ) (long : Bool) (o : Op) (call : Call) → o ≡ op.Serve call → mask_of call.service call.mask ≡ [] → length (expanded app places func address long o) ≡ 1
+call_long app places func address long o call e h = ap (λ v. length (expanded app places func address long v)) e ∙ longer (mask_of call.service call.mask) _ h
 
 clash : {X : Type 0} → true ≡ false → X
 clash e = cc
@@ -81,8 +81,8 @@ module _ (b : Build) (image : Image) (kernel : Kernel b image) where
   pub item_long : (func item : ℕ) → item < length (function b.app func).items → length (expansion b.app b.places func item) ≡ 1
   item_long func item l =
       ⊎_elim
-      (λ (h : Computes b view func item). one_long b.app b.places func (item_address b.places func item) (operation b.app func item) h.computed)
-      (λ (h : Ends b view func item). call_long b.app b.places func (item_address b.places func item) (operation b.app func item) h.jumps.call h.jumps.is h.jumps.no_mask)
+      (λ (h : Computes b view func item). one_long b.app b.places func (item_address b.places func item) (is_long b.places func item) (operation b.app func item) h.computed)
+      (λ (h : Ends b view func item). call_long b.app b.places func (item_address b.places func item) (is_long b.places func item) (operation b.app func item) h.jumps.call h.jumps.is h.jumps.no_mask)
       (kernel.items func item l)
 
   module _ (arrivals : List Arrival) (setting : IsSetting (setting_of b view arrivals)) (count : ℕ) (after_boot : 0 < count) (state : State) (s : System)

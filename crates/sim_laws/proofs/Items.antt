@@ -1,5 +1,5 @@
 -- Items of task code in an image are those of a kernel in place.
-use Rattle.std.proofs.Common.{◌≡◌, ℕ, zero, suc, ◌+◌, ◌-◌, ◌*◌, ◌<◌, ℤ, pos, List, [], ◌∷◌, ◌++◌, length, refl, sym, ap, ◌∙◌, subst, arith, inl, inr, Some}
+use Rattle.std.proofs.Common.{◌≡◌, ℕ, zero, suc, ◌+◌, ◌-◌, ◌*◌, ◌<◌, ℤ, pos, List, [], ◌∷◌, ◌++◌, length, refl, sym, ap, ◌∙◌, subst, arith, inl, inr, Some, Bool}
 use Rattle.std.specs.Prelude.{map, find, eqb, slice_index_or, Contains}
 use Rattle.std.proofs.lemmas.Bool.Decides.{nat_tests}
 use Rattle.std.proofs.lemmas.List.Kept.{AllPairs-from_increasing}
@@ -20,7 +20,7 @@ use Rattle.rv32_instr.specs.declared.InstrKind.{InstrKind}
 use Rattle.rv32_instr.specs.declared.InstrKind.TheVariants.{Lui, Jal}
 use Rattle.rv32_instr.specs.Ram.{word_at}
 use Rattle.rv32_instr.specs.Range.{InRange}
-use Rattle.rv32_expand.specs.Expansion.{item_address, block_address, distance, mask_of, operation, expansion, expanded, register_operation, number_operation, amount}
+use Rattle.rv32_expand.specs.Expansion.{item_address, block_address, distance, mask_of, operation, expansion, expanded, is_long, register_operation, number_operation, amount}
 use Rattle.rv32_expand.specs.InPlace.{IsItem, CodeAt, item_mark, mark_of, last_address}
 use Rattle.observe.specs.Observe.{AreAscending, mark_at, view_of_image}
 use Rattle.sloth_base.specs.Functions.{function}
@@ -98,24 +98,24 @@ number_fits imm.Srai rd rs1 number a b h = (a, b, amount_fits number h.0 h.1 h.2
 head_is : (x y : InstrKind) → x ∷ [] ≡ y ∷ [] → x ≡ y
 head_is x y e = cc
 
-code_fits : (app : App) (places : Places) (func address : ℕ) (o : Op) → IsComputed o → (kind : InstrKind) → expanded app places func address o ≡ kind ∷ [] → InRange kind
-code_fits app places func address (op.Alu k rd rs1 rs2) h kind e =
+code_fits : (app : App) (places : Places) (func address : ℕ) (long : Bool) (o : Op) → IsComputed o → (kind : InstrKind) → expanded app places func address long o ≡ kind ∷ [] → InRange kind
+code_fits app places func address long (op.Alu k rd rs1 rs2) h kind e =
     subst InRange (head_is (register_operation k rd rs1 rs2) kind e) (register_fits k rd rs1 rs2 (own_small rd h.0) (own_small rs1 h.1) (own_small rs2 h.2))
-code_fits app places func address (op.AluImm k rd rs1 number) h kind e =
+code_fits app places func address long (op.AluImm k rd rs1 number) h kind e =
     subst InRange (head_is (number_operation k rd rs1 number) kind e) (number_fits k rd rs1 number (own_small rd h.0) (own_small rs1 h.1) h.2)
-code_fits app places func address (op.Lui rd number) h kind e = subst InRange (head_is (Lui rd number) kind e) (own_small rd h.0, h.1)
-code_fits app places func address (op.Li rd value) h kind e = absurd h
-code_fits app places func address (op.FrameLoad rd word) h kind e = absurd h
-code_fits app places func address (op.FrameStore rs word) h kind e = absurd h
-code_fits app places func address (op.Load width rd symbol offset) h kind e = absurd h
-code_fits app places func address (op.Store width rs symbol offset) h kind e = absurd h
-code_fits app places func address (op.LoadAt width rd symbol index mask) h kind e = absurd h
-code_fits app places func address (op.StoreAt width rs symbol index mask) h kind e = absurd h
-code_fits app places func address (op.Branch k rs1 rs2 label) h kind e = absurd h
-code_fits app places func address (op.Jump label) h kind e = absurd h
-code_fits app places func address (op.Invoke callee) h kind e = absurd h
-code_fits app places func address op.Return h kind e = absurd h
-code_fits app places func address (op.Serve call) h kind e = absurd h
+code_fits app places func address long (op.Lui rd number) h kind e = subst InRange (head_is (Lui rd number) kind e) (own_small rd h.0, h.1)
+code_fits app places func address long (op.Li rd value) h kind e = absurd h
+code_fits app places func address long (op.FrameLoad rd word) h kind e = absurd h
+code_fits app places func address long (op.FrameStore rs word) h kind e = absurd h
+code_fits app places func address long (op.Load width rd symbol offset) h kind e = absurd h
+code_fits app places func address long (op.Store width rs symbol offset) h kind e = absurd h
+code_fits app places func address long (op.LoadAt width rd symbol index mask) h kind e = absurd h
+code_fits app places func address long (op.StoreAt width rs symbol index mask) h kind e = absurd h
+code_fits app places func address long (op.Branch k rs1 rs2 label) h kind e = absurd h
+code_fits app places func address long (op.Jump label) h kind e = absurd h
+code_fits app places func address long (op.Invoke callee) h kind e = absurd h
+code_fits app places func address long op.Return h kind e = absurd h
+code_fits app places func address long (op.Serve call) h kind e = absurd h
 
 -- the mark of an item has the item's last address
 mark_address : (o : Op) (address func index : ℕ) → IsComputed o → (mark_of o address func index).address ≡ address
@@ -150,7 +150,7 @@ item_computes b image func item h is computed more =
     let stands : ItemStands b image b.places func item =
     subst (λ p. ItemStands b image p func item) h.places
     (record { code = g.code func item is; inside = g.inside func item is; adjacent = λ next. g.adjacent func item is next; marked = g.marked func item is }) in
-    let one = one_long b.app b.places func (item_address b.places func item) (operation b.app func item) computed in
+    let one = one_long b.app b.places func (item_address b.places func item) (is_long b.places func item) (operation b.app func item) computed in
     let low = stands.inside.0 in
     let high = stands.inside.1 in
     let size = h.size in
@@ -170,7 +170,7 @@ item_computes b image func item h is computed more =
               to = omega arith;
               is_code = λ i x y. h.is_code func item i is (omega arith) (omega arith);
               word = ap (λ (m : List ℕ). word_at m offset) (sym h.memory) ∙ code.0;
-              in_range = code_fits b.app b.places func address (operation b.app func item) computed kind e;
+              in_range = code_fits b.app b.places func address (is_long b.places func item) (operation b.app func item) computed kind e;
             };
         more = more;
         adjacent = let a = stands.adjacent (record { declared = is.declared; inside = more }) in omega arith;
@@ -196,7 +196,7 @@ item_ends b image func item h is c =
     let plain = no_mask c.call.service c.call.mask c.ends in
     let zero : address + 4 * 0 ≡ address = omega arith in
     let expands : expansion b.app b.places func item ≡ jump ∷ [] =
-    ap (λ o. expanded b.app b.places func address o) c.is
+    ap (λ o. expanded b.app b.places func address (is_long b.places func item) o) c.is
     ∙ ap (λ m. m ++ (Jal 31 (distance (address + 4 * length m) (block_address b.places c.call.service c.call.object)) ∷ [])) plain
     ∙ ap (λ a. Jal 31 (distance a (block_address b.places c.call.service c.call.object)) ∷ []) zero in
     let one : length (expansion b.app b.places func item) ≡ 1 = ap (λ (code : List InstrKind). length code) expands in
