@@ -1,0 +1,5 @@
+pub mod Counts
+pub mod Growth
+pub mod InRangeOf
+pub mod Passing
+pub mod Whole

@@ -1,5 +1,5 @@
 -- The instructions of each item. The last one, which commits the item, changes what task code sees; those before it use x30 and x31 alone.
-use Rattle.std.specs.Prelude.{ℕ, zero, suc, ◌+◌, ◌*◌, ◌/◌, ◌%◌, ◌^◌, ℤ, pos, ◌-ℤ◌, neg_ℤ, List, [], ◌∷◌, ◌++◌, length, get_or}
+use Rattle.std.specs.Prelude.{ℕ, zero, suc, ◌+◌, ◌*◌, ℤ, pos, ◌-ℤ◌, neg_ℤ, Bool, true, false, if◌then◌else◌, nat_lt, nat_le, List, [], ◌∷◌, ◌++◌, length, get_or}
 use Rattle.sloth_base.specs.ServiceCodes.{code_of}
 use Rattle.sloth_base.specs.declared.app.App.{App}
 use Rattle.sloth_base.specs.Named.{function, label_of, operation}
@@ -12,14 +12,14 @@ use Rattle.sloth_base.specs.declared.app.ImmKind.{ImmKind}
 use Rattle.sloth_base.specs.declared.app.ImmKind.TheVariants as imm
 use Rattle.sloth_base.specs.declared.app.BranchKind.{BranchKind}
 use Rattle.sloth_base.specs.declared.app.BranchKind.TheVariants as branch
-use Rattle.sloth_base.specs.declared.app.Width.{Width}
-use Rattle.sloth_base.specs.declared.app.Width.TheVariants as width
 use Rattle.sloth_base.specs.declared.service.Service.{Service}
 use Rattle.sloth_base.specs.declared.service.Service.TheVariants as service
 use Rattle.sloth_base.specs.declared.places.Places.{Places}
 use Rattle.sloth_base.specs.Arithmetic.{hi, lo}
+use Rattle.rv32_instr.specs.Access.{load, store}
 use Rattle.rv32_instr.specs.declared.InstrKind.{InstrKind}
-use Rattle.rv32_instr.specs.declared.InstrKind.TheVariants.{Lui, Auipc, Jal, Jalr, Beq, Bne, Blt, Bge, Bltu, Bgeu, Lb, Lh, Lw, Lbu, Lhu, Sb, Sh, Sw, Addi, Slti, Sltiu, Xori, Ori, Andi, Slli, Srli, Srai, Add, Sub, Sll, Slt, Sltu, Xor, Srl, Sra, Or, And}
+use Rattle.rv32_instr.specs.declared.InstrKind.TheVariants.{Lui, Auipc, Jal, Jalr, Beq, Bne, Blt, Bge, Bltu, Bgeu, Lw, Sw, Addi, Slti, Sltiu, Xori, Ori, Andi, Slli, Srli, Srai, Add, Sub, Sll, Slt, Sltu, Xor, Srl, Sra, Or, And}
+use Rattle.data_far.specs.Wide.{wide}
 
 -- ---- addresses
 
@@ -76,30 +76,23 @@ number_operation imm.Slli rd rs1 number = Slli rd rs1 (amount number)
 number_operation imm.Srli rd rs1 number = Srli rd rs1 (amount number)
 number_operation imm.Srai rd rs1 number = Srai rd rs1 (amount number)
 
--- a load of a width
-abbrev pub load : Width → ℕ → ℕ → ℤ → InstrKind
-load width.Byte rd base offset = Lb rd base offset
-load width.Half rd base offset = Lh rd base offset
-load width.Word rd base offset = Lw rd base offset
-load width.ByteU rd base offset = Lbu rd base offset
-load width.HalfU rd base offset = Lhu rd base offset
+-- goes on so many bytes from here where the test of two registers holds
+abbrev pub test : BranchKind → (a b : ℕ) → ℤ → InstrKind
+test branch.Beq a b offset = Beq a b offset
+test branch.Bne a b offset = Bne a b offset
+test branch.Blt a b offset = Blt a b offset
+test branch.Bge a b offset = Bge a b offset
+test branch.Bltu a b offset = Bltu a b offset
+test branch.Bgeu a b offset = Bgeu a b offset
 
--- a store of a width
-abbrev pub store : Width → ℕ → ℕ → ℤ → InstrKind
-store width.Byte rs base offset = Sb base rs offset
-store width.Half rs base offset = Sh base rs offset
-store width.Word rs base offset = Sw base rs offset
-store width.ByteU rs base offset = Sb base rs offset
-store width.HalfU rs base offset = Sh base rs offset
-
--- jumps by 12 where the branch is not taken
-abbrev pub opposite : BranchKind → ℕ → ℕ → InstrKind
-opposite branch.Beq a b = Bne a b (pos 12)
-opposite branch.Bne a b = Beq a b (pos 12)
-opposite branch.Blt a b = Bge a b (pos 12)
-opposite branch.Bge a b = Blt a b (pos 12)
-opposite branch.Bltu a b = Bgeu a b (pos 12)
-opposite branch.Bgeu a b = Bltu a b (pos 12)
+-- the test that holds where the other does not
+abbrev pub opposite : BranchKind → BranchKind
+opposite branch.Beq = branch.Bne
+opposite branch.Bne = branch.Beq
+opposite branch.Blt = branch.Bge
+opposite branch.Bge = branch.Blt
+opposite branch.Bltu = branch.Bgeu
+opposite branch.Bgeu = branch.Bltu
 
 -- ---- several
 
@@ -110,6 +103,12 @@ number_in rd value = Lui rd (hi value) ∷ Addi rd rd (lo value) ∷ []
 -- x31 is the address of a masked index into a symbol, less the low part
 abbrev pub indexed : ℕ → ℕ → ℕ → List InstrKind
 indexed index mask address = Andi 31 index (pos mask) ∷ Lui 30 (hi address) ∷ Add 31 31 30 ∷ []
+
+-- a branch at an address: the test itself, or where it is long, a jump to what x31 holds: the next item, or the target where the test holds
+abbrev pub branches : (long : Bool) → BranchKind → (a b address target : ℕ) → List InstrKind
+branches false kind a b address target = test kind a b (distance address target) ∷ []
+branches true kind a b address target =
+    number_in 31 (address + 24) ++ (test (opposite kind) a b (pos 12) ∷ (number_in 31 target ++ (Jalr 0 31 (pos 0) ∷ [])))
 
 -- zeros in so many words of a new frame, from word k on
 abbrev pub zeros : ℕ → ℕ → List InstrKind
@@ -145,31 +144,35 @@ served places call address =
 
 -- ---- an item, at its address
 
--- the instructions of an operation of a function, at its address
-abbrev pub expanded : App → Places → (func address : ℕ) → Op → List InstrKind
-expanded app places func address (op.Alu kind rd rs1 rs2) = register_operation kind rd rs1 rs2 ∷ []
-expanded app places func address (op.AluImm kind rd rs1 number) = number_operation kind rd rs1 number ∷ []
-expanded app places func address (op.Lui rd number) = Lui rd number ∷ []
-expanded app places func address (op.Li rd value) = Lui 31 (hi value) ∷ Addi rd 31 (lo value) ∷ []
-expanded app places func address (op.FrameLoad rd word) = Lw rd 2 (pos (4 * word)) ∷ []
-expanded app places func address (op.FrameStore rs word) = Sw 2 rs (pos (4 * word)) ∷ []
-expanded app places func address (op.Load w rd symbol offset) =
+-- the instructions of an operation of a function, at its address, where a branch is long or not
+abbrev pub expanded : App → Places → (func address : ℕ) → (long : Bool) → Op → List InstrKind
+expanded app places func address long (op.Alu kind rd rs1 rs2) = register_operation kind rd rs1 rs2 ∷ []
+expanded app places func address long (op.AluImm kind rd rs1 number) = number_operation kind rd rs1 number ∷ []
+expanded app places func address long (op.Lui rd number) = Lui rd number ∷ []
+expanded app places func address long (op.Li rd value) = Lui 31 (hi value) ∷ Addi rd 31 (lo value) ∷ []
+expanded app places func address long (op.FrameLoad rd word) = Lw rd 2 (pos (4 * word)) ∷ []
+expanded app places func address long (op.FrameStore rs word) = Sw 2 rs (pos (4 * word)) ∷ []
+expanded app places func address long (op.Load w rd symbol offset) =
     Lui 31 (hi (symbol_address places symbol + offset)) ∷ load w rd 31 (lo (symbol_address places symbol + offset)) ∷ []
-expanded app places func address (op.Store w rs symbol offset) =
+expanded app places func address long (op.Store w rs symbol offset) =
     Lui 31 (hi (symbol_address places symbol + offset)) ∷ store w rs 31 (lo (symbol_address places symbol + offset)) ∷ []
-expanded app places func address (op.LoadAt w rd symbol index mask) =
-    indexed index mask (symbol_address places symbol) ++ (load w rd 31 (lo (symbol_address places symbol)) ∷ [])
-expanded app places func address (op.StoreAt w rs symbol index mask) =
-    indexed index mask (symbol_address places symbol) ++ (store w rs 31 (lo (symbol_address places symbol)) ∷ [])
-expanded app places func address (op.Branch kind rs1 rs2 label) =
-    number_in 31 (address + 24)
-    ++ (opposite kind rs1 rs2 ∷ (number_in 31 (label_address app places func label) ++ (Jalr 0 31 (pos 0) ∷ [])))
-expanded app places func address (op.Jump label) = Jal 0 (distance address (label_address app places func label)) ∷ []
-expanded app places func address (op.Invoke callee) = calls address (function app callee).frame_words (item_address places callee 0)
-expanded app places func address op.Return =
+expanded app places func address long (op.LoadAt w rd symbol index mask) =
+    if nat_le mask 2047 then indexed index mask (symbol_address places symbol) ++ (load w rd 31 (lo (symbol_address places symbol)) ∷ [])
+    else wide (op.LoadAt w rd symbol index mask) (symbol_address places symbol)
+expanded app places func address long (op.StoreAt w rs symbol index mask) =
+    if nat_le mask 2047 then indexed index mask (symbol_address places symbol) ++ (store w rs 31 (lo (symbol_address places symbol)) ∷ [])
+    else wide (op.StoreAt w rs symbol index mask) (symbol_address places symbol)
+expanded app places func address long (op.Branch kind rs1 rs2 label) = branches long kind rs1 rs2 address (label_address app places func label)
+expanded app places func address long (op.Jump label) = Jal 0 (distance address (label_address app places func label)) ∷ []
+expanded app places func address long (op.Invoke callee) = calls address (function app callee).frame_words (item_address places callee 0)
+expanded app places func address long op.Return =
     Lw 31 2 (pos (4 * (function app func).frame_words)) ∷ Addi 2 2 (pos (4 + 4 * (function app func).frame_words)) ∷ Jalr 0 31 (pos 12) ∷ []
-expanded app places func address (op.Serve call) = served places call address
+expanded app places func address long (op.Serve call) = served places call address
 
--- those of an item of a function
+-- A branch is long where more than one word lies between its address and that of the next item.
+abbrev pub is_long : Places → (func index : ℕ) → Bool
+is_long places func index = nat_lt (item_address places func index + 4) (item_address places func (index + 1))
+
+-- the instructions of an item of a function
 abbrev pub expansion : App → Places → (func index : ℕ) → List InstrKind
-expansion app places func index = expanded app places func (item_address places func index) (operation app func index)
+expansion app places func index = expanded app places func (item_address places func index) (is_long places func index) (operation app func index)

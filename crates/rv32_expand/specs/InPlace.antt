@@ -13,7 +13,8 @@ use Rattle.sloth_base.specs.declared.places.Places.{Places}
 use Rattle.rv32_instr.specs.Encode.{Encode}
 use Rattle.rv32_instr.specs.Ram.{word_at}
 use Rattle.rv32_instr.specs.declared.InstrKind.{InstrKind}
-use Rattle.rv32_expand.specs.Expansion.{expansion, item_address}
+use Rattle.rv32_expand.specs.Long.{IsLeast}
+use Rattle.rv32_expand.specs.Expansion.{is_long, expansion, item_address}
 use Rattle.sloth_base.specs.Named.{operation, function}
 
 -- the register of an item's result: its destination, a store's source, or x0
@@ -78,6 +79,7 @@ IsOfItem kind.Back Fact = Unit {0}
 abbrev pub IsBodyName : App → ℕ → List ℕ → Type 0
 IsBodyName app task name = (func : ℕ) × (func < length app.funcs) × ((function app func).task ≡ Some task) × ((function app func).name ≡ name)
 
+-- The addresses make as few branches long as can be.
 -- With one list of addresses for all items, symbols and service blocks. A mark's address is its own, so that an item has one mark.
 -- The image has the name of each function and of each task, and no other.
 pub record ItemsInPlace (image : Image) (config : Config) (app : App) : Type 0 where
@@ -88,6 +90,7 @@ pub record ItemsInPlace (image : Image) (config : Config) (app : App) : Type 0 w
       → (0x8000_0000 < item_address places func index + 1) × (last_address app places func index + 4 < 0x8000_0000 + length image.memory + 1)
   pub adjacent : (func index : ℕ) → IsItem app func index → IsItem app func (index + 1)
       → item_address places func (index + 1) ≡ item_address places func index + 4 * length (expansion app places func index)
+  pub least : (func : ℕ) → func < length app.funcs → IsLeast app (function app func) (is_long places func)
   pub marked : (func index : ℕ) → IsItem app func index → Contains image.marks (item_mark app places func index)
   pub only : All (λ mark. IsOfItem mark.kind (IsItem app mark.b mark.c × (mark ≡ item_mark app places mark.b mark.c))) image.marks
   pub functions : image.funcs ≡ map (λ f. f.name) app.funcs

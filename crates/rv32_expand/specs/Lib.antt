@@ -1,2 +1,5 @@
 pub mod Expansion
+pub mod Long
 pub mod InPlace
+pub mod Sizes
+pub mod Passes

@@ -1,5 +1,5 @@
 -- The numbers that an instruction's word has room for: those of the formats of the RISC-V unprivileged manual, chapter RV32I.
-use Rattle.std.specs.Prelude.{ℕ, ◌<◌, ◌≡◌, ◌-◌, ◌/◌, ◌%◌, ◌^◌, ℤ, pos, neg_ℤ, ◌≤ℤ◌, ◌<ℤ◌, unsigned_abs}
+use Rattle.std.specs.Prelude.{ℕ, ◌<◌, ◌≡◌, ◌-◌, ◌/◌, ◌%◌, ◌^◌, List, [], ◌∷◌, ℤ, pos, neg_ℤ, ◌≤ℤ◌, ◌<ℤ◌, unsigned_abs}
 use Rattle.rv32_instr.specs.declared.InstrKind.{InstrKind}
 use Rattle.rv32_instr.specs.declared.InstrKind.TheVariants.{Lui, Auipc, Jal, Jalr, Beq, Bne, Blt, Bge, Bltu, Bgeu, Lb, Lh, Lw, Lbu, Lhu, Sb, Sh, Sw, Addi, Slti, Sltiu, Xori, Ori, Andi, Slli, Srli, Srai, Add, Sub, Sll, Slt, Sltu, Xor, Srl, Sra, Or, And, Fence, Csrrw, Csrrs, Csrrc, Csrrwi, Csrrsi, Csrrci, Ecall, Ebreak, Mret}
 
@@ -60,3 +60,8 @@ InRange (Csrrci rd number csr) = (rd < 32) × (number < 32) × (csr < 4096)
 InRange Ecall = Unit {0}
 InRange Ebreak = Unit {0}
 InRange Mret = Unit {0}
+
+-- each of these instructions is in range
+abbrev pub AreInRange : List InstrKind → Type 0
+AreInRange [] = Unit {0}
+AreInRange (kind ∷ code) = InRange kind × AreInRange code

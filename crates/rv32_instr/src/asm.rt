@@ -1,7 +1,7 @@
 //! Instructions by their mnemonics, with their operands in the order of RISC-V assembly; a load and a store name the base
 //! and then the offset.
 ghost use Rattle.std.specs.Prelude.{◌≡◌};
-ghost use Rattle.rv32_instr.specs.declared.InstrKind.TheVariants.{Lui, Jal, Beq, Bne, Blt, Bltu, Bgeu, Lw, Lbu, Sw, Sb, Addi, Xori, Slli, Add, Sub, Sltu, Or, And, Csrrw, Csrrs, Csrrwi, Csrrci, Mret};
+ghost use Rattle.rv32_instr.specs.declared.InstrKind.TheVariants.{Lui, Auipc, Jal, Jalr, Beq, Bne, Blt, Bge, Bltu, Bgeu, Lb, Lh, Lw, Lbu, Lhu, Sb, Sh, Sw, Addi, Slti, Sltiu, Xori, Ori, Andi, Slli, Srli, Srai, Add, Sub, Sll, Slt, Sltu, Xor, Srl, Sra, Or, And, Csrrw, Csrrs, Csrrwi, Csrrci, Mret};
 
 use crate::InstrKind;
 use sloth_base::numbers::Reg;
@@ -31,11 +31,25 @@ pub fn lui(rd: Reg, imm: u32) -> InstrKind
     InstrKind::Lui { rd, imm }
 }
 
+/// rd := this instruction's address + imm * 4096.
+pub fn auipc(rd: Reg, imm: u32) -> InstrKind
+    ensures { result ≡ Auipc rd imm }
+{
+    InstrKind::Auipc { rd, imm }
+}
+
 /// rd := the next address, and on at `imm` bytes from here.
 pub fn jal(rd: Reg, imm: i32) -> InstrKind
     ensures { result ≡ Jal rd imm }
 {
     InstrKind::Jal { rd, imm }
+}
+
+/// rd := the next address, and on at rs1 + imm.
+pub fn jalr(rd: Reg, rs1: Reg, imm: i32) -> InstrKind
+    ensures { result ≡ Jalr rd rs1 imm }
+{
+    InstrKind::Jalr { rd, rs1, imm }
 }
 
 /// On at `imm` bytes from here, where the registers are equal.
@@ -59,6 +73,13 @@ pub fn blt(rs1: Reg, rs2: Reg, imm: i32) -> InstrKind
     InstrKind::Blt { rs1, rs2, imm }
 }
 
+/// The same where rs1 is rs2 or greater, as signed numbers.
+pub fn bge(rs1: Reg, rs2: Reg, imm: i32) -> InstrKind
+    ensures { result ≡ Bge rs1 rs2 imm }
+{
+    InstrKind::Bge { rs1, rs2, imm }
+}
+
 /// The same where rs1 is less than rs2.
 pub fn bltu(rs1: Reg, rs2: Reg, imm: i32) -> InstrKind
     ensures { result ≡ Bltu rs1 rs2 imm }
@@ -71,6 +92,20 @@ pub fn bgeu(rs1: Reg, rs2: Reg, imm: i32) -> InstrKind
     ensures { result ≡ Bgeu rs1 rs2 imm }
 {
     InstrKind::Bgeu { rs1, rs2, imm }
+}
+
+/// rd := the byte at rs1 + imm, with its sign.
+pub fn lb(rd: Reg, rs1: Reg, imm: i32) -> InstrKind
+    ensures { result ≡ Lb rd rs1 imm }
+{
+    InstrKind::Lb { rd, rs1, imm }
+}
+
+/// rd := the half word at rs1 + imm, with its sign.
+pub fn lh(rd: Reg, rs1: Reg, imm: i32) -> InstrKind
+    ensures { result ≡ Lh rd rs1 imm }
+{
+    InstrKind::Lh { rd, rs1, imm }
 }
 
 /// rd := the word at rs1 + imm.
@@ -87,6 +122,13 @@ pub fn lbu(rd: Reg, rs1: Reg, imm: i32) -> InstrKind
     InstrKind::Lbu { rd, rs1, imm }
 }
 
+/// rd := the half word at rs1 + imm.
+pub fn lhu(rd: Reg, rs1: Reg, imm: i32) -> InstrKind
+    ensures { result ≡ Lhu rd rs1 imm }
+{
+    InstrKind::Lhu { rd, rs1, imm }
+}
+
 /// The word at rs1 + imm := rs2.
 pub fn sw(rs2: Reg, rs1: Reg, imm: i32) -> InstrKind
     ensures { result ≡ Sw rs1 rs2 imm }
@@ -101,11 +143,32 @@ pub fn sb(rs2: Reg, rs1: Reg, imm: i32) -> InstrKind
     InstrKind::Sb { rs1, rs2, imm }
 }
 
+/// The half word at rs1 + imm := the low half of rs2.
+pub fn sh(rs2: Reg, rs1: Reg, imm: i32) -> InstrKind
+    ensures { result ≡ Sh rs1 rs2 imm }
+{
+    InstrKind::Sh { rs1, rs2, imm }
+}
+
 /// rd := rs1 + imm.
 pub fn addi(rd: Reg, rs1: Reg, imm: i32) -> InstrKind
     ensures { result ≡ Addi rd rs1 imm }
 {
     InstrKind::Addi { rd, rs1, imm }
+}
+
+/// rd := 1 where rs1 is less than imm, as signed numbers, else 0.
+pub fn slti(rd: Reg, rs1: Reg, imm: i32) -> InstrKind
+    ensures { result ≡ Slti rd rs1 imm }
+{
+    InstrKind::Slti { rd, rs1, imm }
+}
+
+/// rd := 1 where rs1 is less than the word of imm, else 0.
+pub fn sltiu(rd: Reg, rs1: Reg, imm: i32) -> InstrKind
+    ensures { result ≡ Sltiu rd rs1 imm }
+{
+    InstrKind::Sltiu { rd, rs1, imm }
 }
 
 /// rd := rs1 ^ imm.
@@ -115,11 +178,39 @@ pub fn xori(rd: Reg, rs1: Reg, imm: i32) -> InstrKind
     InstrKind::Xori { rd, rs1, imm }
 }
 
+/// rd := rs1 | imm.
+pub fn ori(rd: Reg, rs1: Reg, imm: i32) -> InstrKind
+    ensures { result ≡ Ori rd rs1 imm }
+{
+    InstrKind::Ori { rd, rs1, imm }
+}
+
+/// rd := rs1 & imm.
+pub fn andi(rd: Reg, rs1: Reg, imm: i32) -> InstrKind
+    ensures { result ≡ Andi rd rs1 imm }
+{
+    InstrKind::Andi { rd, rs1, imm }
+}
+
 /// rd := rs1 << amount.
 pub fn slli(rd: Reg, rs1: Reg, amount: u8) -> InstrKind
     ensures { result ≡ Slli rd rs1 amount }
 {
     InstrKind::Slli { rd, rs1, amount }
+}
+
+/// rd := rs1 >> amount.
+pub fn srli(rd: Reg, rs1: Reg, amount: u8) -> InstrKind
+    ensures { result ≡ Srli rd rs1 amount }
+{
+    InstrKind::Srli { rd, rs1, amount }
+}
+
+/// rd := rs1 >> amount, with the sign.
+pub fn srai(rd: Reg, rs1: Reg, amount: u8) -> InstrKind
+    ensures { result ≡ Srai rd rs1 amount }
+{
+    InstrKind::Srai { rd, rs1, amount }
 }
 
 /// rd := rs1 + rs2.
@@ -136,11 +227,46 @@ pub fn sub(rd: Reg, rs1: Reg, rs2: Reg) -> InstrKind
     InstrKind::Sub { rd, rs1, rs2 }
 }
 
+/// rd := rs1 << the low five bits of rs2.
+pub fn sll(rd: Reg, rs1: Reg, rs2: Reg) -> InstrKind
+    ensures { result ≡ Sll rd rs1 rs2 }
+{
+    InstrKind::Sll { rd, rs1, rs2 }
+}
+
+/// rd := 1 where rs1 is less than rs2, as signed numbers, else 0.
+pub fn slt(rd: Reg, rs1: Reg, rs2: Reg) -> InstrKind
+    ensures { result ≡ Slt rd rs1 rs2 }
+{
+    InstrKind::Slt { rd, rs1, rs2 }
+}
+
 /// rd := 1 where rs1 is less than rs2, else 0.
 pub fn sltu(rd: Reg, rs1: Reg, rs2: Reg) -> InstrKind
     ensures { result ≡ Sltu rd rs1 rs2 }
 {
     InstrKind::Sltu { rd, rs1, rs2 }
+}
+
+/// rd := rs1 ^ rs2.
+pub fn xor(rd: Reg, rs1: Reg, rs2: Reg) -> InstrKind
+    ensures { result ≡ Xor rd rs1 rs2 }
+{
+    InstrKind::Xor { rd, rs1, rs2 }
+}
+
+/// rd := rs1 >> the low five bits of rs2.
+pub fn srl(rd: Reg, rs1: Reg, rs2: Reg) -> InstrKind
+    ensures { result ≡ Srl rd rs1 rs2 }
+{
+    InstrKind::Srl { rd, rs1, rs2 }
+}
+
+/// rd := rs1 >> the low five bits of rs2, with the sign.
+pub fn sra(rd: Reg, rs1: Reg, rs2: Reg) -> InstrKind
+    ensures { result ≡ Sra rd rs1 rs2 }
+{
+    InstrKind::Sra { rd, rs1, rs2 }
 }
 
 /// rd := rs1 | rs2.

@@ -6,8 +6,10 @@ ghost use Rattle.std.specs.Prelude.{◌≡◌};
 use sloth_base::numbers::Reg;
 use std::marker::Model;
 
+pub mod access;
 pub mod asm;
 pub mod block;
+pub mod constant;
 pub mod csr;
 pub mod decoding;
 pub mod effect;

@@ -4,7 +4,7 @@ use Rattle.std.specs.Prelude.{ℤ, pos}
 use Rattle.rv32_instr.specs.declared.InstrKind.{InstrKind}
 use Rattle.rv32_instr.specs.declared.InstrKind.TheVariants.{Sw, Lw, Addi}
 use Rattle.rv32_instr.specs.Range.{InRange}
-use Rattle.rv32_routine.specs.Emit.{AreInRange}
+use Rattle.rv32_instr.specs.Range.{AreInRange}
 use Rattle.rv32_routine.specs.Pieces.{saves, restores, clears, clears_words}
 
 pub in_range_at : (kinds : List InstrKind) (i : ℕ) (d : InstrKind) → i < length kinds → AreInRange kinds → InRange (get_or kinds i d)

@@ -3,5 +3,4 @@ pub mod Masked
 pub mod Place
 pub mod Owes
 pub mod Pieces
-pub mod Emit
 pub mod Kernel

@@ -1,7 +1,6 @@
 //! Instructions, added to the code of a block.
 ghost use Rattle.std.specs.Prelude.{◌≡◌, ◌≤◌, ◌<◌, ◌+◌, ◌-◌, ◌*◌, ◌++◌, ◌∷◌, [], OnOk, pos};
-ghost use Rattle.rv32_instr.specs.Range.{InRange, Signed};
-ghost use Rattle.rv32_routine.specs.Emit.{AreInRange};
+ghost use Rattle.rv32_instr.specs.Range.{InRange, AreInRange, Signed};
 ghost use Rattle.rv32_routine.specs.Pieces.{saves, restores, clears, clears_words};
 
 use rv32_instr::asm::{ZERO, addi, lw, sw};

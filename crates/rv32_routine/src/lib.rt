@@ -2,6 +2,5 @@
 //! arrive before each of them.
 #![tactic(auto)]
 
-pub mod constant;
 pub mod emit;
 pub mod pieces;

@@ -1,5 +1,5 @@
 -- An item that computes on registers and numbers is one of three.
-use Rattle.std.proofs.Common.{◌≡◌, ℕ, ℤ, length, refl}
+use Rattle.std.proofs.Common.{◌≡◌, ℕ, ℤ, Bool, length, refl}
 use Rattle.sloth_base.specs.declared.app.Op.{Op}
 use Rattle.sloth_base.specs.declared.app.Op.TheVariants as op
 use Rattle.sloth_base.specs.declared.app.AluKind.{AluKind}
@@ -31,6 +31,7 @@ computed_cases P alu imm lui op.Return h = absurd h
 computed_cases P alu imm lui (op.Serve call) h = absurd h
 
 -- it has one instruction
-pub computed_long : (app : App) (places : Places) (func address : ℕ) (operation : Op) → IsComputed operation → length (expanded app places func address operation) ≡ 1
-computed_long app places func address =
-    computed_cases (λ o. length (expanded app places func address o) ≡ 1) (λ kind rd rs1 rs2 h. refl) (λ kind rd rs1 number h. refl) (λ rd number h. refl)
+pub computed_long : (app : App) (places : Places) (func address : ℕ) (long : Bool) (operation : Op) → IsComputed operation
+    → length (expanded app places func address long operation) ≡ 1
+computed_long app places func address long =
+    computed_cases (λ o. length (expanded app places func address long o) ≡ 1) (λ kind rd rs1 rs2 h. refl) (λ kind rd rs1 number h. refl) (λ rd number h. refl)

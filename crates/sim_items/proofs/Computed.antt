@@ -13,7 +13,7 @@ use Rattle.rv32_instr.proofs.Table.{decode_encode}
 use Rattle.rv32_routine.specs.Place.{at}
 use Rattle.rv32_routine.proofs.Words.{word_at-agree}
 use Rattle.rv32_routine.proofs.Machine.{Here, step_at, touched_at, next_at}
-use Rattle.rv32_expand.specs.Expansion.{item_address, expansion}
+use Rattle.rv32_expand.specs.Expansion.{item_address, is_long, expansion}
 use Rattle.sloth_base.specs.Named.{operation, function}
 use Rattle.rv32_expand.specs.InPlace.{result_register}
 use Rattle.osek_machine.specs.declared.state.TaskState.TheVariants as mode
@@ -126,7 +126,7 @@ module _ (b : Build) (view : View) (state : State) (s : System) (t : ℕ) (fits 
   -- the rest over the parts of this record
   module _ (v : Computed b.app b.places frame.func address this state.core.registers own.registers) where
     instruction : HasInstruction b address v.kind
-    instruction = (subst (HasInstructions b address) v.expands placed.code).0
+    instruction = (subst (HasInstructions b address) (v.expands (is_long b.places frame.func frame.item)) placed.code).0
 
     code : Here state.core.ram instruction.offset v.kind
     code = code_here b state s address v.kind k instruction
@@ -182,7 +182,7 @@ module _ (b : Build) (view : View) (state : State) (s : System) (t : ℕ) (fits 
     }
 
     next_pc : next.pc ≡ item_address b.places frame.func (frame.item + 1)
-    next_pc = let a = instruction.is in let c = placed.adjacent more in let l : length (expansion b.app b.places frame.func frame.item) ≡ 1 = ap length v.expands in omega arith
+    next_pc = let a = instruction.is in let c = placed.adjacent more in let l : length (expansion b.app b.places frame.func frame.item) ≡ 1 = ap length (v.expands (is_long b.places frame.func frame.item)) in omega arith
 
     context_now : Context b next.core.ram t own_now (thread_of next) here.place
     context_now = subst (λ q. Context b q t own_now (thread_of next) here.place) (sym ram_is)

@@ -15,7 +15,7 @@ use Rattle.sloth_base.specs.Arithmetic.{plus}
 use Rattle.rv32_instr.specs.Execute.{Going, step, touched, touched_by, perform, jumps}
 use Rattle.rv32_routine.specs.Place.{at}
 use Rattle.rv32_routine.proofs.Machine.{Here, step_at, touched_at, jump_at}
-use Rattle.rv32_expand.specs.Expansion.{item_address, block_address, mask_of, distance, expanded, expansion}
+use Rattle.rv32_expand.specs.Expansion.{item_address, block_address, mask_of, distance, is_long, expanded, expansion}
 use Rattle.sloth_base.specs.Named.{operation}
 use Rattle.rv32_expand.specs.InPlace.{item_mark, last_address, mark_kind}
 use Rattle.sloth_base.specs.declared.image.Mark.{Mark}
@@ -58,7 +58,7 @@ call_expands b func item call is plain =
     let address = item_address b.places func item in
     let target = block_address b.places call.service call.object in
     let zero : address + 4 * 0 ≡ address = omega arith in
-    ap (λ o. expanded b.app b.places func address o) is
+    ap (λ o. expanded b.app b.places func address (is_long b.places func item) o) is
     ∙ ap (λ m. m ++ (Jal 31 (distance (address + 4 * length m) target) ∷ [])) plain
     ∙ ap (λ a. Jal 31 (distance a target) ∷ []) zero
 

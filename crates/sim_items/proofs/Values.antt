@@ -92,7 +92,7 @@ pub record Computed (app : App) (places : Places) (func address : ℕ) (operatio
   pub is_own : IsOwn rd
   pub value : ℕ
   pub kind : InstrKind
-  pub expands : expanded app places func address operation ≡ kind ∷ []
+  pub expands : (long : Bool) → expanded app places func address long operation ≡ kind ∷ []
   pub effect_is : (pc : ℕ) → effect kind pc core ≡ Write rd value
   pub means : (frame : Frame) (outer : List Frame) (symbols : List (List ℕ)) → meaning app operation own frame outer symbols ≡ writes rd value own frame outer symbols
   pub result : result_register operation ≡ rd
@@ -109,7 +109,7 @@ module _ (app : App) (places : Places) (func address : ℕ) (core own : List ℕ
     is_own = h.0;
     value = register_result kind (slice_index core rs1) (slice_index core rs2);
     kind = register_operation kind rd rs1 rs2;
-    expands = refl;
+    expands = λ long. refl;
     effect_is = λ pc. register_value kind rd rs1 rs2 pc core;
     means = λ frame outer symbols.
         own_meaning app (op.Alu kind rd rs1 rs2) own frame outer symbols (h.0, (h.1, (h.2, tt)))
@@ -124,7 +124,7 @@ module _ (app : App) (places : Places) (func address : ℕ) (core own : List ℕ
     is_own = h.0;
     value = number_result kind (slice_index core rs1) (complement number);
     kind = number_operation kind rd rs1 number;
-    expands = refl;
+    expands = λ long. refl;
     effect_is = λ pc. number_value kind rd rs1 number pc core h.2;
     means = λ frame outer symbols.
         own_meaning app (op.AluImm kind rd rs1 number) own frame outer symbols (h.0, (h.1, tt))
@@ -138,7 +138,7 @@ module _ (app : App) (places : Places) (func address : ℕ) (core own : List ℕ
     is_own = h.0;
     value = number * 4096;
     kind = Lui rd number;
-    expands = refl;
+    expands = λ long. refl;
     effect_is = λ pc. refl;
     means = λ frame outer symbols. own_meaning app (op.Lui rd number) own frame outer symbols (h.0, tt);
     result = refl;

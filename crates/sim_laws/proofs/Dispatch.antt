@@ -8,7 +8,7 @@ use Rattle.sloth_base.specs.Choose.{choose}
 use Rattle.sloth_base.specs.Machine.{State}
 use Rattle.rv32_machine.specs.Run.{arrived}
 use Rattle.rv32_routine.specs.Trace.{Trace, late}
-use Rattle.rv32_expand.specs.Expansion.{item_address, expansion}
+use Rattle.rv32_expand.specs.Expansion.{item_address, is_long, expansion}
 use Rattle.sloth_base.specs.Named.{operation, function}
 use Rattle.observe.specs.Observe.{View, view_of_image}
 use Rattle.osek_machine.specs.declared.state.TaskState.TheVariants as mode
@@ -54,7 +54,7 @@ module _ (b : Build) (image : Image) (kernel : Kernel b image) where
   pub item_long : (func item : ℕ) → item < length (function b.app func).items → length (expansion b.app b.places func item) ≡ 1
   item_long func item l =
       ⊎_elim
-      (λ (h : Computes b func item). computed_long b.app b.places func (item_address b.places func item) (operation b.app func item) h.computed)
+      (λ (h : Computes b func item). computed_long b.app b.places func (item_address b.places func item) (is_long b.places func item) (operation b.app func item) h.computed)
       (λ (h : Ends b view func item). ap length (call_expands b func item h.jumps.call h.jumps.is h.jumps.no_mask))
       (kernel.operations func item l)
 

@@ -1,5 +1,5 @@
 -- Items of task code in an image are those of a kernel in place.
-use Rattle.std.proofs.Common.{◌≡◌, ℕ, zero, suc, ◌+◌, ◌-◌, ◌*◌, ◌<◌, ◌≤◌, ℤ, pos, List, [], ◌∷◌, ◌++◌, length, refl, sym, ap, ◌∙◌, subst, arith, inl, inr, true, Some}
+use Rattle.std.proofs.Common.{◌≡◌, ℕ, zero, suc, ◌+◌, ◌-◌, ◌*◌, ◌<◌, ◌≤◌, ℤ, pos, List, [], ◌∷◌, ◌++◌, length, refl, sym, ap, ◌∙◌, subst, arith, inl, inr, true, Some, Bool}
 use Rattle.std.specs.Prelude.{map, All, find, eqb, slice_index_or, Contains}
 use Rattle.std.proofs.lemmas.Bool.Decides.{nat_tests}
 use Rattle.std.proofs.lemmas.List.Kept.{AllPairs-from_increasing}
@@ -21,7 +21,7 @@ use Rattle.rv32_instr.specs.declared.InstrKind.{InstrKind}
 use Rattle.rv32_instr.specs.declared.InstrKind.TheVariants.{Lui, Jal}
 use Rattle.rv32_instr.specs.Ram.{word_at}
 use Rattle.rv32_instr.specs.Range.{InRange}
-use Rattle.rv32_expand.specs.Expansion.{item_address, block_address, distance, mask_of, expansion, expanded, register_operation, number_operation, amount}
+use Rattle.rv32_expand.specs.Expansion.{item_address, block_address, distance, mask_of, is_long, expansion, expanded, register_operation, number_operation, amount}
 use Rattle.sloth_base.specs.Named.{operation, function}
 use Rattle.rv32_expand.specs.InPlace.{IsItem, CodeAt, item_mark, mark_of, last_address}
 use Rattle.observe.specs.Observe.{mark_at, view_of_image}
@@ -98,9 +98,9 @@ number_fits imm.Slli rd rs1 number a b h = (a, b, amount_fits number h.0 h.1 h.2
 number_fits imm.Srli rd rs1 number a b h = (a, b, amount_fits number h.0 h.1 h.2)
 number_fits imm.Srai rd rs1 number a b h = (a, b, amount_fits number h.0 h.1 h.2)
 
-computed_fits : (app : App) (places : Places) (func address : ℕ) (o : Op) → IsComputed o → All InRange (expanded app places func address o)
-computed_fits app places func address =
-    computed_cases (λ o. All InRange (expanded app places func address o))
+computed_fits : (app : App) (places : Places) (func address : ℕ) (long : Bool) (o : Op) → IsComputed o → All InRange (expanded app places func address long o)
+computed_fits app places func address long =
+    computed_cases (λ o. All InRange (expanded app places func address long o))
     (λ k rd rs1 rs2 h. All-cons InRange (register_operation k rd rs1 rs2) [] (register_fits k rd rs1 rs2 (own_small rd h.0) (own_small rs1 h.1) (own_small rs2 h.2)) (All-nil InRange))
     (λ k rd rs1 number h. All-cons InRange (number_operation k rd rs1 number) [] (number_fits k rd rs1 number (own_small rd h.0) (own_small rs1 h.1) h.2) (All-nil InRange))
     (λ rd number h. All-cons InRange (Lui rd number) [] (own_small rd h.0, h.1) (All-nil InRange))
@@ -149,7 +149,7 @@ item_stands b image func item h is range =
 pub item_computes : (b : Build) (image : Image) (func item : ℕ) → HasItems b image → IsItem b.app func item → IsComputed (operation b.app func item)
     → ItemStands b (view_of_image image) func item
 item_computes b image func item h is computed =
-    item_stands b image func item h is (computed_fits b.app b.places func (item_address b.places func item) (operation b.app func item) computed)
+    item_stands b image func item h is (computed_fits b.app b.places func (item_address b.places func item) (is_long b.places func item) (operation b.app func item) computed)
 
 -- ---- the call of TerminateTask
 

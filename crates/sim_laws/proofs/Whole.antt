@@ -12,7 +12,7 @@ use Rattle.sloth_region.specs.Layout.{cur}
 use Rattle.rv32_instr.specs.Ram.{word_at}
 use Rattle.rv32_machine.specs.Start.{start}
 use Rattle.rv32_routine.specs.Trace.{late}
-use Rattle.rv32_expand.specs.Expansion.{item_address, expansion, expanded}
+use Rattle.rv32_expand.specs.Expansion.{item_address, is_long, expansion, expanded}
 use Rattle.sloth_base.specs.Named.{operation, function, no_item}
 use Rattle.observe.specs.Observe.{View, view_of_image}
 use Rattle.osek_machine.specs.State.{Frame, System, task}
@@ -104,7 +104,7 @@ module _ (b : Build) (image : Image) (kernel : Kernel b image) where
       (λ (l : item < length (function b.app func).items). let e = item_long b image kernel func item l in omega arith)
       (λ (l : length (function b.app func).items ≤ item).
       let none : operation b.app func item ≡ op.Return = ap (λ (x : Item). x.op) (beyond (function b.app func).items item no_item l) in
-      let e : length (expansion b.app b.places func item) ≡ 3 = ap (λ o. length (expanded b.app b.places func (item_address b.places func item) o)) none in
+      let e : length (expansion b.app b.places func item) ≡ 3 = ap (λ o. length (expanded b.app b.places func (item_address b.places func item) (is_long b.places func item) o)) none in
       omega arith)
       (cases_lt item (length (function b.app func).items))
 

@@ -7,7 +7,8 @@ use Rattle.sloth_base.specs.declared.app.Op.{Op}
 use Rattle.sloth_base.specs.declared.app.Op.TheVariants as op
 use Rattle.sloth_base.specs.declared.places.Places.{Places}
 use Rattle.rv32_instr.specs.Ram.{word_at}
-use Rattle.rv32_expand.specs.Expansion.{item_address, expanded}
+use Rattle.rv32_expand.specs.Expansion.{item_address, is_long}
+use Rattle.rv32_expand.proofs.Counts.{expanded_some}
 use Rattle.sloth_base.specs.Named.{operation, function}
 use Rattle.osek_machine.specs.State.{Frame, Task}
 use Rattle.sim_relation.specs.Build.{Build}
@@ -15,28 +16,10 @@ use Rattle.sim_relation.specs.Position.{Thread, FramesAt, InExpansion, Position}
 use Rattle.sim_relation.specs.Context.{Context, Rested}
 use Rattle.sim_relation.proofs.Framing.{scratch_first}
 
--- each item has an instruction
-pub expanded_some : (app : App) (places : Places) (func address : ℕ) (i : Op) → 0 < length (expanded app places func address i)
-expanded_some app places func address (op.Alu kind rd rs1 rs2) = omega arith
-expanded_some app places func address (op.AluImm kind rd rs1 number) = omega arith
-expanded_some app places func address (op.Lui rd number) = omega arith
-expanded_some app places func address (op.Li rd value) = omega arith
-expanded_some app places func address (op.FrameLoad rd word) = omega arith
-expanded_some app places func address (op.FrameStore rs word) = omega arith
-expanded_some app places func address (op.Load width rd symbol offset) = omega arith
-expanded_some app places func address (op.Store width rs symbol offset) = omega arith
-expanded_some app places func address (op.LoadAt width rd symbol index mask) = omega arith
-expanded_some app places func address (op.StoreAt width rs symbol index mask) = omega arith
-expanded_some app places func address (op.Branch kind rs1 rs2 label) = omega arith
-expanded_some app places func address (op.Jump label) = omega arith
-expanded_some app places func address (op.Invoke callee) = omega arith
-expanded_some app places func address op.Return = omega arith
-expanded_some app places func address (op.Serve call) = simp length-append (omega arith)
-
 pub at_first : (b : Build) (own : Task) (frame : Frame) (th : Thread) → th.pc ≡ item_address b.places frame.func frame.item → InExpansion b own frame th
 at_first b own frame th e = record {
   done = 0;
-  within = expanded_some b.app b.places frame.func (item_address b.places frame.func frame.item) (operation b.app frame.func frame.item);
+  within = expanded_some b.app b.places frame.func (item_address b.places frame.func frame.item) (is_long b.places frame.func frame.item) (operation b.app frame.func frame.item);
   pc = omega arith;
   scratch = scratch_first b own.registers frame (operation b.app frame.func frame.item) th;
 }

@@ -9,7 +9,7 @@ use Rattle.rv32_expand.specs.Expansion.{item_address}
 use Rattle.sloth_base.specs.Named.{operation, function}
 use Rattle.osek_machine.specs.State.{Frame, Task}
 use Rattle.sim_relation.specs.Build.{Build}
-use Rattle.sim_relation.specs.Position.{Thread, AreWords, OuterAt, FramesAt, HasIndexed, HasTarget, HasScratch, InExpansion, AtBlock, Standing, Owing, Calling, Returning, Position}
+use Rattle.sim_relation.specs.Position.{Thread, AreWords, OuterAt, FramesAt, HasIndexed, HasFarIndexed, HasAddress, HasTarget, HasScratch, InExpansion, AtBlock, Standing, Owing, Calling, Returning, Position}
 use Rattle.sim_relation.specs.Framing.{Agree, SamePlace}
 
 pub word_kept : (old new : List ℕ) (from to place : ℕ) → Agree old new from to → from ≤ place → place + 4 ≤ to → word_at new place ≡ word_at old place
@@ -58,6 +58,18 @@ module _ (old new : Thread) (e : SamePlace old new) where
     sum = λ x. e.x31 ∙ h.sum x;
   }
 
+  far_same : (mask address masked done : ℕ) → HasFarIndexed mask address masked done old → HasFarIndexed mask address masked done new
+  far_same mask address masked done h = record {
+    upper_mask = λ x. e.x30 ∙ h.upper_mask x;
+    whole_mask = λ x y. e.x30 ∙ h.whole_mask x y;
+    index = λ x y. e.x31 ∙ h.index x y;
+    upper = λ x. e.x30 ∙ h.upper x;
+    sum = λ x. e.x31 ∙ h.sum x;
+  }
+
+  address_same : (mask address masked done : ℕ) → HasAddress mask address masked done old → HasAddress mask address masked done new
+  address_same mask address masked done h = (λ l. indexed_same address masked done (h.0 l), λ l. far_same mask address masked done (h.1 l))
+
   target_same : (holds : Bool) (next target done : ℕ) → HasTarget holds next target done old → HasTarget holds next target done new
   target_same holds next target done h = record {
     upper_next = λ x. e.x31 ∙ h.upper_next x;
@@ -71,8 +83,8 @@ module _ (old new : Thread) (e : SamePlace old new) where
   scratch_same b x frame (op.Li rd value) done h = λ l. e.x31 ∙ h l
   scratch_same b x frame (op.Load width rd symbol offset) done h = λ l. e.x31 ∙ h l
   scratch_same b x frame (op.Store width rs symbol offset) done h = λ l. e.x31 ∙ h l
-  scratch_same b x frame (op.LoadAt width rd symbol index mask) done h = indexed_same _ _ done h
-  scratch_same b x frame (op.StoreAt width rs symbol index mask) done h = indexed_same _ _ done h
+  scratch_same b x frame (op.LoadAt width rd symbol index mask) done h = address_same mask _ _ done h
+  scratch_same b x frame (op.StoreAt width rs symbol index mask) done h = address_same mask _ _ done h
   scratch_same b x frame (op.Branch kind rs1 rs2 label) done h = target_same _ _ _ done h
   scratch_same b x frame (op.Serve call) done h = record { upper = λ l. e.x30 ∙ h.upper l; whole = λ l. e.x30 ∙ h.whole l }
   scratch_same b x frame (op.Alu kind rd rs1 rs2) done h = h
@@ -240,13 +252,24 @@ position_task b ram t own new th place r e w p = record {
       p.here;
 }
 
+address_first : (mask address masked : ℕ) (th : Thread) → HasAddress mask address masked 0 th
+address_first mask address masked th =
+    (λ m. record { index = λ l h. absurd (omega arith); upper = λ l. absurd (omega arith); sum = λ l. absurd (omega arith) },
+    λ m. record {
+      upper_mask = λ l. absurd (omega arith);
+      whole_mask = λ l h. absurd (omega arith);
+      index = λ l h. absurd (omega arith);
+      upper = λ l. absurd (omega arith);
+      sum = λ l. absurd (omega arith);
+    })
+
 -- at the first instruction of an item nothing is said of x30 and x31
 pub scratch_first : (b : Build) (x : List ℕ) (frame : Frame) (i : Op) (th : Thread) → HasScratch b x frame i 0 th
 scratch_first b x frame (op.Li rd value) th = λ l. absurd (omega arith)
 scratch_first b x frame (op.Load width rd symbol offset) th = λ l. absurd (omega arith)
 scratch_first b x frame (op.Store width rs symbol offset) th = λ l. absurd (omega arith)
-scratch_first b x frame (op.LoadAt width rd symbol index mask) th = record { index = λ l h. absurd (omega arith); upper = λ l. absurd (omega arith); sum = λ l. absurd (omega arith) }
-scratch_first b x frame (op.StoreAt width rs symbol index mask) th = record { index = λ l h. absurd (omega arith); upper = λ l. absurd (omega arith); sum = λ l. absurd (omega arith) }
+scratch_first b x frame (op.LoadAt width rd symbol index mask) th = address_first mask _ _ th
+scratch_first b x frame (op.StoreAt width rs symbol index mask) th = address_first mask _ _ th
 scratch_first b x frame (op.Branch kind rs1 rs2 label) th = record {
   upper_next = λ l. absurd (omega arith);
   next_one = λ l h. absurd (omega arith);

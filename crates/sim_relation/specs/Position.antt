@@ -66,7 +66,20 @@ pub record HasIndexed (address masked done : ℕ) (th : Thread) : Type 0 where
   pub upper : 2 ≤ done → th.x 30 ≡ hi address * 4096
   pub sum : 3 ≤ done → th.x 31 ≡ sum32 masked (hi address * 4096)
 
--- where a branch goes on: at `next` where it is not taken
+-- the same where the mask has no place in an instruction
+pub record HasFarIndexed (mask address masked done : ℕ) (th : Thread) : Type 0 where
+  pub upper_mask : done ≡ 1 → th.x 30 ≡ hi mask * 4096
+  pub whole_mask : 2 ≤ done → done ≤ 3 → th.x 30 ≡ mask
+  pub index : 3 ≤ done → done ≤ 4 → th.x 31 ≡ masked
+  pub upper : 4 ≤ done → th.x 30 ≡ hi address * 4096
+  pub sum : 5 ≤ done → th.x 31 ≡ sum32 masked (hi address * 4096)
+
+-- either
+abbrev pub HasAddress : (mask address masked done : ℕ) → Thread → Type 0
+HasAddress mask address masked done th =
+    (mask ≤ 2047 → HasIndexed address masked done th) × (2048 ≤ mask → HasFarIndexed mask address masked done th)
+
+-- where a long branch goes on: at `next` where it is not taken
 pub record HasTarget (holds : Bool) (next target done : ℕ) (th : Thread) : Type 0 where
   pub upper_next : done ≡ 1 → th.x 31 ≡ hi next * 4096
   pub next_one : 2 ≤ done → done ≤ 3 → th.x 31 ≡ next
@@ -85,9 +98,9 @@ HasScratch b x frame (op.Li rd value) done th = 1 ≤ done → th.x 31 ≡ hi va
 HasScratch b x frame (op.Load width rd symbol offset) done th = 1 ≤ done → th.x 31 ≡ hi (symbol_address b.places symbol + offset) * 4096
 HasScratch b x frame (op.Store width rs symbol offset) done th = 1 ≤ done → th.x 31 ≡ hi (symbol_address b.places symbol + offset) * 4096
 HasScratch b x frame (op.LoadAt width rd symbol index mask) done th =
-    HasIndexed (symbol_address b.places symbol) (bit_and (register x index) mask) done th
+    HasAddress mask (symbol_address b.places symbol) (bit_and (register x index) mask) done th
 HasScratch b x frame (op.StoreAt width rs symbol index mask) done th =
-    HasIndexed (symbol_address b.places symbol) (bit_and (register x index) mask) done th
+    HasAddress mask (symbol_address b.places symbol) (bit_and (register x index) mask) done th
 HasScratch b x frame (op.Branch kind rs1 rs2 label) done th =
     HasTarget (branch_holds kind (register x rs1) (register x rs2)) (item_address b.places frame.func frame.item + 24)
     (label_address b.app b.places frame.func label) done th

@@ -13,7 +13,9 @@ use Rattle.rv32_instr.specs.declared.InstrKind.{InstrKind}
 use Rattle.rv32_instr.specs.declared.block.Block.{Block}
 use Rattle.rv32_instr.specs.Range.{InRange}
 use Rattle.rv32_routine.specs.Place.{AreWritten}
-use Rattle.rv32_expand.specs.Expansion.{item_address, expansion}
+use Rattle.rv32_expand.specs.Expansion.{item_address, is_long, expansion}
+use Rattle.rv32_expand.specs.Long.{IsBranchTo, IsLeast}
+use Rattle.sloth_base.specs.Named.{function}
 use Rattle.rv32_expand.specs.InPlace.{item_mark, last_address, CodeAt, IsItem, IsOfItem, IsBodyName, ItemsInPlace}
 use Rattle.sloth_build.specs.Form.{one_body}
 use Rattle.sloth_build.specs.Where.{kernel_map}
@@ -59,6 +61,19 @@ module _ (name : List ℕ) (rd rs1 : ℕ) (imm : ℤ) (image : Image) (k : Kerne
       each (λ func index. IsItem app func (index + 1) → item_address places func (index + 1) ≡ item_address places func index + 4 * length (expansion app places func index))
       (λ h. refl) (λ h. absurd (let l = h.inside in omega (arith, l)))
 
+  -- no item is a branch
+  no_branch : (func : ℕ) → func < length app.funcs → (index target : ℕ) → IsBranchTo (function app func) index target → ⊥
+  no_branch zero h zero target b = absurd (let e = b.goes in cc)
+  no_branch zero h (suc zero) target b = absurd (let e = b.goes in cc)
+  no_branch zero h (suc (suc index)) target b = absurd (let l = b.inside in omega (arith, l))
+  no_branch (suc func) h index target b = absurd (omega (arith, h))
+
+  least : (func : ℕ) → func < length app.funcs → IsLeast app (function app func) (is_long places func)
+  least func h = record {
+    suffices = λ index target b e. absurd (no_branch func h index target b);
+    least = λ other s index target b e. absurd (no_branch func h index target b);
+  }
+
   only : All (λ mark. IsOfItem mark.kind (IsItem app mark.b mark.c × (mark ≡ item_mark app places mark.b mark.c))) (kernel_marks rd)
   only =
       let P : Mark → Type 0 = λ mark. IsOfItem mark.kind (IsItem app mark.b mark.c × (mark ≡ item_mark app places mark.b mark.c)) in
@@ -81,6 +96,7 @@ module _ (name : List ℕ) (rd rs1 : ℕ) (imm : ℤ) (image : Image) (k : Kerne
         each (λ func index. (0x8000_0000 < item_address places func index + 1) × (last_address app places func index + 4 < 0x8000_0000 + length image.memory + 1))
         (omega arith, omega (arith, long)) (omega arith, omega (arith, long));
     adjacent = adjacent;
+    least = least;
     marked =
         each (λ func index. Contains image.marks (item_mark app places func index))
         (subst (λ ms. Contains ms (mark_of 0x8000_06ac kind.Item rd 0)) (sym marks_are) (2, omega arith, refl))

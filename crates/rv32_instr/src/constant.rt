@@ -3,7 +3,7 @@ ghost use Rattle.std.specs.Prelude.{◌≡◌, ◌<◌, ◌^◌};
 ghost use Rattle.rv32_instr.specs.Range.{Signed};
 ghost use Rattle.sloth_base.specs.Arithmetic.{hi, lo};
 
-use rv32_instr::fields::signed;
+use crate::fields::signed;
 
 /// Bits 31 to 12 of a constant, rounded so that `lo` is all that is left.
 #[tactic(auto, unfolding(sloth_base::specs::Arithmetic::hi))]

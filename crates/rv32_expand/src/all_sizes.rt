@@ -1,0 +1,23 @@
+//! The lengths of the items of all bodies.
+ghost use Rattle.std.specs.Prelude.{IfOk};
+ghost use Rattle.app_rules.specs.AppRange.{IsTaskCode};
+ghost use Rattle.rv32_expand.specs.Sizes.{AreSizes};
+
+use crate::long_branches::shortest;
+use sloth_base::app::App;
+use sloth_base::memory::NoMemory;
+use std::alloc::Global;
+
+/// The length of each item over all bodies in order. A branch that reaches its label has length 1, and else 6; of all
+/// ways to choose, this has the fewest branches of length 6.
+pub fn sizes(alloc: Global, app: &App) -> Result<Vec<u32>, NoMemory>
+    requires { IsTaskCode app.now }
+    ensures { IfOk result (λ sizes. AreSizes app.now sizes.items) }
+{
+    let mut sizes = Vec::new(alloc);
+    for body in app.funcs.items() {
+        let own = shortest(alloc, app, body)?;
+        sizes.extend_from_slice(&own).map_err(|_| NoMemory)?;
+    }
+    Ok(sizes)
+}
