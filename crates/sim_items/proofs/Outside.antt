@@ -15,7 +15,7 @@ use Rattle.rv32_instr.specs.Ram.{word_at}
 use Rattle.rv32_instr.specs.Execute.{Going, step, touched}
 use Rattle.rv32_machine.specs.Run.{arrived}
 use Rattle.rv32_routine.specs.Place.{at, InPlace}
-use Rattle.rv32_expand.specs.Expansion.{item_address, expansion}
+use Rattle.rv32_expand.specs.Expansion.{item_address, is_long, expansion}
 use Rattle.sloth_base.specs.Named.{operation, function}
 use Rattle.rv32_expand.specs.InPlace.{result_register, mark_of, item_mark, last_address}
 use Rattle.observe.specs.Observe.{View, mark_at, task_of, outside_events, events_of_kind}
@@ -93,7 +93,7 @@ module _ (b : Build) (view : View) (arrivals : List Arrival) (progress : State �
 
     last_is : last_address b.app b.places item.frame.func item.frame.item ≡ item_address b.places item.frame.func item.frame.item
     last_is =
-        let l = computed_long b.app b.places item.frame.func (item_address b.places item.frame.func item.frame.item) (operation b.app item.frame.func item.frame.item) is in
+        let l = computed_long b.app b.places item.frame.func (item_address b.places item.frame.func item.frame.item) (is_long b.places item.frame.func item.frame.item) (operation b.app item.frame.func item.frame.item) is in
         let e : length (expansion b.app b.places item.frame.func item.frame.item) ≡ 1 = l in
         omega arith
 
