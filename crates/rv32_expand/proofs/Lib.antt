@@ -3,3 +3,9 @@ pub mod Growth
 pub mod InRangeOf
 pub mod Passing
 pub mod Whole
+pub mod Filling
+pub mod Encodable
+pub mod Agreeing
+pub mod Verified
+pub mod Least
+pub mod Committing

@@ -5,7 +5,9 @@ use Rattle.sloth_base.specs.declared.app.App.{App}
 use Rattle.sloth_base.specs.declared.app.Call.{Call}
 use Rattle.sloth_base.specs.declared.app.Func.{Func}
 use Rattle.sloth_base.specs.declared.app.Op.TheVariants as op
+use Rattle.sloth_base.specs.declared.config.Config.{Config}
 use Rattle.sloth_base.specs.declared.places.Places.{Places}
+use Rattle.app_rules.specs.WellFormed.{WellFormed}
 use Rattle.rv32_expand.specs.Expansion.{item_address, symbol_address, block_address, expansion}
 use Rattle.sloth_base.specs.Named.{operation}
 use Rattle.rv32_expand.specs.InPlace.{IsItem}
@@ -31,6 +33,10 @@ pub record AgreeWithSizes (app : App) (places : Places) : Type 0 where
   pub are_sizes : AreSizes app sizes
   pub adjacent : (func index : ℕ) → IsItem app func index → IsItem app func (index + 1)
       → item_address places func (index + 1) ≡ item_address places func index + 4 * get_or sizes (items_before app.funcs func + index) 0
+
+-- task code that keeps the rules of some configuration
+abbrev pub IsVerified : App → Type 0
+IsVerified app = (config : Config) × WellFormed config app
 
 -- the address of a word of RAM
 abbrev pub IsWordAddress : ℕ → Type 0

@@ -23,7 +23,7 @@ pub fn frame_words(app: &App, func: FuncId) -> u32
 }
 
 /// How many instructions load the mask of a service.
-fn mask_length(service: Service) -> u32
+pub fn mask_length(service: Service) -> u32
     ensures is { (mask : ℕ) → result ≡ length (mask_of service mask) }
     ensures few { result ≤ 2 }
 {

@@ -2,9 +2,17 @@
 //! in an image, each behind its mark (`specs/InPlace`).
 #![tactic(auto)]
 
+mod addresses;
 mod all_sizes;
+mod draft;
+mod expanding;
+pub mod laws;
 mod lengths;
 mod long_branches;
+mod operations;
+mod rows;
 
 pub use all_sizes::sizes;
+pub use draft::Expansion;
+pub use expanding::expand;
 pub use lengths::length;

@@ -1,0 +1,50 @@
+-- The least set is one, and so are the lengths that it gives.
+use Rattle.std.proofs.Common.{◌≡◌, ◌∙◌, ℕ, suc, ◌+◌, ◌-◌, ◌<◌, ◌≤◌, ⊎_elim, Bool, true, false, List, [], ◌∷◌, length, get_or, refl, sym, ap, arith}
+use Rattle.std.proofs.lemmas.List.{ext_get_or}
+use Rattle.sloth_base.specs.Named.{function, missing}
+use Rattle.sloth_base.specs.declared.app.Func.{Func}
+use Rattle.rv32_expand.specs.InPlace.{IsItem}
+use Rattle.rv32_expand.specs.Laws.{LeastIsOne, SizesAreOne}
+use Rattle.rv32_expand.specs.Sizes.{items_before}
+use Rattle.rv32_expand.proofs.Agreeing.{size_same}
+use Rattle.rv32_expand.proofs.Growth.{order}
+
+both : (x y : Bool) → (x ≡ true → y ≡ true) → (y ≡ true → x ≡ true) → x ≡ y
+both true true f g = refl
+both false false f g = refl
+both true false f g = sym (f refl)
+both false true f g = g refl
+
+pub least_is_one : LeastIsOne
+least_is_one app body a b p q index target g = both (a index) (b index) (p.least b q.suffices index target g) (q.least a p.suffices index target g)
+
+-- where the length with a number stands
+record IsAt (bodies : List Func) (k : ℕ) (d : Func) : Type 0 where
+  func : ℕ
+  index : ℕ
+  declared : func < length bodies
+  inside : index < length (get_or bodies func d).items
+  is : k ≡ items_before bodies func + index
+
+locate : (bodies : List Func) (k : ℕ) (d : Func) → k < items_before bodies (length bodies) → IsAt bodies k d
+locate [] k d h = absurd (omega (arith, h))
+locate (body ∷ bodies) k d h =
+    ⊎_elim
+    (λ (l : k < length body.items). record { func = 0; index = k; declared = omega arith; inside = l; is = omega arith })
+    (λ (l : length body.items ≤ k). let r = locate bodies (k - length body.items) d (omega (arith, h)) in
+    let e = r.is in let n = r.declared in
+    record { func = suc r.func; index = r.index; declared = omega arith; inside = r.inside; is = omega (arith, e) })
+    (order k (length body.items))
+
+pub sizes_are_one : SizesAreOne
+sizes_are_one app xs ys p q = ext_get_or 0 xs ys (p.count ∙ sym q.count) same
+  where
+    same : (k : ℕ) → k < length xs → get_or xs k 0 ≡ get_or ys k 0
+    same k h =
+        let c = p.count in
+        let at = locate app.funcs k missing (omega (arith, c, h)) in
+        let item : IsItem app at.func at.index = record { declared = at.declared; inside = at.inside } in
+        ap (λ (n : ℕ). get_or xs n 0) at.is ∙ p.each at.func at.index item
+        ∙ size_same app (function app at.func) (p.long at.func) (q.long at.func)
+        (λ i t g. least_is_one app (function app at.func) (p.long at.func) (q.long at.func) (p.least at.func at.declared) (q.least at.func at.declared) i t g) at.index at.inside
+        ∙ sym (q.each at.func at.index item) ∙ ap (λ (n : ℕ). get_or ys n 0) (sym at.is)

@@ -1,0 +1,14 @@
+-- The instructions of an item in their 36 places.
+use Rattle.std.specs.Prelude.{◌-◌, ◌≡◌, pos, List, ◌++◌, length}
+use Rattle.std.proofs.Math.ListN.{replicate}
+use Rattle.rv32_instr.specs.declared.InstrKind.{InstrKind}
+use Rattle.rv32_instr.specs.declared.InstrKind.TheVariants.{Addi}
+use Rattle.rv32_expand.specs.declared.draft.Expansion.{Expansion}
+
+abbrev pub nop : InstrKind
+nop = Addi 0 0 (pos 0)
+
+-- `addi x0, x0, 0` stands behind them
+pub record IsCode (kinds : List InstrKind) (expansion : Expansion) : Type 0 where
+  pub len : expansion.len ≡ length kinds
+  pub code : expansion.code ≡ kinds ++ replicate (36 - length kinds) nop

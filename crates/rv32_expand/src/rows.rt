@@ -1,0 +1,233 @@
+//! The instructions of each operation.
+ghost use Rattle.std.specs.Prelude.{◌≡◌, ◌≤◌, ◌<◌, ◌+◌, ◌*◌, ◌^◌, ◌++◌, ◌∷◌, [], length, pos, IsTrue};
+ghost use Rattle.sloth_base.specs.Arithmetic.{hi, lo};
+ghost use Rattle.data_far.specs.Wide.{wide, IsWide};
+ghost use Rattle.rv32_instr.specs.Range.{Signed};
+ghost use Rattle.rv32_instr.specs.declared.InstrKind.TheVariants.{Lui, Addi, Lw, Jalr};
+ghost use Rattle.app_rules.specs.AppRange.{IsNumberOf};
+ghost use Rattle.rv32_expand.specs.Expansion.{distance, item_address, symbol_address, block_address, label_address, register_operation, number_operation, test, opposite, number_in, indexed, branches, calls, mask_of, served, expanded};
+ghost use Rattle.rv32_expand.specs.Fits.{HasRoom, Fits};
+
+use crate::addresses::{block_address, distance, item_address, label_address, symbol_address};
+use crate::draft::Draft;
+use crate::lengths::{NEAR_MASK, frame_words, mask_length};
+use crate::operations::{number_operation, opposite, register_operation, test};
+use rv32_instr::InstrKind;
+use rv32_instr::access::{load, store};
+use rv32_instr::asm::{X2, X30, X31, ZERO, add, addi, andi, auipc, jal, jalr, lui, lw, sw};
+use rv32_instr::constant::{hi, lo};
+use sloth_base::app::{App, BranchKind, Call, Item, Op};
+use sloth_base::numbers::{FuncId, Reg};
+use sloth_base::places::Places;
+use sloth_base::service::Service;
+
+/// One instruction.
+fn one(kind: InstrKind) -> Draft
+    ensures { result ≡ kind ∷ [] }
+{
+    Draft::of(&[kind])
+}
+
+/// Where a word of the frame stands behind x2.
+fn frame_offset(word: u32) -> i32
+    requires { word ≤ 36 }
+    ensures { result ≡ pos (4 * word) }
+{
+    4 * word as i32
+}
+
+/// An access to an address of data, whose low part is in the access.
+fn direct(address: u32, access: InstrKind) -> Draft
+    ensures { result ≡ Lui 31 (hi address) ∷ access ∷ [] }
+{
+    Draft::of(&[lui(X31, hi(address)), access])
+}
+
+/// The same behind a masked index.
+fn indexed(index: Reg, mask: u32, address: u32, access: InstrKind) -> Draft
+    requires { mask ≤ 2047 }
+    ensures { result ≡ indexed index mask address ++ (access ∷ []) }
+{
+    Draft::of(&[
+        andi(X31, index, mask as i32),
+        lui(X30, hi(address)),
+        add(X31, X31, X30),
+        access,
+    ])
+}
+
+/// The same where the mask has no place in an instruction.
+fn far_indexed(item: &Item, address: u32) -> Draft
+    requires { IsWide item.now.op }
+    ensures { result ≡ wide item.now.op address }
+{
+    let mut draft = Draft::of(&[]);
+    for instr in &data_far::wide(item, address)[..] {
+        draft.push(instr.kind());
+    }
+    draft
+}
+
+/// A branch at `at`, which is long or not.
+fn branch(long: bool, kind: BranchKind, a: Reg, b: Reg, at: u32, target: u32) -> Draft
+    requires { HasRoom long at target }
+    ensures { result ≡ branches long kind a b at target }
+{
+    if !long {
+        return one(test(kind, a, b, distance(at, target)));
+    }
+    let next = at + 24;
+    Draft::of(&[
+        lui(X31, hi(next)),
+        addi(X31, X31, lo(next)),
+        test(opposite(kind), a, b, 12),
+        lui(X31, hi(target)),
+        addi(X31, X31, lo(target)),
+        jalr(ZERO, X31, 0),
+    ])
+}
+
+/// The call, at `at`, of a function with so many words of frame.
+fn call(at: u32, words: u32, target: u32) -> Draft
+    requires few { words ≤ 32 }
+    requires at_in { at < 2 ^ 31 + 2 ^ 22 }
+    requires near { Signed 21 (distance (at + 4 * (words + 3)) target) }
+    ensures { result ≡ calls at words target }
+{
+    let mut draft = one(addi(X2, X2, -4 - frame_offset(words)));
+    for word in 0..words {
+        draft.push(sw(ZERO, X2, frame_offset(word)));
+    }
+    draft.push(auipc(X31, 0));
+    draft.push(sw(X31, X2, frame_offset(words)));
+    draft.push(jal(ZERO, distance(at + 4 * (words + 3), target)));
+    draft
+}
+
+/// The way back from a function with so many words of frame.
+fn way_back(words: u32) -> Draft
+    requires { words ≤ 32 }
+    ensures { result ≡ Lw 31 2 (pos (4 * words)) ∷ Addi 2 2 (pos (4 + 4 * words)) ∷ Jalr 0 31 (pos 12) ∷ [] }
+{
+    Draft::of(&[
+        lw(X31, X2, frame_offset(words)),
+        addi(X2, X2, 4 + frame_offset(words)),
+        jalr(ZERO, X31, 12),
+    ])
+}
+
+/// The mask of a service in x30, where it has one.
+fn mask_of(service: Service, mask: u32) -> Draft
+    ensures is { result ≡ mask_of service mask }
+    ensures few { length result ≤ 2 }
+{
+    match service {
+        Service::SetEvent | Service::ClearEvent | Service::WaitEvent => {
+            Draft::of(&[lui(X30, hi(mask)), addi(X30, X30, lo(mask))])
+        }
+        Service::ActivateTask
+        | Service::TerminateTask
+        | Service::ChainTask
+        | Service::Schedule
+        | Service::GetTaskID
+        | Service::GetTaskState
+        | Service::GetResource
+        | Service::ReleaseResource
+        | Service::GetEvent => Draft::of(&[]),
+    }
+}
+
+/// The jump, from `at` on, to the block of a service.
+fn serve(call: Call, at: u32, places: &Places) -> Draft
+    requires at_in { at < 2 ^ 31 + 2 ^ 22 }
+    requires near { Signed 21 (distance (at + 4 * length (mask_of call.service call.mask)) (block_address places.now call.service call.object)) }
+    ensures { result ≡ served places.now call at }
+{
+    let mut draft = mask_of(call.service, call.mask);
+    let from = at + 4 * mask_length(call.service);
+    let block = block_address(places, call.service, call.object);
+    draft.push(jal(X31, distance(from, block)));
+    draft
+}
+
+/// The instructions of an item of a function, at its address, where a branch is long or not.
+pub fn draft(item: &Item, func: u32, at: u32, long: bool, app: &App, places: &Places) -> Draft
+    requires { Fits app.now places.now func at long item.now.op }
+    ensures { result ≡ expanded app.now places.now func at long item.now.op }
+{
+    match item.op {
+        Op::Alu { kind, rd, rs1, rs2 } => one(register_operation(kind, rd, rs1, rs2)),
+        Op::AluImm { kind, rd, rs1, imm } => one(number_operation(kind, rd, rs1, imm)),
+        Op::Lui { rd, imm } => one(lui(rd, imm)),
+        Op::Li { rd, value } => Draft::of(&[lui(X31, hi(value)), addi(rd, X31, lo(value))]),
+        Op::FrameLoad { rd, word } => one(lw(rd, X2, frame_offset(word))),
+        Op::FrameStore { rs, word } => one(sw(rs, X2, frame_offset(word))),
+        Op::Load {
+            width,
+            rd,
+            symbol,
+            offset,
+        } => {
+            let address = symbol_address(places, symbol) + offset;
+            direct(address, load(width, rd, X31, lo(address)))
+        }
+        Op::Store {
+            width,
+            rs,
+            symbol,
+            offset,
+        } => {
+            let address = symbol_address(places, symbol) + offset;
+            direct(address, store(width, rs, X31, lo(address)))
+        }
+        Op::LoadAt {
+            width,
+            rd,
+            symbol,
+            index,
+            mask,
+        } => {
+            let address = symbol_address(places, symbol);
+            if mask <= NEAR_MASK {
+                indexed(index, mask, address, load(width, rd, X31, lo(address)))
+            } else {
+                far_indexed(item, address)
+            }
+        }
+        Op::StoreAt {
+            width,
+            rs,
+            symbol,
+            index,
+            mask,
+        } => {
+            let address = symbol_address(places, symbol);
+            if mask <= NEAR_MASK {
+                indexed(index, mask, address, store(width, rs, X31, lo(address)))
+            } else {
+                far_indexed(item, address)
+            }
+        }
+        Op::Branch {
+            kind,
+            rs1,
+            rs2,
+            label,
+        } => {
+            branch(
+                long,
+                kind,
+                rs1,
+                rs2,
+                at,
+                label_address(app, places, func, label),
+            )
+        }
+        Op::Jump { label } => {
+            one(jal(ZERO, distance(at, label_address(app, places, func, label))))
+        }
+        Op::Invoke { func } => call(at, frame_words(app, func), item_address(places, func.0, 0)),
+        Op::Return => way_back(frame_words(app, FuncId(func))),
+        Op::Serve(call) => serve(call, at, places),
+    }
+}
