@@ -1,0 +1,14 @@
+use Rattle.std.proofs.Common.{◌≡◌, ◌≤◌, ◌*◌, take, count_by}
+use Rattle.std.specs.List.{sum_by}
+use Rattle.sloth_refusal.proofs.Kept.{Loop}
+use Rattle.asm_names.specs.Said.{is_data}
+use Rattle.asm_names.specs.NameFaults.{bytes_of, DataFault}
+use Rattle.asm_names.proofs.data_faults.data_faults.Given as goal
+
+abbrev pub invariant-loop-n : goal.invariant-loop-n
+invariant-loop-n l = record {
+  finds : Loop DataFault l.lines l.n l.least;
+  counted : l.count ≡ count_by is_data (take l.n l.lines);
+  summed : l.bytes ≡ sum_by bytes_of (take l.n l.lines);
+  few : l.bytes ≤ 65535 * l.n;
+}

@@ -1,0 +1,4 @@
+pub mod Said
+pub mod Scopes
+pub mod Bodies
+pub mod NameFaults

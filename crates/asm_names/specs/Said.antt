@@ -1,0 +1,85 @@
+-- What a line of task source says: what it declares, and the names that it writes.
+use Rattle.std.specs.Prelude.{ℕ, ℤ, pos, negsuc, Bool, true, false, not, ◌&&◌, nat_le, if◌then◌else◌, List, [], ◌∷◌, map, filter, Option, Some, None}
+use Rattle.sloth_base.specs.declared.service.Service.{Service}
+use Rattle.sloth_base.specs.declared.service.Service.TheVariants as service
+use Rattle.asm_lines.specs.declared.operands.Operand.{Operand}
+use Rattle.asm_lines.specs.declared.operands.Operand.TheVariants as o
+use Rattle.asm_lines.specs.declared.source_line.SourceLine.{SourceLine}
+use Rattle.asm_lines.specs.declared.source_line.SourceLine.TheVariants.{Statement}
+use Rattle.asm_lines.specs.declared.table.Mnemonic.{Mnemonic}
+use Rattle.asm_lines.specs.declared.table.Mnemonic.TheVariants as m
+use Rattle.asm_lines.specs.Table.{opens, closes}
+
+abbrev pub is_data : SourceLine → Bool
+is_data (Statement m.Data os) = true
+is_data _ = false
+
+abbrev pub opens_body : SourceLine → Bool
+opens_body (Statement m os) = opens m
+opens_body _ = false
+
+abbrev pub closes_body : SourceLine → Bool
+closes_body (Statement m os) = closes m
+closes_body _ = false
+
+-- the header of a task's body
+abbrev pub is_task : SourceLine → Bool
+is_task (Statement m.Task os) = true
+is_task _ = false
+
+abbrev pub is_label : SourceLine → Bool
+is_label (Statement m.Label os) = true
+is_label _ = false
+
+-- a statement of a body that does something
+abbrev pub does : Mnemonic → Bool
+does m.Data = false
+does m.Task = false
+does m.Func = false
+does m.End = false
+does m.Label = false
+does _ = true
+
+abbrev pub is_item : SourceLine → Bool
+is_item (Statement m os) = does m
+is_item _ = false
+
+-- the name in front of these operands
+abbrev pub first_name : List Operand → List ℕ
+first_name (o.Name name ∷ os) = name
+first_name _ = []
+
+-- the name that a line declares
+abbrev pub name_of : SourceLine → List ℕ
+name_of (Statement m os) = first_name os
+name_of _ = []
+
+-- a number from 0 to 65,535
+abbrev pub small : ℤ → ℕ
+small (pos n) = if nat_le n 65535 then n else 0
+small (negsuc n) = 0
+
+-- the number behind the name, 0 where there is none
+abbrev pub second_number : List Operand → ℕ
+second_number (name ∷ o.Number n ∷ os) = small n
+second_number _ = 0
+
+-- the size of a symbol, or the words of a frame
+abbrev pub number_of : SourceLine → ℕ
+number_of (Statement m os) = second_number os
+number_of _ = 0
+
+-- the name that an operand writes
+abbrev pub written : Operand → Option (List ℕ)
+written (o.Name name) = Some name
+written (o.Direct name offset) = Some name
+written (o.Indexed name index mask) = Some name
+written _ = None
+
+-- the names of the symbols that these lines declare, in order
+abbrev pub symbol_names : List SourceLine → List (List ℕ)
+symbol_names ls = map name_of (filter is_data ls)
+
+-- the names of the labels among these lines, in order
+abbrev pub label_names : List SourceLine → List (List ℕ)
+label_names ls = map name_of (filter is_label ls)

@@ -1,0 +1,150 @@
+//! A5 to A7 of bodies.
+ghost use Rattle.std.specs.Prelude.{◌≡◌, ◌+◌, ◌<◌, ◌≤◌, ◌^◌, take, length, ◌⊎◌, All, IfOk, bytes_eq};
+ghost use Rattle.std.specs.List.{list_any};
+ghost use Rattle.sloth_refusal.specs.Search.{Finds, Somewhere};
+ghost use Rattle.asm_names.specs.Said.{label_names};
+ghost use Rattle.asm_names.specs.Bodies.{BodyText, function_names};
+ghost use Rattle.asm_names.specs.NameFaults.{is_too_great, is_strange, is_misnamed, is_beyond, HeaderFault, InnerFault, LineFault, BodyFault};
+
+use crate::body::Body;
+use crate::limits::{count_item, count_items, count_label, has_long};
+use crate::said::{is_item, is_label, is_task, label_names, name_of, number_of};
+use crate::scope::Scope;
+use asm_lines::SourceLine;
+use sloth_base::memory::NoMemory;
+use sloth_base::refusal::{Code, Part, Refusal};
+use sloth_refusal::{merge, when};
+use std::alloc::Global;
+use text_pieces::names::Names;
+
+/// How many bodies a source may have.
+const BODIES: usize = 64;
+
+/// How many words a frame may have.
+const FRAME_WORDS: u32 = 32;
+
+/// How many items all bodies may have.
+const ITEMS: usize = 4096;
+
+fn is_too_great(count: usize, header: &SourceLine) -> bool
+    ensures { result ≡ is_too_great count header.now }
+{
+    count == BODIES || number_of(header) > FRAME_WORDS || has_long(header)
+}
+
+fn is_strange(scope: &Scope, header: &SourceLine) -> bool
+    ensures { result ≡ is_strange scope.now header.now }
+{
+    is_task(header) && !scope.tasks.has(name_of(header))
+}
+
+// The least fault of a header behind the first `count` bodies.
+fn header_fault(scope: &Scope, count: usize, number: u32, header: &SourceLine) -> Option<Refusal>
+    ensures { Finds (HeaderFault scope.now (take count scope.now.functions) count number header.now) result }
+{
+    let doubled = scope.functions.is_among_first(count, name_of(header));
+    let doubled = when(doubled, Part::Src, number, Code::A5);
+    let great = when(is_too_great(count, header), Part::Src, number, Code::A6);
+    let strange = when(is_strange(scope, header), Part::Src, number, Code::A7);
+    merge(doubled, merge(great, strange))
+}
+
+// Whether the line is a label of the name of one of the first `count`, or uses a name that nothing has.
+fn is_misnamed(scope: &Scope, labels: &Names, count: usize, line: &SourceLine) -> bool
+    ensures { result ≡ is_misnamed scope.now labels.now (take count labels.now) line.now }
+{
+    (is_label(line) && labels.is_among_first(count, name_of(line)))
+        || scope.has_unknown(labels, line)
+}
+
+fn is_beyond(items: usize, line: &SourceLine) -> bool
+    ensures { result ≡ is_beyond items line.now }
+{
+    (is_item(line) && items == ITEMS) || has_long(line)
+}
+
+// The least fault of a line behind the first `count` labels.
+fn inner_fault(
+    scope: &Scope,
+    labels: &Names,
+    count: usize,
+    items: usize,
+    number: u32,
+    line: &SourceLine,
+) -> Option<Refusal>
+    ensures { Finds (InnerFault scope.now labels.now (take count labels.now) items number line.now) result }
+{
+    let misnamed = when(
+        is_misnamed(scope, labels, count, line),
+        Part::Src,
+        number,
+        Code::A5,
+    );
+    let beyond = when(is_beyond(items, line), Part::Src, number, Code::A6);
+    merge(misnamed, beyond)
+}
+
+// The least fault of the lines of a body, whose header stands on line `number` behind so many items.
+fn line_faults(
+    scope: &Scope,
+    labels: &Names,
+    items: usize,
+    number: u32,
+    lines: &[SourceLine],
+) -> Option<Refusal>
+    requires few { number + length lines.now < 2 ^ 32 }
+    requires items { items + length lines.now < 2 ^ 64 }
+    requires labels { labels.now ≡ label_names lines.now }
+    ensures { Finds (Somewhere (LineFault scope.now labels.now items number) lines.now) result }
+{
+    let mut least = None;
+    let mut count = 0;
+    let mut items = items;
+    for (n, line) in lines.iter().enumerate() {
+        let number = number + n as u32 + 1;
+        let found = inner_fault(scope, labels, count, items, number, line);
+        least = merge(least, found);
+        count += count_label(line);
+        items += count_item(line);
+    }
+    least
+}
+
+// The least fault of a body behind the first `count` bodies, which have so many items.
+fn body_fault(
+    alloc: Global,
+    scope: &Scope,
+    count: usize,
+    items: usize,
+    body: &Body,
+) -> Result<Option<Refusal>, NoMemory>
+    requires few { body.now.line + length body.now.lines < 2 ^ 32 }
+    requires items { items + length body.now.lines < 2 ^ 64 }
+    ensures { IfOk result (λ found. Finds (λ r. HeaderFault scope.now (take count scope.now.functions) count body.now.line body.now.header r ⊎ Somewhere (LineFault scope.now (label_names body.now.lines) items body.now.line) body.now.lines r) found) }
+{
+    let labels = label_names(alloc, body.lines())?;
+    let of_header = header_fault(scope, count, body.line(), body.header());
+    let of_lines = line_faults(scope, &labels, items, body.line(), body.lines());
+    Ok(merge(of_header, of_lines))
+}
+
+/// The least fault of these bodies.
+pub fn body_faults(
+    alloc: Global,
+    scope: &Scope,
+    bodies: &[Body],
+) -> Result<Option<Refusal>, NoMemory>
+    requires few { length bodies.now < 2 ^ 32 }
+    requires short { All (λ body. body.line + length body.lines < 2 ^ 32) bodies.now }
+    requires functions { scope.now.functions ≡ function_names bodies.now }
+    ensures { IfOk result (λ found. Finds (Somewhere (BodyFault scope.now) bodies.now) found) }
+{
+    let mut least = None;
+    let mut items = 0;
+    for (n, body) in bodies.iter().enumerate() {
+        let found = body_fault(alloc, scope, n, items, body)?;
+        least = merge(least, found);
+        items += count_items(body.lines());
+    }
+    Ok(least)
+}

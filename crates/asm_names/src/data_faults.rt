@@ -1,0 +1,71 @@
+//! A5 and A6 of symbols.
+ghost use Rattle.std.specs.Prelude.{◌≡◌, ◌<◌, ◌≤◌, ◌^◌, take, length};
+ghost use Rattle.sloth_refusal.specs.Search.{Finds, Somewhere};
+ghost use Rattle.asm_names.specs.Said.{symbol_names};
+ghost use Rattle.asm_names.specs.NameFaults.{is_taken, is_too_much, SymbolFault, DataFault};
+
+use crate::limits::{bytes_of, count_data, has_long};
+use crate::said::{is_data, name_of, number_of};
+use asm_lines::SourceLine;
+use sloth_base::refusal::{Code, Part, Refusal};
+use sloth_refusal::{merge, when};
+use text_pieces::bytes::same;
+use text_pieces::names::Names;
+
+/// How many symbols a source may have.
+const SYMBOLS: usize = 256;
+
+/// How many bytes all symbols may have.
+const SYMBOL_BYTES: usize = 32_768;
+
+// Whether a symbol takes the name of one of the first `count`, or `frame`.
+fn is_taken(symbols: &Names, count: usize, line: &SourceLine) -> bool
+    ensures { result ≡ is_taken (take count symbols.now) line.now }
+{
+    let name = name_of(line);
+    is_data(line) && (symbols.is_among_first(count, name) || same(name, b"frame"))
+}
+
+fn is_too_much(count: usize, bytes: usize, line: &SourceLine) -> bool
+    requires { bytes < 2 ^ 63 }
+    ensures { result ≡ is_too_much count bytes line.now }
+{
+    is_data(line)
+        && (count == SYMBOLS || bytes + number_of(line) as usize > SYMBOL_BYTES || has_long(line))
+}
+
+// The least fault of a line behind the first `count` symbols.
+fn symbol_fault(
+    symbols: &Names,
+    count: usize,
+    bytes: usize,
+    number: u32,
+    line: &SourceLine,
+) -> Option<Refusal>
+    requires { bytes < 2 ^ 63 }
+    ensures { Finds (SymbolFault (take count symbols.now) count bytes number line.now) result }
+{
+    let taken = when(is_taken(symbols, count, line), Part::Src, number, Code::A5);
+    let too_much = when(is_too_much(count, bytes, line), Part::Src, number, Code::A6);
+    merge(taken, too_much)
+}
+
+/// The least fault of the symbols that these lines declare.
+pub fn data_faults(symbols: &Names, lines: &[SourceLine]) -> Option<Refusal>
+    requires few { length lines.now < 2 ^ 32 }
+    requires symbols { symbols.now ≡ symbol_names lines.now }
+    ensures { Finds (Somewhere DataFault lines.now) result }
+{
+    let mut least = None;
+    let mut count = 0;
+    let mut bytes = 0;
+    for (n, line) in lines.iter().enumerate() {
+        least = merge(
+            least,
+            symbol_fault(symbols, count, bytes, n as u32 + 1, line),
+        );
+        count += count_data(line);
+        bytes += bytes_of(line);
+    }
+    least
+}
