@@ -34,7 +34,8 @@ pub record IsAddition (text name : List ℕ) (result operand : ℕ) (number : �
 -- the items of an addition and of the end of the task
 abbrev pub one_items : ℕ → ℕ → ℤ → List Item
 one_items result operand number =
-    (record { line = 2; op = op.AluImm kind.Addi result operand number }) ∷ (record { line = 3; op = op.Serve (record { service = service.TerminateTask; object = 0; mask = 0 }) }) ∷ []
+    (record { line = 2; op = op.AluImm kind.Addi result operand number })
+    ∷ (record { line = 3; op = op.Serve (record { service = service.TerminateTask; object = 0; mask = 0 }) }) ∷ []
 
 -- one body with these items
 abbrev pub one_body : List ℕ → ℕ → ℕ → ℤ → App

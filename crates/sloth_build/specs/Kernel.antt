@@ -18,7 +18,7 @@ use Rattle.service_gen.specs.TerminateTask.{Terminates}
 use Rattle.sloth_build.specs.declared.kernel.Kernel.{Kernel}
 use Rattle.sloth_build.specs.Marks.{item_marks}
 use Rattle.sloth_build.specs.Memory.{placed}
-use Rattle.sloth_build.specs.Where.{kernel_map}
+use Rattle.sloth_build.specs.Where.{kernel_map, offset_of, vectors, boot, idle, prologue, terminate_task, addition}
 
 -- an addition, and behind it the jump back to the block of TerminateTask
 abbrev pub item_code : ℕ → ℕ → ℤ → List InstrKind
@@ -26,7 +26,7 @@ item_code result operand number = Addi result operand number ∷ Jal 31 (negsuc 
 
 -- the block of the one body's items
 abbrev pub items_block : ℕ → ℕ → ℤ → Block
-items_block result operand number = record { at = 0x8000_06ac; code = item_code result operand number; marks = item_marks result }
+items_block result operand number = record { at = addition; code = item_code result operand number; marks = item_marks result }
 
 -- each piece of code has its effect
 pub record IsKernel (config : Config) (app : App) (kernel : Kernel) : Type 0 where
@@ -56,16 +56,18 @@ pub record StandsAt (address most : ℕ) (under : List Mark) (block : Block) : T
 
 -- where each piece stands
 pub record ArePlaced (kernel : Kernel) : Type 0 where
-  pub vectors : StandsAt 0x8000_0400 32 [] kernel.vectors
-  pub boot : StandsAt 0x8000_0480 14 [] kernel.boot
-  pub idle : StandsAt 0x8000_04b8 1 (idle_mark 0x8000_04b8 ∷ []) kernel.idle
-  pub prologue : StandsAt 0x8000_04bc 74 [] kernel.prologue
-  pub terminate_task : StandsAt 0x8000_05e4 50 (opening 0x8000_05e4 1 ∷ []) kernel.terminate_task
+  pub vectors : StandsAt vectors 32 [] kernel.vectors
+  pub boot : StandsAt boot 14 [] kernel.boot
+  pub idle : StandsAt idle 1 (idle_mark idle ∷ []) kernel.idle
+  pub prologue : StandsAt prologue 74 [] kernel.prologue
+  pub terminate_task : StandsAt terminate_task 50 (opening terminate_task 1 ∷ []) kernel.terminate_task
 
 -- memory with the code in the order of its addresses, and zeros where there is none
 abbrev pub kernel_memory : Kernel → List ℕ
 kernel_memory kernel =
-    placed
-    (placed
-    (placed (placed (placed (placed [] 0x400 kernel.vectors.code) 0x480 kernel.boot.code) 0x4b8 kernel.idle.code) 0x4bc kernel.prologue.code) 0x5e4
-    kernel.terminate_task.code) 0x6ac kernel.items.code
+    let one = placed [] (offset_of vectors) kernel.vectors.code in
+    let two = placed one (offset_of boot) kernel.boot.code in
+    let three = placed two (offset_of idle) kernel.idle.code in
+    let four = placed three (offset_of prologue) kernel.prologue.code in
+    let five = placed four (offset_of terminate_task) kernel.terminate_task.code in
+    placed five (offset_of addition) kernel.items.code

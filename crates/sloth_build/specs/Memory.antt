@@ -1,4 +1,4 @@
--- Code in memory. An offset is an address less 0x80000000.
+-- Code in memory. An offset is counted from where memory begins.
 use Rattle.std.specs.Prelude.{ℕ, ◌-◌, List, [], ◌∷◌, ◌++◌, length, replicate}
 use Rattle.std.specs.Int.{to_le_bytes, w32}
 use Rattle.rv32_instr.specs.declared.InstrKind.{InstrKind}

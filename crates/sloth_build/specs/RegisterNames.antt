@@ -1,5 +1,6 @@
 -- Names of registers in task code.
-use Rattle.std.specs.Prelude.{ℕ, ◌≡◌, ◌≤◌, ◌+◌, ◌==◌, nat_le, ◌&&◌, ◌||◌, if◌then◌else◌, List, ◌∷◌, Option, Some, None, codes, decimal, ◌⊎◌}
+use Rattle.std.specs.Prelude.{ℕ, ◌≡◌, ◌≤◌, ◌+◌, ◌==◌, nat_le, ◌&&◌, ◌||◌, if◌then◌else◌}
+use Rattle.std.specs.Prelude.{List, ◌∷◌, Option, Some, None, codes, decimal, ◌⊎◌}
 
 -- the register that a letter and a number name, where task code may use it (RISC-V unprivileged manual, assembly names)
 abbrev pub numbered : ℕ → ℕ → Option ℕ

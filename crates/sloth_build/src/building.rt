@@ -146,10 +146,7 @@ pub fn build(alloc: Global, oil: &[u8], src: &[u8]) -> Result<Built, BuildError>
     ensures functions { IfOk result (λ built. built.image.funcs ≡ map (λ f. f.name) built.app.funcs) }
     ensures refused { IfErr result (ErrorIs oil.now src.now) }
 {
-    let config = match read_config(alloc, oil) {
-        Ok(config) => config,
-        Err(error) => return Err(error),
-    };
+    let config = read_config(alloc, oil)?;
     let Some(task) = one_task(&config) else {
         return Err(not_built(Part::Oil));
     };

@@ -1,5 +1,5 @@
 //! The image of a kernel with one task.
-ghost use Rattle.std.specs.Prelude.{◌≡◌, ◌<◌, IfOk, [], ◌∷◌, ◌++◌};
+ghost use Rattle.std.specs.Prelude.{◌≡◌, ◌<◌, IfOk, OnOk, [], ◌∷◌, ◌++◌};
 ghost use Rattle.sloth_base.specs.ConfigRange.{InRange};
 ghost use Rattle.sloth_base.specs.ImageRange.{IsName, InFormat};
 ghost use Rattle.rv32_instr.specs.Range.{Signed};
@@ -8,10 +8,10 @@ ghost use Rattle.sim_induction.specs.Sound.{Sound};
 ghost use Rattle.sim_items.specs.Place.{IsOwn};
 ghost use Rattle.sloth_build.specs.OilText.{IsOneTask};
 ghost use Rattle.sloth_build.specs.Form.{one_body};
-ghost use Rattle.sloth_build.specs.Kernel.{ArePlaced, items_block, kernel_memory};
-ghost use Rattle.sloth_build.specs.Marks.{kernel_marks};
+ghost use Rattle.sloth_build.specs.Kernel.{ArePlaced, AreInRange, kernel_memory};
+ghost use Rattle.sloth_build.specs.Where.{addition};
 
-use crate::kernel::{Kernel, are_in_range, generate_kernel};
+use crate::kernel::{Kernel, generate_kernel};
 use crate::list::one;
 use crate::placing::place;
 use crate::source::Addition;
@@ -25,8 +25,9 @@ use std::alloc::{AllocError, Global};
 
 // The service words, which are all zero, and the code behind them.
 fn memory(alloc: Global, kernel: &Kernel) -> Result<Vec<u8>, AllocError>
-    requires { ArePlaced kernel.now × (kernel.now.items.at ≡ 0x800006ac) }
-    ensures { IfOk result (λ memory. memory.items ≡ kernel_memory kernel.now) }
+    requires { ArePlaced kernel.now × (kernel.now.items.at ≡ addition) }
+    ensures bytes { IfOk result (λ memory. memory.items ≡ kernel_memory kernel.now) }
+    ensures range { OnOk result (AreInRange kernel.now) }
 {
     let mut memory = Vec::new(alloc);
     place(&mut memory, &kernel.vectors)?;
@@ -40,7 +41,8 @@ fn memory(alloc: Global, kernel: &Kernel) -> Result<Vec<u8>, AllocError>
 
 // The marks, in the order of their addresses.
 fn marks(alloc: Global, kernel: &Kernel) -> Result<Vec<Mark>, AllocError>
-    ensures { IfOk result (λ marks. marks.items ≡ kernel.now.idle.marks ++ (kernel.now.terminate_task.marks ++ kernel.now.items.marks)) }
+    ensures { IfOk result (λ marks. marks.items ≡
+        kernel.now.idle.marks ++ (kernel.now.terminate_task.marks ++ kernel.now.items.marks)) }
 {
     let mut marks = Vec::from_slice(alloc, kernel.idle.marks.items())?;
     marks.extend_from_slice(kernel.terminate_task.marks.items())?;
@@ -75,7 +77,6 @@ pub fn image(
     ensures functions { IfOk result (λ image. image.funcs ≡ task.now.name ∷ []) }
 {
     let kernel = generate_kernel(alloc, config, app, add)?;
-    are_in_range(&kernel);
     Ok(Image {
         tasks: names(alloc, task.name.bytes())?,
         funcs: names(alloc, task.name.bytes())?,

@@ -7,13 +7,12 @@ ghost use Rattle.sloth_build.specs.OilText.{IsOneTask};
 ghost use Rattle.sloth_build.specs.Form.{one_body};
 ghost use Rattle.sloth_build.specs.Marks.{mark_of};
 ghost use Rattle.sloth_build.specs.Where.{kernel_map};
-ghost use Rattle.sloth_build.specs.Kernel.{items_block, IsKernel, AreInRange, ArePlaced};
+ghost use Rattle.sloth_build.specs.Kernel.{items_block, IsKernel, ArePlaced};
 
 use crate::source::Addition;
-use crate::where_all_stands::{ITEMS, TERMINATE_TASK, kernel_map};
+use crate::where_all_stands::{ITEMS, JUMP, TERMINATE_TASK, kernel_map};
 use prio_levels::assign;
 use prologue_gen::prologue;
-use rv32_instr::block::in_range;
 use rv32_instr::{Block, InstrKind};
 use rv32_routine::emit::emit;
 use service_gen::block;
@@ -40,15 +39,6 @@ pub struct Kernel {
     pub items: Block,
 }
 
-// The levels, which are below 32.
-fn levels(config: &Config) -> Levels
-    requires { InRange config.now }
-    ensures are { AreLevels config.now result }
-    ensures small { (result.top < 32) × ((t : ℕ) → slice_index result.task t < 32) }
-{
-    assign(config)
-}
-
 // The items and their marks: the addition, and the jump to TerminateTask.
 fn items(alloc: Global, add: Addition) -> Result<Block, NoMemory>
     requires { (add.rd < 32) × (add.rs1 < 32) × Signed 12 add.imm }
@@ -63,13 +53,13 @@ fn items(alloc: Global, add: Addition) -> Result<Block, NoMemory>
         },
         InstrKind::Jal {
             rd: Reg(31),
-            imm: -((ITEMS + 4 - TERMINATE_TASK) as i32),
+            imm: -((JUMP - TERMINATE_TASK) as i32),
         },
     ];
     emit(&mut code, &kinds)?;
     let marks = [
         mark(ITEMS, MarkKind::Item, add.rd, 0),
-        mark(ITEMS + 4, MarkKind::Jump, 1, 1),
+        mark(JUMP, MarkKind::Jump, 1, 1),
     ];
     Ok(Block {
         at: ITEMS,
@@ -89,18 +79,6 @@ fn mark(address: u32, kind: MarkKind, a: u8, c: u32) -> Mark
         b: 0,
         c,
     }
-}
-
-/// The law that each instruction of a kernel has a word.
-pub fn are_in_range(kernel: &Kernel)
-    ensures { AreInRange kernel.now }
-{
-    in_range(kernel.vectors.code.items());
-    in_range(kernel.boot.code.items());
-    in_range(kernel.idle.code.items());
-    in_range(kernel.prologue.code.items());
-    in_range(kernel.terminate_task.code.items());
-    in_range(kernel.items.code.items());
 }
 
 // The code, by the levels and the map.
@@ -147,5 +125,5 @@ pub fn generate_kernel(
     ensures items { IfOk result (λ kernel. kernel.items ≡ items_block add.rd add.rs1 add.imm) }
 {
     let map = kernel_map(alloc)?;
-    blocks(alloc, config, app, add, &levels(config), &map)
+    blocks(alloc, config, app, add, &assign(config), &map)
 }

@@ -1,6 +1,8 @@
 //! Code that is placed in memory.
-ghost use Rattle.std.specs.Prelude.{◌≡◌, ◌≤◌, ◌+◌, ◌-◌, ◌++◌, OnOk, length};
+ghost use Rattle.std.specs.Prelude.{◌≡◌, ◌≤◌, ◌+◌, ◌-◌, ◌++◌, OnOk, length, All};
+ghost use Rattle.rv32_instr.specs.Range.{InRange};
 ghost use Rattle.sloth_build.specs.Memory.{code_bytes, placed};
+ghost use Rattle.sloth_build.specs.Where.{base, offset_of};
 
 use rv32_instr::{Block, Instr, encode};
 use std::alloc::AllocError;
@@ -10,7 +12,8 @@ const BASE: u32 = 0x8000_0000;
 
 // Appends the words of these instructions.
 fn append(memory: &mut Vec<u8>, code: &[Instr]) -> Result<(), AllocError>
-    ensures { OnOk result (memory.new.items ≡ memory.old.items ++ code_bytes code.now) }
+    ensures bytes { OnOk result (memory.new.items ≡ memory.old.items ++ code_bytes code.now) }
+    ensures range { OnOk result (All InRange code.now) }
 {
     for instr in code {
         memory.extend_from_slice(&encode(*instr).to_le_bytes())?;
@@ -18,10 +21,11 @@ fn append(memory: &mut Vec<u8>, code: &[Instr]) -> Result<(), AllocError>
     Ok(())
 }
 
-/// Appends the code of a block at its address, behind zeros.
+/// Appends the code of a block at its address, behind zeros. Each of its instructions has a word.
 pub fn place(memory: &mut Vec<u8>, block: &Block) -> Result<(), AllocError>
-    requires { 0x80000000 + length memory.old.items ≤ block.now.at }
-    ensures { OnOk result (memory.new.items ≡ placed memory.old.items (block.now.at - 0x80000000) block.now.code) }
+    requires { base + length memory.old.items ≤ block.now.at }
+    ensures bytes { OnOk result (memory.new.items ≡ placed memory.old.items (offset_of block.now.at) block.now.code) }
+    ensures range { OnOk result (All InRange block.now.code) }
 {
     memory.resize((block.at - BASE) as usize, 0)?;
     append(memory, block.code.items())

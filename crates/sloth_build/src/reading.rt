@@ -18,14 +18,8 @@ fn read_tree(alloc: Global, text: &[u8]) -> Result<OilTree, BuildError>
     ensures tree { IfOk result (HasTree text.now) }
     ensures refused { IfErr result (OilErrorIs text.now) }
 {
-    let tokens = match tokens(alloc, text) {
-        Ok(tokens) => tokens,
-        Err(error) => return Err(error),
-    };
-    match parse(alloc, tokens.as_slice()) {
-        Ok(tree) => Ok(tree),
-        Err(error) => Err(error),
-    }
+    let tokens = tokens(alloc, text)?;
+    parse(alloc, tokens.as_slice())
 }
 
 /// Reads an OIL text of at most 4,294,967,294 bytes (OIL 2.5): its configuration, or the least fault of its tokens (O1 to O3), or
@@ -36,12 +30,6 @@ pub fn read_config(alloc: Global, text: &[u8]) -> Result<Config, BuildError>
     ensures in_range { IfOk result InRange }
     ensures refused { IfErr result (OilErrorIs text.now) }
 {
-    let tree = match read_tree(alloc, text) {
-        Ok(tree) => tree,
-        Err(error) => return Err(error),
-    };
-    match resolve(alloc, &tree) {
-        Ok(config) => Ok(config),
-        Err(error) => Err(error),
-    }
+    let tree = read_tree(alloc, text)?;
+    resolve(alloc, &tree)
 }

@@ -44,7 +44,10 @@ fn print(alloc: Global, name: &[u8], words: &Words) -> Result<Vec<u8>, NoMemory>
 
 // The words that stand where the operands do, if the text is of the form.
 fn guess<'a>(text: &'a [u8], name: &[u8]) -> Words<'a>
-    ensures { (result_name operand_name : List ℕ) (a b : ℕ) (number : ℤ) → IsRegister result_name a → IsRegister operand_name b → negsuc 2047 ≤ℤ number → number ≤ℤ pos 2047 → text.now ≡ source_text name.now result_name operand_name (signed_decimal number) → (result.result.now ≡ result_name) × (result.operand.now ≡ operand_name) × (result.number.now ≡ signed_decimal number) }
+    ensures { (result_name operand_name : List ℕ) (a b : ℕ) (number : ℤ) →
+        IsRegister result_name a → IsRegister operand_name b → negsuc 2047 ≤ℤ number → number ≤ℤ pos 2047 →
+        text.now ≡ source_text name.now result_name operand_name (signed_decimal number) →
+        (result.result.now ≡ result_name) × (result.operand.now ≡ operand_name) × (result.number.now ≡ signed_decimal number) }
 {
     let rest = after(after(after(text, TASK.len()), name.len()), ADDI.len());
     let result = until(rest, b',');
@@ -71,9 +74,12 @@ pub struct Addition {
 
 // The addition of these words.
 fn read_operands(words: &Words) -> Option<Addition>
-    ensures some { IfSome result (λ add. IsRegister words.now.result.now add.rd × IsRegister words.now.operand.now add.rs1 × (words.now.number.now ≡ signed_decimal add.imm)) }
+    ensures some { IfSome result (λ add. IsRegister words.now.result.now add.rd × IsRegister words.now.operand.now add.rs1
+        × (words.now.number.now ≡ signed_decimal add.imm)) }
     ensures range { IfSome result (λ add. (negsuc 2047 ≤ℤ add.imm) × (add.imm ≤ℤ pos 2047) × (add.rd < 32) × (add.rs1 < 32)) }
-    ensures none { IfNone result ((a b : ℕ) (number : ℤ) → IsRegister words.now.result.now a → IsRegister words.now.operand.now b → negsuc 2047 ≤ℤ number → number ≤ℤ pos 2047 → words.now.number.now ≡ signed_decimal number → ⊥) }
+    ensures none { IfNone result ((a b : ℕ) (number : ℤ) →
+        IsRegister words.now.result.now a → IsRegister words.now.operand.now b → negsuc 2047 ≤ℤ number → number ≤ℤ pos 2047 →
+        words.now.number.now ≡ signed_decimal number → ⊥) }
 {
     let Some(rd) = register(words.result) else {
         return None;

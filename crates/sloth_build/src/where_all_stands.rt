@@ -9,18 +9,25 @@ use sloth_region::extent::Extent;
 use sloth_region::map::Map;
 use std::alloc::{AllocError, Global};
 
+/// The bytes of an instruction.
+const INSTRUCTION: u32 = 4;
+
 /// Where the vector words stand.
 const VECTORS: u32 = 0x8000_0400;
-/// The idle loop. Boot stands before it, with at most 14 instructions.
-const IDLE: u32 = 0x8000_0480 + 4 * 14;
-/// The prologue of the task.
-const PROLOGUE: u32 = IDLE + 4;
-/// The block of TerminateTask.
-pub const TERMINATE_TASK: u32 = PROLOGUE + 4 * 74;
-/// The task's items.
-pub const ITEMS: u32 = TERMINATE_TASK + 4 * 50;
+/// Boot, of at most 14 instructions.
+const BOOT: u32 = 0x8000_0480;
+/// The idle loop, of one instruction.
+const IDLE: u32 = BOOT + 14 * INSTRUCTION;
+/// The prologue of the task, of at most 74 instructions.
+const PROLOGUE: u32 = IDLE + INSTRUCTION;
+/// The block of TerminateTask, of at most 50 instructions.
+pub const TERMINATE_TASK: u32 = PROLOGUE + 74 * INSTRUCTION;
+/// The task's first item, the addition.
+pub const ITEMS: u32 = TERMINATE_TASK + 50 * INSTRUCTION;
+/// The item behind it, the jump to the block of TerminateTask.
+pub const JUMP: u32 = ITEMS + INSTRUCTION;
 /// Where the code ends.
-const END: u32 = ITEMS + 8;
+const END: u32 = JUMP + INSTRUCTION;
 
 /// The service words, but for the first.
 const WORDS: Extent = Extent {
@@ -55,7 +62,7 @@ fn places(alloc: Global) -> Result<Places, AllocError>
     let mut blocks = [0; 512];
     blocks[BLOCK] = TERMINATE_TASK;
     Ok(Places {
-        items: list(alloc, &[ITEMS, ITEMS + 4])?,
+        items: list(alloc, &[ITEMS, JUMP])?,
         first: list(alloc, &[0])?,
         symbols: List::from_vec(Vec::new(alloc)),
         blocks,

@@ -6,13 +6,13 @@ use Rattle.sloth_build.proofs.building.build.Goals as goal
 pub returns-in-Ok-None-clause-refused : goal.returns-in-Ok-None-clause-refused
 returns-in-Ok-None-clause-refused c =
     let task = c.in-Some.ensures.some in
-    rw c.not_built-in-Ok-None.ensures (inr (inr (refl, no_code c.args.oil.now c.args.src.now c.in-Ok.config c.in-Some.task.now c.in-Ok.ensures.config task.0 task.1 task.2 (rw (c.bytes.ensures, c.in-Ok-None.field-0-is) at c.in-Ok-None.ensures.none))))
+    rw c.not_built-in-Ok-None.ensures (inr (inr (refl, no_code c.args.oil.now c.args.src.now c.in_ok-config.config c.in-Some.task.now c.in_ok-config.ensures.config task.0 task.1 task.2 (rw (c.bytes.ensures, c.in-Ok-None.field-0-is) at c.in-Ok-None.ensures.none))))
 
-pub returns-in-Ok-generate-clause-accepted : goal.returns-in-Ok-generate-clause-accepted
-returns-in-Ok-generate-clause-accepted c =
+pub returns-in-Ok-clause-accepted : goal.returns-in-Ok-clause-accepted
+returns-in-Ok-clause-accepted c =
     let task = c.in-Some.ensures.some in
-    accepts c.args.oil.now c.args.src.now c.in-Ok.config c.in-Ok-generate.field-0.app c.in-Some.task.now _ _ _ c.in-Ok.ensures.config task.0 task.1 task.2
-    (rw (c.bytes.ensures, c.in-Ok-Some.field-0-is) at c.in-Ok-Some.ensures.some) c.in-Ok-generate.ensures.app
+    accepts c.args.oil.now c.args.src.now c.in_ok-config.config c.in-Ok.field-0.app c.in-Some.task.now _ _ _ c.in_ok-config.ensures.config task.0 task.1 task.2
+    (rw (c.bytes.ensures, c.in-Ok-Some.field-0-is) at c.in-Ok-Some.ensures.some) c.in-Ok.ensures.app
 
 pub generate-requires-clause-one : goal.generate-requires-clause-one
 generate-requires-clause-one c =

@@ -21,7 +21,7 @@ returns-clause-format c =
     let kernel = c.in_ok-kernel.kernel in
     in-format (record { tasks = c.in_ok-names.field-0; funcs = c.in_ok-names-2.field-0; memory = c.from_vec.result; marks = c.from_vec-2.result }) c.args.task.now.name c.args.add.rd
     c.requires.name c.requires.range.0 (c.in_ok-names.ensures ∙ ap (λ n. n ∷ []) c.bytes.ensures) (c.in_ok-names-2.ensures ∙ ap (λ n. n ∷ []) c.bytes-2.ensures)
-    (ap length c.from_vec.ensures ∙ ap length c.in_ok-memory.ensures
+    (ap length c.from_vec.ensures ∙ ap length c.in_ok-memory.ensures.bytes
     ∙ memory_length kernel c.in_ok-kernel.ensures.places [] refl (ap (λ (b : Block). length b.code) c.in_ok-kernel.ensures.items))
     (c.from_vec-2.ensures ∙ c.in_ok-marks.ensures ∙ are_marks kernel _ _ _ c.in_ok-kernel.ensures.places c.in_ok-kernel.ensures.items)
 
@@ -31,8 +31,8 @@ returns-clause-sound c =
     let one = c.requires.one.0 in
     sound_of c.args.config.now c.args.app.now c.args.task.now.name c.args.add.rd c.args.add.rs1 c.args.add.imm c.requires.one.2 (ap length one.is) c.requires.own c.requires.range.2
     (record { tasks = c.in_ok-names.field-0; funcs = c.in_ok-names-2.field-0; memory = c.from_vec.result; marks = c.from_vec-2.result }) kernel
-    c.in_ok-kernel.ensures.places c.are_in_range.ensures c.in_ok-kernel.ensures.items c.in_ok-kernel.ensures.code
-    (c.from_vec.ensures ∙ c.in_ok-memory.ensures)
+    c.in_ok-kernel.ensures.places c.in_ok-memory.ensures.range c.in_ok-kernel.ensures.items c.in_ok-kernel.ensures.code
+    (c.from_vec.ensures ∙ c.in_ok-memory.ensures.bytes)
     (c.from_vec-2.ensures ∙ c.in_ok-marks.ensures ∙ are_marks kernel _ _ _ c.in_ok-kernel.ensures.places c.in_ok-kernel.ensures.items)
     (ap length c.in_ok-names.ensures)
 
@@ -41,8 +41,8 @@ returns-clause-items c =
     let kernel = c.in_ok-kernel.kernel in
     items_of c.args.app.now c.args.task.now.name c.args.add.rd c.args.add.rs1 c.args.add.imm c.requires.one.2
     (record { tasks = c.in_ok-names.field-0; funcs = c.in_ok-names-2.field-0; memory = c.from_vec.result; marks = c.from_vec-2.result }) kernel
-    c.in_ok-kernel.ensures.places c.are_in_range.ensures c.in_ok-kernel.ensures.items
-    (c.from_vec.ensures ∙ c.in_ok-memory.ensures)
+    c.in_ok-kernel.ensures.places c.in_ok-memory.ensures.range c.in_ok-kernel.ensures.items
+    (c.from_vec.ensures ∙ c.in_ok-memory.ensures.bytes)
     (c.from_vec-2.ensures ∙ c.in_ok-marks.ensures ∙ are_marks kernel _ _ _ c.in_ok-kernel.ensures.places c.in_ok-kernel.ensures.items)
     (c.in_ok-names.ensures ∙ ap (λ n. n ∷ []) c.bytes.ensures) (c.in_ok-names-2.ensures ∙ ap (λ n. n ∷ []) c.bytes-2.ensures)
     c.args.config.now (ap (λ (ts : List TaskDecl). map (λ (d : TaskDecl). d.name) ts) c.requires.one.0.is ∙ ap (λ (t : TaskDecl). t.name ∷ []) c.requires.one.1)

@@ -5,19 +5,19 @@ pub place-requires : goal.place-requires
 place-requires c = room_1 c.args.kernel.now c.requires.0 c.new-memory.result.items c.new-memory.ensures.items
 
 pub place-requires-2 : goal.place-requires-2
-place-requires-2 c = room_2 c.args.kernel.now c.requires.0 c.new-memory.result.items c.new-memory.ensures.items c.place.new.memory.items c.in_ok-place.ensures
+place-requires-2 c = room_2 c.args.kernel.now c.requires.0 c.new-memory.result.items c.new-memory.ensures.items c.place.new.memory.items c.in_ok-place.ensures.bytes
 
 pub place-requires-3 : goal.place-requires-3
-place-requires-3 c = room_3 c.args.kernel.now c.requires.0 c.new-memory.result.items c.new-memory.ensures.items c.place.new.memory.items c.in_ok-place.ensures c.place-2.new.memory.items c.in_ok-place-2.ensures
+place-requires-3 c = room_3 c.args.kernel.now c.requires.0 c.new-memory.result.items c.new-memory.ensures.items c.place.new.memory.items c.in_ok-place.ensures.bytes c.place-2.new.memory.items c.in_ok-place-2.ensures.bytes
 
 pub place-requires-4 : goal.place-requires-4
-place-requires-4 c = room_4 c.args.kernel.now c.requires.0 c.new-memory.result.items c.new-memory.ensures.items c.place.new.memory.items c.in_ok-place.ensures c.place-2.new.memory.items c.in_ok-place-2.ensures c.place-3.new.memory.items c.in_ok-place-3.ensures
+place-requires-4 c = room_4 c.args.kernel.now c.requires.0 c.new-memory.result.items c.new-memory.ensures.items c.place.new.memory.items c.in_ok-place.ensures.bytes c.place-2.new.memory.items c.in_ok-place-2.ensures.bytes c.place-3.new.memory.items c.in_ok-place-3.ensures.bytes
 
 pub place-requires-5 : goal.place-requires-5
-place-requires-5 c = room_5 c.args.kernel.now c.requires.0 c.new-memory.result.items c.new-memory.ensures.items c.place.new.memory.items c.in_ok-place.ensures c.place-2.new.memory.items c.in_ok-place-2.ensures c.place-3.new.memory.items c.in_ok-place-3.ensures c.place-4.new.memory.items c.in_ok-place-4.ensures
+place-requires-5 c = room_5 c.args.kernel.now c.requires.0 c.new-memory.result.items c.new-memory.ensures.items c.place.new.memory.items c.in_ok-place.ensures.bytes c.place-2.new.memory.items c.in_ok-place-2.ensures.bytes c.place-3.new.memory.items c.in_ok-place-3.ensures.bytes c.place-4.new.memory.items c.in_ok-place-4.ensures.bytes
 
 pub place-requires-6 : goal.place-requires-6
-place-requires-6 c = room_6 c.args.kernel.now c.requires.0 c.new-memory.result.items c.new-memory.ensures.items c.place.new.memory.items c.in_ok-place.ensures c.place-2.new.memory.items c.in_ok-place-2.ensures c.place-3.new.memory.items c.in_ok-place-3.ensures c.place-4.new.memory.items c.in_ok-place-4.ensures c.place-5.new.memory.items c.in_ok-place-5.ensures c.requires.1
+place-requires-6 c = room_6 c.args.kernel.now c.requires.0 c.new-memory.result.items c.new-memory.ensures.items c.place.new.memory.items c.in_ok-place.ensures.bytes c.place-2.new.memory.items c.in_ok-place-2.ensures.bytes c.place-3.new.memory.items c.in_ok-place-3.ensures.bytes c.place-4.new.memory.items c.in_ok-place-4.ensures.bytes c.place-5.new.memory.items c.in_ok-place-5.ensures.bytes c.requires.1
 
-pub returns : goal.returns
-returns c = is_memory c.args.kernel.now c.requires.0 c.new-memory.result.items c.new-memory.ensures.items c.place.new.memory.items c.in_ok-place.ensures c.place-2.new.memory.items c.in_ok-place-2.ensures c.place-3.new.memory.items c.in_ok-place-3.ensures c.place-4.new.memory.items c.in_ok-place-4.ensures c.place-5.new.memory.items c.in_ok-place-5.ensures c.requires.1 _ c.in_ok-place-6.ensures
+pub returns-clause-bytes : goal.returns-clause-bytes
+returns-clause-bytes c = is_memory c.args.kernel.now c.requires.0 c.new-memory.result.items c.new-memory.ensures.items c.place.new.memory.items c.in_ok-place.ensures.bytes c.place-2.new.memory.items c.in_ok-place-2.ensures.bytes c.place-3.new.memory.items c.in_ok-place-3.ensures.bytes c.place-4.new.memory.items c.in_ok-place-4.ensures.bytes c.place-5.new.memory.items c.in_ok-place-5.ensures.bytes c.requires.1 _ c.in_ok-place-6.ensures.bytes
