@@ -5,10 +5,11 @@ use Rattle.rv32_instr.specs.declared.InstrKind.{InstrKind}
 use Rattle.rv32_instr.specs.declared.InstrKind.TheVariants.{Addi}
 use Rattle.rv32_expand.specs.declared.draft.Expansion.{Expansion}
 
+-- an instruction that does nothing: `addi x0, x0, 0`
 abbrev pub nop : InstrKind
 nop = Addi 0 0 (pos 0)
 
--- `addi x0, x0, 0` stands behind them
+-- these instructions, and behind them ones that do nothing
 pub record IsCode (kinds : List InstrKind) (expansion : Expansion) : Type 0 where
   pub len : expansion.len ≡ length kinds
   pub code : expansion.code ≡ kinds ++ replicate (36 - length kinds) nop
