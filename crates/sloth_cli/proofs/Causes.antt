@@ -8,7 +8,9 @@ use Rattle.sloth_io.specs.Counts.{Rose}
 use Rattle.sloth_io.specs.Sink.{Output}
 use Rattle.sloth_io.specs.Store.{Files, KeepsFiles, fits}
 use Rattle.image_file.specs.ImageText.{image_bytes}
-use Rattle.sloth_build.specs.Form.{Accepted}
+use Rattle.sloth_base.specs.declared.refusal.BuildError.{BuildError}
+use Rattle.sloth_base.specs.declared.refusal.BuildError.TheVariants as error
+use Rattle.sloth_build.specs.Form.{Accepted, ErrorIs}
 use Rattle.sloth_cli.specs.Command.{Command, IsCommand}
 use Rattle.sloth_cli.specs.LastLine.{refusal_line}
 use Rattle.sloth_cli.specs.declared.top.Status.{Status}
@@ -17,7 +19,7 @@ use Rattle.sloth_cli.specs.declared.top.Failure.{Failure}
 use Rattle.sloth_cli.specs.declared.top.Failure.TheVariants as failure
 use Rattle.sloth_cli.specs.Top.{World, world, inputs_of, AreInputs, FilesStay, IsAccepted, IsImageOf}
 use Rattle.sloth_cli.specs.Top.{IsWritten, IsDone, Puts, BrokeOff, Answers, done_text}
-use Rattle.sloth_cli.specs.Failures.{ReadFailed, JudgeFailed, PerformFailed, CommandFailed, IsPerformed, Finished}
+use Rattle.sloth_cli.specs.Failures.{judge_failure, ReadFailed, JudgeFailed, PerformFailed, CommandFailed, IsPerformed, Finished}
 
 -- ---- a command
 
@@ -29,6 +31,10 @@ read-ends failure.NoMemory old new sink c h stay = (stay, refl)
 read-ends (failure.Refused r) old new sink c h stay = absurd h
 read-ends failure.WriteFile old new sink c h stay = absurd h
 read-ends failure.Put old new sink c h stay = absurd h
+
+pub build-ends : (error : BuildError) (oil src arr : List ℕ) → ErrorIs oil src error → JudgeFailed (judge_failure error) oil src arr
+build-ends (error.Refused refusal) oil src arr h = inl h
+build-ends error.Memory oil src arr h = tt
 
 pub judge-ends : (f : Failure) (old new : Files) (sink : Output) (c : Command) (oil src arr : List ℕ)
     → AreInputs old c oil src arr → JudgeFailed f oil src arr → FilesStay old new → CommandFailed f (world old sink) (world new sink) c
