@@ -18,7 +18,7 @@ use Rattle.sloth_cli.specs.Command.{Command, Run, IsCommand, NoCommand}
 use Rattle.sloth_cli.specs.declared.top.Status.{Status}
 use Rattle.sloth_cli.specs.declared.top.Status.TheVariants as status
 use Rattle.sloth_cli.specs.Top.{World, input_limit, arrivals_named, inputs_of, FirstUnread, AreInputs, HoldsArrivals, AreThere, IsFailedRead, IsLongRead}
-use Rattle.sloth_cli.specs.Top.{IsRefusal, IsRefused, IsAccepted, IsImageOf, IsDone, IsFailedWrite, Requires, Puts, Took, BrokeOff, Stands, Answers}
+use Rattle.sloth_cli.specs.Top.{IsRefusal, IsRefused, IsAccepted, IsImageOf, IsDone, IsFailedWrite, Requires, Puts, Took, BrokeOff, EndsAs, Answers}
 use Rattle.sloth_cli.specs.Top.{AnswersUsage, AnswersRefused, ReadsWork, WritesWork, HasSpace, PutsWork, CallsWork, TellsUsage, TellsRefused, IsComplete}
 use Rattle.sloth_cli.proofs.Commands.{one-command}
 
@@ -195,7 +195,7 @@ tells-refused words old new answer h c is oil src arr there works r refusal =
 
 -- no put failed, so the answer is the one that was wanted
 stands : (wanted answer : Status) (words : List (List ℕ)) (old new : World) (text : List ℕ) → PutsWork old.sink new.sink text
-    → Requires wanted words old.files new.files text → Puts wanted answer old.sink new.sink text → Stands wanted words old new answer
+    → Requires wanted words old.files new.files text → Puts wanted answer old.sink new.sink text → EndsAs wanted words old new answer
 stands wanted answer words old new text w q (inl p) = (p.0, (text, q, p.1))
 stands wanted answer words old new text w q (inr p) = absurd (no-broken-put old.sink new.sink text w p.1)
 
@@ -218,7 +218,7 @@ image-of config other app another image same h =
 complete-by : (wanted answer : Status) (words : List (List ℕ)) (old new : World) (text : List ℕ) (c : Command) (oil src : List ℕ) (config : Config) (app : App)
     → Requires wanted words old.files new.files text → Puts wanted answer old.sink new.sink text
     → IsCommand words c → AreThere old.files c oil src [] → Accepted oil src config app → CallsWork c config app old new
-    → Stands status.Done words old new answer ⊎ Stands status.NoMemory words old new answer
+    → EndsAs status.Done words old new answer ⊎ EndsAs status.NoMemory words old new answer
 complete-by status.Done answer words old new text c oil src config app q p is there h works =
     let d = subst (λ x. IsDone old.files new.files x text) (one-command words q.0 c q.1 is) q.2 in
     let lines = works.lines d.image (image-of config d.config app d.app d.image (one-app old.files c oil src config d.config app d.app there h d.accepted) d.is_image) in

@@ -24,6 +24,7 @@ pub record World : Type 0 where
   pub files : Files
   pub sink : Output
 
+-- a store's and a sink's part of it together
 abbrev pub world : Files → Output → World
 world files sink = record { files = files; sink = sink }
 
@@ -33,11 +34,12 @@ world files sink = record { files = files; sink = sink }
 abbrev pub input_limit : ℕ
 input_limit = 4194304
 
--- the files that a command reads, in the order of its words
+-- the file that a run reads its arrivals from
 abbrev pub arrivals_named : Option Run → List (List ℕ)
 arrivals_named None = []
 arrivals_named (Some run) = run.arr ∷ []
 
+-- the files that a command reads, in the order of its words
 abbrev pub inputs_of : Command → List (List ℕ)
 inputs_of c = c.oil ∷ c.src ∷ arrivals_named c.run
 
@@ -176,8 +178,8 @@ pub record Answers (words : List (List ℕ)) (old new : World) (answer : Status)
   pub puts : Puts wanted answer old.sink new.sink text
 
 -- this is the answer, and all that it requires stands
-abbrev pub Stands : Status → List (List ℕ) → World → World → Status → Type 0
-Stands wanted words old new answer =
+abbrev pub EndsAs : Status → List (List ℕ) → World → World → Status → Type 0
+EndsAs wanted words old new answer =
     (answer ≡ wanted) × ((text : List ℕ) × Requires wanted words old.files new.files text × Took old.sink new.sink text)
 
 -- ---- which answer comes
@@ -240,4 +242,4 @@ abbrev pub IsComplete : List (List ℕ) → World → World → Status → Type 
 IsComplete words old new answer =
     (c : Command) → IsCommand words c → (oil src : List ℕ) → AreThere old.files c oil src []
     → (config : Config) (app : App) → Accepted oil src config app → CallsWork c config app old new
-    → Stands status.Done words old new answer ⊎ Stands status.NoMemory words old new answer
+    → EndsAs status.Done words old new answer ⊎ EndsAs status.NoMemory words old new answer
