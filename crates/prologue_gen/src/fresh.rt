@@ -4,8 +4,8 @@ ghost use Rattle.prologue_gen.specs.Pieces.{saves_context, saves_csrs, saves_wor
 
 use rv32_instr::Instr;
 use rv32_instr::asm::{X1, X2, X3, X4, ZERO, addi, csrrs, csrrw, csrrwi, lui, lw, mret, sw};
-use rv32_instr::csr::{MEPC, PLEVEL};
 use rv32_instr::constant::{hi, lo};
+use rv32_instr::csr::{MEPC, PLEVEL};
 use rv32_routine::emit::{clear, clear_words, emit, save};
 use sloth_region::layout::{
     BELOW_WORD, CONTEXT_BELOW, CONTEXT_BYTES, CONTEXT_CUR, CONTEXT_LEVEL, CONTEXT_PC, CUR,

@@ -253,15 +253,16 @@ position_task b ram t own new th place r e w p = record {
 }
 
 address_first : (mask address masked : ℕ) (th : Thread) → HasAddress mask address masked 0 th
-address_first mask address masked th =
-    (λ m. record { index = λ l h. absurd (omega arith); upper = λ l. absurd (omega arith); sum = λ l. absurd (omega arith) },
-    λ m. record {
-      upper_mask = λ l. absurd (omega arith);
-      whole_mask = λ l h. absurd (omega arith);
-      index = λ l h. absurd (omega arith);
-      upper = λ l. absurd (omega arith);
-      sum = λ l. absurd (omega arith);
-    })
+address_first mask address masked th = (
+  λ m. record { index = λ l h. absurd (omega arith); upper = λ l. absurd (omega arith); sum = λ l. absurd (omega arith) },
+  λ m. record {
+    upper_mask = λ l. absurd (omega arith);
+    whole_mask = λ l h. absurd (omega arith);
+    index = λ l h. absurd (omega arith);
+    upper = λ l. absurd (omega arith);
+    sum = λ l. absurd (omega arith);
+  },
+)
 
 -- at the first instruction of an item nothing is said of x30 and x31
 pub scratch_first : (b : Build) (x : List ℕ) (frame : Frame) (i : Op) (th : Thread) → HasScratch b x frame i 0 th

@@ -4,9 +4,9 @@ ghost use Rattle.sloth_base.specs.ConfigRange.{InRange};
 ghost use Rattle.vector_gen.specs.Boot.{begins, starts_one, starts, finishes, Boots};
 
 use rv32_instr::asm::{X1, X2, X3, X4, ZERO, addi, csrrw, lui, mret, sb};
+use rv32_instr::constant::{hi, lo};
 use rv32_instr::csr::{MEPC, MPIE, MSTATUS};
 use rv32_instr::{Block, Instr};
-use rv32_instr::constant::{hi, lo};
 use rv32_routine::emit::emit;
 use sloth_base::config::{Config, TaskDecl};
 use sloth_base::list::List;
