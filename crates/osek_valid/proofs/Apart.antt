@@ -1,0 +1,280 @@
+-- The order of the tasks that were entered is kept.
+use Rattle.std.proofs.Common.{◌≡◌, ℕ, ◌+◌, ◌*◌, ◌<◌, ◌≤◌, ◌==◌, ◌⊎◌, List, [], ◌∷◌, Bool, true, false, cond, length, get_or, max, refl, sym, ap, ◌∙◌, subst, arith, inl, inr, bit_and, bit_or}
+use Rattle.std.specs.Prelude.{◌≢◌}
+use Rattle.std.proofs.lemmas.Bool.{false≢true, cases_eq, cases_lt, cond_both, or_cases, eqb-true}
+use Rattle.std.proofs.lemmas.List.{get_or-set_same, get_or-set_other, set_past}
+use Rattle.sloth_base.specs.declared.config.Config.{Config}
+use Rattle.sloth_base.specs.declared.app.App.{App}
+use Rattle.sloth_base.specs.declared.event.Event.{Event}
+use Rattle.sloth_base.specs.declared.event.Event.TheVariants as event
+use Rattle.sloth_base.specs.declared.service.Service.{Service}
+use Rattle.sloth_base.specs.declared.service.Service.TheVariants as service
+use Rattle.osek_machine.specs.declared.state.TaskState.{TaskState}
+use Rattle.osek_machine.specs.declared.state.TaskState.TheVariants as mode
+use Rattle.osek_machine.specs.State.{Task, System, sleeping, task, with_task, opening, zero_registers}
+use Rattle.sloth_base.specs.Status.{E_OK, E_OS_LIMIT, E_OS_STATE}
+use Rattle.sloth_base.specs.Named.{declaration}
+use Rattle.osek_machine.specs.Priority.{is_in, is_active, rank, IsTop}
+use Rattle.osek_machine.specs.Services.{if_suspended, activated, answers, answers_with, answered, answered_with, ended, waits, woken, with_events, set_events, Outcome, GoesOn, Leaves, outcome, starts, entered, state_number}
+use Rattle.osek_machine.specs.Steps.{settled, autostarted, admitted, OsekStep, Executes, Serves}
+use Rattle.osek_valid.specs.Valid.{Valid}
+use Rattle.osek_valid.specs.Apart.{priority_of, static_priority, AreTwo, IsActive, IsOver, Apart}
+use Rattle.osek_valid.proofs.Serving.{by_suspended}
+use Rattle.osek_valid.proofs.Steps.{autostarted_at, asleep_at}
+
+-- ---- priorities
+
+max_left : (a b : ℕ) → a ≤ max a b
+max_left a b = omega arith
+
+max_right : (a b c : ℕ) → c ≤ b → c ≤ max a b
+max_right a b c le = omega (arith, le)
+
+pub at_least_static : (config : Config) (t : ℕ) (k : Task) → static_priority config t ≤ priority_of config t k
+at_least_static config t k = max_left (static_priority config t) _
+
+-- a fact on each task, where one record is written
+at_task : (s : System) (t u : ℕ) (new : Task) (P : Task → Type 0) → P (task s u) → (u ≡ t → P new) → P (task (with_task s t new) u)
+at_task s t u new P same here = by (cases_eq u t)
+  where
+    within : (u < length s.tasks) ⊎ (length s.tasks ≤ u) → u ≡ t → P (task (with_task s t new) u)
+    within (inl lt) e =
+        let Q : ℕ → Type 0 = λ x. x < length s.tasks → P (task (with_task s t new) x) in
+        subst Q (sym e) (λ l. subst P (sym (get_or-set_same s.tasks t new sleeping l)) (here e)) lt
+    within (inr past) e =
+        let Q : List Task → Type 0 = λ l. P (get_or l u sleeping) in
+        subst Q (sym (set_past s.tasks t new (subst (λ x. length s.tasks ≤ x) e past))) same
+
+    by : (u ≡ t) ⊎ (u ≡ t → ⊥) → P (task (with_task s t new) u)
+    by (inl e) = within (cases_lt u (length s.tasks)) e
+    by (inr n) = subst P (sym (get_or-set_other s.tasks t u new sleeping n)) same
+
+module _ (config : Config) where
+  -- a task that is Active now was so before, at the same priority
+  abbrev Same : ℕ → Task → Task → Type 0
+  Same t old new = new.state ≡ mode.Active → (old.state ≡ mode.Active) × (priority_of config t new ≡ priority_of config t old)
+
+  abbrev pub Calm : ℕ → System → System → Type 0
+  Calm c s next = (u : ℕ) → u ≢ c → Same u (task s u) (task next u)
+
+  itself : (u : ℕ) (k : Task) → Same u k k
+  itself u k e = (e, refl)
+
+  then : (c : ℕ) (s middle next : System) → Calm c s middle → Calm c middle next → Calm c s next
+  then c s middle next f g u n e =
+      let b = g u n e in
+      let a = f u n b.0 in
+      (a.0, b.1 ∙ a.1)
+
+  own : (c : ℕ) (s : System) (new : Task) → Calm c s (with_task s c new)
+  own c s new u n = at_task s c u new (Same u (task s u)) (itself u (task s u)) (λ e. absurd (n e))
+
+  readied : (c : ℕ) (s : System) (t : ℕ) → Calm c s (activated s t)
+  readied c s t u n = at_task s t u (record (task s t) { state = mode.Ready }) (Same u (task s u)) (itself u (task s u)) (λ e h. absurd cc)
+
+  eventful : (c : ℕ) (s : System) (t events : ℕ) → Calm c s (with_events s t events)
+  eventful c s t events u n =
+      at_task s t u (record (task s t) { events = events }) (Same u (task s u)) (itself u (task s u))
+      (λ e. let Q : ℕ → Type 0 = λ x. Same u (task s u) (record (task s x) { events = events }) in subst Q e (λ h. (h, refl)))
+
+  woken_calm : (c : ℕ) (m : TaskState) (events t : ℕ) (s : System) → Calm c s (woken m events t s)
+  woken_calm c mode.Suspended events t s = λ u n. itself u (task s u)
+  woken_calm c mode.Ready events t s = λ u n. itself u (task s u)
+  woken_calm c mode.Active events t s = λ u n. itself u (task s u)
+  woken_calm c (mode.Waiting mask) events t s =
+      cond_both (bit_and events mask == 0) s (activated s t) (Calm c s) (λ _ u n. itself u (task s u)) (λ _. readied c s t)
+
+  set_events_calm : (c : ℕ) (s : System) (t mask : ℕ) → Calm c s (set_events t mask s)
+  set_events_calm c s t mask =
+      let events = bit_or (task s t).events mask in
+      then c s (with_events s t events) (woken (task s t).state events t (with_events s t events)) (eventful c s t events) (woken_calm c (task s t).state events t (with_events s t events))
+
+  abbrev pub CalmAnswer : ℕ → System → Outcome → Type 0
+  CalmAnswer c s (GoesOn status after) = Calm c s after
+  CalmAnswer c s (Leaves after) = Calm c s after
+
+  pub outcome_calm : (sv : Service) (o m c : ℕ) (s : System) → CalmAnswer c s (outcome sv o m c s)
+  outcome_calm service.ActivateTask t m c s =
+      by_suspended (task s t).state (GoesOn E_OK (activated (answered E_OK c s) t)) (GoesOn E_OS_LIMIT (answered E_OS_LIMIT c s)) (CalmAnswer c s)
+      (λ _. then c s (answered E_OK c s) (activated (answered E_OK c s) t) (own c s (answers E_OK (task s c))) (readied c (answered E_OK c s) t))
+      (λ _. own c s (answers E_OS_LIMIT (task s c)))
+  outcome_calm service.TerminateTask o m c s =
+      own c s (record (task s c) { state = mode.Suspended; registers = zero_registers; frames = []; events = 0; raised = false })
+  outcome_calm service.ChainTask t m c s =
+      let gone = own c s (record (task s c) { state = mode.Suspended; registers = zero_registers; frames = []; events = 0; raised = false }) in
+      cond_both (t == c) (Leaves (activated (ended c s) c)) (if_suspended (task s t).state (Leaves (activated (ended c s) t)) (GoesOn E_OS_LIMIT (answered E_OS_LIMIT c s)))
+      (CalmAnswer c s)
+      (λ _. then c s (ended c s) (activated (ended c s) c) gone (readied c (ended c s) c))
+      (λ _. by_suspended (task s t).state (Leaves (activated (ended c s) t)) (GoesOn E_OS_LIMIT (answered E_OS_LIMIT c s)) (CalmAnswer c s)
+      (λ _. then c s (ended c s) (activated (ended c s) t) gone (readied c (ended c s) t))
+      (λ _. own c s (answers E_OS_LIMIT (task s c))))
+  outcome_calm service.Schedule o m c s = own c s (record (answers E_OK (task s c)) { raised = false; owed = true })
+  outcome_calm service.GetTaskID o m c s = own c s (answers_with c (task s c))
+  outcome_calm service.GetTaskState t m c s = own c s (answers_with (state_number c t (task s t).state) (task s c))
+  outcome_calm service.GetResource q m c s = own c s _
+  outcome_calm service.ReleaseResource q m c s = own c s _
+  outcome_calm service.SetEvent t m c s =
+      by_suspended (task s t).state (GoesOn E_OS_STATE (answered E_OS_STATE c s)) (GoesOn E_OK (set_events t m (answered E_OK c s))) (CalmAnswer c s)
+      (λ _. own c s (answers E_OS_STATE (task s c)))
+      (λ _. then c s (answered E_OK c s) (set_events t m (answered E_OK c s)) (own c s (answers E_OK (task s c))) (set_events_calm c (answered E_OK c s) t m))
+  outcome_calm service.ClearEvent o m c s = own c s _
+  outcome_calm service.GetEvent t m c s =
+      by_suspended (task s t).state (GoesOn E_OS_STATE (answered E_OS_STATE c s)) (GoesOn E_OK (answered_with (task s t).events c s)) (CalmAnswer c s)
+      (λ _. own c s (answers E_OS_STATE (task s c))) (λ _. own c s (answers_with (task s t).events (task s c)))
+  outcome_calm service.WaitEvent o m c s =
+      cond_both (bit_and (task s c).events m == 0) (Leaves (with_task s c (waits m (task s c)))) (GoesOn E_OK (answered E_OK c s)) (CalmAnswer c s)
+      (λ _. own c s (waits m (task s c))) (λ _. own c s (answers E_OK (task s c)))
+
+  -- ---- the order
+
+  rank_active : (s : System) (t : ℕ) → (task s t).state ≡ mode.Active → rank config s t ≡ 2 * priority_of config t (task s t) + 1
+  rank_active s t e = ap (λ m. cond (is_active m) (2 * priority_of config t (task s t) + 1) (2 * static_priority config t)) e
+
+  rank_ready : (s : System) (t : ℕ) → (task s t).state ≡ mode.Ready → rank config s t ≡ 2 * static_priority config t
+  rank_ready s t e = ap (λ m. cond (is_active m) (2 * priority_of config t (task s t) + 1) (2 * static_priority config t)) e
+
+  -- every other Active task is below c
+  abbrev pub Above : ℕ → System → Type 0
+  Above c s = (u : ℕ) → u < length config.tasks → u ≢ c → (task s u).state ≡ mode.Active → priority_of config u (task s u) < static_priority config c
+
+  ranked : (s : System) (others : List ℕ) (c u : ℕ) → IsTop config s others c → ((t : ℕ) → is_in t others ≡ true → (task s t).state ≡ mode.Ready)
+      → u < length config.tasks → (task s u).state ≡ mode.Active → rank config s u ≤ rank config s c
+  ranked s others c u top ready lt active = top.is_greatest u lt (inr active) (by (is_in u others) refl)
+    where
+      no_both : (m : TaskState) → m ≡ mode.Active → m ≡ mode.Ready → ⊥
+      no_both mode.Suspended a b = absurd cc
+      no_both mode.Ready a b = absurd cc
+      no_both mode.Active a b = absurd cc
+      no_both (mode.Waiting x) a b = absurd cc
+
+      by : (b : Bool) → is_in u others ≡ b → is_in u others ≡ false
+      by false e = e
+      by true e = absurd (no_both (task s u).state active (ready u e))
+
+  pub top_above : (s : System) (others : List ℕ) (c : ℕ) → IsTop config s others c → ((t : ℕ) → is_in t others ≡ true → (task s t).state ≡ mode.Ready)
+      → Apart config s → (task s c).state ≡ mode.Active → Above c s
+  top_above s others c top ready a active u lt n other = by (a.apart u c (record { first = lt; second = top.declared; differ = n }) other active)
+    where
+      le : priority_of config u (task s u) ≤ priority_of config c (task s c)
+      le = omega (arith, ranked s others c u top ready lt other, rank_active s u other, rank_active s c active)
+
+      by : (priority_of config u (task s u) < static_priority config c) ⊎ (priority_of config c (task s c) < static_priority config u) → priority_of config u (task s u) < static_priority config c
+      by (inl e) = e
+      by (inr e) = absurd (omega (arith, e, le, at_least_static config u (task s u)))
+
+  pub entered_above : (s : System) (c : ℕ) → IsTop config s [] c → (task s c).state ≡ mode.Ready → Above c s
+  entered_above s c top ready u lt n other =
+      omega (arith, ranked s [] c u top (λ t h. absurd (false≢true h)) lt other, rank_active s u other, rank_ready s c ready)
+
+  -- c alone changed, and all others that are Active are below it
+  pub apart_of : (s next : System) (c : ℕ) → Apart config s → Above c s → Calm c s next → next.fresh ≡ [] → Apart config next
+  apart_of s next c a above calm none = record {
+    fresh_ready = λ t h. absurd (false≢true (sym (ap (is_in t) none) ∙ h));
+    apart = λ t u two at au. by t u two at au (cases_eq t c) (cases_eq u c);
+  }
+    where
+      below : (t : ℕ) → t < length config.tasks → t ≢ c → (task next t).state ≡ mode.Active → priority_of config t (task next t) < static_priority config c
+      below t lt n at = let old = calm t n at in subst (λ p. p < static_priority config c) (sym old.1) (above t lt n old.0)
+
+      both : (t u : ℕ) → (priority_of config t (task s t) < static_priority config u) ⊎ (priority_of config u (task s u) < static_priority config t)
+          → priority_of config t (task next t) ≡ priority_of config t (task s t) → priority_of config u (task next u) ≡ priority_of config u (task s u)
+          → (priority_of config t (task next t) < static_priority config u) ⊎ (priority_of config u (task next u) < static_priority config t)
+      both t u (inl h) e f = inl (subst (λ p. p < static_priority config u) (sym e) h)
+      both t u (inr h) e f = inr (subst (λ p. p < static_priority config t) (sym f) h)
+
+      by : (t u : ℕ) → AreTwo config t u → (task next t).state ≡ mode.Active → (task next u).state ≡ mode.Active
+          → (t ≡ c) ⊎ (t ≡ c → ⊥) → (u ≡ c) ⊎ (u ≡ c → ⊥)
+          → (priority_of config t (task next t) < static_priority config u) ⊎ (priority_of config u (task next u) < static_priority config t)
+      by t u two at au (inl e) (inl f) = absurd (two.differ (e ∙ sym f))
+      by t u two at au (inl e) (inr f) = inr (subst (λ x. priority_of config u (task next u) < static_priority config x) (sym e) (below u two.second f au))
+      by t u two at au (inr e) (inl f) = inl (subst (λ x. priority_of config t (task next t) < static_priority config x) (sym f) (below t two.first e at))
+      by t u two at au (inr e) (inr f) =
+          let x = calm t e at in
+          let y = calm u f au in
+          both t u (a.apart t u two x.0 y.0) x.1 y.1
+
+  -- no task changed that is Active
+  pub apart_kept : (s next : System) → Apart config s → ((u : ℕ) → Same u (task s u) (task next u))
+      → ((t : ℕ) → is_in t next.fresh ≡ true → (task next t).state ≡ mode.Ready) → Apart config next
+  apart_kept s next a calm fresh = record {
+    fresh_ready = fresh;
+    apart = λ t u two at au.
+        let x = calm t at in
+        let y = calm u au in
+        by t u (a.apart t u two x.0 y.0) x.1 y.1;
+  }
+    where
+      by : (t u : ℕ) → (priority_of config t (task s t) < static_priority config u) ⊎ (priority_of config u (task s u) < static_priority config t)
+          → priority_of config t (task next t) ≡ priority_of config t (task s t) → priority_of config u (task next u) ≡ priority_of config u (task s u)
+          → (priority_of config t (task next t) < static_priority config u) ⊎ (priority_of config u (task next u) < static_priority config t)
+      by t u (inl h) e f = inl (subst (λ p. p < static_priority config u) (sym e) h)
+      by t u (inr h) e f = inr (subst (λ p. p < static_priority config t) (sym f) h)
+
+  -- ---- all events
+
+  run_calm : (app : App) (t func item result : ℕ) (s next : System) → Executes config app t func item result s next → Calm t s next
+  run_calm app t func item result s next h =
+      subst (Calm t s) (sym h.is) (own t s (record (task s t) { registers = h.meant.registers; frames = h.meant.frames }))
+
+  answer_calm : (app : App) (t : ℕ) (served : Service) (s : System) (answer : Outcome) → Serves config app t served s answer → CalmAnswer t s answer
+  answer_calm app t served s answer h = subst (CalmAnswer t s) h.is (outcome_calm served h.call.object h.call.mask t s)
+
+  after_boot : (app : App) (s : System) → Valid config app s → s.booted ≡ false → (u : ℕ) → Same u (task s u) (get_or (autostarted config.tasks s.tasks) u sleeping)
+  after_boot app s v off u = autostarted_at (Same u (task s u)) config.tasks s.tasks u (itself u (task s u)) (λ e. absurd cc)
+
+  admit_apart : (s : System) (t : ℕ) → Apart config s → t < length s.tasks → Apart config (admitted t s)
+  admit_apart s t a lt =
+      by_suspended (task s t).state (record (activated s t) { fresh = t ∷ s.fresh }) s (Apart config)
+      (λ asleep. apart_kept s (record (activated s t) { fresh = t ∷ s.fresh }) a
+      (λ u. at_task s t u (record (task s t) { state = mode.Ready }) (Same u (task s u)) (itself u (task s u)) (λ e h. absurd cc))
+      (λ u h. fresh u (cases_eq u t) (or_cases _ _ h)))
+      (λ _. a)
+    where
+      fresh : (u : ℕ) → (u ≡ t) ⊎ (u ≡ t → ⊥) → ((t == u) ≡ true) ⊎ (is_in u s.fresh ≡ true) → (task (activated s t) u).state ≡ mode.Ready
+      fresh u (inl e) h =
+          let P : ℕ → Type 0 = λ x. (task (activated s t) x).state ≡ mode.Ready in
+          subst P (sym e) (ap (λ k. k.state) (get_or-set_same s.tasks t (record (task s t) { state = mode.Ready }) sleeping lt))
+      fresh u (inr n) (inl e) = absurd (n (sym (eqb-true t u e)))
+      fresh u (inr n) (inr e) =
+          ap (λ k. k.state) (get_or-set_other s.tasks t u (record (task s t) { state = mode.Ready }) sleeping n) ∙ a.fresh_ready u e
+
+  pub step_apart : (app : App) (e : Event) (s next : System) → OsekStep config app e s next → Valid config app s → Apart config s → Apart config next
+  step_apart app event.Boot s next h v a =
+      subst (Apart config) (sym h.1) (apart_kept s (settled (record s { tasks = autostarted config.tasks s.tasks; booted = true })) a (after_boot app s v h.0) (λ u x. absurd (false≢true x)))
+  step_apart app (event.Admit t) s next h v a = subst (Apart config) (sym h.2) (admit_apart s t a (subst (λ n. t < n) (sym v.count) h.1))
+  step_apart app (event.Enter t) s next h v a =
+      subst (Apart config) (sym h.4)
+      (apart_of s (settled (entered config app t s)) t a (entered_above s t h.1 h.2)
+      (own t s (record (starts app t (task s t).frames (task s t)) { state = mode.Active; raised = (declaration config t).non })) refl)
+  step_apart app (event.Run t func item result) s next h v a =
+      apart_of s next t a (top_above s [] t h.1.top (λ u x. absurd (false≢true x)) a h.1.at.active) (run_calm app t func item result s next h.1)
+      (ap (λ x. x.fresh) h.1.is)
+  step_apart app (event.Call t served status) s next h v a =
+      subst (Apart config) (sym h.1.2)
+      (apart_of s (settled h.1.0) t a (top_above s s.fresh t h.1.1.top a.fresh_ready a h.1.1.at.active) (answer_calm app t served s (GoesOn status h.1.0) h.1.1) refl)
+  step_apart app (event.Left t served) s next h v a =
+      subst (Apart config) (sym h.1.2)
+      (apart_of s (settled h.1.0) t a (top_above s s.fresh t h.1.1.top a.fresh_ready a h.1.1.at.active) (answer_calm app t served s (Leaves h.1.0) h.1.1) refl)
+  step_apart app (event.Back t) s next h v a =
+      subst (Apart config) (sym h.4)
+      (apart_of s (settled (with_task s t (record (task s t) { owed = false; raised = (declaration config t).non }))) t a
+      (top_above s [] t h.1 (λ u x. absurd (false≢true x)) a h.2)
+      (own t s (record (task s t) { owed = false; raised = (declaration config t).non })) refl)
+  step_apart app event.Idle s next h v a =
+      subst (Apart config) (sym h.2) (apart_kept s (settled s) a (λ u. itself u (task s u)) (λ u x. absurd (false≢true x)))
+  step_apart app event.Stray s next h v a = absurd h
+
+  pub opening_apart : (app : App) → Apart config (opening config app)
+  opening_apart app = record {
+    fresh_ready = λ u x. absurd (false≢true x);
+    apart = λ t u two at au. absurd (asleep (opening config app) t (ap (λ k. k.state) (asleep_at config.tasks t)) at);
+  }
+    where
+      asleep : (s : System) (t : ℕ) → (task s t).state ≡ mode.Suspended → (task s t).state ≡ mode.Active → ⊥
+      asleep s t a b = clash (task s t).state a b
+        where
+          clash : (m : TaskState) → m ≡ mode.Suspended → m ≡ mode.Active → ⊥
+          clash mode.Suspended a b = absurd cc
+          clash mode.Ready a b = absurd cc
+          clash mode.Active a b = absurd cc
+          clash (mode.Waiting x) a b = absurd cc

@@ -1,0 +1,156 @@
+-- A task that runs goes on.
+use Rattle.std.proofs.Common.{◌≡◌, ℕ, ◌<◌, ◌≤◌, ◌⊎◌, List, [], ◌∷◌, ◌++◌, true, false, not, ◌&&◌, length, get_or, sym, ap, ◌∙◌, subst, inl, inr, ⊎_elim}
+use Rattle.std.proofs.lemmas.Bool.{true≢false, cases_eq, cases_lt}
+use Rattle.std.proofs.lemmas.List.{length-set, get_or-set_same, get_or-set_other, set_past}
+use Rattle.sloth_base.specs.declared.config.Config.{Config}
+use Rattle.sloth_base.specs.declared.app.App.{App}
+use Rattle.sloth_base.specs.declared.app.Op.{Op}
+use Rattle.osek_machine.specs.declared.state.TaskState.TheVariants as mode
+use Rattle.osek_machine.specs.State.{Frame, Task, System, sleeping, task, with_task}
+use Rattle.osek_machine.specs.Meaning.{going_on}
+use Rattle.osek_machine.specs.Services.{moved}
+use Rattle.osek_machine.specs.Steps.{settled, IsAt}
+use Rattle.sloth_base.specs.Named.{declaration}
+use Rattle.app_rules.specs.Code.{IsItem, falls, held_after, is_in}
+use Rattle.osek_valid.proofs.Facts.{Facts}
+use Rattle.app_rules.specs.WellFormed.{held_before, HasEvents}
+use Rattle.osek_valid.specs.Valid.{MayHold, IsFrame, IsCalledFrom, AreCalls, held_by, AreDistinct, InState, IsValidTask, Valid}
+use Rattle.osek_valid.proofs.Held.{falls_inside, falls_holds}
+
+-- ---- the whole state
+
+module _ (config : Config) (app : App) where
+  -- one task's record changes
+  pub keeps : (s : System) (t : ℕ) (new : Task) → Valid config app s → s.booted ≡ true → t < length config.tasks → IsValidTask config app t new
+      → Valid config app (with_task s t new)
+  keeps s t new v booted declared good = record {
+    count = length-set s.tasks t new ∙ v.count;
+    each = λ u lt.
+        ⊎_elim
+        (λ (e : u ≡ t).
+        subst (λ x. IsValidTask config app x (task (with_task s t new) x)) (sym e)
+        (subst (IsValidTask config app t) (sym (get_or-set_same s.tasks t new sleeping (subst (λ n. t < n) (sym v.count) declared))) good))
+        (λ (n : u ≡ t → ⊥). subst (IsValidTask config app u) (sym (get_or-set_other s.tasks t u new sleeping n)) (v.each u lt))
+        (cases_eq u t);
+    sizes = v.sizes;
+    asleep = λ e. absurd (true≢false (sym booted ∙ e));
+  }
+
+  pub settles : (s : System) → Valid config app s → Valid config app (settled s)
+  settles s v = record { count = v.count; each = v.each; sizes = v.sizes; asleep = v.asleep }
+
+-- the state of each task stays where that of the changed one does
+pub state_kept : (s : System) (t u : ℕ) (new : Task) → new.state ≡ (task s t).state → (task (with_task s t new) u).state ≡ (task s u).state
+state_kept s t u new e = at (cases_eq u t)
+  where
+    here : (u < length s.tasks) ⊎ (length s.tasks ≤ u) → u ≡ t → (task (with_task s t new) u).state ≡ (task s u).state
+    here (inl lt) is =
+        let P : ℕ → Type 0 = λ x. (x < length s.tasks) → (task (with_task s t new) x).state ≡ (task s x).state in
+        subst P (sym is) (λ l. ap (λ k. k.state) (get_or-set_same s.tasks t new sleeping l) ∙ e) lt
+    here (inr past) is = ap (λ l. (get_or l u sleeping).state) (set_past s.tasks t new (subst (λ x. length s.tasks ≤ x) is past))
+
+    at : (u ≡ t) ⊎ (u ≡ t → ⊥) → (task (with_task s t new) u).state ≡ (task s u).state
+    at (inl is) = here (cases_lt u (length s.tasks)) is
+    at (inr differs) = ap (λ k. k.state) (get_or-set_other s.tasks t u new sleeping differs)
+
+-- ---- one task
+
+-- the innermost frame of a task that runs, at an operation
+pub record Running (config : Config) (app : App) (t : ℕ) (k : Task) (frame : Frame) (outer : List Frame) (o : Op) : Type 0 where
+  pub declared : t < length config.tasks
+  pub active : k.state ≡ mode.Active
+  pub free : k.owed ≡ false
+  pub frames : k.frames ≡ frame ∷ outer
+  pub is_frame : IsFrame app frame
+  pub called : IsCalledFrom app t frame.func outer
+  pub item : IsItem app frame.func frame.item o
+  pub held : k.held ≡ held_by app outer ++ held_before app frame.func frame.item
+  pub raised : k.raised ≡ ((declaration config t).non && not k.owed)
+  pub registers : length k.registers ≡ 25
+  pub listed : (r : ℕ) → is_in r k.held ≡ true → MayHold config t r
+  pub distinct : AreDistinct k.held
+  pub events : HasEvents (declaration config t) k.events
+
+pub running : (config : Config) (app : App) (s : System) (t : ℕ) (o : Op) → Valid config app s → t < length config.tasks → (at : IsAt app s t o)
+    → Running config app t (task s t) at.frame at.outer o
+running config app s t o v declared at =
+    let k = v.each t declared in
+    let stack = subst (AreCalls app t) at.frames k.calls in
+    let state = subst (InState config t (task s t)) at.active k.in_state in
+    record {
+      declared = declared;
+      active = at.active;
+      free = at.free;
+      frames = at.frames;
+      is_frame = stack.0;
+      called = stack.1;
+      item = record { known = stack.0.known; inside = at.inside; is = at.next };
+      held = k.held ∙ ap (held_by app) at.frames;
+      raised = state.1;
+      registers = k.registers;
+      listed = k.listed;
+      distinct = k.distinct;
+      events = k.events;
+    }
+
+-- a task that runs and owes nothing, with these frames
+pub runs_on : (config : Config) (app : App) (t : ℕ) (new : Task) (frame : Frame) (outer : List Frame) → new.state ≡ mode.Active
+    → new.frames ≡ frame ∷ outer → IsFrame app frame → IsCalledFrom app t frame.func outer
+    → new.held ≡ held_by app outer ++ held_before app frame.func frame.item → new.raised ≡ ((declaration config t).non && not new.owed)
+    → (new.owed ≡ true → new.held ≡ []) → length new.registers ≡ 25 → ((r : ℕ) → is_in r new.held ≡ true → MayHold config t r) → AreDistinct new.held
+    → HasEvents (declaration config t) new.events → IsValidTask config app t new
+runs_on config app t new frame outer active frames is_frame called held raised owed registers listed distinct events = record {
+  registers = registers;
+  events = events;
+  calls = subst (AreCalls app t) (sym frames) (is_frame, called);
+  held = held ∙ ap (held_by app) (sym frames);
+  listed = listed;
+  distinct = distinct;
+  in_state = subst (InState config t new) (sym active) (λ e. nonempty new.frames frames e, raised, owed);
+}
+  where
+    nonempty : (fs : List Frame) → fs ≡ frame ∷ outer → fs ≡ [] → ⊥
+    nonempty [] a b = absurd cc
+    nonempty (x ∷ xs) a b = absurd cc
+
+module _ (config : Config) (app : App) (w : Facts config app) (t : ℕ) (k : Task) (frame : Frame) (outer : List Frame) (o : Op)
+    (r : Running config app t k frame outer o) where
+  -- what is held stays with the next frame where that frame is before the same list
+  same_held : (new : List ℕ) (next : Frame) → new ≡ k.held → held_before app next.func next.item ≡ held_before app frame.func frame.item
+      → new ≡ held_by app outer ++ held_before app next.func next.item
+  same_held new next e h = e ∙ r.held ∙ ap (λ l. held_by app outer ++ l) (sym h)
+
+  -- the next place is fallen into
+  pub next_frame : falls o ≡ true → IsFrame app (going_on frame)
+  next_frame goes = record { known = r.is_frame.known; inside = falls_inside config app w frame.func frame.item o r.item goes; words = r.is_frame.words }
+
+  pub falls_on : (new : Task) → falls o ≡ true → new.state ≡ k.state → new.frames ≡ moved k.frames
+      → new.held ≡ held_by app outer ++ held_after o (held_before app frame.func frame.item) → new.raised ≡ ((declaration config t).non && not new.owed)
+      → (new.owed ≡ true → new.held ≡ []) → length new.registers ≡ 25 → ((q : ℕ) → is_in q new.held ≡ true → MayHold config t q) → AreDistinct new.held
+      → HasEvents (declaration config t) new.events → IsValidTask config app t new
+  falls_on new goes state frames held raised owed registers listed distinct events =
+      runs_on config app t new (going_on frame) outer (state ∙ r.active) (frames ∙ ap moved r.frames) (next_frame goes) r.called
+      (held ∙ ap (λ l. held_by app outer ++ l) (sym (falls_holds config app w frame.func frame.item o r.item goes)))
+      raised owed registers listed distinct events
+
+  -- it goes on with what it holds
+  pub goes_on : (new : Task) → falls o ≡ true → ((held : List ℕ) → held_after o held ≡ held) → new.state ≡ k.state → new.frames ≡ moved k.frames
+      → new.held ≡ k.held → new.raised ≡ k.raised → new.owed ≡ k.owed → length new.registers ≡ 25
+      → HasEvents (declaration config t) new.events → IsValidTask config app t new
+  goes_on new goes holds state frames held raised owed registers events =
+      falls_on new goes state frames (held ∙ r.held ∙ ap (λ l. held_by app outer ++ l) (sym (holds _)))
+      (raised ∙ r.raised ∙ ap (λ b. (declaration config t).non && not b) (sym owed))
+      (λ e. absurd (true≢false (sym e ∙ owed ∙ r.free))) registers
+      (λ q h. r.listed q (sym (ap (is_in q) held) ∙ h)) (subst AreDistinct (sym held) r.distinct) events
+
+  -- it runs on in another frame of the same function, before which the same is held
+  pub goes_to : (new : Task) (next : Frame) → new.state ≡ k.state → new.frames ≡ next ∷ outer → next.func ≡ frame.func → IsFrame app next
+      → held_before app next.func next.item ≡ held_before app frame.func frame.item
+      → new.held ≡ k.held → new.raised ≡ k.raised → new.owed ≡ k.owed → length new.registers ≡ 25
+      → HasEvents (declaration config t) new.events → IsValidTask config app t new
+  goes_to new next state frames same is_frame holds held raised owed registers events =
+      runs_on config app t new next outer (state ∙ r.active) frames is_frame (subst (λ f. IsCalledFrom app t f outer) (sym same) r.called)
+      (same_held new.held next held holds)
+      (raised ∙ r.raised ∙ ap (λ b. (declaration config t).non && not b) (sym owed))
+      (λ e. absurd (true≢false (sym e ∙ owed ∙ r.free))) registers
+      (λ q h. r.listed q (sym (ap (is_in q) held) ∙ h)) (subst AreDistinct (sym held) r.distinct) events

@@ -1,0 +1,14 @@
+pub mod Facts
+pub mod Held
+pub mod Stacks
+pub mod Going
+pub mod Items
+pub mod Serving
+pub mod Steps
+pub mod Apart
+pub mod Excluding
+pub mod Meaning
+pub mod Progress
+pub mod Depth
+pub mod Tidy
+pub mod Reached

@@ -1,0 +1,4 @@
+pub mod Valid
+pub mod Apart
+pub mod Tidy
+pub mod Laws

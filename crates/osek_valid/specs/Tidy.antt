@@ -1,0 +1,27 @@
+-- What the system says of each task as it stands, for those who lay a task out in memory.
+use Rattle.std.specs.Prelude.{ℕ, ◌<◌, ◌≡◌, [], true, false, length, map}
+use Rattle.sloth_base.specs.declared.config.Config.{Config}
+use Rattle.sloth_base.specs.declared.app.App.{App}
+use Rattle.sloth_base.specs.Named.{declaration}
+use Rattle.app_rules.specs.Code.{is_in}
+use Rattle.osek_machine.specs.declared.state.TaskState.TheVariants as mode
+use Rattle.osek_machine.specs.State.{Task}
+use Rattle.osek_machine.specs.Priority.{is_active}
+use Rattle.osek_valid.specs.Valid.{AreCalls, held_by, AreDistinct, Rests}
+
+-- what is true of task t in each state of a run
+pub record IsTidy (config : Config) (app : App) (t : ℕ) (own : Task) : Type 0 where
+  pub registers : length own.registers ≡ 25
+  pub at_rest : is_active own.state ≡ false → Rests own
+  pub asleep : own.state ≡ mode.Suspended → (own.frames ≡ []) × (own.events ≡ 0)
+  -- a task whose scheduling is NON that holds a resource has its internal resource too
+  pub raised_by : (r : ℕ) → is_in r own.held ≡ true → own.raised ≡ (declaration config t).non
+  -- RES_SCHEDULER has the greatest number, 32
+  pub few : (r : ℕ) → is_in r own.held ≡ true → r < 33
+  pub events_small : own.events < 0x1_0000_0000
+  pub wait_small : (mask : ℕ) → own.state ≡ mode.Waiting mask → mask < 0x1_0000_0000
+  pub calls : AreCalls app t own.frames
+  -- what it holds is what its functions hold before their items
+  pub held : own.held ≡ held_by app own.frames
+  -- no function is entered twice, so there are at most as many frames as functions
+  pub frames_differ : AreDistinct (map (λ frame. frame.func) own.frames)
