@@ -63,7 +63,7 @@ call_is : (g : ℕ) (o : Op) → is_call g o ≡ true → o ≡ op.Invoke g
 call_is g (op.Invoke h) e = ap (λ x. op.Invoke x) (eqb-true h g e)
 call_is g _ e = absurd (false≢true e)
 
-get_is : (s : Service) → is_get s ≡ true → s ≡ service.GetResource
+pub get_is : (s : Service) → is_get s ≡ true → s ≡ service.GetResource
 get_is service.GetResource e = refl
 get_is _ e = absurd (false≢true e)
 
@@ -75,12 +75,12 @@ taking_is r (op.Serve call) e =
     )
 taking_is r _ e = absurd (false≢true e)
 
-pausing_is : (s : Service) → is_pausing s ≡ true → Pauses s
+pub pausing_is : (s : Service) → is_pausing s ≡ true → Pauses s
 pausing_is service.WaitEvent e = inl refl
 pausing_is service.Schedule e = inr refl
 pausing_is _ e = absurd (false≢true e)
 
-is_pausing_of : (s : Service) → Pauses s → is_pausing s ≡ true
+pub is_pausing_of : (s : Service) → Pauses s → is_pausing s ≡ true
 is_pausing_of s (inl e) = ap is_pausing e
 is_pausing_of s (inr e) = ap is_pausing e
 

@@ -1,0 +1,6 @@
+pub mod Lists
+pub mod Paths
+pub mod Tests
+pub mod Labelled
+pub mod Parts
+pub mod Acyclic

@@ -1,0 +1,147 @@
+-- Marks along the ways of a body.
+use Rattle.std.proofs.Common.{◌≡◌, ℕ, ◌+◌, ◌<◌, ◌≤◌, Bool, true, false, ◌||◌, ◌⊎◌, inl, inr, List, [], ◌∷◌, ◌++◌, length, get_or, set, cond, not, ◌↔◌, Option, Some, None, refl, ap, sym, ◌∙◌, subst, arith, ⊎_elim}
+use Rattle.std.specs.Prelude.{nat_lt}
+use Rattle.std.proofs.lemmas.Bool.{cases_eq, cases_lt, lt-ltb, true≢false, false≢true, false_from_ne_true}
+use Rattle.std.proofs.lemmas.List.{get_or-set_other, get_or_past}
+use Rattle.sloth_base.specs.declared.app.Func.{Func}
+use Rattle.app_rules.specs.Named.{item_of, label_of, no_item}
+use Rattle.std.specs.Bool.{Decides}
+use Rattle.app_rules.specs.Code.{falls, way, GoesOn, Path}
+use Rattle.app_rules.specs.WellFormed.{IsUnreached}
+use Rattle.task_verify.specs.Ways.{inside_or, next_of, label_place, jump_of, Reached, first, by_next, by_jump, Marked, unmarked, Visited}
+
+-- the loop's invariant over the items below n
+pub record Passed (f : Func) (old new : List Bool) (fresh : Bool) (n : ℕ) : Type 0 where
+  pub keeps : (i : ℕ) → Marked old i → Marked new i
+  pub sound : ((i : ℕ) → Marked old i → Reached f i) → (i : ℕ) → Marked new i → Reached f i
+  pub same : fresh ≡ false → (new ≡ old) × ((k : ℕ) → k < n → Marked old k → Marked old (next_of f k) × Marked old (jump_of f k))
+  pub less : fresh ≡ true → unmarked new < unmarked old
+
+neither : (a b : Bool) → (a || b) ≡ false → (a ≡ false) × (b ≡ false)
+neither true b h = absurd (true≢false h)
+neither false b h = (refl, h)
+
+pub passed_more : (f : Func) (old mid new : List Bool) (fresh more both : Bool) (n : ℕ) → n < length f.items → both ≡ (fresh || more)
+    → Passed f old mid fresh n → Visited mid new n (next_of f n) (jump_of f n) more → Passed f old new both (n + 1)
+passed_more f old mid new fresh more both n l q p v = record {
+  keeps = λ i m. v.keeps i (p.keeps i m);
+  sound = λ h i m. ⊎_elim (p.sound h i)
+      (λ b. ⊎_elim (λ e. by_next n i l (p.sound h n b.0) (sym e)) (λ e. by_jump n i l (p.sound h n b.0) (sym e)) b.1) (v.only i m);
+  same = λ e.
+      let z = neither fresh more (sym q ∙ e) in
+      let a = p.same z.0 in
+      let b = v.same z.1 in (
+        b.0 ∙ a.0,
+        λ k h m. ⊎_elim
+            (λ g. subst (λ (x : ℕ). Marked old x → Marked old (next_of f x) × Marked old (jump_of f x)) (sym g)
+            (subst (λ (x : List Bool). Marked x n → Marked x (next_of f n) × Marked x (jump_of f n)) a.0 b.1) m)
+            (λ g. a.1 k (omega (arith, h, g)) m)
+            (cases_eq k n),
+      );
+  less = λ e. fewer fresh more refl refl (sym q ∙ e);
+}
+  where
+    fewer : (x y : Bool) → fresh ≡ x → more ≡ y → (fresh || more) ≡ true → unmarked new < unmarked old
+    fewer true true e g h = let a = p.less e in let b = v.less g in omega (arith, a, b)
+    fewer true false e g h = let a = p.less e in let b = v.at_most g in omega (arith, a, b)
+    fewer false true e g h = let a = ap unmarked (p.same e).0 in let b = v.less g in omega (arith, a, b)
+    fewer false false e g h = absurd (true≢false (sym h ∙ (ap (λ u. u || more) e ∙ g)))
+
+-- a closed set of marks has all that is reached
+pub closed_all : {f : Func} {i : ℕ} → Reached f i → (marks : List Bool) → Marked marks 0
+    → ((k : ℕ) → k < length f.items → Marked marks k → Marked marks (next_of f k) × Marked marks (jump_of f k)) → Marked marks i
+closed_all first marks s c = s
+closed_all (by_next k j l r e) marks s c = subst (Marked marks) e (c k l (closed_all r marks s c)).0
+closed_all (by_jump k j l r e) marks s c = subst (Marked marks) e (c k l (closed_all r marks s c)).1
+
+pub first_mark : (f : Func) (marks : List Bool) → 0 < length marks → ((i : ℕ) → i < length marks → get_or marks i false ≡ false)
+    → (i : ℕ) → Marked (set marks 0 true) i → Reached f i
+first_mark f marks l c i m = ⊎_elim
+    (λ e. subst (Reached f) (sym e) first)
+    (λ n. absurd (false≢true (sym (clear i) ∙ (sym (get_or-set_other marks 0 i true false n) ∙ m))))
+    (cases_eq i 0)
+  where
+    clear : (i : ℕ) → get_or marks i false ≡ false
+    clear i = ⊎_elim (λ h. c i h) (λ h. get_or_past marks i false h) (cases_lt i (length marks))
+
+-- ---- what is reached is what paths lead to
+
+pub path_joins : (f : Func) (i j k : ℕ) (between more : List ℕ) → Path f i between j → Path f j more k → Path f i (between ++ more) k
+path_joins f i j k [] more a b = subst (λ (x : ℕ). Path f x more k) (sym a) b
+path_joins f i j k (h ∷ between) more a b = (a.0, path_joins f h j k between more a.1 b)
+
+step_of : (f : Func) (i j k : ℕ) (between : List ℕ) → Path f i between j → GoesOn f j k → (more : List ℕ) × Path f i more k
+step_of f i j k between path goes = (between ++ k ∷ [], path_joins f i j k between (k ∷ []) path (goes, refl))
+
+stays : (f : Func) (i j k : ℕ) (between : List ℕ) → Path f i between j → j ≡ k → (more : List ℕ) × Path f i more k
+stays f i j k between path e = (between, subst (λ (x : ℕ). Path f i between x) e path)
+
+-- the place itself, or a place inside
+chosen : (f : Func) (place itself k : ℕ) → inside_or f place itself ≡ k → (place ≡ k) ⊎ (itself ≡ k)
+chosen f place itself k e = by (nat_lt place (length f.items)) refl
+  where
+    by : (b : Bool) → nat_lt place (length f.items) ≡ b → (place ≡ k) ⊎ (itself ≡ k)
+    by true g = inl (sym (ap (λ c. cond c place itself) g) ∙ e)
+    by false g = inr (sym (ap (λ c. cond c place itself) g) ∙ e)
+
+next_goes : (f : Func) (i k : ℕ) → next_of f i ≡ k → GoesOn f i k ⊎ (i ≡ k)
+next_goes f i k e = by (falls (item_of f i).op) refl
+  where
+    by : (b : Bool) → falls (item_of f i).op ≡ b → GoesOn f i k ⊎ (i ≡ k)
+    by true g = ⊎_elim (λ a. inl (inl (g, sym a))) inr (chosen f (i + 1) i k (sym (ap (λ c. cond c (inside_or f (i + 1) i) i) g) ∙ e))
+    by false g = inr (sym (ap (λ c. cond c (inside_or f (i + 1) i) i) g) ∙ e)
+
+jump_goes : (f : Func) (i k : ℕ) → jump_of f i ≡ k → GoesOn f i k ⊎ (i ≡ k)
+jump_goes f i k e = by (way (item_of f i).op) refl
+  where
+    by : (o : Option ℕ) → way (item_of f i).op ≡ o → GoesOn f i k ⊎ (i ≡ k)
+    by None g = inr (sym (ap (λ o. label_place f o i) g) ∙ e)
+    by (Some l) g = ⊎_elim (λ a. inl (inr (l, g, sym a))) inr (chosen f (label_of f l).item i k (sym (ap (λ o. label_place f o i) g) ∙ e))
+
+pub path_of : {f : Func} {i : ℕ} → Reached f i → (between : List ℕ) × Path f 0 between i
+path_of first = ([], refl)
+path_of {f} {i} (by_next k j l r e) =
+    let p = path_of r in ⊎_elim (λ g. step_of f 0 k j p.0 p.1 g) (λ g. stays f 0 k j p.0 p.1 g) (next_goes f k j e)
+path_of {f} {i} (by_jump k j l r e) =
+    let p = path_of r in ⊎_elim (λ g. step_of f 0 k j p.0 p.1 g) (λ g. stays f 0 k j p.0 p.1 g) (jump_goes f k j e)
+
+-- behind the last item nothing goes on
+goes_from_inside : (f : Func) (i j : ℕ) → GoesOn f i j → i < length f.items
+goes_from_inside f i j g = ⊎_elim (λ l. l) (λ l. absurd (none l g)) (cases_lt i (length f.items))
+  where
+    none : length f.items ≤ i → GoesOn f i j → ⊥
+    none l (inl a) = false≢true (sym (ap (λ x. falls x.op) (get_or_past f.items i no_item l)) ∙ a.0)
+    none l (inr a) = let e : None ≡ Some a.0 = sym (ap (λ x. way x.op) (get_or_past f.items i no_item l)) ∙ a.1 in cc
+
+lands : (f : Func) (place itself : ℕ) → place < length f.items → inside_or f place itself ≡ place
+lands f place itself l = ap (λ c. cond c place itself) (lt-ltb place (length f.items) l)
+
+reach_on : (f : Func) (i j : ℕ) → j < length f.items → Reached f i → GoesOn f i j → Reached f j
+reach_on f i j l r (inl a) =
+    let inside = goes_from_inside f i j (inl a) in
+    by_next i j inside r (ap (λ c. cond c (inside_or f (i + 1) i) i) a.0 ∙ subst (λ (x : ℕ). inside_or f x i ≡ j) a.1 (lands f j i l))
+reach_on f i j l r (inr a) =
+    let inside = goes_from_inside f i j (inr a) in
+    by_jump i j inside r (ap (λ o. label_place f o i) a.1 ∙ subst (λ (x : ℕ). inside_or f x i ≡ j) a.2 (lands f j i l))
+
+reached_along : (f : Func) (i j : ℕ) (between : List ℕ) → j < length f.items → Reached f i → Path f i between j → Reached f j
+reached_along f i j [] l r e = subst (Reached f) e r
+reached_along f i j (k ∷ between) l r p = reached_along f k j between l (reach_on f i k (inside between p.1) r p.0) p.1
+  where
+    inside : (between : List ℕ) → Path f k between j → k < length f.items
+    inside [] e = subst (λ (x : ℕ). x < length f.items) (sym e) l
+    inside (h ∷ more) q = goes_from_inside f k h q.0
+
+pub reached_of : (f : Func) (i : ℕ) (between : List ℕ) → i < length f.items → Path f 0 between i → Reached f i
+reached_of f i between l p = reached_along f 0 i between l first p
+
+pub Decides-unreached : (f : Func) (marks : List Bool) (i : ℕ) → i < length f.items → (Marked marks i ↔ Reached f i)
+    → Decides (not (get_or marks i false)) (IsUnreached f i)
+Decides-unreached f marks i l exact = (
+  λ e between path. true≢false (sym (exact.1 (reached_of f i between l path)) ∙ unmarked_of (get_or marks i false) e),
+  λ none. ap not (false_from_ne_true (get_or marks i false) (λ m. let p = path_of (exact.0 m) in none p.0 p.1)),
+)
+  where
+    unmarked_of : (b : Bool) → not b ≡ true → b ≡ false
+    unmarked_of true e = absurd (false≢true e)
+    unmarked_of false e = refl

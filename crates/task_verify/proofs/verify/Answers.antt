@@ -1,0 +1,13 @@
+use Rattle.std.proofs.Common.{Option, subst}
+use Rattle.sloth_base.specs.declared.refusal.Refusal.{Refusal}
+use Rattle.sloth_refusal.specs.Search.{Finds}
+use Rattle.app_rules.specs.WellFormed.{RuleFault}
+use Rattle.task_verify.proofs.Acyclic.{no_cycle}
+use Rattle.task_verify.proofs.verify.Goals as goal
+
+pub copied-requires : goal.copied-requires
+copied-requires c = record {
+  in_range = c.requires.in_range;
+  no_cycle = no_cycle c.args.app.now c.args.ranks.now c.requires.belong;
+  no_fault = subst (λ (o : Option Refusal). Finds (RuleFault c.args.config.now c.args.app.now) o) c.in-Ok-None.field-0-is c.in-Ok-None.ensures;
+}

@@ -1,0 +1,7 @@
+-- Task code that was verified, with its configuration.
+use Rattle.sloth_base.specs.declared.config.Config.{Config}
+use Rattle.sloth_base.specs.declared.app.App.{App}
+
+pub record Accepted : Type 0 where
+  pub config : Config
+  pub app : App

@@ -1,0 +1,5 @@
+pub mod Tests
+pub mod Labels
+pub mod Ways
+pub mod Cases
+pub mod Accepted

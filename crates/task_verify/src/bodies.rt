@@ -1,0 +1,64 @@
+//! V2 to V12 of task code, body by body.
+ghost use Rattle.std.specs.Prelude.{◌≡◌, ◌<◌, length, IfOk};
+ghost use Rattle.sloth_refusal.specs.Search.{Finds};
+ghost use Rattle.app_rules.specs.AppRange.{AppInRange};
+ghost use Rattle.app_rules.specs.Named.{function};
+ghost use Rattle.app_rules.specs.WellFormed.{BodyFault, RuleFault};
+ghost use Rattle.call_graph.specs.Ranks.{RanksOf};
+
+use crate::items::item_faults;
+use crate::labels::label_faults;
+use crate::walk::held_faults;
+use call_graph::ranking::Ranks;
+use sloth_base::app::{App, Func};
+use sloth_base::config::Config;
+use sloth_base::memory::NoMemory;
+use sloth_base::refusal::{Code, Part, Refusal};
+use sloth_refusal::{merge, when};
+use std::alloc::Global;
+
+fn body_fault(
+    alloc: Global,
+    config: &Config,
+    app: &App,
+    ranks: &Ranks,
+    body: usize,
+    func: &Func,
+) -> Result<Option<Refusal>, NoMemory>
+    requires in_range { AppInRange config.now app.now }
+    requires belong { RanksOf app.now ranks.now }
+    requires known { body < length app.now.funcs }
+    requires is { func.now ≡ function app.now body }
+    ensures { IfOk result (Finds (BodyFault config.now app.now body)) }
+{
+    let users = u64::from(ranks.users.items()[body]);
+    let empty = when(
+        func.items.items().is_empty(),
+        Part::Src,
+        func.line,
+        Code::V5,
+    );
+    let labels = label_faults(alloc, func)?;
+    let items = item_faults(alloc, config, app, body, users, func)?;
+    let held = held_faults(alloc, config, app, ranks, func)?;
+    Ok(merge(empty, merge(labels, merge(items, held))))
+}
+
+/// The least of V2 to V12.
+pub fn judge(
+    alloc: Global,
+    config: &Config,
+    app: &App,
+    ranks: &Ranks,
+) -> Result<Option<Refusal>, NoMemory>
+    requires in_range { AppInRange config.now app.now }
+    requires belong { RanksOf app.now ranks.now }
+    ensures { IfOk result (Finds (RuleFault config.now app.now)) }
+{
+    let mut least = None;
+    for (body, func) in app.funcs.items().iter().enumerate() {
+        let found = body_fault(alloc, config, app, ranks, body, func)?;
+        least = merge(least, found);
+    }
+    Ok(least)
+}

@@ -1,0 +1,61 @@
+//! The verifier: V2 to V12 judged exactly, and task code that keeps them.
+#![tactic(auto)]
+
+ghost use Rattle.std.specs.Prelude.{◌≡◌, IfErr, IfOk, OnOk};
+ghost use Rattle.sloth_refusal.specs.Order.{NoFault, ErrorIs};
+ghost use Rattle.app_rules.specs.AppRange.{AppInRange};
+ghost use Rattle.app_rules.specs.WellFormed.{RuleFault, WellFormed};
+ghost use Rattle.call_graph.specs.Ranks.{RanksOf};
+
+pub mod accesses;
+pub mod bodies;
+pub mod held;
+pub mod items;
+pub mod labels;
+pub mod reachable;
+pub mod tasks;
+pub mod verified;
+pub mod walk;
+pub mod ways;
+
+use crate::bodies::judge;
+use crate::verified::Verified;
+use call_graph::ranking::Ranks;
+use sloth_base::app::App;
+use sloth_base::config::Config;
+use sloth_base::refusal::BuildError;
+use std::alloc::Global;
+
+fn copied(alloc: Global, config: &Config, app: &App) -> Result<Verified, BuildError>
+    requires { WellFormed config.now app.now }
+    ensures is { IfOk result (λ verified. verified ≡ record { config = config.now; app = app.now }) }
+    ensures memory { IfErr result (λ error. error ≡ BuildError.Memory) }
+{
+    match config.copy(alloc) {
+        Err(_) => Err(BuildError::Memory),
+        Ok(config) => match app.copy(alloc) {
+            Err(_) => Err(BuildError::Memory),
+            Ok(app) => Ok(Verified::new(config, app)),
+        },
+    }
+}
+
+/// Equal copies of a configuration and its task code, where no rule of V2 to V12 has a fault; else the least fault.
+pub fn verify(
+    alloc: Global,
+    config: &Config,
+    app: &App,
+    ranks: &Ranks,
+) -> Result<Verified, BuildError>
+    requires in_range { AppInRange config.now app.now }
+    requires belong { RanksOf app.now ranks.now }
+    ensures accepted { IfOk result (λ verified. verified ≡ record { config = config.now; app = app.now }) }
+    ensures none { OnOk result (NoFault (RuleFault config.now app.now)) }
+    ensures refused { IfErr result (ErrorIs (RuleFault config.now app.now)) }
+{
+    match judge(alloc, config, app, ranks) {
+        Err(_) => Err(BuildError::Memory),
+        Ok(Some(refusal)) => Err(BuildError::Refused(refusal)),
+        Ok(None) => copied(alloc, config, app),
+    }
+}

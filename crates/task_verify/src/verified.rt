@@ -1,0 +1,51 @@
+//! Task code that keeps the rules.
+ghost use Rattle.std.specs.Prelude.{◌≡◌};
+ghost use Rattle.app_rules.specs.WellFormed.{WellFormed};
+
+use sloth_base::app::App;
+use sloth_base::config::Config;
+use std::marker::Model;
+
+/// Well-formed task code with its configuration.
+#[derive(Drop)]
+pub struct Verified {
+    config: Config,
+    app: App,
+}
+
+impl Model for Verified {
+    ghost use Rattle.app_rules.specs.WellFormed.{WellFormed};
+    ghost use Rattle.task_verify.specs.Accepted.{Accepted};
+
+    ghost Value = { Accepted };
+
+    ghost view = { λ verified. record { config = verified.config; app = verified.app } };
+
+    ghost invariant = { λ verified. WellFormed verified.config verified.app };
+}
+
+impl Verified {
+    /// Task code that is well formed with its configuration.
+    pub fn new(config: Config, app: App) -> Verified
+        requires { WellFormed config app }
+        ensures { result ≡ record { config = config; app = app } }
+    {
+        Verified { config, app }
+    }
+
+    /// The configuration.
+    pub fn config(&self) -> &Config
+        ensures is { result.now ≡ self.now.config }
+        ensures well_formed { WellFormed self.now.config self.now.app }
+    {
+        &self.config
+    }
+
+    /// The task code.
+    pub fn app(&self) -> &App
+        ensures is { result.now ≡ self.now.app }
+        ensures well_formed { WellFormed self.now.config self.now.app }
+    {
+        &self.app
+    }
+}
