@@ -1,5 +1,5 @@
 -- The least fault of numbered things, judged one after the other.
-use Rattle.std.proofs.Common.{Bool, ◌≡◌, ℕ, ◌+◌, ◌<◌, ◌≤◌, inl, inr, ⊎_elim, Option, None, subst, sym, ◌∙◌, arith}
+use Rattle.std.proofs.Common.{Bool, ◌≡◌, ℕ, ◌+◌, ◌<◌, ◌≤◌, ◌⊎◌, inl, inr, ⊎_elim, Option, None, subst, sym, arith}
 use Rattle.std.proofs.lemmas.Bool.{cases_eq}
 use Rattle.std.specs.Bool.{Decides}
 use Rattle.sloth_base.specs.declared.refusal.Code.{Code}
@@ -41,7 +41,3 @@ pub decided : (P : Type 0) (test : Bool) (line : ℕ) (c : Code) (found : Option
     → Finds (λ r. P × (r ≡ at_line line c)) found
 decided P test line c found is decides =
     subst (Finds (λ r. P × (r ≡ at_line line c))) (sym is) (finds_when P test (at_line line c) decides.0 decides.1)
-
-pub tested : (P : Type 0) (rule test : Bool) (line : ℕ) (c : Code) (found : Option Refusal) → found ≡ when test (at_line line c) → test ≡ rule → Decides rule P
-    → Finds (λ r. P × (r ≡ at_line line c)) found
-tested P rule test line c found is same decides = decided P test line c found is (λ h. decides.0 (sym same ∙ h), λ p. same ∙ decides.1 p)

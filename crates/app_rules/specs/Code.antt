@@ -1,6 +1,5 @@
 -- Where task code goes, and what is held on the way: items, chains of calls, paths, and the list of held resources before each item.
 use Rattle.std.specs.Prelude.{ℕ, zero, suc, ◌+◌, ◌<◌, ◌≡◌, ◌⊎◌, ◌==◌, ◌++◌, ◌||◌, not, Bool, true, false, cond, List, [], ◌∷◌, length, Option, Some, None, take}
-use Rattle.std.specs.List.{list_any}
 use Rattle.sloth_base.specs.declared.app.App.{App}
 use Rattle.sloth_base.specs.declared.app.Func.{Func}
 use Rattle.sloth_base.specs.declared.app.Label.{Label}
@@ -92,7 +91,8 @@ Path f i (k ∷ between) j = GoesOn f i k × Path f k between j
 
 -- a number is in a list
 abbrev pub is_in : ℕ → List ℕ → Bool
-is_in x ys = list_any (λ y. y == x) ys
+is_in x [] = false
+is_in x (y ∷ ys) = (y == x) || is_in x ys
 
 -- r is the last of these
 abbrev pub is_last : ℕ → List ℕ → Bool

@@ -21,12 +21,15 @@ bodies_from n (l ∷ ls) =
 abbrev pub bodies_of : List SourceLine → List BodyText
 bodies_of ls = bodies_from 1 ls
 
+-- the name in a body's header
 abbrev pub body_name : BodyText → List ℕ
 body_name body = name_of body.header
 
+-- the body of a task
 abbrev pub is_task_body : BodyText → Bool
 is_task_body body = is_task body.header
 
+-- the body of a function that may be called
 abbrev pub is_called_body : BodyText → Bool
 is_called_body body = not (is_task body.header)
 

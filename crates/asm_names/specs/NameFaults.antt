@@ -20,6 +20,7 @@ use Rattle.asm_names.specs.Scopes.{scope_of, has_unknown}
 abbrev pub is_long : List ℕ → Bool
 is_long name = nat_lt 64 (length name)
 
+-- a name above 64 bytes is written here
 abbrev pub writes_long : Option (List ℕ) → Bool
 writes_long None = false
 writes_long (Some name) = is_long name

@@ -10,14 +10,17 @@ use Rattle.asm_lines.specs.declared.table.Mnemonic.{Mnemonic}
 use Rattle.asm_lines.specs.declared.table.Mnemonic.TheVariants as m
 use Rattle.asm_lines.specs.Table.{opens, closes}
 
+-- a line that declares a symbol
 abbrev pub is_data : SourceLine → Bool
 is_data (Statement m.Data os) = true
 is_data _ = false
 
+-- the header of a body
 abbrev pub opens_body : SourceLine → Bool
 opens_body (Statement m os) = opens m
 opens_body _ = false
 
+-- the end of a body
 abbrev pub closes_body : SourceLine → Bool
 closes_body (Statement m os) = closes m
 closes_body _ = false
@@ -27,6 +30,7 @@ abbrev pub is_task : SourceLine → Bool
 is_task (Statement m.Task os) = true
 is_task _ = false
 
+-- a label
 abbrev pub is_label : SourceLine → Bool
 is_label (Statement m.Label os) = true
 is_label _ = false
@@ -40,6 +44,7 @@ does m.End = false
 does m.Label = false
 does _ = true
 
+-- a line of a body that does something
 abbrev pub is_item : SourceLine → Bool
 is_item (Statement m os) = does m
 is_item _ = false

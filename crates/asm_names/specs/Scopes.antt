@@ -18,9 +18,11 @@ use Rattle.asm_names.specs.declared.scope.Scope.{Scope}
 use Rattle.asm_names.specs.Said.{written, symbol_names}
 use Rattle.asm_names.specs.Bodies.{BodyText, function_names, called_names}
 
+-- the names of the tasks, in the order of their numbers
 abbrev pub task_names : Config → List (List ℕ)
 task_names config = map (λ (t : TaskDecl). t.name) config.tasks
 
+-- the names of the events, in the order of their numbers
 abbrev pub event_names : Config → List (List ℕ)
 event_names config = map (λ (e : EventDecl). e.name) config.events
 
@@ -70,6 +72,7 @@ exists scope labels kind.Task name = list_any (bytes_eq name) scope.tasks
 exists scope labels kind.Resource name = is_scheduler scope name || list_any (bytes_eq name) scope.resources
 exists scope labels kind.Event name = list_any (bytes_eq name) scope.events
 
+-- a name is written here that no object of the wanted kind has
 abbrev pub is_lacking : Scope → List (List ℕ) → Kind → Option (List ℕ) → Bool
 is_lacking scope labels kind None = false
 is_lacking scope labels kind (Some name) = not (exists scope labels kind name)

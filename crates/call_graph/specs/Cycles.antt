@@ -11,5 +11,6 @@ use Rattle.call_graph.specs.Rows.{row_has}
 abbrev pub RowCycleAt : List Func → List ℕ → ℕ → Refusal → Type 0
 RowCycleAt funcs rows f r = (row_has rows f f ≡ true) × (r ≡ at_line (get_or funcs f missing).line code.V1)
 
+-- V1, by the rows of all functions
 abbrev pub RowCycle : List Func → List ℕ → Refusal → Type 0
 RowCycle funcs rows r = (f : ℕ) × (f < length funcs) × RowCycleAt funcs rows f r

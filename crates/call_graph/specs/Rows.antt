@@ -8,23 +8,28 @@ use Rattle.call_graph.specs.Bits.{has}
 
 -- ---- what an operation does itself
 
+-- a call of function g
 abbrev pub is_call : ℕ → Op → Bool
 is_call g (op.Invoke h) = h == g
 is_call g _ = false
 
+-- the service that takes a resource
 abbrev pub is_get : Service → Bool
 is_get service.GetResource = true
 is_get _ = false
 
+-- an operation that takes resource r
 abbrev pub is_taking : ℕ → Op → Bool
 is_taking r (op.Serve call) = is_get call.service && (call.object == r)
 is_taking r _ = false
 
+-- a service in which the caller may wait, or let others run
 abbrev pub is_pausing : Service → Bool
 is_pausing service.WaitEvent = true
 is_pausing service.Schedule = true
 is_pausing _ = false
 
+-- an operation that is such a service
 abbrev pub is_pause : Op → Bool
 is_pause (op.Serve call) = is_pausing call.service
 is_pause _ = false

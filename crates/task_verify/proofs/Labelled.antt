@@ -6,7 +6,7 @@ use Rattle.std.proofs.lemmas.List.{take_all}
 use Rattle.std.proofs.lemmas.Bool.{eqb-true, eq-eqb, cases_eq}
 use Rattle.sloth_base.specs.declared.app.Func.{Func}
 use Rattle.sloth_base.specs.declared.app.Label.{Label}
-use Rattle.app_rules.specs.Named.{nowhere, label_of}
+use Rattle.sloth_base.specs.Named.{nowhere, label_of}
 use Rattle.app_rules.specs.Code.{labelled, marked, held_at, fallen, is_fallen_into, is_entered, held_entering}
 use Rattle.task_verify.specs.Labels.{last_below, list_of, or_else, first_below}
 

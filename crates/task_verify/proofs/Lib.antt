@@ -4,3 +4,4 @@ pub mod Tests
 pub mod Labelled
 pub mod Parts
 pub mod Acyclic
+pub mod Tested

@@ -8,7 +8,7 @@ use Rattle.sloth_base.specs.declared.app.Func.{Func}
 use Rattle.sloth_base.specs.declared.refusal.Code.{Code}
 use Rattle.sloth_base.specs.declared.refusal.Code.TheVariants as code
 use Rattle.sloth_base.specs.declared.refusal.Refusal.{Refusal}
-use Rattle.app_rules.specs.Named.{function, item_of, label_of}
+use Rattle.sloth_base.specs.Named.{function, item_of, label_of}
 use Rattle.app_rules.specs.Code.{fallen, is_fallen_into, held_entering, is_entered}
 use Rattle.app_rules.specs.WellFormed.{Breaks, accesses_past, is_uneven, masks_past, runs_out, is_unreached, holds_other, releases_other, takes_held, leaves_holding, leaves_wrongly, uses_undeclared, Differs, falling_in, at_begin, BodyFault, at_header, at_label, at_item, at_line}
 use Rattle.task_verify.specs.Cases.{EmptyFault, LabelFaults, ItemFaults, PlacesFault, FallFault}

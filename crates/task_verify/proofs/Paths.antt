@@ -4,7 +4,7 @@ use Rattle.std.specs.Prelude.{nat_lt}
 use Rattle.std.proofs.lemmas.Bool.{cases_eq, cases_lt, lt-ltb, true≢false, false≢true, false_from_ne_true}
 use Rattle.std.proofs.lemmas.List.{get_or-set_other, get_or_past}
 use Rattle.sloth_base.specs.declared.app.Func.{Func}
-use Rattle.app_rules.specs.Named.{item_of, label_of, no_item}
+use Rattle.sloth_base.specs.Named.{item_of, label_of, no_item}
 use Rattle.std.specs.Bool.{Decides}
 use Rattle.app_rules.specs.Code.{falls, way, GoesOn, Path}
 use Rattle.app_rules.specs.WellFormed.{IsUnreached}

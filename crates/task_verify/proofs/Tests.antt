@@ -11,9 +11,10 @@ use Rattle.sloth_base.specs.declared.app.Op.{Op}
 use Rattle.sloth_base.specs.declared.app.Op.TheVariants as op
 use Rattle.sloth_base.specs.declared.service.Service.{Service}
 use Rattle.sloth_base.specs.declared.service.Service.TheVariants as service
-use Rattle.app_rules.specs.Named.{declaration, item_of, label_of, symbol_size}
+use Rattle.sloth_base.specs.Arithmetic.{size_of}
+use Rattle.sloth_base.specs.Named.{declaration, item_of, label_of, symbol_size}
 use Rattle.app_rules.specs.AppRange.{AppInRange, IsOp}
-use Rattle.app_rules.specs.Code.{size, falls, way, Ends, Pauses, TaskReaches, is_in, is_last}
+use Rattle.app_rules.specs.Code.{falls, way, Ends, Pauses, TaskReaches, is_in, is_last}
 use Rattle.app_rules.specs.WellFormed.{AccessesPast, IsUneven, MasksPast, RunsOut, ReleasesOther, TakesHeld, LeavesHolding, LeavesWrongly, Lists, HasEvents, IsUnlisted, IsLacked, Misuses, UsesUndeclared}
 use Rattle.call_graph.specs.declared.ranking.Ranks.{Ranks}
 use Rattle.call_graph.specs.Bits.{has}
@@ -49,23 +50,23 @@ differs_decides a b = Decides-not (a == b) (eqb_decides a b)
 pub Decides-accesses_past : (app : App) (f : Func) (o : Op) → Decides (accesses_past app f o) (AccessesPast app f o)
 Decides-accesses_past app f (op.FrameLoad rd word) = leb_decides f.frame_words word
 Decides-accesses_past app f (op.FrameStore rs word) = leb_decides f.frame_words word
-Decides-accesses_past app f (op.Load w rd y offset) = Decides-ltb (symbol_size app y) (offset + size w)
-Decides-accesses_past app f (op.Store w rs y offset) = Decides-ltb (symbol_size app y) (offset + size w)
+Decides-accesses_past app f (op.Load w rd y offset) = Decides-ltb (symbol_size app y) (offset + size_of w)
+Decides-accesses_past app f (op.Store w rs y offset) = Decides-ltb (symbol_size app y) (offset + size_of w)
 Decides-accesses_past app f _ = none
 
 pub Decides-is_uneven : (o : Op) → Decides (is_uneven o) (IsUneven o)
-Decides-is_uneven (op.Load w rd y offset) = differs_decides (offset % size w) 0
-Decides-is_uneven (op.Store w rs y offset) = differs_decides (offset % size w) 0
-Decides-is_uneven (op.LoadAt w rd y index mask) = differs_decides (mask % size w) 0
-Decides-is_uneven (op.StoreAt w rs y index mask) = differs_decides (mask % size w) 0
+Decides-is_uneven (op.Load w rd y offset) = differs_decides (offset % size_of w) 0
+Decides-is_uneven (op.Store w rs y offset) = differs_decides (offset % size_of w) 0
+Decides-is_uneven (op.LoadAt w rd y index mask) = differs_decides (mask % size_of w) 0
+Decides-is_uneven (op.StoreAt w rs y index mask) = differs_decides (mask % size_of w) 0
 Decides-is_uneven _ = none
 
 mask_decides : (app : App) (mask y w : ℕ) → Decides (nat_lt 32767 mask || nat_lt (symbol_size app y) (mask + w)) ((32767 < mask) ⊎ (symbol_size app y < mask + w))
 mask_decides app mask y w = Decides-or (nat_lt 32767 mask) (nat_lt (symbol_size app y) (mask + w)) (Decides-ltb 32767 mask) (Decides-ltb (symbol_size app y) (mask + w))
 
 pub Decides-masks_past : (app : App) (o : Op) → Decides (masks_past app o) (MasksPast app o)
-Decides-masks_past app (op.LoadAt w rd y index mask) = mask_decides app mask y (size w)
-Decides-masks_past app (op.StoreAt w rs y index mask) = mask_decides app mask y (size w)
+Decides-masks_past app (op.LoadAt w rd y index mask) = mask_decides app mask y (size_of w)
+Decides-masks_past app (op.StoreAt w rs y index mask) = mask_decides app mask y (size_of w)
 Decides-masks_past app _ = none
 
 -- ---- ways out

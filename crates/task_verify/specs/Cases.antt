@@ -7,7 +7,7 @@ use Rattle.sloth_base.specs.declared.app.Op.{Op}
 use Rattle.sloth_base.specs.declared.refusal.Code.{Code}
 use Rattle.sloth_base.specs.declared.refusal.Code.TheVariants as code
 use Rattle.sloth_base.specs.declared.refusal.Refusal.{Refusal}
-use Rattle.app_rules.specs.Named.{item_of, label_of}
+use Rattle.sloth_base.specs.Named.{item_of, label_of}
 use Rattle.app_rules.specs.AppRange.{IsOp}
 use Rattle.app_rules.specs.Code.{TaskReaches, held_at, fallen, is_fallen_into}
 use Rattle.app_rules.specs.WellFormed.{AccessesPast, IsUneven, MasksPast, RunsOut, IsUnreached, HoldsOther, ReleasesOther, TakesHeld, LeavesHolding, LeavesWrongly, UsesUndeclared, at_line}
@@ -40,6 +40,7 @@ PathFault f i r = Case (IsUnreached f i) (item_of f i).line code.V6 r
 abbrev pub ItemFault : Config → App → (b : ℕ) → Func → (i : ℕ) → Refusal → Type 0
 ItemFault config app b f i r = AccessFault app f i r ⊎ (FlowFault config app b f i r ⊎ PathFault f i r)
 
+-- V2 to V6, V11 and V12 of some item of body b
 abbrev pub ItemFaults : Config → App → (b : ℕ) → Func → Refusal → Type 0
 ItemFaults config app b f r = (i : ℕ) × (i < length f.items) × ItemFault config app b f i r
 
@@ -51,6 +52,7 @@ HeldFault app f held line o r =
     ⊎ (Case (TakesHeld app held o) line code.V9 r
     ⊎ Case (LeavesHolding app held o) line code.V10 r))
 
+-- V7 to V10 of item i
 abbrev pub HeldFaultAt : App → Func → ℕ → Refusal → Type 0
 HeldFaultAt app f i r = HeldFault app f (held_at f i) (item_of f i).line (item_of f i).op r
 
@@ -66,6 +68,7 @@ BeginsHolding f k = ((label_of f k).item ≡ 0) × ((label_of f k).holds ≢ [])
 abbrev pub LabelFault : Func → ℕ → Refusal → Type 0
 LabelFault f k r = Case (FollowsOther f k ⊎ BeginsHolding f k) (label_of f k).line code.V7 r
 
+-- V7 of some label, without the items
 abbrev pub LabelFaults : Func → Refusal → Type 0
 LabelFaults f r = (k : ℕ) × (k < length f.labels) × LabelFault f k r
 

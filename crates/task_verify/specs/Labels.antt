@@ -2,7 +2,7 @@
 use Rattle.std.specs.Prelude.{ℕ, zero, suc, ◌+◌, ◌==◌, ◌≡◌, ◌<◌, ◌≤◌, cond, length, List, Option, Some, None, get_or}
 use Rattle.sloth_base.specs.declared.app.Label.{Label}
 use Rattle.sloth_base.specs.declared.app.Func.{Func}
-use Rattle.app_rules.specs.Named.{nowhere, label_of}
+use Rattle.sloth_base.specs.Named.{nowhere, label_of}
 
 -- of the first k labels the last one at this place
 abbrev pub last_below : List Label → (place k : ℕ) → Option ℕ
@@ -14,6 +14,7 @@ abbrev pub list_of : List Label → Option ℕ → List ℕ → List ℕ
 list_of labels None held = held
 list_of labels (Some k) held = (get_or labels k nowhere).holds
 
+-- the first of these that there is
 abbrev pub or_else : Option ℕ → Option ℕ → Option ℕ
 or_else (Some k) other = Some k
 or_else None other = other

@@ -8,9 +8,10 @@ use Rattle.sloth_base.specs.declared.app.Op.{Op}
 use Rattle.sloth_base.specs.declared.app.Op.TheVariants as op
 use Rattle.sloth_base.specs.declared.service.Service.{Service}
 use Rattle.sloth_base.specs.declared.service.Service.TheVariants as service
-use Rattle.app_rules.specs.Named.{declaration, item_of, label_of, symbol_size}
+use Rattle.sloth_base.specs.Arithmetic.{size_of}
+use Rattle.sloth_base.specs.Named.{declaration, item_of, label_of, symbol_size}
 use Rattle.app_rules.specs.AppRange.{AreOperands}
-use Rattle.app_rules.specs.Code.{size, falls, way, is_in, is_last}
+use Rattle.app_rules.specs.Code.{falls, way, is_in, is_last}
 use Rattle.call_graph.specs.declared.ranking.Ranks.{Ranks}
 use Rattle.call_graph.specs.Bits.{has}
 use Rattle.call_graph.specs.Rows.{is_get, is_pausing}
@@ -20,22 +21,22 @@ use Rattle.call_graph.specs.Reached.{any_below}
 abbrev pub accesses_past : App → Func → Op → Bool
 accesses_past app f (op.FrameLoad rd word) = nat_le f.frame_words word
 accesses_past app f (op.FrameStore rs word) = nat_le f.frame_words word
-accesses_past app f (op.Load w rd y offset) = nat_lt (symbol_size app y) (offset + size w)
-accesses_past app f (op.Store w rs y offset) = nat_lt (symbol_size app y) (offset + size w)
+accesses_past app f (op.Load w rd y offset) = nat_lt (symbol_size app y) (offset + size_of w)
+accesses_past app f (op.Store w rs y offset) = nat_lt (symbol_size app y) (offset + size_of w)
 accesses_past app f _ = false
 
 -- V3
 abbrev pub is_uneven : Op → Bool
-is_uneven (op.Load w rd y offset) = not (offset % size w == 0)
-is_uneven (op.Store w rs y offset) = not (offset % size w == 0)
-is_uneven (op.LoadAt w rd y index mask) = not (mask % size w == 0)
-is_uneven (op.StoreAt w rs y index mask) = not (mask % size w == 0)
+is_uneven (op.Load w rd y offset) = not (offset % size_of w == 0)
+is_uneven (op.Store w rs y offset) = not (offset % size_of w == 0)
+is_uneven (op.LoadAt w rd y index mask) = not (mask % size_of w == 0)
+is_uneven (op.StoreAt w rs y index mask) = not (mask % size_of w == 0)
 is_uneven _ = false
 
 -- V4
 abbrev pub masks_past : App → Op → Bool
-masks_past app (op.LoadAt w rd y index mask) = nat_lt 32767 mask || nat_lt (symbol_size app y) (mask + size w)
-masks_past app (op.StoreAt w rs y index mask) = nat_lt 32767 mask || nat_lt (symbol_size app y) (mask + size w)
+masks_past app (op.LoadAt w rd y index mask) = nat_lt 32767 mask || nat_lt (symbol_size app y) (mask + size_of w)
+masks_past app (op.StoreAt w rs y index mask) = nat_lt 32767 mask || nat_lt (symbol_size app y) (mask + size_of w)
 masks_past app _ = false
 
 -- the label of this number stands behind the last item
@@ -47,15 +48,18 @@ leads_out f (Some k) = nat_le (length f.items) (label_of f k).item
 abbrev pub runs_out : Func → ℕ → Bool
 runs_out f i = (falls (item_of f i).op && nat_le (length f.items) (i + 1)) || leads_out f (way (item_of f i).op)
 
+-- a service that ends the caller
 abbrev pub is_ending : Service → Bool
 is_ending service.TerminateTask = true
 is_ending service.ChainTask = true
 is_ending _ = false
 
+-- the service that gives a resource back
 abbrev pub is_release : Service → Bool
 is_release service.ReleaseResource = true
 is_release _ = false
 
+-- a resource is held
 abbrev pub holds_any : List ℕ → Bool
 holds_any held = not (length held == 0)
 
@@ -87,12 +91,15 @@ leaves_wrongly f _ = false
 abbrev pub is_unlisted : Config → (users r : ℕ) → Bool
 is_unlisted config users r = any_below (length config.tasks) (λ t. has users t && not (is_in r (declaration config t).resources))
 
+-- task t lacks one of these events
 abbrev pub lacks : Config → (t mask : ℕ) → Bool
 lacks config t mask = not (bit_and mask (declaration config t).events == mask)
 
+-- one of these tasks lacks one of these events
 abbrev pub is_lacked : Config → (users mask : ℕ) → Bool
 is_lacked config users mask = any_below (length config.tasks) (λ t. has users t && lacks config t mask)
 
+-- a service uses what one of these tasks does not declare
 abbrev pub misuses : Config → ℕ → Service → (object mask : ℕ) → Bool
 misuses config users service.GetResource r mask = not (r == 32) && is_unlisted config users r
 misuses config users service.ReleaseResource r mask = not (r == 32) && is_unlisted config users r

@@ -2,7 +2,7 @@
 use Rattle.std.specs.Prelude.{ℕ, ◌+◌, ◌<◌, ◌≡◌, ◌⊎◌, nat_lt, not, Bool, true, false, cond, List, length, Option, Some, None, get_or, count_by}
 use Rattle.sloth_base.specs.declared.app.Func.{Func}
 use Rattle.sloth_base.specs.declared.app.Op.{Op}
-use Rattle.app_rules.specs.Named.{item_of, label_of}
+use Rattle.sloth_base.specs.Named.{item_of, label_of}
 use Rattle.app_rules.specs.Code.{falls, way}
 
 -- the label of a branch or jump is one of the body
@@ -17,6 +17,7 @@ inside_or f place itself = cond (nat_lt place (length f.items)) place itself
 abbrev pub next_of : Func → ℕ → ℕ
 next_of f i = cond (falls (item_of f i).op) (inside_or f (i + 1) i) i
 
+-- the place of a label; the item itself, without a label
 abbrev pub label_place : Func → Option ℕ → ℕ → ℕ
 label_place f None i = i
 label_place f (Some k) i = inside_or f (label_of f k).item i
@@ -33,9 +34,11 @@ pub data Reached (f : Func) : ℕ → Type 0 where
 
 -- ---- marks
 
+-- item i is marked
 abbrev pub Marked : List Bool → ℕ → Type 0
 Marked marks i = get_or marks i false ≡ true
 
+-- how many items are not marked
 abbrev pub unmarked : List Bool → ℕ
 unmarked marks = count_by not marks
 

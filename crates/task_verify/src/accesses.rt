@@ -1,7 +1,7 @@
 //! V2, V3 and V4: accesses of the frame and of symbols.
 ghost use Rattle.std.specs.Prelude.{◌≡◌};
-ghost use Rattle.app_rules.specs.Named.{symbol_size};
-ghost use Rattle.app_rules.specs.Code.{size};
+ghost use Rattle.sloth_base.specs.Named.{symbol_size};
+ghost use Rattle.sloth_base.specs.Arithmetic.{size_of};
 ghost use Rattle.task_verify.specs.Tests.{accesses_past, is_uneven, masks_past};
 
 use sloth_base::app::{App, Func, Op, Width};
@@ -11,7 +11,7 @@ use sloth_base::numbers::SymId;
 const MASK_LIMIT: u32 = 32767;
 
 fn size(width: Width) -> usize
-    ensures { result ≡ size width }
+    ensures { result ≡ size_of width }
 {
     match width {
         Width::Byte | Width::ByteU => 1,

@@ -2,7 +2,7 @@
 ghost use Rattle.std.specs.Prelude.{◌≡◌, ◌<◌, length, IfOk};
 ghost use Rattle.sloth_refusal.specs.Search.{Finds};
 ghost use Rattle.app_rules.specs.AppRange.{AppInRange};
-ghost use Rattle.app_rules.specs.Named.{function};
+ghost use Rattle.sloth_base.specs.Named.{function};
 ghost use Rattle.app_rules.specs.WellFormed.{BodyFault, RuleFault};
 ghost use Rattle.call_graph.specs.Ranks.{RanksOf};
 

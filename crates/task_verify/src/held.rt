@@ -1,5 +1,5 @@
 //! V7 to V10: what is held at an item.
-ghost use Rattle.std.specs.Prelude.{◌≡◌, ℕ, ◌<◌, ◌||◌, length, get_or, false, Some, Decides, IfOk};
+ghost use Rattle.std.specs.Prelude.{◌≡◌, ◌==◌, ℕ, ◌<◌, ◌||◌, length, get_or, false, Some, Decides, IfOk};
 ghost use Rattle.std.specs.List.{list_any};
 ghost use Rattle.app_rules.specs.Code.{is_in, is_last, held_behind, held_after};
 ghost use Rattle.app_rules.specs.WellFormed.{HoldsOther};
@@ -80,10 +80,16 @@ fn is_pausing(service: Service) -> bool
     matches!(service, Service::WaitEvent | Service::Schedule)
 }
 
+fn is_one_of(held: &[u32], resource: u32) -> bool
+    ensures { result ≡ list_any (λ taken. taken == resource) held.now }
+{
+    held.iter().any(|taken| *taken == resource)
+}
+
 fn is_in(held: &[u32], resource: u32) -> bool
     ensures { result ≡ is_in resource held.now }
 {
-    held.iter().any(|taken| *taken == resource)
+    is_one_of(held, resource)
 }
 
 fn taken_by(ranks: &Ranks, func: FuncId) -> u64

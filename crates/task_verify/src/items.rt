@@ -2,7 +2,7 @@
 ghost use Rattle.std.specs.Prelude.{◌≡◌, ℕ, ◌<◌, ◌↔◌, length, IfOk};
 ghost use Rattle.sloth_refusal.specs.Search.{Finds};
 ghost use Rattle.app_rules.specs.AppRange.{AppInRange, IsOp};
-ghost use Rattle.app_rules.specs.Named.{item_of};
+ghost use Rattle.sloth_base.specs.Named.{item_of};
 ghost use Rattle.app_rules.specs.WellFormed.{at_line};
 ghost use Rattle.task_verify.specs.Ways.{Marked, Reached};
 ghost use Rattle.task_verify.specs.Cases.{AccessFault, FlowFault, PathFault, ItemFault, ItemFaults, AreOps, AreUsers};

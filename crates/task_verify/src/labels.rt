@@ -1,7 +1,7 @@
 //! The labels at each place of a body.
 ghost use Rattle.std.specs.Prelude.{◌≡◌, ◌≢◌, ℕ, ◌+◌, ◌<◌, ◌≤◌, ◌||◌, [], Some, None, length, get_or, Decides, IfOk};
 ghost use Rattle.sloth_refusal.specs.Search.{Finds};
-ghost use Rattle.app_rules.specs.Named.{label_of};
+ghost use Rattle.sloth_base.specs.Named.{label_of};
 ghost use Rattle.task_verify.specs.Labels.{or_else, first_below, last_below, ArePlaced};
 ghost use Rattle.task_verify.specs.Cases.{FollowsOther, BeginsHolding, LabelFault, LabelFaults};
 

@@ -1,6 +1,6 @@
 //! V6: which items the paths from the first one reach.
 ghost use Rattle.std.specs.Prelude.{◌≡◌, ℕ, ◌<◌, ◌↔◌, ◌||◌, true, false, not, length, slice_set, get_or, IfOk};
-ghost use Rattle.app_rules.specs.Named.{item_of};
+ghost use Rattle.sloth_base.specs.Named.{item_of};
 ghost use Rattle.task_verify.specs.Ways.{LeadsToLabels, Marked, Reached, Visited, Spread};
 
 use crate::ways::{jump_of, next_of};

@@ -1,5 +1,6 @@
 //! V11 and V12: what the tasks that reach an item may do there.
-ghost use Rattle.std.specs.Prelude.{◌≡◌, ℕ, ◌<◌, ◌||◌, ◌&&◌, not, length};
+ghost use Rattle.std.specs.Prelude.{◌≡◌, ◌==◌, ℕ, ◌<◌, ◌||◌, ◌&&◌, not, length};
+ghost use Rattle.std.specs.List.{list_any};
 ghost use Rattle.app_rules.specs.AppRange.{AreOperands};
 ghost use Rattle.app_rules.specs.Code.{is_in};
 ghost use Rattle.call_graph.specs.Bits.{has};
@@ -8,6 +9,7 @@ ghost use Rattle.task_verify.specs.Tests.{is_ending, leaves_wrongly, is_unlisted
 use call_graph::bits::has;
 use sloth_base::app::{Call, Func, Op};
 use sloth_base::config::{Config, TaskDecl};
+use sloth_base::numbers::ResId;
 use sloth_base::service::Service;
 
 /// RES_SCHEDULER, which every task may take.
@@ -41,13 +43,16 @@ pub fn leaves_wrongly(func: &Func, op: Op) -> bool
     }
 }
 
+fn is_listed(resources: &[ResId], resource: u32) -> bool
+    ensures { result ≡ list_any (λ listed. listed == resource) resources.now }
+{
+    resources.iter().any(|listed| listed.0 == resource)
+}
+
 fn lists(task: &TaskDecl, resource: u32) -> bool
     ensures { result ≡ is_in resource task.now.resources }
 {
-    task.resources
-        .items()
-        .iter()
-        .any(|listed| listed.0 == resource)
+    is_listed(task.resources.items(), resource)
 }
 
 fn or_unlisted(unlisted: bool, uses: bool, task: &TaskDecl, resource: u32) -> bool

@@ -2,7 +2,7 @@
 ghost use Rattle.std.specs.Prelude.{◌≡◌, ◌≢◌, ℕ, ◌+◌, ◌<◌, ◌≤◌, true, Some, None, length, get_or, Decides, IfOk};
 ghost use Rattle.sloth_refusal.specs.Search.{Finds};
 ghost use Rattle.app_rules.specs.AppRange.{AppInRange, IsOp};
-ghost use Rattle.app_rules.specs.Named.{item_of, label_of};
+ghost use Rattle.sloth_base.specs.Named.{item_of, label_of};
 ghost use Rattle.app_rules.specs.Code.{fallen, is_fallen_into};
 ghost use Rattle.call_graph.specs.Ranks.{RanksOf};
 ghost use Rattle.task_verify.specs.Labels.{first_below, last_below, list_of, ArePlaced, AreTables};

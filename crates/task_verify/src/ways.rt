@@ -1,6 +1,6 @@
 //! Where items of a body go on.
 ghost use Rattle.std.specs.Prelude.{◌≡◌, ℕ, ◌<◌, length, Some};
-ghost use Rattle.app_rules.specs.Named.{item_of};
+ghost use Rattle.sloth_base.specs.Named.{item_of};
 ghost use Rattle.app_rules.specs.Code.{ends_for_good, falls, way};
 ghost use Rattle.task_verify.specs.Tests.{leads_out, runs_out};
 ghost use Rattle.task_verify.specs.Ways.{inside_or, next_of, label_place, jump_of, LeadsToLabels};

@@ -6,9 +6,9 @@ use Rattle.sloth_base.specs.declared.app.Item.{Item}
 use Rattle.sloth_base.specs.declared.refusal.Code.TheVariants as code
 use Rattle.sloth_refusal.specs.Search.{Finds}
 use Rattle.sloth_refusal.proofs.Kept.{both_are, finds_same}
-use Rattle.app_rules.specs.Named.{missing, nowhere}
+use Rattle.sloth_base.specs.Named.{missing, nowhere}
 use Rattle.app_rules.specs.WellFormed.{BodyFault}
-use Rattle.app_rules.proofs.Judged.{tested}
+use Rattle.task_verify.proofs.Tested.{tested}
 use Rattle.task_verify.specs.Cases.{EmptyFault, LabelFaults, ItemFaults, PlacesFault}
 use Rattle.task_verify.proofs.Parts.{Parts, to_parts, from_parts}
 use Rattle.task_verify.proofs.bodies.body_fault.Goals as goal

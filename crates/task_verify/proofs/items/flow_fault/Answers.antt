@@ -4,7 +4,7 @@ use Rattle.sloth_base.specs.declared.refusal.Code.TheVariants as code
 use Rattle.sloth_refusal.specs.Search.{Finds}
 use Rattle.sloth_refusal.proofs.Kept.{both_are}
 use Rattle.app_rules.specs.WellFormed.{RunsOut, LeavesWrongly, UsesUndeclared}
-use Rattle.app_rules.proofs.Judged.{tested}
+use Rattle.task_verify.proofs.Tested.{tested}
 use Rattle.task_verify.specs.Cases.{Case}
 use Rattle.task_verify.specs.Tests.{runs_out, leaves_wrongly, uses_undeclared}
 use Rattle.task_verify.proofs.Lists.{item_is}

@@ -1,7 +1,7 @@
 use Rattle.std.proofs.Common.{◌≡◌, ◌<◌, ℕ, Some, Option, length, subst, sym, ◌∙◌, arith}
 use Rattle.std.specs.Prelude.{◌≢◌}
 use Rattle.sloth_base.specs.declared.app.Func.{Func}
-use Rattle.app_rules.specs.Named.{label_of}
+use Rattle.sloth_base.specs.Named.{label_of}
 use Rattle.task_verify.specs.Labels.{last_below}
 use Rattle.task_verify.proofs.Labelled.{last_inside}
 use Rattle.task_verify.proofs.labels.follows_other.Goals as goal

@@ -5,7 +5,7 @@ use Rattle.std.proofs.lemmas.Bool.Decides.{Decides-or}
 use Rattle.sloth_base.specs.declared.app.Label.{Label}
 use Rattle.sloth_base.specs.declared.refusal.Code.TheVariants as code
 use Rattle.sloth_refusal.specs.Search.{Finds}
-use Rattle.app_rules.proofs.Judged.{tested}
+use Rattle.task_verify.proofs.Tested.{tested}
 use Rattle.task_verify.specs.Cases.{Case, FollowsOther, BeginsHolding}
 use Rattle.task_verify.proofs.Lists.{label_is}
 use Rattle.task_verify.proofs.labels.label_fault.Goals as goal

@@ -1,5 +1,5 @@
 use Rattle.std.proofs.Common.{◌≡◌, ℕ, ◌+◌, ◌<◌, ◌≤◌, None, length, get_or}
-use Rattle.app_rules.specs.Named.{label_of}
+use Rattle.sloth_base.specs.Named.{label_of}
 use Rattle.task_verify.specs.Labels.{last_below}
 use Rattle.task_verify.proofs.labels.labels_before.Given as goal
 

@@ -1,5 +1,5 @@
 use Rattle.std.proofs.Common.{◌≡◌, ◌&&◌, not}
-use Rattle.app_rules.specs.Named.{declaration}
+use Rattle.sloth_base.specs.Named.{declaration}
 use Rattle.app_rules.specs.Code.{is_in}
 use Rattle.call_graph.specs.Bits.{has}
 use Rattle.call_graph.specs.Reached.{any_below}

@@ -5,7 +5,8 @@ use Rattle.sloth_refusal.specs.Search.{Finds}
 use Rattle.sloth_refusal.proofs.Kept.{both_are}
 use Rattle.app_rules.specs.WellFormed.{HoldsOther, ReleasesOther, TakesHeld, LeavesHolding}
 use Rattle.app_rules.specs.AppRange.{IsOp}
-use Rattle.app_rules.proofs.Judged.{decided, tested}
+use Rattle.app_rules.proofs.Judged.{decided}
+use Rattle.task_verify.proofs.Tested.{tested}
 use Rattle.task_verify.specs.Cases.{Case, HeldFault}
 use Rattle.task_verify.specs.Tests.{releases_other, takes_held, leaves_holding}
 use Rattle.task_verify.proofs.Lists.{item_is}

@@ -4,7 +4,7 @@ use Rattle.std.specs.Bool.{Decides}
 use Rattle.sloth_base.specs.declared.app.Label.{Label}
 use Rattle.sloth_base.specs.declared.refusal.Code.TheVariants as code
 use Rattle.sloth_refusal.specs.Search.{Finds}
-use Rattle.app_rules.specs.Named.{label_of}
+use Rattle.sloth_base.specs.Named.{label_of}
 use Rattle.app_rules.specs.Code.{is_fallen_into, fallen}
 use Rattle.app_rules.proofs.Judged.{decided}
 use Rattle.task_verify.specs.Cases.{Case}

@@ -2,7 +2,7 @@ use Rattle.std.proofs.Common.{ℕ, ◌<◌, ◌≤◌, List, length, ap, sym, su
 use Rattle.sloth_base.specs.declared.app.Item.{Item}
 use Rattle.sloth_refusal.specs.Search.{Finds}
 use Rattle.sloth_refusal.proofs.Kept.{both_are}
-use Rattle.app_rules.specs.Named.{item_of}
+use Rattle.sloth_base.specs.Named.{item_of}
 use Rattle.app_rules.specs.Code.{fallen, held_after}
 use Rattle.app_rules.proofs.Judged.{Below, judged_more, judged_end}
 use Rattle.task_verify.specs.Labels.{last_below, list_of}
