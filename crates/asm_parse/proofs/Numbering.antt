@@ -1,0 +1,32 @@
+-- The names of a source can be numbered.
+use Rattle.std.proofs.Common.{◌≡◌, ℕ, Bool, ◌<◌, ◌≤◌, ◌^◌, List, map, length, arith, count_by}
+use Rattle.std.specs.Prelude.{filter}
+use Rattle.std.proofs.lemmas.List.{length-map}
+use Rattle.std.proofs.lemmas.List.Sums.{length-filter, count_by-le-length}
+use Rattle.sloth_base.specs.ConfigRange.{InRange}
+use Rattle.sloth_base.specs.declared.config.Config.{Config}
+use Rattle.sloth_base.specs.declared.config.TaskDecl.{TaskDecl}
+use Rattle.asm_lines.specs.declared.source_line.SourceLine.{SourceLine}
+use Rattle.asm_names.specs.Said.{is_data, is_label, name_of, symbol_names, label_names}
+use Rattle.asm_names.specs.Bodies.{BodyText, bodies_of, body_name, function_names}
+use Rattle.asm_names.specs.Scopes.{scope_of}
+use Rattle.asm_names.proofs.Short.{few_bodies}
+use Rattle.asm_parse.specs.Numbered.{IsNumbered}
+
+pub few_kept : {Y : Type 0} (p : SourceLine → Bool) (f : SourceLine → Y) (ls : List SourceLine) → length (map f (filter p ls)) ≤ length ls
+few_kept p f ls = let m = length-map (filter p ls) f in let g = length-filter p ls in let n = count_by-le-length p ls in omega (arith, m, g, n)
+
+pub numbered : (config : Config) (ls : List SourceLine) → InRange config → length ls < 2 ^ 32 → IsNumbered (scope_of config ls (bodies_of ls))
+numbered config ls r few =
+    let t = length-map config.tasks (λ (t : TaskDecl). t.name) in
+    let tasks = r.few_tasks in
+    let resources = r.few_resources in
+    let s = few_kept is_data name_of ls in
+    let f = length-map (bodies_of ls) body_name in
+    let b = few_bodies 1 ls in
+    record {
+      tasks = omega (arith, t, tasks);
+      resources = omega (arith, resources);
+      symbols = omega (arith, s, few);
+      functions = omega (arith, f, b, few);
+    }

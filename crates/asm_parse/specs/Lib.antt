@@ -1,0 +1,4 @@
+pub mod Operations
+pub mod Numbered
+pub mod Apps
+pub mod AppTexts

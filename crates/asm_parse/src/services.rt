@@ -1,0 +1,125 @@
+//! What a service names: its task or resource, and the mask of its events.
+ghost use Rattle.std.specs.Prelude.{◌≡◌, ◌<◌, ◌^◌, length, option_copied};
+ghost use Rattle.asm_names.specs.Said.{first_name};
+ghost use Rattle.asm_parse.specs.Numbered.{IsNumbered};
+ghost use Rattle.asm_parse.specs.Operations.{number_of, resource_number, mask_given, mask_named, mask_of, behind_first, object_of, events_of, call_of};
+
+use asm_lines::Operand;
+use asm_names::{Scope, first_name, written};
+use sloth_base::app::Call;
+use sloth_base::config::{Config, EventDecl};
+use sloth_base::service::Service;
+use text_pieces::names::Names;
+
+/// The number of RES_SCHEDULER.
+const SCHEDULER: u32 = 32;
+
+/// The number of a name: its place among those of its kind.
+pub fn number_of(names: &Names, name: &[u8]) -> u32
+    requires { length names.now < 2 ^ 32 }
+    ensures { result ≡ number_of names.now name.now }
+{
+    match names.number(name) {
+        Some(number) => number as u32,
+        None => 0,
+    }
+}
+
+/// The number of a resource.
+pub fn resource_number(scope: &Scope, name: &[u8]) -> u32
+    requires { IsNumbered scope.now }
+    ensures { result ≡ resource_number scope.now name.now }
+{
+    if scope.is_scheduler(name) {
+        SCHEDULER
+    } else {
+        number_of(&scope.resources, name)
+    }
+}
+
+/// The operands behind the first.
+pub fn behind_first(operands: &[Operand]) -> &[Operand]
+    ensures { result.now ≡ behind_first operands.now }
+{
+    match operands {
+        [] => operands,
+        [_, rest @ ..] => rest,
+    }
+}
+
+// The mask of an event, 0 where there is none.
+fn mask_given(event: Option<&EventDecl>) -> u32
+    ensures { result ≡ mask_given (option_copied event.entry) }
+{
+    match event {
+        Some(event) => event.mask,
+        None => 0,
+    }
+}
+
+// The mask of the event that an operand names.
+fn mask_named(config: &Config, scope: &Scope, operand: &Operand) -> u32
+    ensures { result ≡ mask_named config.now scope.now operand.now }
+{
+    let Some(name) = written(operand) else {
+        return 0;
+    };
+    match scope.events.number(name) {
+        Some(number) => mask_given(config.events.items().get(number)),
+        None => 0,
+    }
+}
+
+// The union of the masks of the events that these operands name.
+fn mask_of(config: &Config, scope: &Scope, operands: &[Operand]) -> u32
+    ensures { result ≡ mask_of config.now scope.now operands.now }
+{
+    let mut mask = 0;
+    for operand in operands {
+        mask |= mask_named(config, scope, operand);
+    }
+    mask
+}
+
+fn object_of(scope: &Scope, service: Service, operands: &[Operand]) -> u32
+    requires { IsNumbered scope.now }
+    ensures { result ≡ object_of scope.now service operands.now }
+{
+    match service {
+        Service::TerminateTask
+        | Service::Schedule
+        | Service::GetTaskID
+        | Service::ClearEvent
+        | Service::WaitEvent => 0,
+        Service::GetResource | Service::ReleaseResource => {
+            resource_number(scope, first_name(operands))
+        },
+        Service::ActivateTask
+        | Service::ChainTask
+        | Service::GetTaskState
+        | Service::SetEvent
+        | Service::GetEvent => number_of(&scope.tasks, first_name(operands)),
+    }
+}
+
+fn events_of(config: &Config, scope: &Scope, service: Service, operands: &[Operand]) -> u32
+    ensures { result ≡ events_of config.now scope.now service operands.now }
+{
+    match service {
+        Service::SetEvent => mask_of(config, scope, behind_first(operands)),
+        Service::ClearEvent | Service::WaitEvent => mask_of(config, scope, operands),
+        _ => 0,
+    }
+}
+
+/// The service with its operands as numbers.
+pub fn call_of(config: &Config, scope: &Scope, service: Service, operands: &[Operand]) -> Call
+    requires { IsNumbered scope.now }
+    ensures { result ≡ call_of config.now scope.now service operands.now }
+{
+    Call {
+        service,
+        object: object_of(scope, service, operands),
+        mask: events_of(config, scope, service, operands),
+    }
+}
