@@ -120,7 +120,9 @@ fn body_fault(
 ) -> Result<Option<Refusal>, NoMemory>
     requires few { body.now.line + length body.now.lines < 2 ^ 32 }
     requires items { items + length body.now.lines < 2 ^ 64 }
-    ensures { IfOk result (λ found. Finds (λ r. HeaderFault scope.now (take count scope.now.functions) count body.now.line body.now.header r ⊎ Somewhere (LineFault scope.now (label_names body.now.lines) items body.now.line) body.now.lines r) found) }
+    ensures { IfOk result (λ found. Finds (λ r.
+        HeaderFault scope.now (take count scope.now.functions) count body.now.line body.now.header r
+        ⊎ Somewhere (LineFault scope.now (label_names body.now.lines) items body.now.line) body.now.lines r) found) }
 {
     let labels = label_names(alloc, body.lines())?;
     let of_header = header_fault(scope, count, body.line(), body.header());

@@ -29,7 +29,17 @@ pub record Progress : Type 0 where
 
 -- what an observer keeps
 abbrev pub progress_of : Observer → Progress
-progress_of o = record { expected = o.expected; coming = o.coming.now; first = o.first; inside = o.inside.now; touched = o.touched; found = o.found.now; before = o.before.now; event = o.event; after = o.after.now }
+progress_of o = record {
+  expected = o.expected;
+  coming = o.coming.now;
+  first = o.first;
+  inside = o.inside.now;
+  touched = o.touched;
+  found = o.found.now;
+  before = o.before.now;
+  event = o.event;
+  after = o.after.now;
+}
 
 -- ---- what other crates name of an observer
 

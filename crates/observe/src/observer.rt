@@ -205,9 +205,12 @@ impl<'a> Observer<'a> {
 
     /// Hands out the next finished event.
     pub fn next(&mut self) -> Option<Stamped>
-        ensures some { IfSome result (λ event. (steps : List AnyStep) (events : List AnyStamped) → Fed self.old steps events → Fed self.new steps (events ++ event ∷ [])) }
-        ensures none { IfNone result ((steps : List AnyStep) (events : List AnyStamped) → Fed self.old steps events → Fed self.new steps events × (events ≡ observe (view_of self.old) (arrivals_of self.old) steps)) }
-        ensures exact { (steps : List AnyStep) (events : List AnyStamped) → Fed self.old steps events → (IsNone result ↔ (events ≡ observe (view_of self.old) (arrivals_of self.old) steps)) }
+        ensures some { IfSome result (λ event. (steps : List AnyStep) (events : List AnyStamped) → Fed self.old steps events
+            → Fed self.new steps (events ++ event ∷ [])) }
+        ensures none { IfNone result ((steps : List AnyStep) (events : List AnyStamped) → Fed self.old steps events
+            → Fed self.new steps events × (events ≡ observe (view_of self.old) (arrivals_of self.old) steps)) }
+        ensures exact { (steps : List AnyStep) (events : List AnyStamped) → Fed self.old steps events
+            → (IsNone result ↔ (events ≡ observe (view_of self.old) (arrivals_of self.old) steps)) }
         ensures head { IfSome result (λ event. remaining self.old ≡ event ∷ remaining self.new) }
         ensures empty { IfNone result (remaining self.old ≡ []) }
         ensures drained { IfNone result (remaining self.new ≡ []) }

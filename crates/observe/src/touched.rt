@@ -28,7 +28,8 @@ pub fn skip_late<'a>(arrivals: &'a [Arrival], touched: &[u64; 256]) -> &'a [Arri
 
 /// From the first late arrival on.
 pub fn skip_early<'a>(arrivals: &'a [Arrival], touched: &[u64; 256]) -> &'a [Arrival]
-    ensures kept { filter (λ arrival. not (was_touched touched.now arrival)) result.now ≡ filter (λ arrival. not (was_touched touched.now arrival)) arrivals.now }
+    ensures kept { filter (λ arrival. not (was_touched touched.now arrival)) result.now
+        ≡ filter (λ arrival. not (was_touched touched.now arrival)) arrivals.now }
     ensures head { IfSome (slice_get result.now 0) (λ arrival. was_touched touched.now arrival ≡ false) }
 {
     let mut rest = arrivals;

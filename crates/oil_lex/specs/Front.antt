@@ -30,7 +30,8 @@ comment_piece s = if nat_lt (comment_length s) (length s) then (kind.BlockCommen
 -- behind a quote
 unfoldable pub text_piece : List ℕ → PieceKind × ℕ
 text_piece s =
-    if slice_index s (prefix_len (passes Quoted) s) == 34 then (kind.Text, prefix_len (passes Quoted) s + 2) else (kind.UnclosedText, prefix_len (passes Quoted) s + 1)
+    if slice_index s (prefix_len (passes Quoted) s) == 34 then (kind.Text, prefix_len (passes Quoted) s + 2)
+    else (kind.UnclosedText, prefix_len (passes Quoted) s + 1)
 
 -- a comment, or the sign `/`
 unfoldable pub slash_piece : List ℕ → PieceKind × ℕ

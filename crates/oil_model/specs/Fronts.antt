@@ -14,7 +14,8 @@ abbrev pub priority_of : OilObject → Option ℕ
 priority_of object = if is_of_kind (codes "TASK") object then first_number object.attrs (codes "PRIORITY") else None
 
 -- what is kept of the objects before one
-pub record IsFront {S R : Type 0} (objects : List OilObject) (names : IndexSet (Bor (List ℕ) × Bor (List ℕ)) S) (priorities : IndexSet ℕ R) (tasks resources events : ℕ) (has_os : Bool) : Type 0 where
+pub record IsFront {S R : Type 0} (objects : List OilObject) (names : IndexSet (Bor (List ℕ) × Bor (List ℕ)) S)
+    (priorities : IndexSet ℕ R) (tasks resources events : ℕ) (has_os : Bool) : Type 0 where
   pub named : (kind name : List ℕ) → list_any (λ k. bytes_eq k.0.now kind && bytes_eq k.1.now name) names.keys ≡ has objects kind name
   pub taken : (priority : ℕ) → list_any (λ given. given == priority) priorities.keys ≡ list_any (has_priority priority) objects
   pub task_count : tasks ≡ count_by (is_of_kind (codes "TASK")) objects

@@ -24,7 +24,8 @@ is_clash word mask reference = not (bit_and reference.mask mask == 0) && not (is
 -- what is kept of the references among these attributes
 pub record AreKept (events : List EventDecl) (attrs : List OilAttr) (kept : List Reference) (once twice : ℕ) : Type 0 where
   -- one that is kept has the mask of its event
-  pub marked : (word : List ℕ) → list_any (is_to word) kept ≡ true → list_any (λ reference. is_to word reference && (reference.mask == mask_named events word)) kept ≡ true
+  pub marked : (word : List ℕ) → list_any (is_to word) kept ≡ true
+      → list_any (λ reference. is_to word reference && (reference.mask == mask_named events word)) kept ≡ true
   -- those that are kept tell the same as all
   pub same : (word : List ℕ) → list_any (is_clash word (mask_named events word)) kept ≡ list_any (refers_to_clash events word) attrs
   -- these bits are those of one that is kept

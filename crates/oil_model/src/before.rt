@@ -31,7 +31,8 @@ impl<'t> Model for Before<'t> {
 
 /// The name of the attribute, if it is used in the object's own block.
 fn add_use<'t>(names: &mut IndexSet<&'t [u8]>, attr: &'t OilAttr) -> Result<(), NoMemory>
-    ensures { OnOk result ((name : List ℕ) → list_any (λ k. bytes_eq k.now name) names.new.keys ≡ (list_any (λ k. bytes_eq k.now name) names.old.keys || is_use name attr.now)) }
+    ensures { OnOk result ((name : List ℕ) → list_any (λ k. bytes_eq k.now name) names.new.keys
+        ≡ (list_any (λ k. bytes_eq k.now name) names.old.keys || is_use name attr.now)) }
 {
     if attr.depth != 0 {
         return Ok(());

@@ -159,7 +159,8 @@ fn priority_of(object: &OilObject) -> Option<u32>
 }
 
 fn add_priority(priorities: &mut IndexSet<u32>, object: &OilObject) -> Result<(), NoMemory>
-    ensures { OnOk result ((priority : ℕ) → list_any (λ given. given == priority) priorities.new.keys ≡ (list_any (λ given. given == priority) priorities.old.keys || has_priority priority object.now)) }
+    ensures { OnOk result ((priority : ℕ) → list_any (λ given. given == priority) priorities.new.keys
+        ≡ (list_any (λ given. given == priority) priorities.old.keys || has_priority priority object.now)) }
 {
     let Some(priority) = priority_of(object) else {
         return Ok(());

@@ -24,7 +24,8 @@ impl<'t> Model for ObjectTable<'t> {
 
     ghost view = { λ table. table.objects.now };
 
-    ghost invariant = { λ table. (table.resources.now ≡ names_of (codes "RESOURCE") table.objects.now) × (table.events.now ≡ names_of (codes "EVENT") table.objects.now) };
+    ghost invariant = { λ table. (table.resources.now ≡ names_of (codes "RESOURCE") table.objects.now)
+        × (table.events.now ≡ names_of (codes "EVENT") table.objects.now) };
 }
 
 impl<'t> ObjectTable<'t> {

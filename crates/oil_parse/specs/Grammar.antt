@@ -45,7 +45,8 @@ pub data IsAttrs : ℕ → List Lexeme → List OilAttr → Type 0 where
 pub data IsObject : List Lexeme → OilObject → Type 0 where
   plain_object : {k n : Lexeme} {f : List Lexeme} → IsWordToken k → IsWordToken n → IsEnd f
       → IsObject (k ∷ n ∷ f) (record { kind = k.bytes; name = n.bytes; line = k.line; attrs = [] })
-  block_object : {k n o : Lexeme} (c : Lexeme) (us f : List Lexeme) {al : List OilAttr} → IsWordToken k → IsWordToken n → shape o ≡ Open → IsAttrs 0 us al → shape c ≡ Close → IsEnd f
+  block_object : {k n o : Lexeme} (c : Lexeme) (us f : List Lexeme) {al : List OilAttr} → IsWordToken k → IsWordToken n → shape o ≡ Open
+      → IsAttrs 0 us al → shape c ≡ Close → IsEnd f
       → IsObject (k ∷ n ∷ o ∷ (us ++ c ∷ f)) (record { kind = k.bytes; name = n.bytes; line = k.line; attrs = al })
 
 -- the tokens of objects one after the other
@@ -62,7 +63,8 @@ pub data IsBalanced : List Lexeme → Type 0 where
 -- an optional section IMPLEMENTATION
 pub data IsSection : List Lexeme → Type 0 where
   no_section : IsSection []
-  section : {i n o : Lexeme} (c : Lexeme) (us f : List Lexeme) → shape i ≡ Word Implementation → IsWordToken n → shape o ≡ Open → IsBalanced us → shape c ≡ Close → IsEnd f
+  section : {i n o : Lexeme} (c : Lexeme) (us f : List Lexeme) → shape i ≡ Word Implementation → IsWordToken n → shape o ≡ Open
+      → IsBalanced us → shape c ≡ Close → IsEnd f
       → IsSection (i ∷ n ∷ o ∷ (us ++ c ∷ f))
 
 -- the tokens of the version

@@ -23,7 +23,9 @@ cpu_word = 67 ∷ 80 ∷ 85 ∷ []
 
 -- the keyword that a word is
 unfoldable pub key_of : List ℕ → Key
-key_of bs = if bytes_eq bs version_word then Version else (if bytes_eq bs implementation_word then Implementation else (if bytes_eq bs cpu_word then Cpu else Plain))
+key_of bs = if bytes_eq bs version_word then Version
+    else (if bytes_eq bs implementation_word then Implementation
+    else (if bytes_eq bs cpu_word then Cpu else Plain))
 
 -- the shape of a sign
 unfoldable pub sign_of : List ℕ → Shape

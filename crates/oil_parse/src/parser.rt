@@ -111,8 +111,10 @@ pub fn parse(alloc: Global, tokens: &[Token]) -> Result<OilTree, BuildError>
 pub fn one_tree()
     ensures file { (tokens : List Lexeme) (tree other : OilTree) → IsFile tokens tree → IsFile tokens other → tree ≡ other }
     ensures text { (text : List ℕ) (tree other : OilTree) → HasTree text tree → HasTree text other → tree ≡ other }
-    ensures faults { (text : List ℕ) (tokens : List Lexeme) → AreTokens text tokens → NoFault (TextFault text) → (refusal : Refusal) → BreaksGrammar text refusal ↔ GrammarFault tokens refusal }
-    ensures each { (text : List ℕ) → ((refusal : Refusal) × TextFault text refusal) ⊎ (((refusal : Refusal) × BreaksGrammar text refusal) ⊎ ((tree : OilTree) × HasTree text tree)) }
+    ensures faults { (text : List ℕ) (tokens : List Lexeme) → AreTokens text tokens → NoFault (TextFault text) → (refusal : Refusal)
+        → BreaksGrammar text refusal ↔ GrammarFault tokens refusal }
+    ensures each { (text : List ℕ) → ((refusal : Refusal) × TextFault text refusal)
+        ⊎ (((refusal : Refusal) × BreaksGrammar text refusal) ⊎ ((tree : OilTree) × HasTree text tree)) }
     ensures one { (text : List ℕ) (tree : OilTree) (refusal : Refusal) → HasTree text tree → BreaksGrammar text refusal → ⊥ }
 {}
 

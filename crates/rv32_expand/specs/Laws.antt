@@ -28,7 +28,8 @@ ExpansionsAreFew = (app : App) → IsTaskCode app → (places : Places) (func ad
 
 -- two least sets agree on every branch
 abbrev pub LeastIsOne : Type 0
-LeastIsOne = (app : App) (body : Func) (a b : Set) → IsLeast app body a → IsLeast app body b → (index target : ℕ) → IsBranchTo body index target → a index ≡ b index
+LeastIsOne = (app : App) (body : Func) (a b : Set) → IsLeast app body a → IsLeast app body b → (index target : ℕ)
+    → IsBranchTo body index target → a index ≡ b index
 
 -- there is one list of lengths
 abbrev pub SizesAreOne : Type 0

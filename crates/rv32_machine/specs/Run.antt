@@ -78,7 +78,8 @@ stopping state (Halts stop) = Some (record { pc = (entered state).pc; stop = sto
 unfoldable pub stop_from : ℕ → List Arrival → ℕ → State → Option Stopping
 stop_from zero arrivals count state = None
 stop_from (suc n) arrivals count state =
-    on_goes (moment arrivals count state) (stopping (arrived arrivals count state) (moment arrivals count state)) (λ step after. stop_from n arrivals (count + 1) after)
+    on_goes (moment arrivals count state) (stopping (arrived arrivals count state) (moment arrivals count state))
+    (λ step after. stop_from n arrivals (count + 1) after)
 
 -- where and why one of the first `n` instructions stops the machine, if one does
 abbrev pub stop_of : ℕ → List Arrival → State → Option Stopping

@@ -37,6 +37,7 @@ pub trait Bus {
     /// The line is no longer pending, where there is a controller.
     fn take(&mut self, line: Line)
         requires { line < 32 }
-        ensures there { (memory self.old).controller ≡ true → memory self.new ≡ record (memory self.old) { lines = without_pending line (memory self.old).lines } }
+        ensures there { (memory self.old).controller ≡ true → memory self.new
+            ≡ record (memory self.old) { lines = without_pending line (memory self.old).lines } }
         ensures not_there { (memory self.old).controller ≡ false → memory self.new ≡ memory self.old };
 }

@@ -22,13 +22,19 @@ pub fn steps_hang_together()
 
 /// Where the instruction behind the first k doesn't stop, a run of one more shows it at its end.
 pub fn a_run_goes_on()
-    ensures after { (k : ℕ) (arrivals : List Arrival) (start before after : State) (step : Step) → state_after k arrivals start ≡ Some before → moment arrivals k before ≡ Goes step after → state_after (k + 1) arrivals start ≡ Some after }
-    ensures shows { (k : ℕ) (arrivals : List Arrival) (start before after : State) (step : Step) → state_after k arrivals start ≡ Some before → moment arrivals k before ≡ Goes step after → run (k + 1) arrivals start ≡ run k arrivals start ++ moment_of arrivals k before step after ∷ [] }
+    ensures after { (k : ℕ) (arrivals : List Arrival) (start before after : State) (step : Step)
+        → state_after k arrivals start ≡ Some before → moment arrivals k before ≡ Goes step after → state_after (k + 1) arrivals start ≡ Some after }
+    ensures shows { (k : ℕ) (arrivals : List Arrival) (start before after : State) (step : Step)
+        → state_after k arrivals start ≡ Some before → moment arrivals k before ≡ Goes step after
+        → run (k + 1) arrivals start ≡ run k arrivals start ++ moment_of arrivals k before step after ∷ [] }
     ensures whole { (k : ℕ) (arrivals : List Arrival) (start after : State) → state_after k arrivals start ≡ Some after → stop_of k arrivals start ≡ None }
 {}
 
 /// Where it stops, each longer run shows what the run of the first k shows, and stops there.
 pub fn a_run_stops()
-    ensures shows { (n k : ℕ) (arrivals : List Arrival) (start before : State) (stop : Stop) → k < n → state_after k arrivals start ≡ Some before → moment arrivals k before ≡ Halts stop → run n arrivals start ≡ run k arrivals start }
-    ensures stops { (n k : ℕ) (arrivals : List Arrival) (start before : State) (stop : Stop) → k < n → state_after k arrivals start ≡ Some before → moment arrivals k before ≡ Halts stop → stop_of n arrivals start ≡ stopping (arrived arrivals k before) (Halts stop) }
+    ensures shows { (n k : ℕ) (arrivals : List Arrival) (start before : State) (stop : Stop) → k < n
+        → state_after k arrivals start ≡ Some before → moment arrivals k before ≡ Halts stop → run n arrivals start ≡ run k arrivals start }
+    ensures stops { (n k : ℕ) (arrivals : List Arrival) (start before : State) (stop : Stop) → k < n
+        → state_after k arrivals start ≡ Some before → moment arrivals k before ≡ Halts stop
+        → stop_of n arrivals start ≡ stopping (arrived arrivals k before) (Halts stop) }
 {}

@@ -192,8 +192,10 @@ impl<B: Bus> Machine<B> {
     /// On at a target, with the address of the next instruction in a register.
     fn link(&mut self, rd: Reg, target: u32) -> Result<(), Stop>
         requires { rd < 32 }
-        ensures ok { OnOk result (jumps target (with_register (state B.memory self.old).core rd (sum32 (state B.memory self.old).pc 4)) ≡ Going (state B.memory self.new)) }
-        ensures err { IfErr result (λ stop. jumps target (with_register (state B.memory self.old).core rd (sum32 (state B.memory self.old).pc 4)) ≡ Stopped stop) }
+        ensures ok { OnOk result (jumps target (with_register (state B.memory self.old).core rd (sum32 (state B.memory self.old).pc 4))
+            ≡ Going (state B.memory self.new)) }
+        ensures err { IfErr result (λ stop.
+            jumps target (with_register (state B.memory self.old).core rd (sum32 (state B.memory self.old).pc 4)) ≡ Stopped stop) }
         ensures same { OnErr result (state B.memory self.new ≡ state B.memory self.old) }
         ensures count { self.new.count ≡ self.old.count }
     {
@@ -208,8 +210,11 @@ impl<B: Bus> Machine<B> {
     /// Loads into a register.
     fn load(&mut self, width: Width, rd: Reg, address: u32) -> Result<(), Stop>
         requires { rd < 32 }
-        ensures ok { OnOk result ((refusal (memory_of (state B.memory self.old).core) address width ≡ None) × (goes_on (state B.memory self.old).pc (with_register (state B.memory self.old).core rd (loaded (memory_of (state B.memory self.old).core) address width)) ≡ Going (state B.memory self.new))) }
-        ensures err { IfErr result (λ stop. (next : Next) → unless_refused (refusal (memory_of (state B.memory self.old).core) address width) address next ≡ Stopped stop) }
+        ensures ok { OnOk result ((refusal (memory_of (state B.memory self.old).core) address width ≡ None)
+            × (goes_on (state B.memory self.old).pc (with_register (state B.memory self.old).core rd
+            (loaded (memory_of (state B.memory self.old).core) address width)) ≡ Going (state B.memory self.new))) }
+        ensures err { IfErr result (λ stop. (next : Next)
+            → unless_refused (refusal (memory_of (state B.memory self.old).core) address width) address next ≡ Stopped stop) }
         ensures same { OnErr result (state B.memory self.new ≡ state B.memory self.old) }
         ensures count { self.new.count ≡ self.old.count }
     {
@@ -226,8 +231,11 @@ impl<B: Bus> Machine<B> {
 
     /// Stores a value's low bytes.
     fn store(&mut self, width: Width, address: u32, value: u32) -> Result<(), Stop>
-        ensures ok { OnOk result ((refusal (memory_of (state B.memory self.old).core) address width ≡ None) × (goes_on (state B.memory self.old).pc (with_memory (state B.memory self.old).core (stored (memory_of (state B.memory self.old).core) address width value)) ≡ Going (state B.memory self.new))) }
-        ensures err { IfErr result (λ stop. (next : Next) → unless_refused (refusal (memory_of (state B.memory self.old).core) address width) address next ≡ Stopped stop) }
+        ensures ok { OnOk result ((refusal (memory_of (state B.memory self.old).core) address width ≡ None)
+            × (goes_on (state B.memory self.old).pc (with_memory (state B.memory self.old).core
+            (stored (memory_of (state B.memory self.old).core) address width value)) ≡ Going (state B.memory self.new))) }
+        ensures err { IfErr result (λ stop. (next : Next)
+            → unless_refused (refusal (memory_of (state B.memory self.old).core) address width) address next ≡ Stopped stop) }
         ensures same { OnErr result (state B.memory self.new ≡ state B.memory self.old) }
         ensures count { self.new.count ≡ self.old.count }
     {
@@ -244,7 +252,8 @@ impl<B: Bus> Machine<B> {
     /// MRET.
     fn go_back(&mut self)
         ensures pc { (state B.memory self.new).pc ≡ (state B.memory self.old).core.mepc }
-        ensures core { (state B.memory self.new).core ≡ record (state B.memory self.old).core { ilevel = (state B.memory self.old).core.plevel; mie = (state B.memory self.old).core.mpie; mpie = true } }
+        ensures core { (state B.memory self.new).core
+            ≡ record (state B.memory self.old).core { ilevel = (state B.memory self.old).core.plevel; mie = (state B.memory self.old).core.mpie; mpie = true } }
         ensures count { self.new.count ≡ self.old.count }
     {
         self.hart.pc = self.hart.mepc;

@@ -24,7 +24,8 @@ pub record RunsItem (b : Build) (state : State) (s : System) (t func item : ℕ)
 
 -- an operation on registers and numbers
 abbrev pub ComputedItemsRun : Type 0
-ComputedItemsRun = (b : Build) (view : View) (state : State) (s : System) (t : ℕ) → Fits b → Stands b state s → (at : AtItem b state s t) → IsTop b.config s [] t
+ComputedItemsRun = (b : Build) (view : View) (state : State) (s : System) (t : ℕ) → Fits b → Stands b state s → (at : AtItem b state s t)
+    → IsTop b.config s [] t
     → IsComputed (operation b.app at.frame.func at.frame.item) → ItemStands b view at.frame.func at.frame.item
     → at.frame.item + 1 < length (function b.app at.frame.func).items
     → RunsItem b state s t at.frame.func at.frame.item

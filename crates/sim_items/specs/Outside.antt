@@ -64,7 +64,8 @@ pub record JumpsToService (b : Build) (func item : ℕ) : Type 0 where
 abbrev pub ServiceJumpsGoOn : Type 0
 ServiceJumpsGoOn = (b : Build) (view : View) (arrivals : List Arrival) (count : ℕ) (state : State) (s : System) (t : ℕ)
     → At b view arrivals count state s → (here : AtItem b (arrived arrivals count state) (with_admits (lines_at arrivals count) s) t)
-    → ItemStands b view here.frame.func here.frame.item → JumpsToService b here.frame.func here.frame.item → GoesOutside b view arrivals (progress_in b) count state s
+    → ItemStands b view here.frame.func here.frame.item → JumpsToService b here.frame.func here.frame.item
+    → GoesOutside b view arrivals (progress_in b) count state s
 
 -- ---- the idle loop
 

@@ -1,4 +1,6 @@
 //! Why a text is refused.
+ghost use Rattle.std.specs.Prelude.{◌≡◌};
+ghost use Rattle.sloth_base.specs.declared.refusal.BuildError.TheVariants.{Memory};
 
 use crate::memory::NoMemory;
 
@@ -71,6 +73,8 @@ pub enum BuildError {
 }
 
 impl From<NoMemory> for BuildError {
+    ghost from_gives = { λ _ e. e ≡ Memory };
+
     fn from(_: NoMemory) -> BuildError {
         BuildError::Memory
     }

@@ -1,6 +1,7 @@
 -- A sink in memory.
-use Rattle.std.specs.Prelude.{◌≡◌, ◌+◌, ◌==◌, ◌&&◌, ℕ, min, List, [], ◌∷◌, ◌++◌, length, take}
+use Rattle.std.specs.Prelude.{◌≡◌, ◌+◌, ◌==◌, ◌&&◌, ℕ, List, [], ◌∷◌, ◌++◌, length, take}
 use Rattle.std.specs.Prelude.{Option, Some, None, Bool, if◌then◌else◌, nat_le, is_none}
+use Rattle.sloth_io.specs.Counts.{next_call}
 use Rattle.sloth_io.specs.Sink.{Output}
 use Rattle.sloth_io.specs.declared.mem_sink.MemSink.{MemSink}
 
@@ -26,13 +27,9 @@ abbrev pub limit_of : ℕ → List (ℕ × ℕ) → Option ℕ
 limit_of call [] = None
 limit_of call (pair ∷ rest) = if pair.0 == call then Some pair.1 else limit_of call rest
 
--- the number of the next call, counted from 1
-abbrev pub next_call : MemSink → ℕ
-next_call sink = min (sink.calls + 1) 4294967295
-
 -- how many bytes the next call takes before it fails, if it is to fail
 abbrev pub next_limit : MemSink → Option ℕ
-next_limit sink = limit_of (next_call sink) sink.fails.items
+next_limit sink = limit_of (next_call sink.calls) sink.fails.items
 
 -- what a call with this limit takes of a piece
 abbrev pub part_of : Option ℕ → List ℕ → List ℕ
@@ -64,4 +61,4 @@ pub record IsFresh (space : ℕ) (fails : List (ℕ × ℕ)) (sink : MemSink) : 
 pub record IsCalled (old new : MemSink) : Type 0 where
   pub space_reserved : new.buffer.space ≡ old.buffer.space
   pub failing_calls : new.fails.items ≡ old.fails.items
-  pub calls : new.calls ≡ next_call old
+  pub calls : new.calls ≡ next_call old.calls

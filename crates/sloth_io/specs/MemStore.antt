@@ -1,9 +1,10 @@
 -- A store in memory.
-use Rattle.std.specs.Prelude.{◌≡◌, ◌+◌, ◌==◌, ◌&&◌, ℕ, zero, suc, min, not, List, [], ◌∷◌, length, map}
+use Rattle.std.specs.Prelude.{◌≡◌, ◌+◌, ◌==◌, ◌&&◌, ℕ, zero, suc, not, List, [], ◌∷◌, length, map}
 use Rattle.std.specs.Prelude.{Option, Some, None, Bool, true, false, if◌then◌else◌, nat_lt}
 use Rattle.std.specs.List.{list_any}
 use Rattle.std.specs.Option.{option_map}
 use Rattle.std.specs.Str.{bytes_eq}
+use Rattle.sloth_io.specs.Counts.{next_call}
 use Rattle.sloth_io.specs.Store.{Files, fits}
 use Rattle.sloth_io.specs.declared.store.StoreFault.{StoreFault}
 use Rattle.sloth_io.specs.declared.store.StoreFault.TheVariants.{Failed, TooLong, Memory}
@@ -42,13 +43,9 @@ space_named name files = option_map (λ file. file.space) (file_named name files
 abbrev pub has_space : List ℕ → ℕ → List MemFile → Bool
 has_space name size files = fits (space_named name files) size
 
--- the number of the next call, counted from 1 over reads and writes
-abbrev pub next_call : MemStore → ℕ
-next_call store = min (store.calls + 1) 4294967295
-
--- that call is to fail
+-- the next call, counted over reads and writes, is to fail
 abbrev pub fails_next : MemStore → Bool
-fails_next store = list_any (λ call. call == next_call store) store.fails.items
+fails_next store = list_any (λ call. call == next_call store.calls) store.fails.items
 
 -- why a file is not read, for what it holds
 abbrev pub length_fault : Option (List ℕ) → ℕ → Option StoreFault
@@ -100,7 +97,7 @@ pub record IsFresh (files : List MemFile) (fails : List ℕ) (store : MemStore) 
 -- one call was counted
 pub record IsCalled (old new : MemStore) : Type 0 where
   pub failing_calls : new.fails.items ≡ old.fails.items
-  pub calls : new.calls ≡ next_call old
+  pub calls : new.calls ≡ next_call old.calls
 
 -- the first file of a name stands at this place
 abbrev pub IsPlace : List ℕ → List MemFile → ℕ → Type 0

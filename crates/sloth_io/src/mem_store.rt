@@ -2,8 +2,8 @@
 ghost use Rattle.std.specs.Prelude.{◌≡◌, ◌≢◌, ◌≤◌, ◌<◌, List, Option, None, Some, length, map, All};
 ghost use Rattle.std.specs.Prelude.{OnErr, OnOk, IfOk, IfSome, IfNone, IsOkUnless, MatchOption, is_ok, is_err, if◌then◌else◌};
 ghost use Rattle.std.specs.List.{AllPairs};
-ghost use Rattle.sloth_io.specs.Counts.{counted};
-ghost use Rattle.sloth_io.specs.MemStore.{IsFresh, next_call, bytes_named, fails_next, file_named, file_of, files_of, has_space, IsCalled};
+ghost use Rattle.sloth_io.specs.Counts.{counted, next_call};
+ghost use Rattle.sloth_io.specs.MemStore.{IsFresh, bytes_named, fails_next, file_named, file_of, files_of, has_space, IsCalled};
 ghost use Rattle.sloth_io.specs.MemStore.{IsPlace, is_too_long, read_fault, shown, writes_next, written};
 ghost use Rattle.sloth_io.specs.Store.{Appends, IsMissing, IsTooLong, IsUnwritten, Holds, KeepsOthers, KeepsFiles, KeepsReads};
 
@@ -89,7 +89,7 @@ impl MemStore {
     // Counts a call, and says whether it is to fail.
     fn call(&mut self) -> bool
         ensures fails { result ≡ fails_next self.old }
-        ensures rest { self.new ≡ record self.old { calls = next_call self.old } }
+        ensures rest { self.new ≡ record self.old { calls = next_call self.old.calls } }
     {
         self.calls = self.calls.saturating_add(1);
         self.fails.contains(&self.calls)

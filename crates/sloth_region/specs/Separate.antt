@@ -92,9 +92,11 @@ pub record Separate (sizes : Sizes) (map : Map) (config : Config) (app : App) : 
   pub aligned : (piece : Piece) → Exists sizes map config app piece → (room sizes map app piece).base % 4 ≡ 0
   pub apart : (a b : Piece) → Exists sizes map config app a → Exists sizes map config app b → a ≢ b → AreApart (room sizes map app a) (room sizes map app b)
   -- an extent holds pieces of one kind alone
-  pub kinds : (a b : Piece) (extent : Extent) → Exists sizes map config app a → Exists sizes map config app b → Contains map.extents extent → IsWithin (room sizes map app a) extent → IsWithin (room sizes map app b) extent → kind_of a ≡ kind_of b
+  pub kinds : (a b : Piece) (extent : Extent) → Exists sizes map config app a → Exists sizes map config app b
+      → Contains map.extents extent → IsWithin (room sizes map app a) extent → IsWithin (room sizes map app b) extent → kind_of a ≡ kind_of b
   -- all code is within reach of a jump
-  pub near : (piece : Piece) → Exists sizes map config app piece → kind_of piece ≡ Code → (0x8000_0400 ≤ (room sizes map app piece).base) × ((room sizes map app piece).base + (room sizes map app piece).len ≤ 0x8010_0400)
+  pub near : (piece : Piece) → Exists sizes map config app piece → kind_of piece ≡ Code
+      → (0x8000_0400 ≤ (room sizes map app piece).base) × ((room sizes map app piece).base + (room sizes map app piece).len ≤ 0x8010_0400)
   -- the service words stand behind the first word of RAM
   pub words : map.words ≡ record { base = 0x8000_0004; len = 1020 }
   pub stacks : length map.stacks ≡ length config.tasks
