@@ -8,6 +8,7 @@
         .equ    PLEVEL, 0x7c1           # the level that MRET goes back to
         .equ    BELOW, 628              # service word: the context of what was preempted
         .equ    SAVED, 752              # service words: the level before each resource was taken
+        .equ    RESUME, 628             # service words, by `cur`: a task's own context
         .equ    IDLE_END, 1012          # the end of the idle loop's context
         .equ    IDLE, 0x80000548
 
@@ -167,6 +168,27 @@ go\@:   end_task
         leave
         .endm
 
+        .macro  get_task_state task
+        open
+        addi    x10, x0, 0
+        lw      x3, 4+12*\task(x4)
+        beq     x3, x0, rests\@
+        lw      x3, 0(x4)
+        addi    x3, x3, -\task-1
+        sltu    x11, x0, x3
+        slli    x11, x11, 1
+        back
+rests\@:
+        lui     x1, 0x10000
+        lbu     x3, 32+\task(x1)
+        addi    x11, x0, 1
+        beq     x3, x0, told\@
+        lbu     x3, \task(x1)
+        addi    x11, x0, 3
+        sub     x11, x11, x3
+told\@: back
+        .endm
+
         .macro  get_resource resource, ceiling
         open
         csrrs   x3, ILEVEL, x0
@@ -183,6 +205,75 @@ kept\@: addi    x10, x0, 0
         lw      x3, SAVED+4*\resource(x4)
         addi    x10, x0, 0
         back_at
+        .endm
+
+        .macro  set_event task
+        open
+        busy    \task, x3, x1
+        addi    x10, x0, 7
+        beq     x3, x0, out\@
+        addi    x10, x0, 0
+        lw      x3, 8+12*\task(x4)
+        or      x3, x3, x30
+        sw      x3, 8+12*\task(x4)
+        lw      x1, 12+12*\task(x4)
+        and     x3, x3, x1
+        beq     x3, x0, out\@
+        raise   \task
+        sb      x3, 32+\task(x1)
+out\@:  back
+        .endm
+
+        .macro  get_event task
+        open
+        busy    \task, x3, x1
+        addi    x10, x0, 7
+        beq     x3, x0, out\@
+        addi    x10, x0, 0
+        lw      x11, 8+12*\task(x4)
+out\@:  back
+        .endm
+
+# x3 becomes 0x80000000 + 12 * cur.
+        .macro  find_own
+        lw      x3, 0(x4)
+        slli    x1, x3, 3
+        slli    x3, x3, 2
+        add     x3, x3, x1
+        add     x3, x3, x4
+        .endm
+
+        .macro  clear_event
+        open
+        find_own
+        xori    x1, x30, -1
+        lw      x10, -4(x3)
+        and     x10, x10, x1
+        sw      x10, -4(x3)
+        addi    x10, x0, 0
+        back
+        .endm
+
+        .macro  wait_event
+        open
+        find_own
+        lw      x1, -4(x3)
+        and     x1, x1, x30
+        beq     x1, x0, rest\@
+        addi    x10, x0, 0
+        back
+rest\@: sw      x0, -8(x3)
+        sw      x30, 0(x3)
+        save
+        sw      x31, 0(x1)
+        lw      x3, 0(x4)
+        slli    x30, x3, 2
+        add     x30, x30, x4
+        sw      x1, RESUME(x30)
+        lui     x30, 0x10000
+        add     x30, x30, x3
+        sb      x0, 31(x30)
+        leave
         .endm
 
 # Each block has a section of its own. Lines that begin with `#:` stand in the listing before its words.
@@ -255,6 +346,14 @@ kept\@: addi    x10, x0, 0
         addi    x10, x0, 0
         back
 #: service 80001000
+#: mark 80001000 Opening 5 0 0
+        .section .b17, "ax"
+        get_task_state 0
+#: service 80001000
+#: mark 80001000 Opening 5 0 0
+        .section .b18, "ax"
+        get_task_state 29
+#: service 80001000
 #: mark 80001000 Opening 6 0 0
         .section .b13, "ax"
         get_resource 1, 2
@@ -270,3 +369,27 @@ kept\@: addi    x10, x0, 0
 #: mark 80001000 Opening 7 0 0
         .section .b16, "ax"
         release_resource 32
+#: service 80001000
+#: mark 80001000 Opening 8 0 0
+        .section .b17, "ax"
+        set_event 0
+#: service 80001000
+#: mark 80001000 Opening 8 0 0
+        .section .b18, "ax"
+        set_event 29
+#: service 80001000
+#: mark 80001000 Opening 9 0 0
+        .section .b19, "ax"
+        clear_event
+#: service 80001000
+#: mark 80001000 Opening 10 0 0
+        .section .b20, "ax"
+        get_event 0
+#: service 80001000
+#: mark 80001000 Opening 10 0 0
+        .section .b21, "ax"
+        get_event 29
+#: service 80001000
+#: mark 80001000 Opening 11 0 0
+        .section .b22, "ax"
+        wait_event

@@ -1,5 +1,5 @@
 -- The names of a source can be numbered.
-use Rattle.std.proofs.Common.{◌≡◌, ℕ, Bool, ◌<◌, ◌≤◌, ◌^◌, List, map, length, arith, count_by}
+use Rattle.std.proofs.Common.{Bool, ◌<◌, ◌≤◌, ◌^◌, List, map, length, arith}
 use Rattle.std.specs.Prelude.{filter}
 use Rattle.std.proofs.lemmas.List.{length-map}
 use Rattle.std.proofs.lemmas.List.Sums.{length-filter, count_by-le-length}
@@ -7,8 +7,8 @@ use Rattle.sloth_base.specs.ConfigRange.{InRange}
 use Rattle.sloth_base.specs.declared.config.Config.{Config}
 use Rattle.sloth_base.specs.declared.config.TaskDecl.{TaskDecl}
 use Rattle.asm_lines.specs.declared.source_line.SourceLine.{SourceLine}
-use Rattle.asm_names.specs.Said.{is_data, is_label, name_of, symbol_names, label_names}
-use Rattle.asm_names.specs.Bodies.{BodyText, bodies_of, body_name, function_names}
+use Rattle.asm_names.specs.Said.{is_data, name_of}
+use Rattle.asm_names.specs.Bodies.{bodies_of, body_name}
 use Rattle.asm_names.specs.Scopes.{scope_of}
 use Rattle.asm_names.proofs.Short.{few_bodies}
 use Rattle.asm_parse.specs.Numbered.{IsNumbered}

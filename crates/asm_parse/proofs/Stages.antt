@@ -1,5 +1,5 @@
 -- A stage is judged only where the stage before it has no fault.
-use Rattle.std.proofs.Common.{◌⊎◌, inl, inr, ⊎_elim, List, ℕ}
+use Rattle.std.proofs.Common.{inl, inr, ⊎_elim, List, ℕ}
 use Rattle.sloth_base.specs.declared.config.Config.{Config}
 use Rattle.sloth_base.specs.declared.refusal.Refusal.{Refusal}
 use Rattle.sloth_base.specs.declared.refusal.BuildError.{BuildError}

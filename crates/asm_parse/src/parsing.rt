@@ -5,6 +5,7 @@ ghost use Rattle.sloth_base.specs.declared.config.Config.{Config};
 ghost use Rattle.sloth_base.specs.declared.app.App.{App};
 ghost use Rattle.sloth_refusal.specs.Order.{ErrorIs, NoFault, IsLeast};
 ghost use Rattle.asm_names.specs.NameFaults.{NameFault};
+ghost use Rattle.app_rules.specs.AppRange.{AppInRange};
 ghost use Rattle.asm_parse.specs.Apps.{app_of};
 ghost use Rattle.asm_parse.specs.AppTexts.{AppText, SourceTextFault};
 
@@ -39,12 +40,13 @@ fn app_or_refusal(
     Ok(Ok(app))
 }
 
-/// The task code of a text, or its least refusal: A1 to A4 of its lines, and where they have none A5 to A7 of names and limits. The text
-/// has at most 4,294,967,294 bytes.
+/// The task code of a text, in range of the configuration, or its least refusal: A1 to A4 of its lines, and where they have none A5 to A7
+/// of names and limits. The text has at most 4,294,967,294 bytes.
 pub fn parse_app(alloc: Global, text: &[u8], config: &Config) -> Result<App, BuildError>
     requires text { length text.now < 4294967295 }
     requires config { InRange config.now }
     ensures app { IfOk result (λ app. AppText text.now config.now app) }
+    ensures in_range { IfOk result (λ app. AppInRange config.now app) }
     ensures none { OnOk result (NoFault (SourceTextFault config.now text.now)) }
     ensures refused { IfErr result (λ error. ErrorIs (SourceTextFault config.now text.now) error) }
 {

@@ -3,6 +3,7 @@
 #![tactic(auto)]
 
 ghost use Rattle.std.specs.Prelude.{ℕ, ◌≡◌, ◌<◌, ◌≤◌, All, length, slice_index};
+ghost use Rattle.event_gen.specs.Block.{HasBlock as HasEventBlock};
 ghost use Rattle.prologue_gen.specs.Places.{IsStack};
 ghost use Rattle.service_gen.specs.Block.{HasBlock};
 ghost use Rattle.vector_gen.specs.Vectors.{AreInReach};
@@ -94,10 +95,42 @@ fn list_services(
     list_service(rt, Service::ChainTask, 0, config, levels, map)?;
     list_service(rt, Service::ChainTask, 29, config, levels, map)?;
     list_service(rt, Service::GetTaskID, 0, config, levels, map)?;
+    list_service(rt, Service::GetTaskState, 0, config, levels, map)?;
+    list_service(rt, Service::GetTaskState, 29, config, levels, map)?;
     list_service(rt, Service::GetResource, 1, config, levels, map)?;
     list_service(rt, Service::GetResource, 32, config, levels, map)?;
     list_service(rt, Service::ReleaseResource, 0, config, levels, map)?;
     list_service(rt, Service::ReleaseResource, 32, config, levels, map)
+}
+
+// The block of a service on events.
+fn list_event_service(
+    rt: &(impl Print + AllocGlobal),
+    service: Service,
+    object: u32,
+    config: &Config,
+    levels: &Levels,
+    map: &Map,
+) -> anyhow::Result<()>
+    requires { HasEventBlock service object }
+{
+    let code = event_gen::block(rt.alloc(), service, object, config, levels, map)?;
+    list(rt, "service", &code)
+}
+
+// The blocks of all services on events, in the same way.
+fn list_event_services(
+    rt: &(impl Print + AllocGlobal),
+    config: &Config,
+    levels: &Levels,
+    map: &Map,
+) -> anyhow::Result<()> {
+    list_event_service(rt, Service::SetEvent, 0, config, levels, map)?;
+    list_event_service(rt, Service::SetEvent, 29, config, levels, map)?;
+    list_event_service(rt, Service::ClearEvent, 0, config, levels, map)?;
+    list_event_service(rt, Service::GetEvent, 0, config, levels, map)?;
+    list_event_service(rt, Service::GetEvent, 29, config, levels, map)?;
+    list_event_service(rt, Service::WaitEvent, 0, config, levels, map)
 }
 
 // Boot and the prologues in each form.
@@ -121,7 +154,8 @@ fn list_kernel(rt: &(impl Print + AllocGlobal)) -> anyhow::Result<()> {
     list_loops(rt, &map)?;
     list_entries(rt, &levels, &map)?;
     let config = config(rt.alloc(), false, false)?;
-    list_services(rt, &config, &levels, &map)
+    list_services(rt, &config, &levels, &map)?;
+    list_event_services(rt, &config, &levels, &map)
 }
 
 fn main(rt: HostRuntime) -> anyhow::Result<()> {

@@ -8,3 +8,4 @@ pub mod Chaining
 pub mod Taking
 pub mod Serving
 pub mod Busy
+pub mod Stating

@@ -3,7 +3,7 @@ use Rattle.std.specs.Prelude.{ℕ, ◌≡◌, ◌<◌, ◌≤◌, List, slice_in
 use Rattle.sloth_base.specs.declared.image.Mark.{Mark}
 use Rattle.sloth_base.specs.declared.image.MarkKind.TheVariants as mark
 use Rattle.sloth_base.specs.declared.service.Service.{Service}
-use Rattle.sloth_base.specs.declared.service.Service.TheVariants.{ActivateTask, TerminateTask, ChainTask, GetTaskID, GetResource, ReleaseResource}
+use Rattle.sloth_base.specs.declared.service.Service.TheVariants.{ActivateTask, TerminateTask, ChainTask, GetTaskID, GetTaskState, GetResource, ReleaseResource}
 use Rattle.sloth_base.specs.declared.places.Levels.{Levels}
 use Rattle.rv32_instr.specs.declared.InstrKind.{InstrKind}
 use Rattle.service_gen.specs.ActivateTask.{Activates}
@@ -11,6 +11,7 @@ use Rattle.service_gen.specs.TerminateTask.{Terminates}
 use Rattle.service_gen.specs.ChainTask.{Chains}
 use Rattle.service_gen.specs.GetResource.{Takes}
 use Rattle.service_gen.specs.GetTaskID.{TellsTask}
+use Rattle.service_gen.specs.GetTaskState.{TellsState}
 use Rattle.service_gen.specs.ReleaseResource.{Releases}
 
 -- the mark on the instruction with which a service of this code begins
@@ -23,6 +24,7 @@ HasBlock ActivateTask object = object < 30
 HasBlock TerminateTask object = object ≡ 0
 HasBlock ChainTask object = object < 30
 HasBlock GetTaskID object = object ≡ 0
+HasBlock GetTaskState object = object < 30
 HasBlock GetResource object = object ≤ 32
 HasBlock ReleaseResource object = object ≤ 32
 HasBlock service object = ⊥
@@ -33,6 +35,7 @@ Serves ActivateTask object levels code = Activates object code
 Serves TerminateTask object levels code = Terminates code
 Serves ChainTask object levels code = Chains object code
 Serves GetTaskID object levels code = TellsTask code
+Serves GetTaskState object levels code = TellsState object code
 Serves GetResource object levels code = Takes object (slice_index levels.ceiling object) code
 Serves ReleaseResource object levels code = Releases object code
 Serves service object levels code = ⊥

@@ -4,6 +4,7 @@ pub mod Pieces
 pub mod ActivateTask
 pub mod Back
 pub mod GetTaskID
+pub mod GetTaskState
 pub mod ReleaseResource
 pub mod ChainTask
 pub mod GetResource

@@ -4,7 +4,7 @@ use Rattle.sloth_base.specs.Status.{E_OK, E_OS_LIMIT}
 use Rattle.sloth_region.specs.Layout.{cur, active, saved, words_high, controller_high, pending_byte, enabled_byte}
 use Rattle.rv32_instr.specs.declared.csr.TheConstants.{MEPC, ILEVEL, PLEVEL}
 use Rattle.rv32_instr.specs.declared.InstrKind.{InstrKind}
-use Rattle.rv32_instr.specs.declared.InstrKind.TheVariants.{Beq, Bgeu, Lui, Lw, Lbu, Sw, Sb, Add, Addi, Or, Xori, Slli, Csrrs, Csrrw, Mret}
+use Rattle.rv32_instr.specs.declared.InstrKind.TheVariants.{Beq, Bgeu, Lui, Lw, Lbu, Sw, Sb, Add, Addi, Sub, Sltu, Or, Xori, Slli, Csrrs, Csrrw, Mret}
 use Rattle.rv32_routine.specs.Kernel.{masking}
 use Rattle.rv32_routine.specs.Pieces.{past}
 
@@ -77,3 +77,20 @@ abbrev pub takes : ℕ → ℕ → List InstrKind
 takes resource ceiling =
     Csrrs 3 0 ILEVEL ∷ Sw 4 3 (pos (saved resource)) ∷ Addi 1 0 (pos ceiling) ∷ Bgeu 3 1 (past (Addi 3 1 (pos 0) ∷ [])) ∷ Addi 3 1 (pos 0)
     ∷ []
+
+-- a1 := 0 where the task runs, and 2 where it is preempted; x4 holds 0x80000000
+abbrev pub tells_active : ℕ → List InstrKind
+tells_active task = Lw 3 4 (pos cur) ∷ Addi 3 3 (negsuc task) ∷ Sltu 11 0 3 ∷ Slli 11 11 1 ∷ []
+
+-- the status E_OK; it goes on behind the first way back where the task is not Active
+abbrev pub asks_active : ℕ → List InstrKind
+asks_active task = Addi 10 0 (pos E_OK) ∷ Lw 3 4 (pos (active task)) ∷ Beq 3 0 (past (tells_active task ++ back)) ∷ []
+
+-- a1 := 3 where the task is Suspended, and 2 where it is Ready; x1 holds the controller's address
+abbrev pub tells_resting : ℕ → List InstrKind
+tells_resting task = Lbu 3 1 (pos (pending_byte task)) ∷ Addi 11 0 (pos 3) ∷ Sub 11 11 3 ∷ []
+
+-- a1 := 1; it goes on at the way back where the task waits
+abbrev pub asks_waiting : ℕ → List InstrKind
+asks_waiting task =
+    Lui 1 controller_high ∷ Lbu 3 1 (pos (enabled_byte task)) ∷ Addi 11 0 (pos 1) ∷ Beq 3 0 (past (tells_resting task)) ∷ []

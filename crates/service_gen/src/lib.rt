@@ -9,7 +9,8 @@ mod activate_task;
 mod chain_task;
 mod get_resource;
 mod get_task_id;
-mod pieces;
+mod get_task_state;
+pub mod pieces;
 mod release_resource;
 mod terminate_task;
 
@@ -68,6 +69,7 @@ fn small(service: Service, object: u32) -> u8
         Service::TerminateTask => object as u8,
         Service::ChainTask => object as u8,
         Service::GetTaskID => object as u8,
+        Service::GetTaskState => object as u8,
         Service::GetResource => object as u8,
         Service::ReleaseResource => object as u8,
         _ => unreachable!(),
@@ -89,6 +91,7 @@ fn code(
         Service::TerminateTask => terminate_task::code(alloc),
         Service::ChainTask => chain_task::code(alloc, object),
         Service::GetTaskID => get_task_id::code(alloc),
+        Service::GetTaskState => get_task_state::code(alloc, object),
         Service::GetResource => {
             get_resource::code(alloc, object, levels.ceiling[object as usize])
         }

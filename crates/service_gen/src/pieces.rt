@@ -18,10 +18,10 @@ use std::alloc::AllocError;
 const OWN_PENDING: i32 = -1;
 
 /// Its Active word, from 12 * `cur` behind the service words.
-const OWN_ACTIVE: i32 = -8;
+pub const OWN_ACTIVE: i32 = -8;
 
 /// Its events, from there.
-const OWN_EVENTS: i32 = -4;
+pub const OWN_EVENTS: i32 = -4;
 
 /// How many instructions `look_at` adds.
 pub const LOOK: u32 = 7;

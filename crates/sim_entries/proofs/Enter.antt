@@ -29,6 +29,7 @@ use Rattle.sim_relation.proofs.Tops.{falling_active}
 use Rattle.sim_relation.proofs.Spot.{Spot, spot}
 use Rattle.sim_relation.proofs.Entering.{entry_stands}
 use Rattle.sim_relation.proofs.Choice.{taken_declared, taken_ready, taken_top}
+use Rattle.sim_relation.proofs.Room.{first_room}
 use Rattle.sim_entries.specs.Range.{Sane}
 use Rattle.sim_entries.specs.Entries.{EntersAnew, StandsAlone, first_words}
 use Rattle.sim_entries.proofs.Spot.{registers_at, registers_small, zeros_small, zero_at, context_words, words_small, stored_apart}
@@ -90,7 +91,7 @@ module _ (b : Build) (state end : State) (s : System) (t place : ℕ) (fits : Fi
 
   frame_room : (b.low t + 128 ≤ frame) × (frame + 4 * length zeros ≡ b.top t) × (b.top t ≤ 2097152) × (1024 ≤ frame) × (frame % 4 ≡ 0)
   frame_room =
-      let g = fits.room t declared in let y = fits.from t declared in let z = fits.to t declared in let n = zeros_long in
+      let g = first_room b fits t declared in let y = fits.from t declared in let z = fits.to t declared in let n = zeros_long in
       (omega arith, omega arith, omega arith, omega arith, omega arith)
 
   -- the context is stored apart from the frame

@@ -33,6 +33,7 @@ use Rattle.sim_relation.proofs.Arrive.{stands_arrived}
 use Rattle.sim_relation.proofs.Choice.{taken_declared}
 use Rattle.sim_relation.proofs.Placed.{placed_in, code_behind}
 use Rattle.sim_relation.proofs.Spot.{Spot, spot}
+use Rattle.sim_relation.proofs.Room.{first_room}
 use Rattle.sim_entries.specs.Range.{Sane}
 use Rattle.sim_entries.specs.Entries.{StandsAlone, first_words}
 use Rattle.sim_entries.specs.Codes.{PrologueStands}
@@ -95,7 +96,7 @@ module _ (b : Build) (view : View) (arrivals : List Arrival) (setting : IsSettin
 
     frame_room : (b.low t ≤ frame) × (frame + 4 * words ≡ b.top t) × (b.top t ≤ 2097152) × (frame % 4 ≡ 0) × (b.low t < b.top t)
     frame_room =
-        let g = fits.room t declared in let z = fits.to t declared in (omega arith, omega arith, omega arith, omega arith, omega arith)
+        let g = first_room b fits t declared in let z = fits.to t declared in (omega arith, omega arith, omega arith, omega arith, omega arith)
 
     may : MayEnter prologue.offset t place frame words prologue.code core
     may =

@@ -20,6 +20,7 @@ use Rattle.prologue_gen.specs.Places as generator
 use Rattle.sloth_base.specs.PriorityLevels.{level_of}
 use Rattle.sim_relation.specs.Build.{Build, Fits, start_level}
 use Rattle.sim_relation.proofs.Levels.{levels_in}
+use Rattle.sim_relation.proofs.Room.{first_room}
 use Rattle.sim_entries.specs.Entries.{EntersBuilt, first_words}
 use Rattle.sim_entries.specs.Generated.{IsBuiltFrom, HasOneBody}
 
@@ -68,7 +69,7 @@ module _ (b : Build) (levels : Levels) (map_of : Map) (t : ℕ) (code : List Ins
   frame =
       let w = words in
       let e = built.tops t enters.stack enters.is_stack in
-      let r = fits.room t declared in
+      let r = first_room b fits t declared in
       omega arith
 
   pub enters_built : EntersBuilt b t code

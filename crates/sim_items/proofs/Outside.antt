@@ -1,7 +1,6 @@
 -- Instructions outside the stretches.
-use Rattle.std.proofs.Common.{◌≡◌, ℕ, ◌+◌, ◌-◌, ◌*◌, ◌<◌, ◌≤◌, List, [], ◌∷◌, length, refl, sym, ap, ◌∙◌, subst, arith, Some, None, cond}
+use Rattle.std.proofs.Common.{◌≡◌, ℕ, ◌+◌, ◌*◌, ◌<◌, ◌≤◌, List, [], ◌∷◌, length, refl, sym, ap, ◌∙◌, subst, arith, Some, None, cond}
 use Rattle.std.specs.Prelude.{slice_index, IfSome, Contains}
-use Rattle.sloth_base.specs.declared.app.Op.{Op}
 use Rattle.sloth_base.specs.declared.image.Mark.{Mark}
 use Rattle.sloth_base.specs.declared.image.MarkKind.TheVariants as kind
 use Rattle.sloth_base.specs.declared.event.Event.{Event}
@@ -15,9 +14,9 @@ use Rattle.rv32_instr.specs.Ram.{word_at}
 use Rattle.rv32_instr.specs.Execute.{Going, step, touched}
 use Rattle.rv32_machine.specs.Run.{arrived}
 use Rattle.rv32_routine.specs.Place.{at, InPlace}
-use Rattle.rv32_expand.specs.Expansion.{item_address, is_long, expansion}
+use Rattle.rv32_expand.specs.Expansion.{item_address, expansion}
 use Rattle.sloth_base.specs.Named.{operation, function}
-use Rattle.rv32_expand.specs.InPlace.{result_register, mark_of, item_mark, last_address}
+use Rattle.rv32_expand.specs.InPlace.{result_register, item_mark, mark_of, last_address}
 use Rattle.observe.specs.Observe.{View, mark_at, task_of, outside_events, events_of_kind}
 use Rattle.osek_machine.specs.State.{System}
 use Rattle.osek_machine.specs.Priority.{IsTop}
@@ -33,18 +32,12 @@ use Rattle.sim_relation.specs.Stands.{Stands}
 use Rattle.sim_relation.proofs.Arrive.{stands_arrived, stands_fresh}
 use Rattle.sim_relation.proofs.Placed.{placed_in, first_by_word}
 use Rattle.sim_relation.proofs.Choice.{running_top, none_due}
-use Rattle.sim_items.proofs.Cases.{computed_cases, computed_long}
-use Rattle.sim_items.specs.Place.{AtItem, ItemStands, IsComputed}
+use Rattle.sim_items.proofs.Cases.{mark_shows}
+use Rattle.sim_items.specs.Place.{AtItem, ItemStands, IsStraight, HasNumbers}
 use Rattle.sim_items.specs.Laws.{RunsItem}
 use Rattle.sim_relation.specs.Placed.{setting_of}
 use Rattle.sim_items.specs.Outside.{At, GoesOutside, HasIdle}
-use Rattle.sim_items.proofs.Computed.{computed_run}
-
--- the mark of such an item shows its Run event
-pub mark_shows : (address func index : ℕ) (o : Op) → IsComputed o → mark_of o address func index ≡ record { address = address; kind = kind.Item; a = result_register o; b = func; c = index }
-mark_shows address func index =
-    computed_cases (λ o. mark_of o address func index ≡ record { address = address; kind = kind.Item; a = result_register o; b = func; c = index })
-    (λ kind rd rs1 rs2 h. refl) (λ kind rd rs1 number h. refl) (λ rd number h. refl)
+use Rattle.sim_items.proofs.Straight.{straight_run}
 
 module _ (b : Build) (view : View) (arrivals : List Arrival) (progress : State → System → ℕ) (count : ℕ) (state : State) (s : System) (here : At b view arrivals count state s) where
   abbrev pub n : State
@@ -66,55 +59,68 @@ module _ (b : Build) (view : View) (arrivals : List Arrival) (progress : State �
   none = ap (λ m. cond m (choose n.core) None) here.stands.fixed.open_to_lines ∙ here.none
 
   -- any instruction after which the relation stands
-  pub one_instruction : (next : State) (mark : Mark) (whats : List Event) (after : System) → step n ≡ Going next → touched n ≡ None → mark_at view n.pc ≡ Some mark
-      → events_of_kind mark.kind view mark (seen_at given count state next) ≡ whats → Shows given whats s1 after
+  pub one_instruction : (next : State) (whats : List Event) (after : System) → step n ≡ Going next → touched n ≡ None
+      → outside_events (mark_at view n.pc) view (seen_at given count state next) ≡ whats → Shows given whats s1 after
       → (whats ≡ [] → progress state s < progress next after) → Stands b next after → OutsideLaw given (Stands b) progress count state s next
-  one_instruction next mark whats after goes quiet marked shown shows rises related = record {
+  one_instruction next whats after goes quiet shown shows rises related = record {
     goes = ap (λ o. step (enter o n)) none ∙ goes;
     outside = begins_none count n next here.after_boot none related.fixed.open_to_lines;
     untouched = subst (λ o. IfSome o (Contains [])) (sym (ap (λ o. touched (enter o n)) none ∙ quiet)) tt;
     whats = whats;
-    whats_are = ap (λ o. outside_events (mark_at view (enter o n).pc) view (seen_at given count state next)) none
-        ∙ ap (λ m. outside_events m view (seen_at given count state next)) marked ∙ shown;
+    whats_are = ap (λ o. outside_events (mark_at view (enter o n).pc) view (seen_at given count state next)) none ∙ shown;
     after = after;
     shows = shows;
     progresses = rises;
     related = related;
   }
 
-  -- an item that computes
-  module _ (t : ℕ) (item : AtItem b n s1 t) (is : IsComputed (operation b.app item.frame.func item.frame.item)) (placed : ItemStands b view item.frame.func item.frame.item)
-      (more : item.frame.item + 1 < length (function b.app item.frame.func).items) where
-    top : IsTop b.config s1 [] t
-    top = let f = first_by_word b n s1 t now.stack now.running item.current in running_top b n s1 now few here.none t f.0 f.1
+  -- what it shows at a mark
+  pub marked_shows : (next : State) (mark : Mark) (whats : List Event) → mark_at view n.pc ≡ Some mark
+      → events_of_kind mark.kind view mark (seen_at given count state next) ≡ whats → outside_events (mark_at view n.pc) view (seen_at given count state next) ≡ whats
+  marked_shows next mark whats marked shown = ap (λ m. outside_events m view (seen_at given count state next)) marked ∙ shown
 
-    runs : RunsItem b n s1 t item.frame.func item.frame.item
-    runs = computed_run b view n s1 t here.fits now item top is placed more
+  -- the running task is the top task
+  pub top_here : (t : ℕ) → word_at n.core.ram cur ≡ t + 1 → IsTop b.config s1 [] t
+  top_here t current = let f = first_by_word b n s1 t now.stack now.running current in running_top b n s1 now few here.none t f.0 f.1
 
-    last_is : last_address b.app b.places item.frame.func item.frame.item ≡ item_address b.places item.frame.func item.frame.item
-    last_is =
-        let l = computed_long b.app b.places item.frame.func (item_address b.places item.frame.func item.frame.item) (is_long b.places item.frame.func item.frame.item) (operation b.app item.frame.func item.frame.item) is in
-        let e : length (expansion b.app b.places item.frame.func item.frame.item) ≡ 1 = l in
-        omega arith
+  -- the last instruction of an item that is no service
+  module _ (t : ℕ) (current : word_at n.core.ram cur ≡ t + 1) (func item : ℕ) (runs : RunsItem b n s1 t func item) (placed : ItemStands b view func item)
+      (at_last : n.pc ≡ last_address b.app b.places func item)
+      (is_item : (address : ℕ) → mark_of (operation b.app func item) address func item
+      ≡ record { address = address; kind = kind.Item; a = result_register (operation b.app func item); b = func; c = item }) where
+    abbrev mark : Mark
+    mark = item_mark b.app b.places func item
 
-    abbrev shown_as : Mark → Event
-    shown_as m = event.Run (task_of view.tasks (word_at n.core.ram cur)) m.b m.c (slice_index runs.next.core.registers m.a)
+    abbrev result : ℕ
+    result = slice_index runs.next.core.registers (result_register (operation b.app func item))
 
-    shown : events_of_kind (item_mark b.app b.places item.frame.func item.frame.item).kind view (item_mark b.app b.places item.frame.func item.frame.item) (seen_at given count state runs.next)
-        ≡ event.Run t item.frame.func item.frame.item (slice_index runs.next.core.registers (result_register (operation b.app item.frame.func item.frame.item))) ∷ []
+    shown : events_of_kind mark.kind view mark (seen_at given count state runs.next) ≡ event.Run t func item result ∷ []
     shown =
-        let l : t < view.tasks = let v = here.setting.tasks in let h = top.declared in omega arith in
-        ap (λ m. events_of_kind m.kind view m (seen_at given count state runs.next))
-        (mark_shows (last_address b.app b.places item.frame.func item.frame.item) item.frame.func item.frame.item (operation b.app item.frame.func item.frame.item) is)
-        ∙ ap (λ u. event.Run u item.frame.func item.frame.item (slice_index runs.next.core.registers (result_register (operation b.app item.frame.func item.frame.item))) ∷ [])
-        (ap (task_of view.tasks) item.current ∙ task_is view.tasks t l)
+        let l : t < view.tasks = let v = here.setting.tasks in let h = (top_here t current).declared in omega arith in
+        ap (λ m. events_of_kind m.kind view m (seen_at given count state runs.next)) (is_item (last_address b.app b.places func item))
+        ∙ ap (λ u. event.Run u func item result ∷ []) (ap (task_of view.tasks) current ∙ task_is view.tasks t l)
 
-    pub item_outside : GoesOutside b view arrivals progress count state s
-    item_outside = (
+    pub committed_outside : GoesOutside b view arrivals progress count state s
+    committed_outside = (
       runs.next,
-      one_instruction runs.next (item_mark b.app b.places item.frame.func item.frame.item) _ runs.after runs.goes runs.untouched
-          (ap (mark_at view) (item.pc ∙ sym last_is) ∙ placed.marked) shown runs.step_is (λ e. cc) runs.stands,
+      one_instruction runs.next _ runs.after runs.goes runs.untouched
+          (marked_shows runs.next mark _ (ap (mark_at view) at_last ∙ placed.marked) shown) runs.step_is (λ e. cc) runs.stands,
     )
+
+  pub last_at : (func item done : ℕ) → n.pc ≡ item_address b.places func item + 4 * done → done + 1 ≡ length (expansion b.app b.places func item) → n.pc ≡ last_address b.app b.places func item
+  last_at func item done p l = omega arith
+
+  -- one behind which the next item follows
+  module _ (t : ℕ) (item : AtItem b n s1 t) (numbers : HasNumbers b n s1) (is : IsStraight b.app item.frame.func (operation b.app item.frame.func item.frame.item))
+      (placed : ItemStands b view item.frame.func item.frame.item)
+      (last : item.here.done + 1 ≡ length (expansion b.app b.places item.frame.func item.frame.item))
+      (more : item.frame.item + 1 < length (function b.app item.frame.func).items) where
+    pub item_outside : GoesOutside b view arrivals progress count state s
+    item_outside =
+        committed_outside t item.current item.frame.func item.frame.item
+        (straight_run b view n s1 t here.fits now item (top_here t item.current) numbers is placed last more) placed
+        (last_at item.frame.func item.frame.item item.here.done item.here.pc last)
+        (λ address. mark_shows b.app item.frame.func address item.frame.item (operation b.app item.frame.func item.frame.item) is)
 
   -- the idle loop
   module _ (idle_word : word_at state.core.ram cur ≡ 0) (idle : HasIdle b view) where
@@ -146,7 +152,8 @@ module _ (b : Build) (view : View) (arrivals : List Arrival) (progress : State �
     pub idle_outside : GoesOutside b view arrivals progress count state s
     idle_outside = (
       n,
-      one_instruction n idle.mark (event.Idle ∷ []) (settled s1) stays (ap touched n_is ∙ idle.idles.untouched idle.offset n.core placed)
-          (ap (mark_at view) runs_idle.pc ∙ idle.marked) (ap (λ k. events_of_kind k view idle.mark (seen_at given count state n)) idle.shows)
+      one_instruction n (event.Idle ∷ []) (settled s1) stays (ap touched n_is ∙ idle.idles.untouched idle.offset n.core placed)
+          (marked_shows n idle.mark (event.Idle ∷ []) (ap (mark_at view) runs_idle.pc ∙ idle.marked)
+          (ap (λ k. events_of_kind k view idle.mark (seen_at given count state n)) idle.shows))
           (now.tidy.booted, none_due b n s1 now few here.none empty, refl) (λ e. cc) (stands_fresh b n s1 [] now),
     )

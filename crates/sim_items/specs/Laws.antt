@@ -4,6 +4,7 @@ use Rattle.sloth_base.specs.declared.event.Event.TheVariants as event
 use Rattle.sloth_base.specs.Machine.{State}
 use Rattle.rv32_instr.specs.Execute.{Going, step, touched}
 use Rattle.sloth_base.specs.Named.{operation, function}
+use Rattle.rv32_expand.specs.Expansion.{expansion}
 use Rattle.rv32_expand.specs.InPlace.{result_register}
 use Rattle.observe.specs.Observe.{View}
 use Rattle.osek_machine.specs.State.{System}
@@ -11,7 +12,7 @@ use Rattle.osek_machine.specs.Priority.{IsTop}
 use Rattle.osek_machine.specs.Steps.{OsekStep}
 use Rattle.sim_relation.specs.Build.{Build, Fits}
 use Rattle.sim_relation.specs.Stands.{Stands}
-use Rattle.sim_items.specs.Place.{AtItem, ItemStands, IsComputed}
+use Rattle.sim_items.specs.Place.{AtItem, ItemStands, IsStraight, HasNumbers}
 
 -- the machine executes the item: its next state stands with that of the abstract scheduler behind the event, and shows its result
 pub record RunsItem (b : Build) (state : State) (s : System) (t func item : ℕ) : Type 0 where
@@ -22,10 +23,11 @@ pub record RunsItem (b : Build) (state : State) (s : System) (t func item : ℕ)
   pub step_is : OsekStep b.config b.app (event.Run t func item (slice_index next.core.registers (result_register (operation b.app func item)))) s after
   pub stands : Stands b next after
 
--- an operation on registers and numbers
-abbrev pub ComputedItemsRun : Type 0
-ComputedItemsRun = (b : Build) (view : View) (state : State) (s : System) (t : ℕ) → Fits b → Stands b state s → (at : AtItem b state s t)
-    → IsTop b.config s [] t
-    → IsComputed (operation b.app at.frame.func at.frame.item) → ItemStands b view at.frame.func at.frame.item
+-- the last instruction of an item behind which the next one follows
+abbrev pub StraightItemsRun : Type 0
+StraightItemsRun = (b : Build) (view : View) (state : State) (s : System) (t : ℕ) → Fits b → Stands b state s → (at : AtItem b state s t)
+    → IsTop b.config s [] t → HasNumbers b state s
+    → IsStraight b.app at.frame.func (operation b.app at.frame.func at.frame.item) → ItemStands b view at.frame.func at.frame.item
+    → at.here.done + 1 ≡ length (expansion b.app b.places at.frame.func at.frame.item)
     → at.frame.item + 1 < length (function b.app at.frame.func).items
     → RunsItem b state s t at.frame.func at.frame.item

@@ -1,5 +1,5 @@
 -- Items and the idle loop as instructions of a run outside the stretches.
-use Rattle.std.specs.Prelude.{ℕ, ◌+◌, ◌<◌, ◌≤◌, ◌≡◌, ◌⊎◌, List, [], length, Some, None}
+use Rattle.std.specs.Prelude.{ℕ, ◌+◌, ◌<◌, ◌≤◌, ◌≡◌, ◌⊎◌, List, [], ◌∷◌, length, Some, None}
 use Rattle.sloth_base.specs.declared.app.Call.{Call}
 use Rattle.sloth_base.specs.declared.app.Op.TheVariants as op
 use Rattle.sloth_base.specs.declared.event.Arrival.{Arrival}
@@ -11,18 +11,19 @@ use Rattle.sloth_region.specs.Layout.{cur}
 use Rattle.rv32_instr.specs.declared.InstrKind.{InstrKind}
 use Rattle.rv32_instr.specs.Ram.{word_at}
 use Rattle.rv32_machine.specs.Run.{arrived}
-use Rattle.rv32_expand.specs.Expansion.{item_address, block_address, mask_of}
+use Rattle.rv32_expand.specs.Expansion.{item_address, block_address, mask_of, expansion}
 use Rattle.sloth_base.specs.Named.{operation, function}
 use Rattle.observe.specs.Observe.{View, mark_at}
 use Rattle.vector_gen.specs.Idle.{Idles}
-use Rattle.osek_machine.specs.State.{System}
+use Rattle.osek_machine.specs.State.{Frame, System}
+use Rattle.osek_valid.specs.Valid.{AreCalls}
 use Rattle.sim_induction.specs.Admits.{IsSetting, lines_at, with_admits}
 use Rattle.sim_induction.specs.Laws.{OutsideLaw}
 use Rattle.sim_relation.specs.Build.{Build, Fits}
 use Rattle.sim_relation.specs.Stands.{Stands}
 pub use Rattle.sim_relation.specs.Placed.{setting_of}
 use Rattle.sim_relation.specs.Placed.{IsPlaced}
-use Rattle.sim_items.specs.Place.{AtItem, ItemStands, IsComputed}
+use Rattle.sim_items.specs.Place.{AtItem, InCall, InReturn, ItemStands, FunctionStands, IsStraight, IsFlow, IsCall, IsReturn, HasNumbers}
 use Rattle.sim_items.specs.Progress.{progress_in}
 
 -- a state at a count from 1 on, which stands
@@ -38,15 +39,61 @@ pub record At (b : Build) (view : View) (arrivals : List Arrival) (count : ℕ) 
 abbrev pub GoesOutside : Build → View → List Arrival → (State → System → ℕ) → ℕ → State → System → Type 0
 GoesOutside b view arrivals progress count state s = (next : State) × OutsideLaw (setting_of b view arrivals) (Stands b) progress count state s next
 
--- ---- an item that computes on registers and numbers
+-- ---- an item behind which the next one follows
 
--- an item of one instruction advances the run
-abbrev pub ComputedItemsGoOn : Type 0
-ComputedItemsGoOn = (b : Build) (view : View) (arrivals : List Arrival) (progress : State → System → ℕ) (count : ℕ) (state : State) (s : System) (t : ℕ)
+-- its last instruction advances the run
+abbrev pub StraightItemsGoOn : Type 0
+StraightItemsGoOn = (b : Build) (view : View) (arrivals : List Arrival) (progress : State → System → ℕ) (count : ℕ) (state : State) (s : System) (t : ℕ)
     → At b view arrivals count state s → (here : AtItem b (arrived arrivals count state) (with_admits (lines_at arrivals count) s) t)
-    → IsComputed (operation b.app here.frame.func here.frame.item) → ItemStands b view here.frame.func here.frame.item
+    → HasNumbers b (arrived arrivals count state) (with_admits (lines_at arrivals count) s)
+    → IsStraight b.app here.frame.func (operation b.app here.frame.func here.frame.item) → ItemStands b view here.frame.func here.frame.item
+    → here.here.done + 1 ≡ length (expansion b.app b.places here.frame.func here.frame.item)
     → here.frame.item + 1 < length (function b.app here.frame.func).items
     → GoesOutside b view arrivals progress count state s
+
+-- an instruction before its last one shows nothing, and makes progress
+abbrev pub ExpansionsGoOn : Type 0
+ExpansionsGoOn = (b : Build) (view : View) (arrivals : List Arrival) (count : ℕ) (state : State) (s : System) (t : ℕ)
+    → At b view arrivals count state s → (here : AtItem b (arrived arrivals count state) (with_admits (lines_at arrivals count) s) t)
+    → IsStraight b.app here.frame.func (operation b.app here.frame.func here.frame.item) → ItemStands b view here.frame.func here.frame.item
+    → here.here.done + 1 < length (expansion b.app b.places here.frame.func here.frame.item)
+    → GoesOutside b view arrivals (progress_in b) count state s
+
+-- ---- a jump or a branch
+
+-- each instruction of it advances the run: the last one shows its Run event
+abbrev pub FlowingItemsGoOn : Type 0
+FlowingItemsGoOn = (b : Build) (view : View) (arrivals : List Arrival) (count : ℕ) (state : State) (s : System) (t : ℕ)
+    → At b view arrivals count state s → (here : AtItem b (arrived arrivals count state) (with_admits (lines_at arrivals count) s) t)
+    → IsFlow b.app here.frame.func here.frame.item (operation b.app here.frame.func here.frame.item) → FunctionStands b view here.frame.func
+    → GoesOutside b view arrivals (progress_in b) count state s
+
+-- ---- calls and returns
+
+-- the first instruction of a call shows nothing, and makes progress; its task's frames are a chain of calls
+abbrev pub CallsBegin : Type 0
+CallsBegin = (b : Build) (view : View) (arrivals : List Arrival) (count : ℕ) (state : State) (s : System) (t callee : ℕ)
+    → At b view arrivals count state s → (here : AtItem b (arrived arrivals count state) (with_admits (lines_at arrivals count) s) t)
+    → IsCall b view here.frame.func here.frame.item callee → AreCalls b.app t (here.frame ∷ here.outer)
+    → GoesOutside b view arrivals (progress_in b) count state s
+
+-- each further one advances the run: the last one shows its Run event
+abbrev pub CallsGoOn : Type 0
+CallsGoOn = (b : Build) (view : View) (arrivals : List Arrival) (count : ℕ) (state : State) (s : System) (t : ℕ)
+    → At b view arrivals count state s → (here : InCall b (arrived arrivals count state) (with_admits (lines_at arrivals count) s) t)
+    → IsCall b view here.frame.func here.frame.item here.calling.callee → GoesOutside b view arrivals (progress_in b) count state s
+
+-- the first instruction of a return to a caller
+abbrev pub ReturnsBegin : Type 0
+ReturnsBegin = (b : Build) (view : View) (arrivals : List Arrival) (count : ℕ) (state : State) (s : System) (t : ℕ) (caller : Frame) (rest : List Frame)
+    → At b view arrivals count state s → (here : AtItem b (arrived arrivals count state) (with_admits (lines_at arrivals count) s) t)
+    → here.outer ≡ caller ∷ rest → IsReturn b view here.frame.func here.frame.item caller → GoesOutside b view arrivals (progress_in b) count state s
+
+-- each further one: the last one shows its Run event
+abbrev pub ReturnsGoOn : Type 0
+ReturnsGoOn = (b : Build) (view : View) (arrivals : List Arrival) (count : ℕ) (state : State) (s : System) (t : ℕ)
+    → At b view arrivals count state s → (here : InReturn b (arrived arrivals count state) (with_admits (lines_at arrivals count) s) t)
+    → IsReturn b view here.frame.func here.frame.item here.returning.caller → GoesOutside b view arrivals (progress_in b) count state s
 
 -- ---- the jump to a service that has no mask
 

@@ -2,17 +2,49 @@
 //! `rv32_expand`, what it means in `osek_machine` (`specs/Meaning`).
 #![tactic(auto)]
 
-ghost use Rattle.sim_items.specs.Laws.{ComputedItemsRun};
-ghost use Rattle.sim_items.specs.Outside.{ComputedItemsGoOn, ServiceJumpsGoOn, IdleGoesOn};
+ghost use Rattle.sim_items.specs.Laws.{StraightItemsRun};
+ghost use Rattle.sim_items.specs.Outside.{StraightItemsGoOn, ExpansionsGoOn, FlowingItemsGoOn, CallsBegin, CallsGoOn, ReturnsBegin, ReturnsGoOn, ServiceJumpsGoOn, IdleGoesOn};
 
-/// An item that computes on registers and numbers is its Run event, with its result.
-pub fn computed_items_run()
-    ensures { ComputedItemsRun }
+/// The last instruction of an item behind which the next one follows is the item's Run event, with its result.
+pub fn straight_items_run()
+    ensures { StraightItemsRun }
 {}
 
 /// In a run it is an instruction outside the stretches.
-pub fn computed_items_go_on()
-    ensures { ComputedItemsGoOn }
+pub fn straight_items_go_on()
+    ensures { StraightItemsGoOn }
+{}
+
+/// An instruction before it shows nothing, whatever has arrived, and makes progress.
+pub fn expansions_go_on()
+    ensures { ExpansionsGoOn }
+{}
+
+/// Each instruction of a jump or a branch, short or long, advances the run: the last one is the item's Run event, behind which the
+/// item at the label or the next one follows.
+pub fn flowing_items_go_on()
+    ensures { FlowingItemsGoOn }
+{}
+
+/// The first instruction of a call makes room for the new frame, whatever has arrived.
+pub fn calls_begin()
+    ensures { CallsBegin }
+{}
+
+/// Each further instruction of a call advances the run; the last one is the item's Run event, behind which the function's first
+/// item follows.
+pub fn calls_go_on()
+    ensures { CallsGoOn }
+{}
+
+/// The first instruction of a return loads the caller's address, whatever has arrived.
+pub fn returns_begin()
+    ensures { ReturnsBegin }
+{}
+
+/// Each further instruction of a return advances the run; the last one is the item's Run event, behind which the caller goes on.
+pub fn returns_go_on()
+    ensures { ReturnsGoOn }
 {}
 
 /// The jump to a service without a mask leads to the service's opening mark and shows nothing.

@@ -1,5 +1,6 @@
 -- From each count that finds MIE 1 the run goes on to the next, by what runs there.
-use Rattle.std.proofs.Common.{◌≡◌, ℕ, ◌+◌, ◌<◌, ◌≤◌, Bool, List, [], ◌∷◌, ◌++◌, length, refl, sym, ap, ◌∙◌, subst, arith, true, false, Option, Some, None, ⊎_elim}
+use Rattle.std.proofs.Common.{◌≡◌, ℕ, ◌+◌, ◌<◌, ◌≤◌, Bool, not, List, [], ◌∷◌, length, refl, inl, inr, sym, ap, ◌∙◌, subst, arith, true, false, Option, Some, None, ⊎_elim}
+use Rattle.std.proofs.lemmas.Bool.{cases_lt}
 use Rattle.sloth_base.specs.declared.event.Arrival.{Arrival}
 use Rattle.sloth_base.specs.declared.image.Image.{Image}
 use Rattle.sloth_base.specs.declared.app.Call.{Call}
@@ -8,11 +9,11 @@ use Rattle.sloth_base.specs.Choose.{choose}
 use Rattle.sloth_base.specs.Machine.{State}
 use Rattle.rv32_machine.specs.Run.{arrived}
 use Rattle.rv32_routine.specs.Trace.{Trace, late}
-use Rattle.rv32_expand.specs.Expansion.{item_address, is_long, expansion}
+use Rattle.rv32_expand.specs.Expansion.{expansion}
 use Rattle.sloth_base.specs.Named.{operation, function}
 use Rattle.observe.specs.Observe.{View, view_of_image}
 use Rattle.osek_machine.specs.declared.state.TaskState.TheVariants as mode
-use Rattle.osek_machine.specs.State.{System, task}
+use Rattle.osek_machine.specs.State.{Frame, System, task}
 use Rattle.osek_machine.specs.Priority.{is_in, is_active}
 use Rattle.sim_induction.specs.Admits.{IsSetting, lines_at, with_admits}
 use Rattle.sim_induction.specs.Advances.{Advances}
@@ -22,7 +23,7 @@ use Rattle.sim_induction.proofs.OutsidePiece.{outside_advances}
 use Rattle.sim_induction.proofs.Schedule.{below_moments}
 use Rattle.sim_induction.proofs.StretchPiece.{stretch_advances}
 use Rattle.sim_relation.specs.Build.{Build}
-use Rattle.sim_relation.specs.Position.{Position, Standing, InExpansion, AtBlock, thread_of}
+use Rattle.sim_relation.specs.Position.{Position, Standing, InExpansion, AtBlock, Calling, Returning, thread_of}
 use Rattle.sim_relation.specs.Context.{Running, RunsIdle, RunsTask}
 use Rattle.sim_relation.specs.Stands.{Stands, AreActive, IsActive}
 use Rattle.sim_relation.proofs.Arrive.{stands_arrived}
@@ -31,35 +32,109 @@ use Rattle.sim_relation.proofs.Framing.{position_elim}
 use Rattle.sim_relation.proofs.Tops.{falling_head}
 use Rattle.sim_entries.specs.Range.{Sane}
 use Rattle.sim_entries.proofs.EnterRoute.{enter_advances}
-use Rattle.sim_items.specs.Place.{AtItem, IsComputed}
+use Rattle.sim_items.specs.Place.{AtItem, HasNumbers, IsStraight, IsFlow, IsCall, IsReturn}
 use Rattle.sim_items.specs.Outside.{setting_of, At, GoesOutside}
 use Rattle.sim_items.specs.Progress.{progress_in}
-use Rattle.sim_items.proofs.Cases.{computed_long}
+use Rattle.sim_items.proofs.Call.{call_begins, call_goes_on}
+use Rattle.sim_items.proofs.Return.{return_begins, return_goes_on}
+use Rattle.sim_items.proofs.FlowRoute.{flow_outside}
 use Rattle.sim_items.proofs.Outside.{item_outside, idle_outside}
-use Rattle.sim_items.proofs.Jump.{call_expands, jump_outside}
-use Rattle.sim_services.specs.Stretch.{HasTerminateTask}
+use Rattle.sim_items.proofs.Inner.{inner_outside}
+use Rattle.sim_items.proofs.Jump.{jump_outside}
+use Rattle.sim_services.specs.Opening.{HasBlock, IsFollowed, OpensService}
+use Rattle.sim_services.specs.Stretch.{OpensGoingOn}
+use Rattle.sim_services.proofs.GoingOnStretch.{activates_stretches, chain_stretches, releases_stretches, states_stretches, takes_stretches, tells_stretches}
 use Rattle.sim_services.proofs.TerminateStretch.{terminate_stretches}
 use Rattle.sim_laws.specs.Bounded.{IsBounded}
-use Rattle.sim_laws.specs.Kernel.{Kernel, Computes, Ends}
+use Rattle.sim_laws.specs.Kernel.{Kernel, Computes, Invokes, IsKnown}
+use Rattle.sim_laws.specs.Kernel.IsKnown.{computes, flows, invokes, returns, serves}
+use Rattle.sim_laws.specs.Lawful.{HasLaw}
 use Rattle.sim_laws.specs.Plain.{IsPlain}
+use Rattle.sim_laws.proofs.Plain.{valid_sizes, ends_free}
+use Rattle.osek_valid.specs.Valid.{AreCalls}
+use Rattle.osek_valid.proofs.Facts.{Facts, facts}
+use Rattle.osek_valid.proofs.Held.{falls_inside}
+use Rattle.osek_valid.proofs.Going.{running}
+use Rattle.osek_valid.proofs.Meaning.{there}
+use Rattle.osek_valid.proofs.Stacks.{has_body}
+use Rattle.app_rules.specs.Code.{ends_for_good, Ends as EndsTask}
+use Rattle.osek_machine.specs.Services.{is_there}
+use Rattle.osek_machine.specs.Steps.{IsAt}
+use Rattle.prio_levels.specs.Levels.{AreLevels}
+use Rattle.rv32_instr.specs.declared.InstrKind.{InstrKind}
+use Rattle.service_gen.specs.Block.{Serves}
+use Rattle.service_gen.specs.ActivateTask.{Activates}
+use Rattle.service_gen.specs.ChainTask.{Chains}
+use Rattle.service_gen.specs.GetResource.{Takes}
+use Rattle.service_gen.specs.GetTaskID.{TellsTask}
+use Rattle.service_gen.specs.GetTaskState.{TellsState}
+use Rattle.service_gen.specs.ReleaseResource.{Releases}
+use Rattle.sim_laws.proofs.Ceilings.{may_have}
+use Rattle.std.specs.Prelude.{slice_index}
+use Rattle.service_gen.specs.TerminateTask.{Terminates}
+use Rattle.sloth_base.specs.declared.places.Levels.{Levels}
+use Rattle.sloth_base.specs.declared.service.Service.{Service}
+use Rattle.sloth_base.specs.declared.service.Service.TheVariants as service
 
 clash : {X : Type 0} → true ≡ false → X
 clash e = cc
+
+-- ---- calls of well-formed task code
+
+module _ (b : Build) (image : Image) (kernel : Kernel b image) (t : ℕ) where
+  rules : Facts b.config b.app
+  rules = facts b.config b.app kernel.well_formed
+
+  -- a call in progress finds all that it needs
+  is_call : (frame : Frame) (outer : List Frame) → AreCalls b.app t (frame ∷ outer) → frame.item < length (function b.app frame.func).items
+      → (callee : ℕ) → operation b.app frame.func frame.item ≡ op.Invoke callee → IsCall b (view_of_image image) frame.func frame.item callee
+  is_call frame outer chain inside callee is =
+      let known = (rules.items frame.func frame.item (op.Invoke callee) (record { known = chain.0.known; inside = inside; is = is })).0 in
+      let some = rules.has_items callee known in
+      record { is = is; known = known; some = some; placed = kernel.items frame.func frame.item inside; first = kernel.items callee 0 some }
+
+  -- and so does a return
+  is_return : (frame caller : Frame) (rest : List Frame) → AreCalls b.app t (frame ∷ caller ∷ rest) → frame.item < length (function b.app frame.func).items
+      → operation b.app frame.func frame.item ≡ op.Return → IsReturn b (view_of_image image) frame.func frame.item caller
+  is_return frame caller rest chain inside is =
+      let call = chain.1.1 in
+      let more = falls_inside b.config b.app rules caller.func caller.item (op.Invoke frame.func) call refl in
+      record {
+        is = is;
+        placed = kernel.items frame.func frame.item inside;
+        call = call.is;
+        more = more;
+        calling = kernel.items caller.func caller.item call.inside;
+        next = kernel.items caller.func (caller.item + 1) more;
+      }
+
+  record HasCaller (frame : Frame) (outer : List Frame) : Type 0 where
+    caller : Frame
+    rest : List Frame
+    called_by : outer ≡ caller ∷ rest
+    back : IsReturn b (view_of_image image) frame.func frame.item caller
+
+  -- a function that returns is no task's body, so that it was called
+  has_caller : t < length b.config.tasks → (frame : Frame) (outer : List Frame) → AreCalls b.app t (frame ∷ outer) → frame.item < length (function b.app frame.func).items
+      → operation b.app frame.func frame.item ≡ op.Return → HasCaller frame outer
+  has_caller declared frame [] chain inside is =
+      let none = rules.returns_in_func frame.func frame.item (record { known = chain.0.known; inside = inside; is = is }) in
+      let body = (has_body b.config b.app rules t declared).1 in
+      let some : (function b.app frame.func).task ≡ Some t = ap (λ f. (function b.app f).task) chain.1 ∙ body in
+      absurd (no_task (function b.app frame.func).task none some)
+    where
+      no_task : (o : Option ℕ) → o ≡ None → o ≡ Some t → ⊥
+      no_task None e f = cc
+      no_task (Some u) e f = cc
+  has_caller declared frame (caller ∷ rest) chain inside is =
+      record { caller = caller; rest = rest; called_by = refl; back = is_return frame caller rest chain inside is }
 
 module _ (b : Build) (image : Image) (kernel : Kernel b image) where
   abbrev view : View
   view = view_of_image image
 
-  -- each item has one instruction
-  pub item_long : (func item : ℕ) → item < length (function b.app func).items → length (expansion b.app b.places func item) ≡ 1
-  item_long func item l =
-      ⊎_elim
-      (λ (h : Computes b func item). computed_long b.app b.places func (item_address b.places func item) (is_long b.places func item) (operation b.app func item) h.computed)
-      (λ (h : Ends b view func item). ap length (call_expands b func item h.jumps.call h.jumps.is h.jumps.no_mask))
-      (kernel.operations func item l)
-
   module _ (arrivals : List Arrival) (setting : IsSetting (setting_of b view arrivals)) (count : ℕ) (after_boot : 0 < count) (state : State) (s : System)
-      (stands : Stands b state s) (bounded : IsBounded (arrived arrivals count state)) (plain : IsPlain b.config (with_admits (lines_at arrivals count) s)) where
+      (stands : Stands b state s) (bounded : IsBounded (arrived arrivals count state)) (plain : IsPlain b.config b.app (with_admits (lines_at arrivals count) s)) where
     abbrev n : State
     n = arrived arrivals count state
 
@@ -104,12 +179,18 @@ module _ (b : Build) (image : Image) (kernel : Kernel b image) where
           where
             by : (x : Bool) → is_in t s1.fresh ≡ x → x ≡ false
             by false e = refl
-            by true e = let r : (task s1 t).state ≡ mode.Ready = plain.fresh t e in let a = active.active in cc
+            by true e = let r : (task s1 t).state ≡ mode.Ready = plain.apart.fresh_ready t e in let a = active.active in cc
+
+        chain : AreCalls b.app t (p.frame ∷ p.outer)
+        chain = subst (AreCalls b.app t) p.frames (plain.valid.each t active.declared).calls
+
+        known : IsKnown b view p.frame.func p.frame.item
+        known = kernel.operations p.frame.func p.frame.item p.inside
 
         module _ (q : Standing b n.core.ram (b.top t) (task s1 t) p.frame p.outer (thread_of n) run.place) where
-          -- before its item's one instruction
-          abbrev at_item : n.pc ≡ item_address b.places p.frame.func p.frame.item → AtItem b n s1 t
-          at_item pc = record {
+          -- before an instruction of its item
+          abbrev at_item : InExpansion b (task s1 t) p.frame (thread_of n) → AtItem b n s1 t
+          at_item e = record {
             current = run.current;
             place = run.place;
             context = run.context;
@@ -119,72 +200,180 @@ module _ (b : Build) (image : Image) (kernel : Kernel b image) where
             frames = p.frames;
             inside = p.inside;
             stood = q.frames;
-            pc = pc;
+            here = e;
           }
 
-          item_goes : n.pc ≡ item_address b.places p.frame.func p.frame.item → Goes
-          item_goes pc =
-              ⊎_elim
-              (λ (h : Computes b p.frame.func p.frame.item). outside (item_outside b view arrivals (progress_in b) count state s here t (at_item pc) h.computed (kernel.items p.frame.func p.frame.item p.inside) h.more))
-              (λ (h : Ends b view p.frame.func p.frame.item). outside (jump_outside b view arrivals count state s here t (at_item pc) (kernel.items p.frame.func p.frame.item p.inside) h.jumps))
-              (kernel.operations p.frame.func p.frame.item p.inside)
+          abbrev size : ℕ
+          size = length (expansion b.app b.places p.frame.func p.frame.item)
 
-          in_item : InExpansion b (task s1 t) p.frame (thread_of n) → Goes
-          in_item e =
-              let one = item_long p.frame.func p.frame.item p.inside in
+          numbers : HasNumbers b n s1
+          numbers = record { words = bounded.core.registers; sizes = valid_sizes b.config b.app s1 plain.valid }
+
+          -- the last one, or one before it
+          item_goes : (e : InExpansion b (task s1 t) p.frame (thread_of n)) → Computes b p.frame.func p.frame.item → Goes
+          item_goes e h =
+              let placed = kernel.items p.frame.func p.frame.item p.inside in
+              ⊎_elim
+              (λ (l : e.done + 1 < size). outside (inner_outside b view arrivals count state s here t (at_item e) placed h.straight l))
+              (λ (l : size ≤ e.done + 1).
               let w = e.within in
-              let a = e.pc in
-              item_goes (omega arith)
+              outside (item_outside b view arrivals (progress_in b) count state s here t (at_item e) numbers h.straight placed (omega arith) h.more))
+              (cases_lt (e.done + 1) size)
 
-          at_block : AtBlock b p.frame (thread_of n) → Goes
-          at_block a =
-              ⊎_elim
-              (λ (h : Computes b p.frame.func p.frame.item). absurd (subst IsComputed a.is h.computed))
-              (λ (h : Ends b view p.frame.func p.frame.item).
+          -- a call
+          call_goes : InExpansion b (task s1 t) p.frame (thread_of n) → Invokes b p.frame.func p.frame.item → Goes
+          call_goes e h =
+              outside (call_begins b view arrivals count state s here t (at_item e) h.callee
+              (is_call b image kernel t p.frame p.outer chain p.inside h.callee h.is) chain)
+
+          -- a return
+          return_goes : InExpansion b (task s1 t) p.frame (thread_of n) → operation b.app p.frame.func p.frame.item ≡ op.Return → Goes
+          return_goes e is =
+              let c = has_caller b image kernel t active.declared p.frame p.outer chain p.inside is in
+              outside (return_begins b view arrivals count state s here t c.caller c.rest (at_item e) c.called_by c.back)
+
+          in_item : InExpansion b (task s1 t) p.frame (thread_of n) → IsKnown b view p.frame.func p.frame.item → Goes
+          in_item e (computes h) = item_goes e h
+          in_item e (flows h) = outside (flow_outside b view arrivals count state s here t (at_item e) h.flow (kernel.items p.frame.func))
+          in_item e (invokes h) = call_goes e h
+          in_item e (returns h) = return_goes e h.is
+          in_item e (serves h) = outside (jump_outside b view arrivals count state s here t (at_item e) (kernel.items p.frame.func p.frame.item p.inside) h.jumps)
+
+          -- a service begins
+          module _ (a : AtBlock b p.frame (thread_of n)) where
+            abbrev object : ℕ
+            object = a.call.object
+
+            abbrev opens : (served : Service) (Contract : ℕ → List InstrKind → Type 0) → a.call.service ≡ served → HasBlock b view served object (Contract object)
+                → OpensService b view n s1 t served Contract
+            opens served Contract is block = record {
+              none = none;
+              opening = record {
+                current = run.current;
+                free = q.free;
+                frame = p.frame;
+                outer = p.outer;
+                frames = p.frames;
+                inside = p.inside;
+                block = a;
+                calls = is;
+              };
+              block = block;
+              not_fresh = not_fresh;
+              bytes = bounded.core.bytes;
+            }
+
+            abbrev is_at : IsAt b.app s1 t (op.Serve a.call)
+            is_at = record {
+              active = active.active;
+              free = q.free;
+              frame = p.frame;
+              outer = p.outer;
+              frames = p.frames;
+              inside = p.inside;
+              next = a.is;
+            }
+
+            holds_nothing : EndsTask a.call.service → (task s1 t).held ≡ []
+            holds_nothing ends = ends_free b.config b.app (rules b image kernel t) s1 t a.call plain.valid active.declared is_at ends
+
+            names : (served : Service) → a.call.service ≡ served → is_there b.config (task s1 t).held served object ≡ true
+            names served is =
+                subst (λ v. is_there b.config (task s1 t).held v object ≡ true) is
+                (there b.config b.app (rules b image kernel t) t (task s1 t) p.frame p.outer s1.symbols plain.valid.sizes a.call.service object a.call.mask
+                (running b.config b.app s1 t (op.Serve a.call) plain.valid active.declared is_at))
+
+            followed : ends_for_good a.call.service ≡ false → IsFollowed b p.frame.func p.frame.item
+            followed goes =
+                let more = falls_inside b.config b.app (rules b image kernel t) p.frame.func p.frame.item (op.Serve a.call)
+                (record { known = chain.0.known; inside = p.inside; is = a.is }) (ap not goes) in
+                record { more = more; adjacent = (kernel.items p.frame.func p.frame.item p.inside).adjacent more }
+
+            abbrev opens_on : (served : Service) (Contract : ℕ → List InstrKind → Type 0) → a.call.service ≡ served → ends_for_good served ≡ false
+                → HasBlock b view served object (Contract object) → OpensGoingOn b view n s1 t served Contract
+            opens_on served Contract is goes block = record {
+              opens = opens served Contract is block;
+              followed = followed (ap ends_for_good is ∙ goes);
+              names = names served is;
+            }
+
+            served : (levels : Levels) → AreLevels b.config levels → (called : Service) → a.call.service ≡ called → HasLaw called
+                → HasBlock b view called object (Serves called object levels) → Goes
+            served levels are service.TerminateTask is law block =
+                stretch (terminate_stretches b view arrivals count state s t kernel.fits setting after_boot stands (record {
+                  opens = opens service.TerminateTask (λ o. Terminates) is block;
+                  holds_nothing = holds_nothing (inl is);
+                }))
+            served levels are service.GetTaskID is law block =
+                stretch (tells_stretches b view arrivals count state s t kernel.fits setting after_boot stands (opens_on service.GetTaskID (λ o. TellsTask) is refl block))
+            served levels are service.ActivateTask is law block =
+                stretch (activates_stretches b view arrivals count state s t kernel.fits setting after_boot stands (opens_on service.ActivateTask Activates is refl block))
+            served levels are service.ChainTask is law block =
+                stretch (chain_stretches b view arrivals count state s t kernel.fits setting after_boot stands (record {
+                  goes_on = opens_on service.ChainTask Chains is refl block;
+                  holds_nothing = holds_nothing (inr is);
+                }))
+            served levels are service.Schedule is law block = absurd law
+            served levels are service.GetTaskState is law block =
+                stretch (states_stretches b view arrivals count state s t kernel.fits setting after_boot stands (opens_on service.GetTaskState TellsState is refl block))
+            served levels are service.GetResource is law block =
+                let level = slice_index levels.ceiling object in
+                stretch (takes_stretches b view arrivals count state s t level kernel.fits setting after_boot stands (record {
+                  goes_on = opens_on service.GetResource (λ o. Takes o level) is refl block;
+                  may = may_have b (rules b image kernel t) levels are s1 t a.call plain.valid active.declared is_at is;
+                }))
+            served levels are service.ReleaseResource is law block =
+                stretch (releases_stretches b view arrivals count state s t kernel.fits setting after_boot stands (opens_on service.ReleaseResource Releases is refl block))
+            served levels are service.SetEvent is law block = absurd law
+            served levels are service.ClearEvent is law block = absurd law
+            served levels are service.GetEvent is law block = absurd law
+            served levels are service.WaitEvent is law block = absurd law
+
+          at_block : AtBlock b p.frame (thread_of n) → IsKnown b view p.frame.func p.frame.item → Goes
+          at_block a (computes h) = absurd (subst (IsStraight b.app p.frame.func) a.is h.straight)
+          at_block a (flows h) = absurd (subst (IsFlow b.app p.frame.func p.frame.item) a.is h.flow)
+          at_block a (invokes h) = let e : op.Invoke h.callee ≡ op.Serve a.call = sym h.is ∙ a.is in cc
+          at_block a (returns h) = let e : op.Return ≡ op.Serve a.call = sym h.is ∙ a.is in cc
+          at_block a (serves h) =
               let same : op.Serve h.jumps.call ≡ op.Serve a.call = sym h.jumps.is ∙ a.is in
               let call : h.jumps.call ≡ a.call = cc in
-              stretch (terminate_stretches b view arrivals count state s t kernel.fits setting after_boot stands (record {
-                opens = record {
-                  none = none;
-                  opening = record {
-                    current = run.current;
-                    free = q.free;
-                    frame = p.frame;
-                    outer = p.outer;
-                    frames = p.frames;
-                    inside = p.inside;
-                    block = a;
-                    calls = ap (λ (c : Call). c.service) (sym call) ∙ h.ends;
-                  };
-                  block = subst (λ (c : Call). HasTerminateTask b view c.object) call h.block;
-                  not_fresh = not_fresh;
-                  bytes = bounded.core.bytes;
-                };
-                holds_nothing = (plain.each t).held;
-              })))
-              (kernel.operations p.frame.func p.frame.item p.inside)
+              served a h.levels h.are_levels a.call.service refl (subst (λ (c : Call). HasLaw c.service) call h.law)
+              (subst (λ (c : Call). HasBlock b view c.service c.object (Serves c.service c.object h.levels)) call h.block)
 
           standing : Goes
-          standing = ⊎_elim in_item at_block q.here
+          standing = ⊎_elim (λ (e : InExpansion b (task s1 t) p.frame (thread_of n)). in_item e known) (λ (a : AtBlock b p.frame (thread_of n)). at_block a known) q.here
 
-        no_call : (callee : ℕ) → operation b.app p.frame.func p.frame.item ≡ op.Invoke callee → Goes
-        no_call callee is =
-            ⊎_elim
-            (λ (h : Computes b p.frame.func p.frame.item). absurd (subst IsComputed is h.computed))
-            (λ (h : Ends b view p.frame.func p.frame.item). let e : op.Serve h.jumps.call ≡ op.Invoke callee = sym h.jumps.is ∙ is in cc)
-            (kernel.operations p.frame.func p.frame.item p.inside)
+        -- inside a call, and inside a return
+        calling : Calling b n.core.ram (b.top t) (task s1 t) p.frame p.outer (thread_of n) run.place → Goes
+        calling c =
+            outside (call_goes_on b view arrivals count state s here t (record {
+              current = run.current;
+              place = run.place;
+              context = run.context;
+              frame = p.frame;
+              outer = p.outer;
+              frames = p.frames;
+              inside = p.inside;
+              calling = c;
+            }) (is_call b image kernel t p.frame p.outer chain p.inside c.callee c.is))
 
-        no_return : operation b.app p.frame.func p.frame.item ≡ op.Return → Goes
-        no_return is =
-            ⊎_elim
-            (λ (h : Computes b p.frame.func p.frame.item). absurd (subst IsComputed is h.computed))
-            (λ (h : Ends b view p.frame.func p.frame.item). let e : op.Serve h.jumps.call ≡ op.Return = sym h.jumps.is ∙ is in cc)
-            (kernel.operations p.frame.func p.frame.item p.inside)
+        returning : Returning b n.core.ram (b.top t) (task s1 t) p.frame p.outer (thread_of n) run.place → Goes
+        returning r =
+            outside (return_goes_on b view arrivals count state s here t (record {
+              current = run.current;
+              place = run.place;
+              context = run.context;
+              frame = p.frame;
+              outer = p.outer;
+              frames = p.frames;
+              inside = p.inside;
+              returning = r;
+            }) (is_return b image kernel t p.frame r.caller r.rest (subst (λ o. AreCalls b.app t (p.frame ∷ o)) r.called_by chain) p.inside r.is))
 
         task_goes : Goes
         task_goes =
             position_elim b n.core.ram t (task s1 t) p.frame p.outer (thread_of n) run.place Goes
-            standing (λ w. clash (sym w.owes ∙ (plain.each t).free)) (λ w. no_call w.callee w.is) (λ w. no_return w.is) p.here
+            standing (λ w. clash (sym w.owes ∙ (plain.each t).free)) calling returning p.here
 
       by_stack : (stack : List ℕ) → k.stack ≡ stack → Goes
       by_stack [] e =

@@ -76,6 +76,7 @@ module _ (b : Build) (image : Image) (levels : Levels) (map : Map) (g : IsGenera
   pub generated_kernel : Kernel b image
   generated_kernel = record {
     fits = g.fits;
+    well_formed = g.well_formed;
     tasks = g.tasks;
     is_image = g.is_image;
     bytes = g.bytes;

@@ -1,37 +1,30 @@
 -- Items of task code in an image are those of a kernel in place.
-use Rattle.std.proofs.Common.{◌≡◌, ℕ, zero, suc, ◌+◌, ◌-◌, ◌*◌, ◌<◌, ◌≤◌, ℤ, pos, List, [], ◌∷◌, ◌++◌, length, refl, sym, ap, ◌∙◌, subst, arith, inl, inr, true, Some, Bool}
-use Rattle.std.specs.Prelude.{map, All, find, eqb, slice_index_or, Contains}
+use Rattle.std.proofs.Common.{◌≡◌, ℕ, zero, suc, ◌+◌, ◌-◌, ◌*◌, ◌<◌, ◌≤◌, List, [], ◌∷◌, length, refl, sym, ap, ◌∙◌, subst, arith, true, Some, None}
+use Rattle.std.specs.Prelude.{◌≢◌, cond, map, All, find, eqb, slice_index_or, Contains}
+use Rattle.std.proofs.lemmas.Bool.{ne_eqb}
 use Rattle.std.proofs.lemmas.Bool.Decides.{nat_tests}
 use Rattle.std.proofs.lemmas.List.Kept.{AllPairs-from_increasing}
 use Rattle.std.proofs.lemmas.List.Elements.{All-cons, All-nil}
 use Rattle.std.proofs.Math.ListN.{get_or-map, length-map}
-use Rattle.sloth_base.specs.declared.app.App.{App}
-use Rattle.sloth_base.specs.declared.app.Op.{Op}
-use Rattle.sloth_base.specs.declared.app.Op.TheVariants as op
-use Rattle.sloth_base.specs.declared.app.AluKind.{AluKind}
-use Rattle.sloth_base.specs.declared.app.AluKind.TheVariants as alu
-use Rattle.sloth_base.specs.declared.app.ImmKind.{ImmKind}
-use Rattle.sloth_base.specs.declared.app.ImmKind.TheVariants as imm
 use Rattle.sloth_base.specs.declared.service.Service.{Service}
 use Rattle.sloth_base.specs.declared.service.Service.TheVariants as service
 use Rattle.sloth_base.specs.declared.image.Image.{Image}
 use Rattle.sloth_base.specs.declared.image.Mark.{Mark}
 use Rattle.sloth_base.specs.declared.places.Places.{Places}
 use Rattle.rv32_instr.specs.declared.InstrKind.{InstrKind}
-use Rattle.rv32_instr.specs.declared.InstrKind.TheVariants.{Lui, Jal}
+use Rattle.rv32_instr.specs.declared.InstrKind.TheVariants.{Jal}
 use Rattle.rv32_instr.specs.Ram.{word_at}
 use Rattle.rv32_instr.specs.Range.{InRange}
-use Rattle.rv32_expand.specs.Expansion.{item_address, block_address, distance, mask_of, is_long, expansion, expanded, register_operation, number_operation, amount}
-use Rattle.sloth_base.specs.Named.{operation, function}
-use Rattle.rv32_expand.specs.InPlace.{IsItem, CodeAt, item_mark, mark_of, last_address}
+use Rattle.rv32_expand.specs.Expansion.{item_address, block_address, distance, mask_of, expansion}
+use Rattle.rv32_expand.specs.InPlace.{IsItem, CodeAt, item_mark, last_address}
 use Rattle.observe.specs.Observe.{mark_at, view_of_image}
 use Rattle.sloth_base.specs.ImageRange.{AreAscending}
 use Rattle.sim_relation.specs.Build.{Build}
-use Rattle.sim_items.specs.Place.{IsOwn, IsNumber, IsComputed, HasInstructions, ItemStands}
-use Rattle.sim_items.proofs.Cases.{computed_cases}
+use Rattle.sim_items.specs.Place.{HasInstructions, ItemStands}
 use Rattle.sim_items.proofs.Jump.{call_expands}
-use Rattle.sim_laws.specs.Kernel.{Ends}
-use Rattle.sim_laws.specs.Items.{HasItems, CallsTerminateTask}
+use Rattle.sim_laws.specs.Kernel.{CallsService}
+use Rattle.sim_laws.specs.Lawful.{HasLaw}
+use Rattle.sim_laws.specs.Items.{HasItems, ReachesService}
 
 -- ---- marks
 
@@ -66,44 +59,11 @@ marks_found image mark up h =
     let e = ap (λ (x : Mark). x.address) h.2 in
     omega arith)
 
--- ---- instructions
-
-own_small : (r : ℕ) → IsOwn r → r < 32
-own_small r (inl e) = omega arith
-own_small r (inr h) = let a = h.1 in omega arith
-
-register_fits : (k : AluKind) (rd rs1 rs2 : ℕ) → rd < 32 → rs1 < 32 → rs2 < 32 → InRange (register_operation k rd rs1 rs2)
-register_fits alu.Add rd rs1 rs2 a b c = (a, b, c)
-register_fits alu.Sub rd rs1 rs2 a b c = (a, b, c)
-register_fits alu.Sll rd rs1 rs2 a b c = (a, b, c)
-register_fits alu.Slt rd rs1 rs2 a b c = (a, b, c)
-register_fits alu.Sltu rd rs1 rs2 a b c = (a, b, c)
-register_fits alu.Xor rd rs1 rs2 a b c = (a, b, c)
-register_fits alu.Srl rd rs1 rs2 a b c = (a, b, c)
-register_fits alu.Sra rd rs1 rs2 a b c = (a, b, c)
-register_fits alu.Or rd rs1 rs2 a b c = (a, b, c)
-register_fits alu.And rd rs1 rs2 a b c = (a, b, c)
-
-amount_fits : (number : ℤ) (n : ℕ) → number ≡ pos n → n < 32 → amount number < 32
-amount_fits number n e l = subst (λ z. amount z < 32) (sym e) l
-
-number_fits : (k : ImmKind) (rd rs1 : ℕ) (number : ℤ) → rd < 32 → rs1 < 32 → IsNumber k number → InRange (number_operation k rd rs1 number)
-number_fits imm.Addi rd rs1 number a b h = (a, b, h)
-number_fits imm.Slti rd rs1 number a b h = (a, b, h)
-number_fits imm.Sltiu rd rs1 number a b h = (a, b, h)
-number_fits imm.Xori rd rs1 number a b h = (a, b, h)
-number_fits imm.Ori rd rs1 number a b h = (a, b, h)
-number_fits imm.Andi rd rs1 number a b h = (a, b, h)
-number_fits imm.Slli rd rs1 number a b h = (a, b, amount_fits number h.0 h.1 h.2)
-number_fits imm.Srli rd rs1 number a b h = (a, b, amount_fits number h.0 h.1 h.2)
-number_fits imm.Srai rd rs1 number a b h = (a, b, amount_fits number h.0 h.1 h.2)
-
-computed_fits : (app : App) (places : Places) (func address : ℕ) (long : Bool) (o : Op) → IsComputed o → All InRange (expanded app places func address long o)
-computed_fits app places func address long =
-    computed_cases (λ o. All InRange (expanded app places func address long o))
-    (λ k rd rs1 rs2 h. All-cons InRange (register_operation k rd rs1 rs2) [] (register_fits k rd rs1 rs2 (own_small rd h.0) (own_small rs1 h.1) (own_small rs2 h.2)) (All-nil InRange))
-    (λ k rd rs1 number h. All-cons InRange (number_operation k rd rs1 number) [] (number_fits k rd rs1 number (own_small rd h.0) (own_small rs1 h.1) h.2) (All-nil InRange))
-    (λ rd number h. All-cons InRange (Lui rd number) [] (own_small rd h.0, h.1) (All-nil InRange))
+none_found : (marks : List Mark) (address : ℕ) → All (λ (m : Mark). m.address ≢ address) marks → find (λ (m : Mark). eqb m.address address) marks ≡ None
+none_found [] address h = refl
+none_found (m ∷ marks) address h =
+    ap (λ b. cond b (Some m) (find (λ (x : Mark). eqb x.address address) marks)) (ne_eqb m.address address (h 0 m (omega arith)))
+    ∙ none_found marks address (λ k d l. h (suc k) d (omega arith))
 
 -- ---- an item
 
@@ -143,23 +103,30 @@ item_stands b image func item h is range =
     record {
       code = in_image b image (item_address b.places func item) (expansion b.app b.places func item) h.memory h.size found.inside.0 (omega arith) (λ i x y. h.is_code func item i is x y) range found.code;
       marked = marks_found image (item_mark b.app b.places func item) h.rising found.marked;
+      unmarked = λ i l. none_found image.marks (item_address b.places func item + 4 * i) (h.unmarked func item i is l);
       adjacent = λ more. found.adjacent (record { declared = is.declared; inside = more });
     }
 
-pub item_computes : (b : Build) (image : Image) (func item : ℕ) → HasItems b image → IsItem b.app func item → IsComputed (operation b.app func item)
-    → ItemStands b (view_of_image image) func item
-item_computes b image func item h is computed =
-    item_stands b image func item h is (computed_fits b.app b.places func (item_address b.places func item) (is_long b.places func item) (operation b.app func item) computed)
+-- ---- the call of a service
 
--- ---- the call of TerminateTask
+pub no_mask : (s : Service) (mask : ℕ) → HasLaw s → mask_of s mask ≡ []
+no_mask service.ActivateTask mask h = refl
+no_mask service.TerminateTask mask h = refl
+no_mask service.ChainTask mask h = refl
+no_mask service.Schedule mask h = absurd h
+no_mask service.GetTaskID mask h = refl
+no_mask service.GetTaskState mask h = refl
+no_mask service.GetResource mask h = refl
+no_mask service.ReleaseResource mask h = refl
+no_mask service.SetEvent mask h = absurd h
+no_mask service.ClearEvent mask h = absurd h
+no_mask service.GetEvent mask h = absurd h
+no_mask service.WaitEvent mask h = absurd h
 
-no_mask : (s : Service) (mask : ℕ) → s ≡ service.TerminateTask → mask_of s mask ≡ []
-no_mask s mask e = subst (λ v. mask_of v mask ≡ []) (sym e) refl
-
-pub item_ends : (b : Build) (image : Image) (func item : ℕ) → HasItems b image → IsItem b.app func item → CallsTerminateTask b image func item
-    → ItemStands b (view_of_image image) func item × Ends b (view_of_image image) func item
-item_ends b image func item h is c =
-    let plain = no_mask c.call.service c.call.mask c.ends in
+pub item_serves : (b : Build) (image : Image) (func item : ℕ) → HasItems b image → IsItem b.app func item → ReachesService b image func item
+    → ItemStands b (view_of_image image) func item × CallsService b (view_of_image image) func item
+item_serves b image func item h is c =
+    let plain = no_mask c.call.service c.call.mask c.law in
     let jump : InstrKind = Jal 31 (distance (item_address b.places func item) (block_address b.places c.call.service c.call.object)) in
     let fits : All InRange (jump ∷ []) = All-cons InRange jump [] (omega arith, c.reach) (All-nil InRange) in (
       item_stands b image func item h is (subst (λ (code : List InstrKind). All InRange code) (sym (call_expands b func item c.call c.is plain)) fits),
@@ -169,11 +136,13 @@ item_ends b image func item h is c =
           is = c.is;
           no_mask = plain;
           block = c.block.offset;
-          block_is = ap (λ s. block_address b.places s c.call.object) c.ends ∙ c.block.is;
+          block_is = c.block.is;
           in_ram = c.in_ram;
           apart = c.apart;
         };
-        ends = c.ends;
+        law = c.law;
+        levels = c.levels;
+        are_levels = c.are_levels;
         block = c.block;
       },
     )

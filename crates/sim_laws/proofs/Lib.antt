@@ -5,3 +5,5 @@ pub mod Dispatch
 pub mod Whole
 pub mod Generated
 pub mod Items
+pub mod Known
+pub mod Ceilings

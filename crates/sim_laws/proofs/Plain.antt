@@ -1,162 +1,187 @@
--- Each event of a system whose tasks only compute and end leaves such a one.
-use Rattle.std.proofs.Common.{◌≡◌, ℕ, zero, suc, ◌<◌, List, [], ◌∷◌, length, refl, sym, ap, ◌∙◌, subst, arith, Bool, true, false, cond, ⊎_elim, inl, inr}
-use Rattle.std.specs.Prelude.{◌⊎◌, ◌||◌, map, get_or}
-use Rattle.std.proofs.lemmas.Bool.{cases_eq, ne_eqb}
-use Rattle.std.proofs.lemmas.List.{length-set, length-map}
+-- Each event of a system that calls only services that have laws leaves no task that waits or owes a Schedule.
+use Rattle.std.proofs.Common.{◌≡◌, ℕ, ◌<◌, List, [], ◌∷◌, ◌++◌, length, refl, sym, ap, ◌∙◌, subst, true, false, inl}
+use Rattle.std.specs.Prelude.{get_or, ltb, ◌==◌}
+use Rattle.std.proofs.lemmas.Bool.{cond_both, eqb-false, ltb-true}
+use Rattle.std.proofs.lemmas.List.{length-set}
+use Rattle.sloth_base.specs.Status.{E_OK, E_OS_LIMIT}
+use Rattle.app_rules.specs.Code.{Ends}
+use Rattle.std.proofs.Math.ListN.{get_or-map}
 use Rattle.sloth_base.specs.declared.config.Config.{Config}
-use Rattle.sloth_base.specs.declared.config.TaskDecl.{TaskDecl}
 use Rattle.sloth_base.specs.declared.app.App.{App}
 use Rattle.sloth_base.specs.declared.app.Call.{Call}
 use Rattle.sloth_base.specs.declared.app.Op.TheVariants as op
+use Rattle.sloth_base.specs.declared.app.Symbol.{Symbol}
 use Rattle.sloth_base.specs.declared.event.Event.{Event}
 use Rattle.sloth_base.specs.declared.event.Event.TheVariants as event
 use Rattle.sloth_base.specs.declared.service.Service.{Service}
 use Rattle.sloth_base.specs.declared.service.Service.TheVariants as service
-use Rattle.sloth_base.specs.Named.{operation}
-use Rattle.osek_machine.specs.declared.state.TaskState.{TaskState}
+use Rattle.sloth_base.specs.Named.{no_symbol}
+use Rattle.app_rules.specs.WellFormed.{WellFormed, held_before}
 use Rattle.osek_machine.specs.declared.state.TaskState.TheVariants as mode
-use Rattle.osek_machine.specs.State.{Frame, Task, System, task, with_task, sleeping, zero_registers, declaration, opening}
-use Rattle.osek_machine.specs.Priority.{is_in, is_active}
-use Rattle.osek_machine.specs.Services.{if_suspended, activated, Outcome, GoesOn, Leaves, outcome, ended, starts}
-use Rattle.osek_machine.specs.Steps.{OsekStep, Serves, settled, autostarted, admitted}
-use Rattle.sim_relation.proofs.Arrive.{is_suspended, not_suspended}
-use Rattle.sim_relation.proofs.Parts.{this_task, other_task, by_task}
-use Rattle.sim_items.specs.Place.{IsComputed}
-use Rattle.sim_laws.specs.Plain.{OnlyComputes, IsPlainTask, IsPlain}
+use Rattle.osek_machine.specs.State.{Frame, Task, System, task, with_task, zero_registers, declaration, opening}
+use Rattle.osek_machine.specs.Priority.{is_active}
+use Rattle.osek_machine.specs.Services.{if_suspended, activated, answers, answers_with, answered, is_there, without_last, Outcome, GoesOn, Leaves, outcome, ended, starts, state_number}
+use Rattle.osek_machine.specs.Steps.{IsAt, OsekStep, Serves, admitted}
+use Rattle.osek_valid.specs.Valid.{Valid, held_by}
+use Rattle.osek_valid.proofs.Apart.{step_apart, opening_apart}
+use Rattle.osek_valid.proofs.Facts.{Facts, facts}
+use Rattle.osek_valid.proofs.Going.{running, state_kept}
+use Rattle.osek_valid.proofs.Serving.{by_suspended}
+use Rattle.osek_valid.proofs.Stacks.{in_body_alone}
+use Rattle.osek_valid.proofs.Steps.{asleep_at, autostarted_at, opening_valid, step_valid}
+use Rattle.sim_relation.proofs.Parts.{by_task, this_task, other_task}
+use Rattle.sim_items.specs.Place.{HasSizes}
+use Rattle.sim_laws.specs.Plain.{OnlyLawfulCalls, IsPlainTask, IsPlain}
+use Rattle.sim_laws.specs.Lawful.{HasLaw}
 
 clash : {X : Type 0} → true ≡ false → X
 clash e = cc
 
--- a step after the start that changes the record of one task
-moved_plain : (config : Config) (s : System) (t : ℕ) (new : Task) (symbols : List (List ℕ)) → s.booted ≡ true → t < length config.tasks → IsPlain config s → IsPlainTask new
-    → IsPlain config (record (settled (with_task s t new)) { symbols = symbols })
-moved_plain config s t new symbols b l k h = record {
-  tasks = length-set s.tasks t new ∙ k.tasks;
-  each = by_task (λ u own. IsPlainTask own) s t new (let q = k.tasks in omega arith) h (λ u n. k.each u);
-  asleep = λ e u. clash (sym b ∙ e);
-  fresh = λ u e. cc;
+-- ---- what a valid system has
+
+-- the symbols have their bytes
+pub valid_sizes : (config : Config) (app : App) (s : System) → Valid config app s → HasSizes app s.symbols
+valid_sizes config app s v y =
+    sym (get_or-map length s.symbols y []) ∙ ap (λ (l : List ℕ). get_or l y 0) v.sizes ∙ get_or-map (λ (x : Symbol). length x.bytes) app.symbols y no_symbol
+
+-- a task that ends holds nothing
+pub ends_free : (config : Config) (app : App) → Facts config app → (s : System) (t : ℕ) (call : Call) → Valid config app s → t < length config.tasks → IsAt app s t (op.Serve call)
+    → Ends call.service → (task s t).held ≡ []
+ends_free config app w s t call v declared at e =
+    let r = running config app s t (op.Serve call) v declared at in
+    let frame = at.frame in
+    let body = w.ends_in_task frame.func frame.item call.object call.mask call.service r.item e in
+    r.held
+    ∙ ap (λ (o : List Frame). held_by app o ++ held_before app frame.func frame.item) (in_body_alone config app w t frame.func at.outer r.called body.0 body.1)
+    ∙ w.serves_free frame.func frame.item call.object call.mask call.service r.item (inl e)
+
+-- ---- each step
+
+starts_free : (app : App) (t : ℕ) (frames : List Frame) (old : Task) → (starts app t frames old).owed ≡ old.owed
+starts_free app t [] old = refl
+starts_free app t (frame ∷ outer) old = refl
+
+abbrev Each : System → Type 0
+Each s = (t : ℕ) → IsPlainTask (task s t)
+
+-- one task's record changes
+one_moves : (s : System) (t : ℕ) (new : Task) → t < length s.tasks → Each s → IsPlainTask new → Each (with_task s t new)
+one_moves s t new l each h = by_task (λ u own. IsPlainTask own) s t new l h (λ u n. each u)
+
+among : (config : Config) (app : App) (s : System) (t : ℕ) → Valid config app s → t < length config.tasks → t < length s.tasks
+among config app s t v l = subst (λ n. t < n) (sym v.count) l
+
+-- ---- services
+
+abbrev EachAnswer : Outcome → Type 0
+EachAnswer (GoesOn status after) = Each after
+EachAnswer (Leaves after) = Each after
+
+module _ (config : Config) (app : App) (s : System) (c : ℕ) (v : Valid config app s) (each : Each s) (declared : c < length config.tasks)
+    (active : (task s c).state ≡ mode.Active) where
+  inside : c < length s.tasks
+  inside = among config app s c v declared
+
+  -- the caller stays Active
+  on : (new : Task) → new.owed ≡ (task s c).owed → new.state ≡ (task s c).state → Each (with_task s c new)
+  on new owed state = one_moves s c new inside each (record { free = owed ∙ (each c).free; anew = λ e. clash (sym (ap is_active (state ∙ active)) ∙ e) })
+
+  -- the caller ends
+  over : Each (ended c s)
+  over =
+      one_moves s c (record (task s c) { state = mode.Suspended; registers = zero_registers; frames = []; events = 0; raised = false }) inside each
+      (record { free = (each c).free; anew = λ q. refl })
+
+  -- a task that rests in what a service has left so far becomes Ready
+  raises : (middle : System) (t : ℕ) → length middle.tasks ≡ length s.tasks → t < length config.tasks → Each middle → (task middle t).state ≡ mode.Suspended
+      → Each (activated middle t)
+  raises middle t long l after asleep =
+      one_moves middle t (record (task middle t) { state = mode.Ready }) (subst (λ n. t < n) (sym long) (among config app s t v l)) after
+      (record { free = (after t).free; anew = λ e. (after t).anew (ap is_active asleep) })
+
+  chains : (t : ℕ) → t < length config.tasks → EachAnswer (outcome service.ChainTask t 0 c s)
+  chains t l =
+      let new : Task = record (task s c) { state = mode.Suspended; registers = zero_registers; frames = []; events = 0; raised = false } in
+      let long : length (ended c s).tasks ≡ length s.tasks = length-set s.tasks c new in
+      cond_both (t == c) (Leaves (activated (ended c s) c))
+      (if_suspended (task s t).state (Leaves (activated (ended c s) t)) (GoesOn E_OS_LIMIT (answered E_OS_LIMIT c s))) EachAnswer
+      (λ same. raises (ended c s) c long declared over (ap (λ (x : Task). x.state) (this_task s c new inside)))
+      (λ differs. by_suspended (task s t).state (Leaves (activated (ended c s) t)) (GoesOn E_OS_LIMIT (answered E_OS_LIMIT c s)) EachAnswer
+      (λ asleep. raises (ended c s) t long l over (ap (λ (x : Task). x.state) (other_task s c t new (eqb-false t c differs)) ∙ asleep))
+      (λ awake. on (answers E_OS_LIMIT (task s c)) refl refl))
+
+  activates : (t : ℕ) → t < length config.tasks → EachAnswer (outcome service.ActivateTask t 0 c s)
+  activates t l =
+      let new = answers E_OK (task s c) in
+      by_suspended (task s t).state (GoesOn E_OK (activated (answered E_OK c s) t)) (GoesOn E_OS_LIMIT (answered E_OS_LIMIT c s)) EachAnswer
+      (λ asleep. raises (answered E_OK c s) t (length-set s.tasks c new) l (on new refl refl) (state_kept s c t new refl ∙ asleep))
+      (λ awake. on (answers E_OS_LIMIT (task s c)) refl refl)
+
+  named : (t : ℕ) → ltb t (length config.tasks) ≡ true → t < length config.tasks
+  named t h = ltb-true t (length config.tasks) h
+
+  answers_plain : (served : Service) (object mask : ℕ) → HasLaw served → is_there config (task s c).held served object ≡ true → EachAnswer (outcome served object mask c s)
+  answers_plain service.ActivateTask t mask law there = activates t (named t there)
+  answers_plain service.TerminateTask t mask law there = over
+  answers_plain service.ChainTask t mask law there = chains t (named t there)
+  answers_plain service.Schedule t mask law there = absurd law
+  answers_plain service.GetTaskID t mask law there = on (answers_with c (task s c)) refl refl
+  answers_plain service.GetTaskState t mask law there = on (answers_with (state_number c t (task s t).state) (task s c)) refl refl
+  answers_plain service.GetResource r mask law there = on (record (answers E_OK (task s c)) { held = (task s c).held ++ (r ∷ []) }) refl refl
+  answers_plain service.ReleaseResource r mask law there = on (record (answers E_OK (task s c)) { held = without_last (task s c).held }) refl refl
+  answers_plain service.SetEvent t mask law there = absurd law
+  answers_plain service.ClearEvent t mask law there = absurd law
+  answers_plain service.GetEvent t mask law there = absurd law
+  answers_plain service.WaitEvent t mask law there = absurd law
+
+serves_plain : (config : Config) (app : App) → OnlyLawfulCalls app → (t : ℕ) (served : Service) (s : System) (answer : Outcome) → Serves config app t served s answer
+    → Valid config app s → Each s → EachAnswer answer
+serves_plain config app only t served s answer h v each =
+    let law : HasLaw served = subst HasLaw h.same (only.services h.at.frame.func h.at.frame.item h.call h.at.inside h.at.next) in
+    subst EachAnswer h.is (answers_plain config app s t v each h.top.declared h.at.active served h.call.object h.call.mask law h.names)
+
+admit_plain : (config : Config) (app : App) (s : System) (t : ℕ) → Valid config app s → t < length config.tasks → Each s → Each (admitted t s)
+admit_plain config app s t v l each =
+    by_suspended (task s t).state (record (activated s t) { fresh = t ∷ s.fresh }) s Each
+    (λ asleep.
+    one_moves s t (record (task s t) { state = mode.Ready }) (among config app s t v l) each
+    (record { free = (each t).free; anew = λ e. (each t).anew (ap is_active asleep) }))
+    (λ awake. each)
+
+each_stays : (config : Config) (app : App) → OnlyLawfulCalls app → (what : Event) (s next : System) → OsekStep config app what s next → Valid config app s → Each s → Each next
+each_stays config app only event.Boot s next h v each =
+    subst Each (sym h.1)
+    (λ t. autostarted_at IsPlainTask config.tasks s.tasks t (each t) (record { free = (each t).free; anew = λ e. (each t).anew (ap is_active (v.asleep h.0 t)) }))
+each_stays config app only (event.Admit t) s next h v each = subst Each (sym h.2) (admit_plain config app s t v h.1 each)
+each_stays config app only (event.Enter t) s next h v each =
+    let own = task s t in
+    subst Each (sym h.4)
+    (one_moves s t (record (starts app t own.frames own) { state = mode.Active; raised = (declaration config t).non }) (among config app s t v h.1.declared) each
+    (record { free = starts_free app t own.frames own ∙ (each t).free; anew = λ e. clash e }))
+each_stays config app only (event.Run t func item result) s next h v each =
+    let x = h.1 in
+    subst Each (sym x.is)
+    (one_moves s t (record (task s t) { registers = x.meant.registers; frames = x.meant.frames }) (among config app s t v x.top.declared) each
+    (record { free = (each t).free; anew = λ e. clash (sym (ap is_active x.at.active) ∙ e) }))
+each_stays config app only (event.Call t served status) s next h v each =
+    subst Each (sym h.1.2) (serves_plain config app only t served s (GoesOn status h.1.0) h.1.1 v each)
+each_stays config app only (event.Left t served) s next h v each =
+    subst Each (sym h.1.2) (serves_plain config app only t served s (Leaves h.1.0) h.1.1 v each)
+each_stays config app only (event.Back t) s next h v each = clash (sym h.3 ∙ (each t).free)
+each_stays config app only event.Idle s next h v each = subst Each (sym h.2) each
+each_stays config app only event.Stray s next h v each = absurd h
+
+pub plain_stays : (config : Config) (app : App) → WellFormed config app → OnlyLawfulCalls app → (what : Event) (s next : System) → OsekStep config app what s next
+    → IsPlain config app s → IsPlain config app next
+plain_stays config app well only what s next h k = record {
+  valid = step_valid config app what s next (facts config app well) h k.valid;
+  apart = step_apart config app what s next h k.valid k.apart;
+  each = each_stays config app only what s next h k.valid k.each;
 }
 
--- ---- boot
-
-autostarted_long : (ds : List TaskDecl) (tasks : List Task) → length (autostarted ds tasks) ≡ length tasks
-autostarted_long [] tasks = refl
-autostarted_long (d ∷ ds) [] = refl
-autostarted_long (d ∷ ds) (own ∷ tasks) = ap suc (autostarted_long ds tasks)
-
-started_task : (b : Bool) (own : Task) → own.frames ≡ [] → IsPlainTask own → IsPlainTask (cond b (record own { state = mode.Ready }) own)
-started_task true own f h = record { held = h.held; free = h.free; anew = λ e. f }
-started_task false own f h = h
-
-started_tasks : (ds : List TaskDecl) (tasks : List Task) → ((t : ℕ) → (get_or tasks t sleeping).frames ≡ []) → ((t : ℕ) → IsPlainTask (get_or tasks t sleeping))
-    → (t : ℕ) → IsPlainTask (get_or (autostarted ds tasks) t sleeping)
-started_tasks [] tasks f h t = h t
-started_tasks (d ∷ ds) [] f h t = h t
-started_tasks (d ∷ ds) (own ∷ tasks) f h zero = started_task d.autostart own (f 0) (h 0)
-started_tasks (d ∷ ds) (own ∷ tasks) f h (suc t) = started_tasks ds tasks (λ u. f (suc u)) (λ u. h (suc u)) t
-
--- ---- admits
-
-in_or : (x y : Bool) → (x || y) ≡ true → (x ≡ true) ⊎ (y ≡ true)
-in_or true y e = inl refl
-in_or false y e = inr e
-
-not_active : (m : TaskState) → m ≡ mode.Suspended → is_active m ≡ false
-not_active m e = ap is_active e
-
-admit_plain : (config : Config) (s : System) (t : ℕ) → s.booted ≡ true → t < length config.tasks → IsPlain config s → IsPlain config (admitted t s)
-admit_plain config s t b l k =
-    ⊎_elim
-    (λ (e : (task s t).state ≡ mode.Suspended). subst (λ m. IsPlain config (if_suspended m (record (activated s t) { fresh = t ∷ s.fresh }) s)) (sym e) (woken e))
-    (λ (n : (task s t).state ≡ mode.Suspended → ⊥). subst (IsPlain config) (sym (not_suspended (task s t).state (record (activated s t) { fresh = t ∷ s.fresh }) s n)) k)
-    (is_suspended (task s t).state)
-  where
-    woken : (task s t).state ≡ mode.Suspended → IsPlain config (record (activated s t) { fresh = t ∷ s.fresh })
-    woken e =
-        let own = task s t in
-        let new : Task = record own { state = mode.Ready } in
-        let long : t < length s.tasks = let q = k.tasks in omega arith in
-        let f : own.frames ≡ [] = (k.each t).anew (not_active own.state e) in
-        record {
-          tasks = length-set s.tasks t new ∙ k.tasks;
-          each = by_task (λ u o. IsPlainTask o) s t new long (record { held = (k.each t).held; free = (k.each t).free; anew = λ q. f }) (λ u n. k.each u);
-          asleep = λ q u. clash (sym b ∙ q);
-          fresh = λ u q.
-              ⊎_elim
-              (λ (g : u ≡ t). ap (λ x. (task (with_task s t new) x).state) g ∙ ap (λ (o : Task). o.state) (this_task s t new long))
-              (λ (g : u ≡ t → ⊥).
-              let r : is_in u s.fresh ≡ true = ap (λ x. x || is_in u s.fresh) (sym (ne_eqb t u (λ z. g (sym z)))) ∙ q in
-              ap (λ (o : Task). o.state) (other_task s t u new g) ∙ k.fresh u r)
-              (cases_eq u t);
-        }
-
--- ---- entries and services
-
-starts_held : (app : App) (t : ℕ) (frames : List Frame) (old : Task) → ((starts app t frames old).held ≡ old.held) × ((starts app t frames old).owed ≡ old.owed)
-starts_held app t [] old = (refl, refl)
-starts_held app t (frame ∷ outer) old = (refl, refl)
-
--- the only service that is called is TerminateTask
-only_ends : (app : App) → OnlyComputes app → (config : Config) (t : ℕ) (served : Service) (s : System) (answer : Outcome) → Serves config app t served s answer → answer ≡ Leaves (ended t s)
-only_ends app only config t served s answer h =
-    ⊎_elim
-    (λ (x : IsComputed (operation app h.at.frame.func h.at.frame.item)). absurd (subst IsComputed h.at.next x))
-    (λ (x : (call : Call) × (operation app h.at.frame.func h.at.frame.item ≡ op.Serve call) × (call.service ≡ service.TerminateTask)).
-    let same : op.Serve x.0 ≡ op.Serve h.call = sym x.1 ∙ h.at.next in
-    let c : x.0 ≡ h.call = cc in
-    let e : served ≡ service.TerminateTask = sym h.same ∙ ap (λ (v : Call). v.service) (sym c) ∙ x.2 in
-    sym h.is ∙ ap (λ v. outcome v h.call.object h.call.mask t s) e)
-    (only.items h.at.frame.func h.at.frame.item h.at.inside)
-
-pub plain_stays : (config : Config) (app : App) → OnlyComputes app → (what : Event) (s next : System) → OsekStep config app what s next → IsPlain config s → IsPlain config next
-plain_stays config app only event.Boot s next h k = subst (IsPlain config) (sym h.1) (record {
-  tasks = autostarted_long config.tasks s.tasks ∙ k.tasks;
-  each = started_tasks config.tasks s.tasks (k.asleep h.0) k.each;
-  asleep = λ e u. clash e;
-  fresh = λ u e. cc;
-})
-plain_stays config app only (event.Admit t) s next h k = subst (IsPlain config) (sym h.2) (admit_plain config s t h.0 h.1 k)
-plain_stays config app only (event.Enter t) s next h k =
-    let own = task s t in
-    let p = k.each t in
-    let g = starts_held app t own.frames own in
-    subst (IsPlain config) (sym h.4)
-    (moved_plain config s t (record (starts app t own.frames own) { state = mode.Active; raised = (declaration config t).non }) s.symbols h.0 h.1.declared k
-    (record { held = g.0 ∙ p.held; free = g.1 ∙ p.free; anew = λ e. clash e }))
-plain_stays config app only (event.Run t func item result) s next h k =
-    let x = h.1 in
-    let p = k.each t in
-    subst (IsPlain config) (sym x.is)
-    (moved_plain config s t (record (task s t) { registers = x.meant.registers; frames = x.meant.frames }) x.meant.symbols h.0 x.top.declared k
-    (record { held = p.held; free = p.free; anew = λ e. clash (sym (ap is_active x.at.active) ∙ e) }))
-plain_stays config app only (event.Call t served status) s next h k = let e = only_ends app only config t served s (GoesOn status h.1.0) h.1.1 in cc
-plain_stays config app only (event.Left t served) s next h k =
-    let e : Leaves h.1.0 ≡ Leaves (ended t s) = only_ends app only config t served s (Leaves h.1.0) h.1.1 in
-    let after : h.1.0 ≡ ended t s = cc in
-    let p = k.each t in
-    subst (IsPlain config) (sym (h.1.2 ∙ ap settled after))
-    (moved_plain config s t (record (task s t) { state = mode.Suspended; registers = zero_registers; frames = []; events = 0; raised = false }) s.symbols h.0 h.1.1.top.declared k
-    (record { held = p.held; free = p.free; anew = λ q. refl }))
-plain_stays config app only (event.Back t) s next h k = clash (sym h.3 ∙ (k.each t).free)
-plain_stays config app only event.Idle s next h k = subst (IsPlain config) (sym h.2) (record {
-  tasks = k.tasks;
-  each = k.each;
-  asleep = k.asleep;
-  fresh = λ u e. cc;
-})
-plain_stays config app only event.Stray s next h k = absurd h
-
--- ---- before the start
-
-asleep_at : (ds : List TaskDecl) (t : ℕ) → get_or (map (λ (d : TaskDecl). sleeping) ds) t sleeping ≡ sleeping
-asleep_at [] t = refl
-asleep_at (d ∷ ds) zero = refl
-asleep_at (d ∷ ds) (suc t) = asleep_at ds t
-
-pub opening_plain : (config : Config) (app : App) → IsPlain config (opening config app)
+pub opening_plain : (config : Config) (app : App) → IsPlain config app (opening config app)
 opening_plain config app = record {
-  tasks = length-map config.tasks (λ (d : TaskDecl). sleeping);
-  each = λ t. subst IsPlainTask (sym (asleep_at config.tasks t)) (record { held = refl; free = refl; anew = λ e. refl });
-  asleep = λ e t. ap (λ (o : Task). o.frames) (asleep_at config.tasks t);
-  fresh = λ t e. cc;
+  valid = opening_valid config app;
+  apart = opening_apart config app;
+  each = λ t. subst IsPlainTask (sym (asleep_at config.tasks t)) (record { free = refl; anew = λ e. refl });
 }

@@ -1,10 +1,11 @@
 -- Every run of a kernel in place is one of the abstract scheduler.
-use Rattle.std.proofs.Common.{◌≡◌, ℕ, zero, suc, ◌+◌, ◌-◌, ◌*◌, ◌/◌, ◌<◌, ◌≤◌, Bool, List, [], ◌∷◌, length, get_or, refl, sym, ap, ◌∙◌, subst, arith, true, false, ⊎_elim, inl, inr}
+use Rattle.std.proofs.Common.{◌≡◌, ℕ, ◌+◌, ◌-◌, ◌*◌, ◌/◌, ◌<◌, ◌≤◌, Bool, List, [], ◌∷◌, length, sym, ◌∙◌, subst, arith, true, false, ⊎_elim}
 use Rattle.std.specs.Prelude.{◌&&◌, map, replicate, nat_le, nat_lt, if◌then◌else◌}
 use Rattle.std.proofs.lemmas.Bool.{cases_lt, le-ltb}
 use Rattle.sloth_base.specs.declared.event.Arrival.{Arrival}
 use Rattle.sloth_base.specs.declared.image.Image.{Image}
-use Rattle.sloth_base.specs.declared.app.Item.{Item}
+use Rattle.sloth_base.specs.declared.app.Call.{Call}
+use Rattle.sim_items.specs.Place.{IsStraight, IsFlow}
 use Rattle.sloth_base.specs.declared.app.Op.TheVariants as op
 use Rattle.sloth_base.specs.Arrivals.{moments}
 use Rattle.sloth_base.specs.Machine.{State}
@@ -12,8 +13,10 @@ use Rattle.sloth_region.specs.Layout.{cur}
 use Rattle.rv32_instr.specs.Ram.{word_at}
 use Rattle.rv32_machine.specs.Start.{start}
 use Rattle.rv32_routine.specs.Trace.{late}
-use Rattle.rv32_expand.specs.Expansion.{item_address, is_long, expansion, expanded}
-use Rattle.sloth_base.specs.Named.{operation, function, no_item}
+use Rattle.rv32_expand.proofs.Counts.{size_is, size_few}
+use Rattle.rv32_expand.proofs.InRangeOf.{frame_of}
+use Rattle.rv32_expand.specs.Expansion.{item_address, is_long, expansion}
+use Rattle.sloth_base.specs.Named.{operation}
 use Rattle.observe.specs.Observe.{View, view_of_image}
 use Rattle.osek_machine.specs.State.{Frame, System, task}
 use Rattle.sim_induction.specs.Sound.{Sound}
@@ -35,18 +38,15 @@ use Rattle.sim_entries.proofs.Spot.{zero_at}
 use Rattle.sim_items.specs.Outside.{setting_of}
 use Rattle.sim_items.specs.Progress.{passed_at, passed_in, progress_in}
 use Rattle.sim_laws.specs.Bounded.{IsBounded}
-use Rattle.sim_laws.specs.Kernel.{Kernel, Computes, Ends}
-use Rattle.sim_laws.specs.Plain.{OnlyComputes, IsPlain}
+use Rattle.sim_laws.specs.Kernel.{Kernel, IsKnown}
+use Rattle.sim_laws.specs.Kernel.IsKnown.{computes, flows, invokes, returns, serves}
+use Rattle.sim_laws.specs.Lawful.{HasLaw}
+use Rattle.sim_laws.specs.Plain.{OnlyLawfulCalls, IsPlain}
 use Rattle.sim_laws.proofs.Bounded.{arrive_fits, bounds_stay}
 use Rattle.sim_laws.proofs.Plain.{plain_stays, opening_plain}
-use Rattle.sim_laws.proofs.Dispatch.{item_long, advance}
+use Rattle.sim_laws.proofs.Dispatch.{advance}
 
 -- ---- the measure is at most 40
-
-beyond : (xs : List Item) (i : ℕ) (d : Item) → length xs ≤ i → get_or xs i d ≡ d
-beyond [] i d h = refl
-beyond (x ∷ xs) zero d h = absurd (omega arith)
-beyond (x ∷ xs) (suc i) d h = beyond xs i d (omega arith)
 
 at_most : (x : Bool) (a b : ℕ) → a ≤ 40 → b ≤ 40 → (if x then a else b) ≤ 40
 at_most true a b h l = h
@@ -91,22 +91,26 @@ module _ (b : Build) (image : Image) (kernel : Kernel b image) where
   few : length b.config.tasks ≤ 32
   few = let f = kernel.fits.few_tasks in omega arith
 
-  only : OnlyComputes b.app
-  only = record {
-    items = λ func item l.
-        ⊎_elim (λ (h : Computes b func item). inl h.computed) (λ (h : Ends b view func item). inr (h.jumps.call, h.jumps.is, h.ends))
-        (kernel.operations func item l);
-  }
+  only : OnlyLawfulCalls b.app
+  only = record { services = λ func item call l is. by func item call is (kernel.operations func item l) }
+    where
+      by : (func item : ℕ) (call : Call) → operation b.app func item ≡ op.Serve call → IsKnown b view func item → HasLaw call.service
+      by func item call is (computes h) = absurd (subst (IsStraight b.app func) is h.straight)
+      by func item call is (flows h) = absurd (subst (IsFlow b.app func item) is h.flow)
+      by func item call is (invokes h) = let e : op.Invoke h.callee ≡ op.Serve call = sym h.is ∙ is in cc
+      by func item call is (returns h) = let e : op.Return ≡ op.Serve call = sym h.is ∙ is in cc
+      by func item call is (serves h) =
+          let same : op.Serve h.jumps.call ≡ op.Serve call = sym h.jumps.is ∙ is in
+          let e : h.jumps.call ≡ call = cc in
+          subst (λ (c : Call). HasLaw c.service) e h.law
 
   few_instructions : (func item : ℕ) → length (expansion b.app b.places func item) ≤ 40
   few_instructions func item =
-      ⊎_elim
-      (λ (l : item < length (function b.app func).items). let e = item_long b image kernel func item l in omega arith)
-      (λ (l : length (function b.app func).items ≤ item).
-      let none : operation b.app func item ≡ op.Return = ap (λ (x : Item). x.op) (beyond (function b.app func).items item no_item l) in
-      let e : length (expansion b.app b.places func item) ≡ 3 = ap (λ o. length (expanded b.app b.places func (item_address b.places func item) (is_long b.places func item) o)) none in
-      omega arith)
-      (cases_lt item (length (function b.app func).items))
+      let long = is_long b.places func item in
+      let o = operation b.app func item in
+      let e = size_is b.app b.places func (item_address b.places func item) long o in
+      let f = size_few b.app (frame_of b.app (b.config, kernel.well_formed.in_range)) long o in
+      omega (arith, e, f.few)
 
   in_frames : (pc : ℕ) (frames : List Frame) → passed_in b pc frames ≤ 40
   in_frames pc [] = omega arith
@@ -114,17 +118,17 @@ module _ (b : Build) (image : Image) (kernel : Kernel b image) where
       passed_small (item_address b.places frame.func frame.item) (length (expansion b.app b.places frame.func frame.item)) pc (few_instructions frame.func frame.item)
 
   abbrev R : State → System → Type 0
-  R = With (Stands b) IsBounded (IsPlain b.config)
+  R = With (Stands b) IsBounded (IsPlain b.config b.app)
 
   module _ (arrivals : List Arrival) (setting : IsSetting (setting_of b view arrivals)) where
-    plain_found : (count : ℕ) (s : System) → s.booted ≡ true → IsPlain b.config s → IsPlain b.config (with_admits (lines_at arrivals count) s)
+    plain_found : (count : ℕ) (s : System) → s.booted ≡ true → IsPlain b.config b.app s → IsPlain b.config b.app (with_admits (lines_at arrivals count) s)
     plain_found count s booted h =
-        along_events b.config b.app (IsPlain b.config) (plain_stays b.config b.app only) (map admit_event (moments count (count + 1) arrivals)) s (with_admits (lines_at arrivals count) s)
+        along_events b.config b.app (IsPlain b.config b.app) (plain_stays b.config b.app kernel.well_formed only) (map admit_event (moments count (count + 1) arrivals)) s (with_admits (lines_at arrivals count) s)
         (leads_admits b.config b.app (moments count (count + 1) arrivals) s booted (below_moments (length b.config.tasks) count (count + 1) arrivals setting.lines)) h
 
     simulation : IsSimulation (setting_of b view arrivals) R (progress_in b)
     simulation =
-        simulation_with (setting_of b view arrivals) setting (Stands b) IsBounded (IsPlain b.config) (progress_in b) (bounds_stay arrivals) (plain_stays b.config b.app only)
+        simulation_with (setting_of b view arrivals) setting (Stands b) IsBounded (IsPlain b.config b.app) (progress_in b) (bounds_stay arrivals) (plain_stays b.config b.app kernel.well_formed only)
         (λ count state s positive w.
         advance b image kernel arrivals setting count positive state s w.base (arrive_fits (lines_at arrivals count) state w.machine) (plain_found count s w.base.tidy.booted w.system))
         (λ count state s w. stands_arrived b (lines_at arrivals count) state s few (below_moments (length b.config.tasks) count (count + 1) arrivals setting.lines) w.base)
@@ -136,7 +140,7 @@ module _ (b : Build) (image : Image) (kernel : Kernel b image) where
     booting : BootLaw (setting_of b view arrivals) R (start image)
     booting =
         let law = boot_stretch b view arrivals setting image kernel.fits kernel.is_image kernel.boot in
-        boot_with (setting_of b view arrivals) setting (Stands b) IsBounded (IsPlain b.config) (progress_in b) (bounds_stay arrivals) (plain_stays b.config b.app only)
+        boot_with (setting_of b view arrivals) setting (Stands b) IsBounded (IsPlain b.config b.app) (progress_in b) (bounds_stay arrivals) (plain_stays b.config b.app kernel.well_formed only)
         (start image) law (sym (booted_admits (late law.trace) law.after) ∙ law.related.tidy.booted)
         (start_bounded image kernel.bytes) (opening_plain b.config b.app)
 

@@ -1,11 +1,12 @@
 -- A kernel in place, said by the contracts of what generates its code.
-use Rattle.std.specs.Prelude.{ℕ, ◌+◌, ◌<◌, ◌≤◌, ◌≡◌, ◌≢◌, ◌⊎◌, List, length, slice_index}
+use Rattle.std.specs.Prelude.{ℕ, ◌+◌, ◌<◌, ◌≤◌, ◌≡◌, ◌≢◌, List, length, slice_index}
 use Rattle.sloth_base.specs.declared.image.Image.{Image}
 use Rattle.sloth_base.specs.declared.places.Levels.{Levels}
 use Rattle.sloth_region.specs.declared.extent.Extent.{Extent}
 use Rattle.sloth_region.specs.declared.map.Map.{Map}
 use Rattle.rv32_instr.specs.declared.InstrKind.{InstrKind}
 use Rattle.observe.specs.Observe.{view_of_image}
+use Rattle.app_rules.specs.WellFormed.{WellFormed}
 use Rattle.osek_machine.specs.State.{body_of}
 use Rattle.sloth_base.specs.Named.{function}
 use Rattle.prio_levels.specs.Levels.{AreLevels}
@@ -23,7 +24,7 @@ use Rattle.sim_entries.specs.Entries.{first_words}
 use Rattle.sim_entries.specs.Generated.{HasOneBody}
 use Rattle.sim_items.specs.Place.{ItemStands}
 use Rattle.sim_items.specs.Outside.{HasIdle}
-use Rattle.sim_laws.specs.Kernel.{Kernel, Computes, Ends}
+use Rattle.sim_laws.specs.Kernel.{Kernel, IsKnown}
 
 -- the prologue of a task stands where the map has the handler of its line
 pub record HasPrologue (b : Build) (levels : Levels) (map : Map) (t : ℕ) : Type 0 where
@@ -39,6 +40,7 @@ pub record HasPrologue (b : Build) (levels : Levels) (map : Map) (t : ℕ) : Typ
 -- By the levels and the map: the vector words, boot, the idle loop, a prologue for each task, and the items with their services.
 pub record IsGenerated (b : Build) (image : Image) (levels : Levels) (map : Map) : Type 0 where
   pub fits : Fits b
+  pub well_formed : WellFormed b.config b.app
   pub are_levels : AreLevels b.config levels
   pub places : b.places ≡ map.places
   pub idle_is : b.idle ≡ map.idle
@@ -56,7 +58,7 @@ pub record IsGenerated (b : Build) (image : Image) (levels : Levels) (map : Map)
   pub prologues : (t : ℕ) → t < length b.config.tasks → HasPrologue b levels map t
   pub stacks : (t u : ℕ) → t < length b.config.tasks → u < length b.config.tasks → u ≢ t → AreApart b t u
   pub items : (func item : ℕ) → item < length (function b.app func).items → ItemStands b (view_of_image image) func item
-  pub operations : (func item : ℕ) → item < length (function b.app func).items → Computes b func item ⊎ Ends b (view_of_image image) func item
+  pub operations : (func item : ℕ) → item < length (function b.app func).items → IsKnown b (view_of_image image) func item
 
 -- What is generated so is a kernel in place.
 abbrev pub GeneratedIsKernel : Type 0

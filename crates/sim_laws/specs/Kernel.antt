@@ -1,8 +1,12 @@
 -- A kernel in place: what the builder says of an image.
-use Rattle.std.specs.Prelude.{ℕ, ◌+◌, ◌<◌, ◌≡◌, ◌≢◌, ◌⊎◌, length}
+use Rattle.std.specs.Prelude.{ℕ, ◌+◌, ◌<◌, ◌≡◌, ◌≢◌, length}
 use Rattle.sloth_base.specs.declared.image.Image.{Image}
-use Rattle.sloth_base.specs.declared.service.Service.TheVariants as service
+use Rattle.sloth_base.specs.declared.app.Op.TheVariants as op
+use Rattle.sloth_base.specs.declared.places.Levels.{Levels}
 use Rattle.sloth_base.specs.Named.{operation, function}
+use Rattle.app_rules.specs.WellFormed.{WellFormed}
+use Rattle.prio_levels.specs.Levels.{AreLevels}
+use Rattle.service_gen.specs.Block.{Serves}
 use Rattle.observe.specs.Observe.{View, view_of_image}
 use Rattle.sim_induction.specs.Sound.{Sound}
 use Rattle.sim_relation.specs.Bounds.{AreBelow}
@@ -10,25 +14,50 @@ use Rattle.sim_relation.specs.Build.{Build, Fits}
 use Rattle.sim_relation.specs.Stands.{AreApart}
 use Rattle.sim_entries.specs.Boot.{IsImage}
 use Rattle.sim_entries.specs.Codes.{BootStands, PrologueStands}
-use Rattle.sim_items.specs.Place.{ItemStands, IsComputed}
+use Rattle.sim_items.specs.Place.{ItemStands, IsStraight, IsFlow}
 use Rattle.sim_items.specs.Outside.{JumpsToService, HasIdle}
-use Rattle.sim_services.specs.Stretch.{HasTerminateTask}
+use Rattle.sim_services.specs.Opening.{HasBlock}
+use Rattle.sim_laws.specs.Lawful.{HasLaw}
 
--- an item computes on registers and numbers, and isn't the last one of its function
+-- an item computes on registers, frame words and data, and isn't the last one of its function
 pub record Computes (b : Build) (func item : ℕ) : Type 0 where
-  pub computed : IsComputed (operation b.app func item)
+  pub straight : IsStraight b.app func (operation b.app func item)
   pub more : item + 1 < length (function b.app func).items
 
--- an item is TerminateTask, whose block stands in the image
-pub record Ends (b : Build) (view : View) (func item : ℕ) : Type 0 where
+-- an item goes on at a label of its function, or may go on there or at the next item
+pub record Flows (b : Build) (func item : ℕ) : Type 0 where
+  pub flow : IsFlow b.app func item (operation b.app func item)
+
+-- an item calls a function
+pub record Invokes (b : Build) (func item : ℕ) : Type 0 where
+  pub callee : ℕ
+  pub is : operation b.app func item ≡ op.Invoke callee
+
+-- an item returns
+pub record Returns (b : Build) (func item : ℕ) : Type 0 where
+  pub is : operation b.app func item ≡ op.Return
+
+-- an item calls a service that has a law, whose block for its object stands in the image, as the generator says
+pub record CallsService (b : Build) (view : View) (func item : ℕ) : Type 0 where
   pub jumps : JumpsToService b func item
-  pub ends : jumps.call.service ≡ service.TerminateTask
-  pub block : HasTerminateTask b view jumps.call.object
+  pub law : HasLaw jumps.call.service
+  pub levels : Levels
+  pub are_levels : AreLevels b.config levels
+  pub block : HasBlock b view jumps.call.service jumps.call.object (Serves jumps.call.service jumps.call.object levels)
+
+-- an item is of one of these kinds
+pub data IsKnown (b : Build) (view : View) (func item : ℕ) : Type 0 where
+  computes : Computes b func item → IsKnown b view func item
+  flows : Flows b func item → IsKnown b view func item
+  invokes : Invokes b func item → IsKnown b view func item
+  returns : Returns b func item → IsKnown b view func item
+  serves : CallsService b view func item → IsKnown b view func item
 
 -- Basic tasks, whose code has only such items, and whose parts of the stacks are apart: the code of boot, of the prologues, of
 -- the idle loop and of the items stands in the image.
 pub record Kernel (b : Build) (image : Image) : Type 0 where
   pub fits : Fits b
+  pub well_formed : WellFormed b.config b.app
   pub tasks : length image.tasks ≡ length b.config.tasks
   pub is_image : IsImage b image
   pub bytes : AreBelow 256 image.memory
@@ -37,7 +66,7 @@ pub record Kernel (b : Build) (image : Image) : Type 0 where
   pub prologues : (t : ℕ) → t < length b.config.tasks → PrologueStands b t
   pub stacks : (t u : ℕ) → t < length b.config.tasks → u < length b.config.tasks → u ≢ t → AreApart b t u
   pub items : (func item : ℕ) → item < length (function b.app func).items → ItemStands b (view_of_image image) func item
-  pub operations : (func item : ℕ) → item < length (function b.app func).items → Computes b func item ⊎ Ends b (view_of_image image) func item
+  pub operations : (func item : ℕ) → item < length (function b.app func).items → IsKnown b (view_of_image image) func item
 
 -- Every run of such an image, whatever lines arrive, is one of the abstract scheduler.
 abbrev pub KernelIsSound : Type 0

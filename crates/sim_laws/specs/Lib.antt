@@ -3,3 +3,4 @@ pub mod Plain
 pub mod Kernel
 pub mod Generated
 pub mod Items
+pub mod Lawful

@@ -6,14 +6,14 @@ ghost use Rattle.sim_laws.specs.Bounded.{BoundsStay};
 ghost use Rattle.sim_laws.specs.Plain.{PlainStays};
 ghost use Rattle.sim_laws.specs.Kernel.{KernelIsSound};
 ghost use Rattle.sim_laws.specs.Generated.{GeneratedIsKernel};
-ghost use Rattle.sim_laws.specs.Items.{ComputedItemsStand, EndingItemsStand, ItemsStand, MarksAreFound};
+ghost use Rattle.sim_laws.specs.Items.{ItemsAreKnown, ItemsStand, MarksAreFound, ServingItemsStand};
 
 /// Each instruction of a run leaves numbers that have room in the machine's registers and bytes.
 pub fn bounds_stay()
     ensures { BoundsStay }
 {}
 
-/// Where tasks only compute and end, none holds a resource, and one that isn't running starts anew.
+/// Where well-formed task code calls only services that have laws, each step keeps a system valid, and leaves no task that waits.
 pub fn plain_stays()
     ensures { PlainStays }
 {}
@@ -38,12 +38,12 @@ pub fn items_stand()
     ensures { ItemsStand }
 {}
 
-/// So do items that compute.
-pub fn computed_items_stand()
-    ensures { ComputedItemsStand }
+/// Calls of services that have laws, in place in an image, are such items of a kernel.
+pub fn serving_items_stand()
+    ensures { ServingItemsStand }
 {}
 
-/// Calls of TerminateTask, in place in an image, are such items of a kernel.
-pub fn ending_items_stand()
-    ensures { EndingItemsStand }
+/// Each item of well-formed task code that is no service is one of those that have laws.
+pub fn items_are_known()
+    ensures { ItemsAreKnown }
 {}

@@ -86,6 +86,7 @@ module _ (b : Build) (state : State) (s : System) (l : ℕ) (k : Stands b state 
                 (λ h a. k.active.all l h (was_active a)) (λ u n h a. k.active.all u h a);
           };
           running = running_tasks b state now s next k.stack refl refl refl refl in_stack k.running;
+          own_bit = let h = here_pending in omega arith;
           own_line = line_pending own.state 1 (slice_index (set state.core.pending l 1) l) (slice_index state.core.enabled l) here_pending own_line;
           other_pending = λ line n. get_or-set_other state.core.pending l line 1 0 n;
           other_enabled = λ line n. refl;
@@ -163,7 +164,7 @@ stands_fresh b state s fresh k =
     record {
       stack = k.stack;
       active = record { falling = falling_kept b s next k.stack (λ u h. refl) k.active.falling; all = k.active.all };
-      lines = record { each = k.lines.each; levels = k.lines.levels; others = k.lines.others };
+      lines = record { each = k.lines.each; bits = k.lines.bits; levels = k.lines.levels; others = k.lines.others };
       running = running_tasks b state state s next k.stack refl refl refl refl (λ u h. refl) k.running;
       words = k.words;
       data_stands = k.data_stands;

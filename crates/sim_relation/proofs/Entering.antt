@@ -1,8 +1,8 @@
 -- The entry of a task: where it leaves the machine so, the relation stands again.
-use Rattle.std.proofs.Common.{◌≡◌, ℕ, ◌+◌, ◌%◌, ◌<◌, ◌≤◌, List, [], ◌∷◌, length, set, sym, ap, ◌∙◌, subst, arith, ⊎_elim, inl, inr, true, false, cond, max, Some, eqb}
+use Rattle.std.proofs.Common.{◌≡◌, ℕ, ◌+◌, ◌<◌, ◌≤◌, List, [], ◌∷◌, length, sym, ap, ◌∙◌, subst, arith, ⊎_elim, inl, inr, true, false, cond, max, Some, eqb}
 use Rattle.std.specs.Prelude.{◌≢◌, slice_index}
 use Rattle.std.proofs.lemmas.Bool.{cases_Bool, ne_eqb}
-use Rattle.std.proofs.lemmas.List.{get_or-set_other, length-set}
+use Rattle.std.proofs.lemmas.List.{get_or-set_other, length-set, get_or-set_same}
 use Rattle.sloth_base.specs.Machine.{State}
 use Rattle.sloth_base.specs.Choose.{choose}
 use Rattle.sloth_region.specs.Layout.{events, wait, idle_context}
@@ -177,6 +177,13 @@ module _ (b : Build) (old now : State) (s : System) (k : Stands b old s) (fits :
       (ap (λ l. slice_index l t) entry.machine.enabled
       ∙ enabled_ready (task s t).state (slice_index old.core.pending t) (slice_index old.core.enabled t) ready (k.lines.each t declared))
 
+  own_bit : slice_index now.core.pending t < 2
+  own_bit =
+      let f = k.fixed.pending in
+      let g = few30 in
+      let zero = ap (λ q. slice_index q t) entry.machine.pending ∙ get_or-set_same old.core.pending t 0 0 (omega arith) in
+      omega arith
+
   all : (u : ℕ) → u < length b.config.tasks → (task next u).state ≡ mode.Active → is_in u (t ∷ k.stack) ≡ true
   all = by_task (λ u x. u < length b.config.tasks → x.state ≡ mode.Active → is_in u (t ∷ k.stack) ≡ true) s t own here_now
       (λ h a. is_in-head t k.stack) (λ u n h a. is_in-tail t u k.stack (k.active.all u h a))
@@ -234,6 +241,7 @@ module _ (b : Build) (old now : State) (s : System) (k : Stands b old s) (fits :
         };
         running = runs;
         own_line = own_line;
+        own_bit = own_bit;
         other_pending = λ l m. ap (λ q. slice_index q l) entry.machine.pending ∙ get_or-set_other old.core.pending t l 0 0 m;
         other_enabled = λ l m. ap (λ q. slice_index q l) entry.machine.enabled;
         own_words = own_words;

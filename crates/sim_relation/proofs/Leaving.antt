@@ -1,5 +1,5 @@
 -- The running task ends or waits: where it leaves the machine so, the relation stands again.
-use Rattle.std.proofs.Common.{◌≡◌, ℕ, ◌+◌, List, [], ◌∷◌, sym, ap, subst, arith, inl, inr, true}
+use Rattle.std.proofs.Common.{◌≡◌, ℕ, List, [], ◌∷◌, sym, ap, subst, arith, inl, inr, true}
 use Rattle.std.specs.Prelude.{◌≢◌}
 use Rattle.sloth_base.specs.Machine.{State}
 use Rattle.osek_machine.specs.declared.state.TaskState.TheVariants as mode
@@ -57,6 +57,7 @@ module _ (b : Build) (old now : State) (s : System) (k : Stands b old s) (fits :
         active = stack_tail b s next t below stack (λ u h. (part u h).tasks) (λ u h a. still u a);
         running = runs;
         own_line = leave.own_line;
+        own_bit = leave.own_bit;
         other_pending = leave.other_pending;
         other_enabled = leave.other_enabled;
         own_words = leave.own_words;

@@ -6,6 +6,7 @@ pub mod Framing
 pub mod Contexts
 pub mod Parts
 pub mod Rebuilt
+pub mod Room
 pub mod Arrive
 pub mod Leave
 pub mod Undisturbed

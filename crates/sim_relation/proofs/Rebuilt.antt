@@ -1,10 +1,10 @@
 -- Where one task's record has changed, the relation stands again: from what has changed beside it.
-use Rattle.std.proofs.Common.{◌≡◌, ℕ, ◌+◌, ◌%◌, ◌<◌, ◌≤◌, List, [], ◌∷◌, length, sym, ap, ◌∙◌, subst, arith, ⊎_elim, inl, inr, true, false}
+use Rattle.std.proofs.Common.{◌≡◌, ℕ, ◌<◌, ◌≤◌, List, [], ◌∷◌, length, sym, ap, ◌∙◌, subst, arith, ⊎_elim, inl, inr, true, false}
 use Rattle.std.specs.Prelude.{◌≢◌, slice_index}
+use Rattle.std.proofs.lemmas.Bool.{cases_eq}
 use Rattle.std.proofs.lemmas.List.{length-set}
-use Rattle.sloth_base.specs.Machine.{Core, State}
+use Rattle.sloth_base.specs.Machine.{State}
 use Rattle.sloth_region.specs.Layout.{active, events, wait, resume, saved}
-use Rattle.rv32_instr.specs.Ram.{word_at}
 use Rattle.osek_machine.specs.State.{Task, System, task}
 use Rattle.osek_machine.specs.Priority.{is_in, is_active}
 use Rattle.sim_relation.specs.Build.{Build, Fits}
@@ -58,6 +58,7 @@ pub record Rebuilds (b : Build) (old now : State) (s : System) (t : ℕ) (own : 
   pub running : Running b now (changed s t own symbols fresh) stack
   -- the lines
   pub own_line : IsLineOf own.state (slice_index now.core.pending t) (slice_index now.core.enabled t)
+  pub own_bit : slice_index now.core.pending t < 2
   pub other_pending : (line : ℕ) → line ≢ t → slice_index now.core.pending line ≡ slice_index old.core.pending line
   pub other_enabled : (line : ℕ) → line ≢ t → slice_index now.core.enabled line ≡ slice_index old.core.enabled line
   -- RAM
@@ -113,6 +114,9 @@ module _ (b : Build) (old now : State) (s : System) (k : Stands b old s) (t : �
           (λ h. r.own_line)
           (λ u m h. line_same (task s u).state (slice_index old.core.pending u) (slice_index now.core.pending u) (slice_index old.core.enabled u)
           (slice_index now.core.enabled u) (r.other_pending u m) (r.other_enabled u m) (k.lines.each u h));
+      bits = λ u h.
+          ⊎_elim (λ (e : u ≡ t). subst (λ l. slice_index now.core.pending l < 2) (sym e) r.own_bit)
+          (λ (n : u ≡ t → ⊥). subst (λ p. p < 2) (sym (r.other_pending u n)) (k.lines.bits u h)) (cases_eq u t);
       levels = λ u h. ap (λ l. slice_index l u) r.machine.levels ∙ k.lines.levels u h;
       others = λ l h. r.other_enabled l (λ e. let c = r.declared in omega arith) ∙ k.lines.others l h;
     };

@@ -78,6 +78,10 @@ module _ (b : Build) (state : State) (fits : Fits b) (start : Starts b state) wh
   zero_at : (p : ℕ) → p + 4 ≤ idle_context → word_at state.core.ram p ≡ 0
   zero_at p h = zero_word state.core.ram p start.service_words h
 
+  small : (x : Bool) (p : ℕ) → p ≡ cond x 1 0 → p < 2
+  small true p e = omega arith
+  small false p e = omega arith
+
   pub starts_stand : Stands b state s
   starts_stand = record {
     stack = [];
@@ -85,6 +89,7 @@ module _ (b : Build) (state : State) (fits : Fits b) (start : Starts b state) wh
     lines = record {
       each = by_awake (λ t v. IsLineOf v.state (slice_index state.core.pending t) (slice_index state.core.enabled t))
           (λ t h. line_of (declaration b.config t).autostart (slice_index state.core.pending t) (slice_index state.core.enabled t) (start.pending t h) (start.enabled t h));
+      bits = λ t h. small (declaration b.config t).autostart (slice_index state.core.pending t) (start.pending t h);
       levels = start.levels;
       others = start.other_enabled;
     };

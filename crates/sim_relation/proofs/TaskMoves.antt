@@ -93,6 +93,7 @@ module _ (b : Build) (old now : State) (s : System) (k : Stands b old s) (t : �
         };
         running = runs;
         own_line = own_line;
+        own_bit = subst (λ (p : List ℕ). slice_index p t < 2) (sym g.pending) (k.lines.bits t here.declared);
         other_pending = λ l m. ap (λ w. slice_index w l) g.pending;
         other_enabled = λ l m. ap (λ w. slice_index w l) g.enabled;
         own_words = step.own_words;

@@ -1,13 +1,14 @@
 -- What is built: the configuration, the task code, and where the image has everything.
-use Rattle.std.specs.Prelude.{ℕ, ◌+◌, ◌*◌, ◌%◌, ◌<◌, ◌≤◌, ◌≡◌, ◌⊎◌, Bool, true, false, List, cond, length}
+use Rattle.std.specs.Prelude.{ℕ, ◌+◌, ◌*◌, ◌%◌, ◌<◌, ◌≤◌, ◌≡◌, ◌≢◌, ◌⊎◌, Bool, true, false, List, [], ◌∷◌, cond, length}
 use Rattle.sloth_base.specs.declared.config.Config.{Config}
 use Rattle.sloth_base.specs.declared.app.App.{App}
 use Rattle.sloth_base.specs.declared.places.Places.{Places}
 use Rattle.sloth_base.specs.declared.app.Call.{Call}
 use Rattle.sloth_base.specs.declared.app.Op.TheVariants as op
 use Rattle.sloth_region.specs.Layout.{context_bytes}
-use Rattle.rv32_expand.specs.Expansion.{item_address, block_address}
-use Rattle.sloth_base.specs.Named.{operation, function}
+use Rattle.app_rules.specs.Code.{Calls}
+use Rattle.rv32_expand.specs.Expansion.{item_address, symbol_address, block_address}
+use Rattle.sloth_base.specs.Named.{operation, function, symbol_size}
 use Rattle.osek_machine.specs.State.{declaration, body_of}
 use Rattle.osek_machine.specs.Priority.{highest}
 use Rattle.sloth_base.specs.PriorityLevels.{level_of}
@@ -38,6 +39,26 @@ start_level b t = level_of b.config (cond (declaration b.config t).non (highest 
 abbrev pub IsElsewhere : Build → ℕ → Type 0
 IsElsewhere b i = (b.is_code i ≡ true) ⊎ (b.is_data i ≡ true)
 
+-- ---- stacks
+
+-- Function f was called by the first of these functions, that one by the next, and so on. Without a caller f is the body of task t.
+abbrev pub IsCalledBy : App → (t f : ℕ) → List ℕ → Type 0
+IsCalledBy app t f [] = f ≡ body_of app.funcs t
+IsCalledBy app t f (caller ∷ outer) = Calls app caller f × IsCalledBy app t caller outer
+
+-- the bytes of the frames of functions that called others: each a return address and its words
+abbrev pub outer_bytes : App → List ℕ → ℕ
+outer_bytes app [] = 0
+outer_bytes app (caller ∷ outer) = 4 + 4 * (function app caller).frame_words + outer_bytes app outer
+
+-- the same with the frame of the function that they called
+abbrev pub frame_bytes : App → (f : ℕ) → List ℕ → ℕ
+frame_bytes app f outer = 4 * (function app f).frame_words + outer_bytes app outer
+
+-- a task's part has room for the frames of each chain of calls from its body, and a context below them
+abbrev pub HasRoom : Build → (t : ℕ) → Type 0
+HasRoom b t = (f : ℕ) (outer : List ℕ) → IsCalledBy b.app t f outer → b.low t + context_bytes + frame_bytes b.app f outer ≤ b.top t
+
 -- The places are apart and large enough. Of two tasks' parts of the stacks nothing is said here: those of tasks that are
 -- never alive together may be the same.
 pub record Fits (b : Build) : Type 0 where
@@ -46,12 +67,17 @@ pub record Fits (b : Build) : Type 0 where
   pub elsewhere : (i : ℕ) → IsElsewhere b i → 1024 ≤ i
   pub outside : (t i : ℕ) → t < length b.config.tasks → IsElsewhere b i → (i < b.low t) ⊎ (b.top t ≤ i)
   pub apart : (i : ℕ) → b.is_code i ≡ true → b.is_data i ≡ false
+  -- data stand in RAM, each symbol at a multiple of 4, and no byte of one symbol at that of another
+  pub data_inside : (i : ℕ) → b.is_data i ≡ true → i < 0x20_0000
+  pub symbols : (y : ℕ) → symbol_address b.places y % 4 ≡ 0
+  pub symbols_apart : (y z i j : ℕ) → y ≢ z → i < symbol_size b.app y → j < symbol_size b.app z
+      → symbol_address b.places y + i ≢ symbol_address b.places z + j
   -- instructions stand at multiples of 4
   pub items : (func index : ℕ) → item_address b.places func index % 4 ≡ 0
   pub blocks : (func index : ℕ) (call : Call) → operation b.app func index ≡ op.Serve call → block_address b.places call.service call.object % 4 ≡ 0
   pub idle_address : b.idle % 4 ≡ 0
   pub back_address : b.back % 4 ≡ 0
-  -- each task's part lies behind the service words in RAM, and has room for its first frame and a context
+  -- each task's part lies behind the service words in RAM, and has room for all its calls and a context
   pub from : (t : ℕ) → t < length b.config.tasks → 1024 ≤ b.low t
   pub to : (t : ℕ) → t < length b.config.tasks → (b.top t ≤ 0x20_0000) × (b.top t % 4 ≡ 0)
-  pub room : (t : ℕ) → t < length b.config.tasks → b.low t + context_bytes + 4 * (function b.app (body_of b.app.funcs t)).frame_words ≤ b.top t
+  pub room : (t : ℕ) → t < length b.config.tasks → HasRoom b t

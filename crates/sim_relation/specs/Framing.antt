@@ -1,5 +1,5 @@
 -- What a stretch leaves as it was.
-use Rattle.std.specs.Prelude.{ℕ, ◌<◌, ◌≤◌, ◌≡◌, ◌≢◌, ◌+◌, ◌*◌, ◌%◌, List, [], ◌∷◌, slice_index}
+use Rattle.std.specs.Prelude.{ℕ, ◌<◌, ◌≤◌, ◌≡◌, ◌≢◌, ◌+◌, ◌*◌, ◌%◌, List, slice_index}
 use Rattle.sloth_base.specs.Machine.{State}
 use Rattle.sloth_region.specs.Layout.{cur, below_word, active, events, wait, resume, idle_context, context_bytes}
 use Rattle.rv32_instr.specs.Ram.{word_at}

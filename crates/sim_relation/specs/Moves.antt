@@ -91,6 +91,7 @@ pub record TaskLeave (b : Build) (old now : State) (s : System) (t : ℕ) (own :
   pub machine : WholeMachine old now
   -- the lines
   pub own_line : IsLineOf own.state (slice_index now.core.pending t) (slice_index now.core.enabled t)
+  pub own_bit : slice_index now.core.pending t < 2
   pub other_pending : (line : ℕ) → line ≢ t → slice_index now.core.pending line ≡ slice_index old.core.pending line
   pub other_enabled : (line : ℕ) → line ≢ t → slice_index now.core.enabled line ≡ slice_index old.core.enabled line
   -- RAM

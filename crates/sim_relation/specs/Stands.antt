@@ -24,6 +24,8 @@ IsLineOf (mode.Waiting mask) pending enabled = enabled ≡ 0
 -- the controller's bytes say what the system is
 pub record LinesStand (b : Build) (core : Core) (s : System) : Type 0 where
   pub each : (t : ℕ) → t < length b.config.tasks → IsLineOf (task s t).state (slice_index core.pending t) (slice_index core.enabled t)
+  -- whatever the state, a pending byte is 0 or 1
+  pub bits : (t : ℕ) → t < length b.config.tasks → slice_index core.pending t < 2
   pub levels : (t : ℕ) → t < length b.config.tasks → slice_index core.levels t ≡ level_of b.config (declaration b.config t).priority
   pub others : (line : ℕ) → length b.config.tasks ≤ line → slice_index core.enabled line ≡ 0
 

@@ -1,5 +1,5 @@
 -- What is left of RAM where a task has ended: four words are written, all below the contexts.
-use Rattle.std.proofs.Common.{◌≡◌, ℕ, ◌+◌, ◌*◌, ◌%◌, ◌<◌, ◌≤◌, List, length, ◌∙◌, arith, inr}
+use Rattle.std.proofs.Common.{◌≡◌, ℕ, ◌%◌, ◌<◌, ◌≤◌, List, length, ◌∙◌, arith, inr}
 use Rattle.std.specs.Prelude.{◌≢◌, slice_index}
 use Rattle.sloth_region.specs.Layout.{cur, below_word, active, events, idle_context}
 use Rattle.rv32_instr.specs.Ram.{word_at, with_word}

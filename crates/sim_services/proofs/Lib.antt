@@ -1,4 +1,16 @@
+pub mod Answered
 pub mod EndRam
+pub mod GoesOn
+pub mod GoingOnStretch
 pub mod ServiceStretch
 pub mod Terminate
 pub mod TerminateStretch
+pub mod Told
+pub mod Activated
+pub mod Raising
+pub mod Chained
+pub mod Ending
+pub mod GoesOnHolding
+pub mod HeldLevels
+pub mod Holding
+pub mod StateTold

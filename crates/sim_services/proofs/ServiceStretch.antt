@@ -17,7 +17,7 @@ use Rattle.rv32_routine.specs.Trace.{touched_lines, early, late}
 use Rattle.rv32_routine.proofs.Machine.{touched_at}
 use Rattle.rv32_expand.specs.Expansion.{block_address, item_address, expansion}
 use Rattle.observe.specs.Observe.{View, mark_at}
-use Rattle.osek_machine.specs.State.{Task, System, task}
+use Rattle.osek_machine.specs.State.{System, task}
 use Rattle.osek_machine.specs.Priority.{IsTop}
 use Rattle.osek_machine.specs.Steps.{OsekStep}
 use Rattle.sim_induction.specs.Admits.{IsSetting, lines_at, with_admits, AllBelow}
@@ -67,7 +67,7 @@ module _ (b : Build) (view : View) (arrivals : List Arrival) (count : ℕ) (stat
   all_below : (i : ℕ) → AllBelow (length b.config.tasks) (lines_at arrivals i)
   all_below i = below_moments (length b.config.tasks) i (i + 1) arrivals setting.lines
 
-  k : Stands b n s1
+  pub k : Stands b n s1
   k = stands_arrived b (lines_at arrivals count) state s few (all_below count) stands
 
   none : line_to_take n ≡ None

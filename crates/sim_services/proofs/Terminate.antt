@@ -1,178 +1,21 @@
 -- TerminateTask is a step, and the relation stands behind it.
-use Rattle.std.proofs.Common.{◌≡◌, ℕ, ◌+◌, ◌<◌, List, [], ◌∷◌, length, refl, sym, ap, ◌∙◌, subst, arith, inl, false}
-use Rattle.std.specs.Prelude.{slice_index, Contains}
-use Rattle.std.proofs.lemmas.List.{get_or-set_same, get_or-set_other, length-set}
-use Rattle.sloth_base.specs.declared.event.Event.TheVariants as event
+use Rattle.std.proofs.Common.{ℕ, List, [], ◌∷◌, refl, sym, subst, arith}
+use Rattle.std.specs.Prelude.{Contains}
+use Rattle.std.specs.List.{AllByRecursion}
 use Rattle.sloth_base.specs.declared.service.Service.TheVariants as service
 use Rattle.sloth_base.specs.Machine.{State}
-use Rattle.sloth_region.specs.Layout.{cur, resume}
-use Rattle.rv32_instr.specs.Ram.{word_at}
-use Rattle.rv32_routine.proofs.Words.{word_below}
 use Rattle.service_gen.specs.TerminateTask.{Terminated}
-use Rattle.osek_machine.specs.declared.state.TaskState.TheVariants as mode
-use Rattle.osek_machine.specs.State.{Task, System, task, zero_registers}
-use Rattle.osek_machine.specs.Priority.{is_active}
+use Rattle.osek_machine.specs.State.{Task, System}
 use Rattle.osek_machine.specs.Services.{ended}
-use Rattle.osek_machine.specs.Steps.{OsekStep, IsAt, settled}
-use Rattle.sloth_base.specs.declared.app.Op.TheVariants as op
-use Rattle.std.specs.List.{AllByRecursion}
-use Rattle.sim_induction.proofs.Passing.{not_suspended}
-use Rattle.sim_induction.proofs.Stretched.{shows_left}
 use Rattle.sim_relation.specs.Build.{Build, Fits}
-use Rattle.sim_relation.specs.Context.{RunsTask, Running}
-use Rattle.sim_relation.specs.ServiceWords.{ServiceWords, HeldWords, base_priority}
-use Rattle.sim_relation.specs.Stands.{Stands, IsActive, AreActive, IsLineOf}
-use Rattle.sim_relation.specs.Moves.{TaskLeave}
-use Rattle.sim_relation.proofs.Parts.{this_task, line_active}
-use Rattle.sim_relation.proofs.Placed.{first_by_word, active_by_word}
-use Rattle.sim_relation.proofs.Tops.{falling_head}
-use Rattle.sim_relation.proofs.Leaving.{leave_stands}
-use Rattle.sim_relation.proofs.TaskSteps.{active_resumes}
-use Rattle.sim_services.specs.Opening.{AtOpening}
 use Rattle.sim_services.specs.Served.{Answers}
 use Rattle.sim_services.specs.Laws.{MayEnd}
-use Rattle.sim_services.proofs.EndRam.{EndRam, end_ram}
+use Rattle.sim_services.proofs.Ending.{ended_stands, elsewhere, leaves_so}
 
-module _ (b : Build) (state : State) (s : System) (t : ℕ) (called : Task) (place : ℕ) (touched : List ℕ) (end : State) (fits : Fits b)
-    (may : MayEnd b state s t called place) (eff : Terminated t place touched state end) where
-  abbrev k : Stands b state s
-  k = may.is_served.stands
-
-  abbrev opening : AtOpening b state t called service.TerminateTask
-  opening = may.is_served.opening
-
-  abbrev old : List ℕ
-  old = state.core.ram
-
-  abbrev new : List ℕ
-  new = end.core.ram
-
-  abbrev next : System
-  next = settled (ended t s)
-
-  abbrev own : Task
-  own = record (task s t) { state = mode.Suspended; registers = zero_registers; frames = []; events = 0; raised = false }
-
-  -- the stack behind the task
-  module _ (below : List ℕ) (stack_is : k.stack ≡ t ∷ below) where
-    stack : AreActive b s (t ∷ below)
-    stack = subst (AreActive b s) stack_is k.active
-
-    run : RunsTask b state s t below
-    run = subst (Running b state s) stack_is k.running
-
-    here : IsActive b s t
-    here = falling_head b s t below stack.falling
-
-    few30 : t < 30
-    few30 = let g = fits.few_tasks in let h = here.declared in omega arith
-
-    among : t < length s.tasks
-    among = let v = k.tidy.tasks in let h = here.declared in omega arith
-
-    mem : EndRam old new t (word_at old (place + 8)) (word_at old (place + 12))
-    mem = subst (λ x. EndRam old x t (word_at old (place + 8)) (word_at old (place + 12))) (sym eff.left.ram)
-        (end_ram old t (word_at old (place + 8)) (word_at old (place + 12)) k.fixed.ram few30 (word_below old (place + 8) may.is_served.bytes) (word_below old (place + 12) may.is_served.bytes))
-
-    resume_zero : word_at old (resume t) ≡ 0
-    resume_zero = active_resumes b old t (task s t) (is_active (task s t).state) (task s t).frames (ap is_active here.active) (k.words t here.declared).resumption
-
-    held_nil : (task s t).held ≡ []
-    held_nil = ap (λ (o : Task). o.held) may.is_served.own_is ∙ may.holds_nothing
-
-    free : (task s t).owed ≡ false
-    free = ap (λ (o : Task). o.owed) may.is_served.own_is ∙ opening.free
-
-    own_line : IsLineOf own.state (slice_index end.core.pending t) (slice_index end.core.enabled t)
-    own_line =
-        let f = k.fixed.pending in
-        let g = few30 in (
-          ap (λ l. slice_index l t) eff.left.pending ∙ get_or-set_same state.core.pending t 0 0 (omega arith),
-          ap (λ l. slice_index l t) eff.left.enabled
-              ∙ line_active (task s t).state (slice_index state.core.pending t) (slice_index state.core.enabled t) here.active (k.lines.each t here.declared),
-        )
-
-    own_words : ServiceWords b new t own
-    own_words = let g = few30 in record {
-      activity = mem.activity;
-      event_mask = mem.event_mask;
-      wait_mask = tt;
-      resumption = mem.named (resume t) (omega arith) (omega arith) (λ a. omega arith) (λ a. omega arith) (λ a. omega arith) ∙ resume_zero;
-      held = subst (λ (l : List ℕ). HeldWords b new (base_priority b t own) l) (sym held_nil) tt;
-    }
-
-    leave : TaskLeave b state end s t own place
-    leave =
-        let v = k.tidy in
-        let f = k.fixed in
-        record {
-          link = may.below;
-          left = record { ram = refl; current = mem.current_word; link = mem.link_word; x2 = eff.x2; loaded = eff.loaded; pc = eff.pc; level = eff.left.running };
-          machine = record {
-            ram = mem.long ∙ sym f.ram;
-            registers = eff.left.registers ∙ sym f.registers;
-            zero = eff.left.zero ∙ sym f.zero;
-            pending = ap length eff.left.pending ∙ length-set state.core.pending t 0;
-            enabled = ap length eff.left.enabled;
-            levels = eff.left.levels;
-            controller = eff.left.controller;
-            open_to_lines = eff.left.opened;
-            previous = eff.left.previous;
-          };
-          own_line = own_line;
-          other_pending = λ l n. ap (λ q. slice_index q l) eff.left.pending ∙ get_or-set_other state.core.pending t l 0 0 n;
-          other_enabled = λ l n. ap (λ q. slice_index q l) eff.left.enabled;
-          idle = λ i x y. mem.high i x;
-          elsewhere = λ i h. let g = fits.elsewhere i h in mem.high i (omega arith);
-          others = λ u h n a i x y. let g = fits.from u h in mem.high i (omega arith);
-          named = λ p h m n0 n1 n2 n3 n4 n5. mem.named p m n0 n1 n2 n3;
-          own_words = own_words;
-          at_rest = refl;
-          tidy = record {
-            registers = refl;
-            at_rest = λ a. (held_nil, free, refl);
-            asleep = λ a. (refl, refl);
-            few = (v.each t here.declared).few;
-          };
-        }
-
-    stands_behind : Stands b end next
-    stands_behind = leave_stands b state end s k fits t below stack_is own place leave
-
-    abbrev is_at : IsAt b.app s t (op.Serve opening.block.call)
-    is_at = record {
-      active = here.active;
-      free = free;
-      frame = opening.frame;
-      outer = opening.outer;
-      frames = ap (λ (o : Task). o.frames) may.is_served.own_is ∙ opening.frames;
-      inside = opening.inside;
-      next = opening.block.is;
-    }
-
-    step_is : OsekStep b.config b.app (event.Left t service.TerminateTask) s next
-    step_is = (
-      k.tidy.booted,
-      (
-        ended t s,
-        record { top = may.is_served.top; call = opening.block.call; at = is_at; same = opening.calls; names = refl; is = refl },
-        refl,
-      ),
-    )
-
-    -- the task does not run any more
-    elsewhere : word_at end.core.ram cur ≡ t + 1 → ⊥
-    elsewhere now = not_suspended (task next t).state (active_by_word b end next t stands_behind now).active (ap (λ (o : Task). o.state) (this_task s t own among))
-
-    answer : Answers b s t service.TerminateTask touched end
-    answer = record {
-      one = t;
-      other = t;
-      touches = subst (AllByRecursion (Contains (t ∷ t ∷ []))) (sym eff.touches) ((0, (omega arith), refl), tt);
-      after = next;
-      step_is = subst (λ what. OsekStep b.config b.app what s next) (sym (shows_left t service.TerminateTask end elsewhere)) step_is;
-      stands = stands_behind;
-    }
-
-  pub terminate_ends : Answers b s t service.TerminateTask touched end
-  terminate_ends = let f = first_by_word b state s t k.stack k.running opening.current in answer f.0 f.1
+pub terminate_ends : (b : Build) (state : State) (s : System) (t : ℕ) (own : Task) (place : ℕ) (touched : List ℕ) (end : State) → Fits b
+    → MayEnd b state s t own service.TerminateTask place → Terminated t place touched state end → Answers b s t service.TerminateTask touched end
+terminate_ends b state s t own place touched end fits may effect =
+    leaves_so b state s t own service.TerminateTask place touched end fits may effect touched end t t
+    (subst (AllByRecursion (Contains (t ∷ t ∷ []))) (sym effect.touches) ((0, (omega arith), refl), tt))
+    refl (ended t s) refl (ended_stands b state s t own service.TerminateTask place touched end fits may effect)
+    (elsewhere b state s t own service.TerminateTask place touched end fits may effect)

@@ -1,21 +1,89 @@
 -- The services as steps of the abstract scheduler, said without arrivals.
-use Rattle.std.specs.Prelude.{ℕ, ◌+◌, ◌≡◌, List, []}
+use Rattle.std.specs.Prelude.{ℕ, ◌+◌, ◌<◌, ◌≤◌, ◌≡◌, List, [], true, false, max}
+use Rattle.sloth_base.specs.declared.service.Service.{Service}
 use Rattle.sloth_base.specs.declared.service.Service.TheVariants as service
 use Rattle.sloth_base.specs.Machine.{State}
 use Rattle.sloth_region.specs.Layout.{below_word}
 use Rattle.rv32_instr.specs.Ram.{word_at}
+use Rattle.service_gen.specs.ActivateTask.{Activated}
+use Rattle.service_gen.specs.ChainTask.{Chained}
+use Rattle.service_gen.specs.GetResource.{Taken}
+use Rattle.service_gen.specs.GetTaskID.{Told}
+use Rattle.service_gen.specs.GetTaskState.{StateTold}
+use Rattle.service_gen.specs.ReleaseResource.{Released}
 use Rattle.service_gen.specs.TerminateTask.{Terminated}
-use Rattle.osek_machine.specs.State.{Task, System}
+use Rattle.osek_machine.specs.State.{Task, System, declaration}
+use Rattle.osek_machine.specs.Priority.{is_in, ceiling}
+use Rattle.sloth_base.specs.PriorityLevels.{level_of}
+use Rattle.osek_machine.specs.Services.{is_there}
 use Rattle.sim_relation.specs.Build.{Build, Fits}
+use Rattle.sim_services.specs.Opening.{IsFollowed}
 use Rattle.sim_services.specs.Served.{IsServed, Answers}
 
--- what holds where TerminateTask of the running task begins: it holds no resource, and the context below it stands at `place`
-pub record MayEnd (b : Build) (state : State) (s : System) (t : ℕ) (own : Task) (place : ℕ) : Type 0 where
-  pub is_served : IsServed b state s t own service.TerminateTask
+-- what holds where a service begins that may end the running task: it holds no resource, and the context below it stands at `place`
+pub record MayEnd (b : Build) (state : State) (s : System) (t : ℕ) (own : Task) (served : Service) (place : ℕ) : Type 0 where
+  pub is_served : IsServed b state s t own served
   pub holds_nothing : own.held ≡ []
   pub below : word_at state.core.ram below_word ≡ 0x8000_0000 + place
 
 -- TerminateTask ends the task: what runs below it goes on, the task below or the idle loop.
 abbrev pub TerminateTaskEnds : Type 0
 TerminateTaskEnds = (b : Build) (state : State) (s : System) (t : ℕ) (own : Task) (place : ℕ) (touched : List ℕ) (end : State) → Fits b
-    → MayEnd b state s t own place → Terminated t place touched state end → Answers b s t service.TerminateTask touched end
+    → MayEnd b state s t own service.TerminateTask place → Terminated t place touched state end → Answers b s t service.TerminateTask touched end
+
+-- what holds where a service with this object begins behind which its task may go on: another item follows
+pub record MayGoOn (b : Build) (state : State) (s : System) (t : ℕ) (own : Task) (served : Service) (object : ℕ) : Type 0 where
+  pub is_served : IsServed b state s t own served
+  pub followed : IsFollowed b is_served.opening.frame.func is_served.opening.frame.item
+  pub object_is : is_served.opening.block.call.object ≡ object
+  pub names : is_there b.config own.held served object ≡ true
+
+-- GetTaskID answers the running task's number, and the task goes on.
+abbrev pub GetTaskIDGoesOn : Type 0
+GetTaskIDGoesOn = (b : Build) (state : State) (s : System) (t : ℕ) (own : Task) (object : ℕ) (touched : List ℕ) (end : State) → Fits b
+    → MayGoOn b state s t own service.GetTaskID object → Told t touched state end → Answers b s t service.GetTaskID touched end
+
+-- GetTaskState answers the number of a task's state, and the caller goes on.
+abbrev pub GetTaskStateGoesOn : Type 0
+GetTaskStateGoesOn = (b : Build) (state : State) (s : System) (t : ℕ) (own : Task) (object : ℕ) (touched : List ℕ) (end : State) → Fits b
+    → MayGoOn b state s t own service.GetTaskState object → StateTold object t touched state end
+    → Answers b s t service.GetTaskState touched end
+
+-- ActivateTask makes the other task Ready where it is Suspended, and answers whether it was; the caller goes on.
+abbrev pub ActivateTaskGoesOn : Type 0
+ActivateTaskGoesOn = (b : Build) (state : State) (s : System) (t : ℕ) (own : Task) (object : ℕ) (touched : List ℕ) (end : State) → Fits b
+    → MayGoOn b state s t own service.ActivateTask object → Activated object touched state end → Answers b s t service.ActivateTask touched end
+
+-- what holds where ChainTask of a task begins
+pub record MayChainTo (b : Build) (state : State) (s : System) (t : ℕ) (own : Task) (object place : ℕ) : Type 0 where
+  pub goes_on : MayGoOn b state s t own service.ChainTask object
+  pub holds_nothing : own.held ≡ []
+  pub below : word_at state.core.ram below_word ≡ 0x8000_0000 + place
+
+-- ChainTask ends the caller and makes the other task Ready, or the caller itself; where the other one is not Suspended, it answers
+-- so, and the caller goes on.
+abbrev pub ChainTaskAnswers : Type 0
+ChainTaskAnswers = (b : Build) (state : State) (s : System) (t : ℕ) (own : Task) (object place : ℕ) (touched : List ℕ) (end : State) → Fits b
+    → MayChainTo b state s t own object place → Chained object t place touched state end → Answers b s t service.ChainTask touched end
+
+-- the level of a resource's ceiling: the greater of it and the level of a priority is the level of the greater priority
+abbrev pub IsCeilingLevel : Build → (resource level : ℕ) → Type 0
+IsCeilingLevel b resource level = (priority : ℕ) → max (level_of b.config priority) level ≡ level_of b.config (max priority (ceiling b.config resource))
+
+-- the running task may take a resource, whose ceiling has this level: it does not hold it yet, and is not above its ceiling
+pub record MayHaveResource (b : Build) (t : ℕ) (own : Task) (resource level : ℕ) : Type 0 where
+  pub is_level : IsCeilingLevel b resource level
+  pub is_resource : resource < 33
+  pub new : is_in resource own.held ≡ false
+  pub below : (declaration b.config t).priority ≤ ceiling b.config resource
+
+-- GetResource takes the resource, and the task goes on at its ceiling at least.
+abbrev pub GetResourceGoesOn : Type 0
+GetResourceGoesOn = (b : Build) (state : State) (s : System) (t : ℕ) (own : Task) (object level : ℕ) (touched : List ℕ) (end : State) → Fits b
+    → MayGoOn b state s t own service.GetResource object → MayHaveResource b t own object level → Taken object level touched state end
+    → Answers b s t service.GetResource touched end
+
+-- ReleaseResource releases the resource that was taken last, and the task goes on at the level that ran before.
+abbrev pub ReleaseResourceGoesOn : Type 0
+ReleaseResourceGoesOn = (b : Build) (state : State) (s : System) (t : ℕ) (own : Task) (object : ℕ) (touched : List ℕ) (end : State) → Fits b
+    → MayGoOn b state s t own service.ReleaseResource object → Released object touched state end → Answers b s t service.ReleaseResource touched end

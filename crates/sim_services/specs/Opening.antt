@@ -1,5 +1,5 @@
 -- Where a task's service begins.
-use Rattle.std.specs.Prelude.{ℕ, ◌+◌, ◌<◌, ◌≡◌, false, List, ◌∷◌, length, Some, None}
+use Rattle.std.specs.Prelude.{ℕ, ◌+◌, ◌*◌, ◌<◌, ◌≡◌, false, List, ◌∷◌, length, Some, None}
 use Rattle.sloth_base.specs.declared.image.Mark.{Mark}
 use Rattle.sloth_base.specs.declared.image.MarkKind.TheVariants as kind
 use Rattle.sloth_base.specs.declared.service.Service.{Service}
@@ -9,7 +9,7 @@ use Rattle.sloth_region.specs.Layout.{cur}
 use Rattle.rv32_instr.specs.declared.InstrKind.{InstrKind}
 use Rattle.rv32_instr.specs.Ram.{word_at}
 use Rattle.rv32_routine.specs.Kernel.{IsBelow}
-use Rattle.rv32_expand.specs.Expansion.{block_address}
+use Rattle.rv32_expand.specs.Expansion.{item_address, block_address, expansion}
 use Rattle.service_gen.specs.Back.{CanGoBack}
 use Rattle.observe.specs.Observe.{View, mark_at}
 use Rattle.sloth_base.specs.ServiceCodes.{service_of}
@@ -53,6 +53,11 @@ pub record OpensService (b : Build) (view : View) (state : State) (s : System) (
   pub block : HasBlock b view served opening.block.call.object (Contract opening.block.call.object)
   pub not_fresh : is_in t s.fresh ≡ false
   pub bytes : AreBelow 256 state.core.ram
+
+-- the item behind this one of its function stands right behind it
+pub record IsFollowed (b : Build) (func item : ℕ) : Type 0 where
+  pub more : item + 1 < length (function b.app func).items
+  pub adjacent : item_address b.places func (item + 1) ≡ item_address b.places func item + 4 * length (expansion b.app b.places func item)
 
 -- What the contracts of service blocks ask of the machine there: the code at an offset can run and go back to the running task,
 -- below which the context at `place` is the next.

@@ -1,28 +1,34 @@
 -- The services as stretches of a run, whatever lines arrive.
-use Rattle.std.specs.Prelude.{ℕ, ◌+◌, ◌<◌, ◌≡◌, List, []}
+use Rattle.std.specs.Prelude.{ℕ, ◌<◌, ◌≡◌, List, [], true}
 use Rattle.sloth_base.specs.declared.event.Arrival.{Arrival}
+use Rattle.sloth_base.specs.declared.service.Service.{Service}
 use Rattle.sloth_base.specs.declared.service.Service.TheVariants as service
 use Rattle.sloth_base.specs.Machine.{State}
 use Rattle.rv32_machine.specs.Run.{arrived}
 use Rattle.rv32_routine.specs.Trace.{Trace}
 use Rattle.observe.specs.Observe.{View}
+use Rattle.rv32_instr.specs.declared.InstrKind.{InstrKind}
+use Rattle.service_gen.specs.ActivateTask.{Activates}
+use Rattle.service_gen.specs.ChainTask.{Chains}
+use Rattle.service_gen.specs.GetResource.{Takes}
+use Rattle.service_gen.specs.GetTaskID.{TellsTask}
+use Rattle.service_gen.specs.GetTaskState.{TellsState}
+use Rattle.service_gen.specs.ReleaseResource.{Releases}
 use Rattle.service_gen.specs.TerminateTask.{Terminates}
 use Rattle.osek_machine.specs.State.{System, task}
+use Rattle.osek_machine.specs.Services.{is_there}
 use Rattle.sim_induction.specs.Admits.{IsSetting, lines_at, with_admits}
 use Rattle.sim_induction.specs.Laws.{StretchLaw}
 use Rattle.sim_relation.specs.Build.{Build, Fits}
 use Rattle.sim_relation.specs.Stands.{Stands}
 use Rattle.sim_relation.specs.Placed.{setting_of}
-use Rattle.sim_services.specs.Opening.{HasBlock, OpensService}
+use Rattle.sim_services.specs.Laws.{MayHaveResource}
+use Rattle.sim_services.specs.Opening.{IsFollowed, OpensService}
 
 -- a stretch begins at the count
 abbrev pub Stretches : Build → View → List Arrival → ℕ → State → System → Type 0
 Stretches b view arrivals count state s =
     (next : State) × (trace : Trace) × (end : State) × StretchLaw (setting_of b view arrivals) (Stands b) count state s next trace end
-
--- the block of TerminateTask stands in the image
-abbrev pub HasTerminateTask : Build → View → ℕ → Type 0
-HasTerminateTask b view object = HasBlock b view service.TerminateTask object Terminates
 
 -- what holds at the opening mark of TerminateTask: the running task holds nothing
 pub record OpensTerminateTask (b : Build) (view : View) (state : State) (s : System) (t : ℕ) : Type 0 where
@@ -35,3 +41,57 @@ TerminateTaskStretches = (b : Build) (view : View) (arrivals : List Arrival) (co
     → Fits b → IsSetting (setting_of b view arrivals) → 0 < count → Stands b state s
     → OpensTerminateTask b view (arrived arrivals count state) (with_admits (lines_at arrivals count) s) t
     → Stretches b view arrivals count state s
+
+-- what holds at the opening mark of a service behind which its task may go on: another item follows
+pub record OpensGoingOn (b : Build) (view : View) (state : State) (s : System) (t : ℕ) (served : Service)
+    (Contract : ℕ → List InstrKind → Type 0) : Type 0 where
+  pub opens : OpensService b view state s t served Contract
+  pub followed : IsFollowed b opens.opening.frame.func opens.opening.frame.item
+  pub names : is_there b.config (task s t).held served opens.opening.block.call.object ≡ true
+
+-- from such a mark on there is a stretch
+abbrev pub GoingOnStretches : Service → (ℕ → List InstrKind → Type 0) → Type 0
+GoingOnStretches served Contract = (b : Build) (view : View) (arrivals : List Arrival) (count : ℕ) (state : State) (s : System) (t : ℕ)
+    → Fits b → IsSetting (setting_of b view arrivals) → 0 < count → Stands b state s
+    → OpensGoingOn b view (arrived arrivals count state) (with_admits (lines_at arrivals count) s) t served Contract
+    → Stretches b view arrivals count state s
+
+-- The stretch that begins at the opening mark of GetTaskID is its event Call.
+abbrev pub GetTaskIDStretches : Type 0
+GetTaskIDStretches = GoingOnStretches service.GetTaskID (λ object. TellsTask)
+
+-- The stretch that begins at the opening mark of GetTaskState is its event Call.
+abbrev pub GetTaskStateStretches : Type 0
+GetTaskStateStretches = GoingOnStretches service.GetTaskState TellsState
+
+-- The stretch that begins at the opening mark of ActivateTask is its event Call.
+abbrev pub ActivateTaskStretches : Type 0
+ActivateTaskStretches = GoingOnStretches service.ActivateTask Activates
+
+-- what holds at the opening mark of ChainTask: the running task holds nothing
+pub record OpensChainTask (b : Build) (view : View) (state : State) (s : System) (t : ℕ) : Type 0 where
+  pub goes_on : OpensGoingOn b view state s t service.ChainTask Chains
+  pub holds_nothing : (task s t).held ≡ []
+
+-- The stretch that begins there is the event Left or Call of ChainTask.
+abbrev pub ChainTaskStretches : Type 0
+ChainTaskStretches = (b : Build) (view : View) (arrivals : List Arrival) (count : ℕ) (state : State) (s : System) (t : ℕ)
+    → Fits b → IsSetting (setting_of b view arrivals) → 0 < count → Stands b state s
+    → OpensChainTask b view (arrived arrivals count state) (with_admits (lines_at arrivals count) s) t
+    → Stretches b view arrivals count state s
+
+-- what holds at the opening mark of GetResource
+pub record OpensGetResource (b : Build) (view : View) (state : State) (s : System) (t level : ℕ) : Type 0 where
+  pub goes_on : OpensGoingOn b view state s t service.GetResource (λ object. Takes object level)
+  pub may : MayHaveResource b t (task s t) goes_on.opens.opening.block.call.object level
+
+-- The stretch that begins there is the event Call of GetResource.
+abbrev pub GetResourceStretches : Type 0
+GetResourceStretches = (b : Build) (view : View) (arrivals : List Arrival) (count : ℕ) (state : State) (s : System) (t level : ℕ)
+    → Fits b → IsSetting (setting_of b view arrivals) → 0 < count → Stands b state s
+    → OpensGetResource b view (arrived arrivals count state) (with_admits (lines_at arrivals count) s) t level
+    → Stretches b view arrivals count state s
+
+-- The stretch that begins at the opening mark of ReleaseResource is its event Call.
+abbrev pub ReleaseResourceStretches : Type 0
+ReleaseResourceStretches = GoingOnStretches service.ReleaseResource Releases

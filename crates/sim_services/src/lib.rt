@@ -2,8 +2,10 @@
 //! `proofs/ServiceStretch`); a service adds its own law, by the effect of its block in `service_gen`.
 #![tactic(auto)]
 
-ghost use Rattle.sim_services.specs.Laws.{TerminateTaskEnds};
-ghost use Rattle.sim_services.specs.Stretch.{TerminateTaskStretches};
+ghost use Rattle.sim_services.specs.Laws.{ActivateTaskGoesOn, ChainTaskAnswers, GetResourceGoesOn, GetTaskIDGoesOn, GetTaskStateGoesOn};
+ghost use Rattle.sim_services.specs.Laws.{ReleaseResourceGoesOn, TerminateTaskEnds};
+ghost use Rattle.sim_services.specs.Stretch.{ActivateTaskStretches, ChainTaskStretches, GetResourceStretches, GetTaskIDStretches};
+ghost use Rattle.sim_services.specs.Stretch.{GetTaskStateStretches, ReleaseResourceStretches, TerminateTaskStretches};
 
 /// TerminateTask ends the running task, and what runs below it goes on.
 pub fn terminate_task_ends()
@@ -13,4 +15,64 @@ pub fn terminate_task_ends()
 /// From its opening mark on, whatever lines arrive, the stretch of TerminateTask is its event.
 pub fn terminate_task_stretches()
     ensures { TerminateTaskStretches }
+{}
+
+/// GetTaskID answers the running task's number, and the task goes on.
+pub fn get_task_id_goes_on()
+    ensures { GetTaskIDGoesOn }
+{}
+
+/// From its opening mark on, whatever lines arrive, the stretch of GetTaskID is its event.
+pub fn get_task_id_stretches()
+    ensures { GetTaskIDStretches }
+{}
+
+/// GetTaskState answers the number of a task's state, and the caller goes on.
+pub fn get_task_state_goes_on()
+    ensures { GetTaskStateGoesOn }
+{}
+
+/// From its opening mark on, whatever lines arrive, the stretch of GetTaskState is its event.
+pub fn get_task_state_stretches()
+    ensures { GetTaskStateStretches }
+{}
+
+/// ActivateTask makes a Suspended task Ready, and answers whether it was; the caller goes on.
+pub fn activate_task_goes_on()
+    ensures { ActivateTaskGoesOn }
+{}
+
+/// From its opening mark on, whatever lines arrive, the stretch of ActivateTask is its event.
+pub fn activate_task_stretches()
+    ensures { ActivateTaskStretches }
+{}
+
+/// ChainTask ends the caller and makes the other task Ready, or refuses, and the caller goes on.
+pub fn chain_task_answers()
+    ensures { ChainTaskAnswers }
+{}
+
+/// From its opening mark on, whatever lines arrive, the stretch of ChainTask is its event.
+pub fn chain_task_stretches()
+    ensures { ChainTaskStretches }
+{}
+
+/// GetResource takes the resource, and the task goes on at its ceiling at least.
+pub fn get_resource_goes_on()
+    ensures { GetResourceGoesOn }
+{}
+
+/// From its opening mark on, whatever lines arrive, the stretch of GetResource is its event.
+pub fn get_resource_stretches()
+    ensures { GetResourceStretches }
+{}
+
+/// ReleaseResource releases the resource that was taken last, and the task goes on at the level that ran before.
+pub fn release_resource_goes_on()
+    ensures { ReleaseResourceGoesOn }
+{}
+
+/// From its opening mark on, whatever lines arrive, the stretch of ReleaseResource is its event.
+pub fn release_resource_stretches()
+    ensures { ReleaseResourceStretches }
 {}

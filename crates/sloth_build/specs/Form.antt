@@ -1,11 +1,14 @@
--- The form of input that is built: a configuration of one basic task, and task code of one `addi` before TerminateTask.
-use Rattle.std.specs.Prelude.{ℕ, ℤ, pos, negsuc, ◌≡◌, ◌≤ℤ◌, List, [], ◌∷◌, ◌++◌, Some, codes, ◌⊎◌}
-use Rattle.std.specs.Fmt.{signed_decimal}
+-- The form of input that is built: basic tasks, and seven services.
+use Rattle.std.specs.Prelude.{ℕ, ◌<◌, ◌≡◌, ◌⊎◌, Bool, true, false, not, List, length}
+use Rattle.std.specs.List.{list_any}
 use Rattle.sloth_base.specs.declared.config.Config.{Config}
+use Rattle.sloth_base.specs.declared.config.TaskDecl.{TaskDecl}
 use Rattle.sloth_base.specs.declared.app.App.{App}
+use Rattle.sloth_base.specs.declared.app.Func.{Func}
 use Rattle.sloth_base.specs.declared.app.Item.{Item}
+use Rattle.sloth_base.specs.declared.app.Op.{Op}
 use Rattle.sloth_base.specs.declared.app.Op.TheVariants as op
-use Rattle.sloth_base.specs.declared.app.ImmKind.TheVariants as kind
+use Rattle.sloth_base.specs.declared.service.Service.{Service}
 use Rattle.sloth_base.specs.declared.service.Service.TheVariants as service
 use Rattle.sloth_base.specs.declared.refusal.Refusal.{Refusal}
 use Rattle.sloth_base.specs.declared.refusal.Part.{Part}
@@ -13,75 +16,75 @@ use Rattle.sloth_base.specs.declared.refusal.Part.TheVariants as part
 use Rattle.sloth_base.specs.declared.refusal.Code.TheVariants as code
 use Rattle.sloth_base.specs.declared.refusal.BuildError.{BuildError}
 use Rattle.sloth_base.specs.declared.refusal.BuildError.TheVariants as error
-use Rattle.sloth_build.specs.OilText.{OilText, OilRefusal, IsOneTask}
-use Rattle.sloth_build.specs.RegisterNames.{IsRegister}
+use Rattle.sloth_base.specs.Named.{declaration, function, operation}
+use Rattle.sloth_refusal.specs.Order.{IsLeast}
+use Rattle.sloth_refusal.specs.Cases.{CaseOf}
+use Rattle.sloth_refusal.specs.Search.{Somewhere}
+use Rattle.sloth_source.specs.Texts.{Accepted as IsAccepted, FirstRefusal as FirstFault}
 
--- the four lines of task code
-unfoldable pub source_text : List ℕ → List ℕ → List ℕ → List ℕ → List ℕ
-source_text name result operand number =
-    codes "task " ++ (name ++ (codes "\naddi " ++ (result ++ (codes ", " ++ (operand ++ (codes ", " ++ (number ++ codes "\nTerminateTask\nend\n")))))))
+-- ---- the form
 
--- they are those of a task of this name that adds a number to the operand's register
-pub record IsAddition (text name : List ℕ) (result operand : ℕ) (number : ℤ) : Type 0 where
-  pub result_name : List ℕ
-  pub operand_name : List ℕ
-  pub is_result : IsRegister result_name result
-  pub is_operand : IsRegister operand_name operand
-  pub least : negsuc 2047 ≤ℤ number
-  pub greatest : number ≤ℤ pos 2047
-  pub spelled : text ≡ source_text name result_name operand_name (signed_decimal number)
+-- a service that is built
+abbrev pub is_built_service : Service → Bool
+is_built_service service.ActivateTask = true
+is_built_service service.TerminateTask = true
+is_built_service service.ChainTask = true
+is_built_service service.GetTaskID = true
+is_built_service service.GetTaskState = true
+is_built_service service.GetResource = true
+is_built_service service.ReleaseResource = true
+is_built_service _ = false
 
--- the items of an addition and of the end of the task
-abbrev pub one_items : ℕ → ℕ → ℤ → List Item
-one_items result operand number =
-    (record { line = 2; op = op.AluImm kind.Addi result operand number })
-    ∷ (record { line = 3; op = op.Serve (record { service = service.TerminateTask; object = 0; mask = 0 }) }) ∷ []
+-- an operation that is built: each but another service
+abbrev pub is_built : Op → Bool
+is_built (op.Serve call) = is_built_service call.service
+is_built _ = true
 
--- one body with these items
-abbrev pub one_body : List ℕ → ℕ → ℕ → ℤ → App
-one_body name result operand number = record {
-  funcs = (record {
-    name = name;
-    line = 1;
-    task = Some 0;
-    frame_words = 0;
-    items = one_items result operand number;
-    labels = [];
-  }) ∷ [];
-  symbols = [];
-}
+-- each task is basic, and each item is such an operation
+pub record IsBuilt (config : Config) (app : App) : Type 0 where
+  pub basic : (t : ℕ) → t < length config.tasks → (declaration config t).extended ≡ false
+  pub items : (f i : ℕ) → f < length app.funcs → i < length (function app f).items → is_built (operation app f i) ≡ true
 
--- a source of the form for the task of this name, and the task code that it spells
-pub record SourceText (text name : List ℕ) (app : App) : Type 0 where
-  pub result : ℕ
-  pub operand : ℕ
-  pub number : ℤ
-  pub addition : IsAddition text name result operand number
-  pub means : app ≡ one_body name result operand number
+-- ---- what is of another form
 
--- the configuration has one basic task, and the code is of the form for this task
-pub record Accepted (oil src : List ℕ) (config : Config) (app : App) : Type 0 where
-  pub configuration : OilText oil config
-  pub one : IsOneTask config
-  pub code : SourceText src one.task.name app
+-- some task is extended
+abbrev pub has_extended : Config → Bool
+has_extended config = list_any (λ (task : TaskDecl). task.extended) config.tasks
 
--- the text declares a configuration of another form
-abbrev pub IsOtherForm : List ℕ → Type 0
-IsOtherForm oil = (config : Config) × OilText oil config × (IsOneTask config → ⊥)
+-- an item is another operation
+abbrev pub UnbuiltItem : List Item → Item → Refusal → Type 0
+UnbuiltItem front item refusal = CaseOf part.Src (not (is_built item.op)) item.line code.N1 refusal
 
--- the text declares a configuration of one task, and the code is none of that task
-abbrev pub NoCode : List ℕ → List ℕ → Type 0
-NoCode oil src = ((config : Config) × OilText oil config × IsOneTask config) × ((config : Config) (app : App) → Accepted oil src config app → ⊥)
+-- so is some item of a body
+abbrev pub UnbuiltBody : List Func → Func → Refusal → Type 0
+UnbuiltBody front func refusal = Somewhere UnbuiltItem func.items refusal
 
--- the first line of a text is of a form that is not built
+-- A form that is not built yet: some task is extended; or else an item is none of the operations that are built.
+abbrev pub NotBuilt : Config → App → Refusal → Type 0
+NotBuilt config app refusal =
+    CaseOf part.Oil (has_extended config) 1 code.N1 refusal ⊎ ((has_extended config ≡ false) × Somewhere UnbuiltBody app.funcs refusal)
+
+-- the first line of a text is of a form that is not built yet
 abbrev pub not_built : Part → Refusal
 not_built part = record { part = part; line = 1; code = code.N1 }
 
--- The texts are refused so: the configuration for a fault, or else for its form, or else the task code for its own.
+-- ---- the texts
+
+-- the texts are read without a fault, and what they mean is of the form
+pub record Accepted (oil src : List ℕ) (config : Config) (app : App) : Type 0 where
+  pub is_accepted : IsAccepted oil src config app
+  pub is_built : IsBuilt config app
+
+-- the texts are read without a fault, and this is the first place of another form
+pub record IsOtherForm (oil src : List ℕ) (refusal : Refusal) : Type 0 where
+  pub config : Config
+  pub app : App
+  pub is_accepted : IsAccepted oil src config app
+  pub least : IsLeast (NotBuilt config app) refusal
+
+-- The texts are refused so: for their first fault, or else for their form.
 abbrev pub FirstRefusal : List ℕ → List ℕ → Refusal → Type 0
-FirstRefusal oil src refusal =
-    OilRefusal oil refusal
-    ⊎ (((refusal ≡ not_built part.Oil) × IsOtherForm oil) ⊎ ((refusal ≡ not_built part.Src) × NoCode oil src))
+FirstRefusal oil src refusal = FirstFault oil src refusal ⊎ IsOtherForm oil src refusal
 
 -- why nothing was built: want of memory, or the refusal
 abbrev pub ErrorIs : List ℕ → List ℕ → BuildError → Type 0

@@ -1,7 +1,1 @@
-pub mod RegisterNames
-pub mod OilText
 pub mod Form
-pub mod Marks
-pub mod Memory
-pub mod Where
-pub mod Kernel

@@ -1,25 +1,25 @@
 -- Why a command was not done, from its first read to its last line.
-use Rattle.std.proofs.Common.{◌≡◌, ◌∙◌, inl, inr, ℕ, List, [], length, refl, sym, ap, subst}
+use Rattle.std.proofs.Common.{◌≡◌, ◌∙◌, inl, inr, ℕ, List, length, refl, sym, ap, subst}
 use Rattle.std.specs.Prelude.{codes, IsTrue, Result, Ok, Err, OnOk}
 use Rattle.sloth_base.specs.declared.config.Config.{Config}
 use Rattle.sloth_base.specs.declared.app.App.{App}
+use Rattle.sloth_base.specs.declared.event.Arrival.{Arrival}
+use Rattle.sloth_base.specs.Arrivals.{AreArrivals}
 use Rattle.sloth_base.specs.declared.image.Image.{Image}
 use Rattle.sloth_io.specs.Counts.{Rose}
 use Rattle.sloth_io.specs.Sink.{Output}
 use Rattle.sloth_io.specs.Store.{Files, KeepsFiles, fits}
 use Rattle.image_file.specs.ImageText.{image_bytes}
-use Rattle.sloth_base.specs.declared.refusal.BuildError.{BuildError}
-use Rattle.sloth_base.specs.declared.refusal.BuildError.TheVariants as error
-use Rattle.sloth_build.specs.Form.{Accepted, ErrorIs}
+use Rattle.sloth_build.specs.Form.{Accepted}
 use Rattle.sloth_cli.specs.Command.{Command, IsCommand}
 use Rattle.sloth_cli.specs.LastLine.{refusal_line}
 use Rattle.sloth_cli.specs.declared.top.Status.{Status}
 use Rattle.sloth_cli.specs.declared.top.Status.TheVariants as status
 use Rattle.sloth_cli.specs.declared.top.Failure.{Failure}
 use Rattle.sloth_cli.specs.declared.top.Failure.TheVariants as failure
-use Rattle.sloth_cli.specs.Top.{World, world, inputs_of, AreInputs, FilesStay, IsAccepted, IsImageOf}
+use Rattle.sloth_cli.specs.Top.{World, world, inputs_of, AreInputs, FilesStay, AreRead, IsAccepted, IsImageOf}
 use Rattle.sloth_cli.specs.Top.{IsWritten, IsDone, Puts, BrokeOff, Answers, done_text}
-use Rattle.sloth_cli.specs.Failures.{judge_failure, ReadFailed, JudgeFailed, PerformFailed, CommandFailed, IsPerformed, Finished}
+use Rattle.sloth_cli.specs.Failures.{ReadFailed, JudgeFailed, PerformFailed, CommandFailed, IsPerformed, Finished}
 
 -- ---- a command
 
@@ -32,10 +32,6 @@ read-ends (failure.Refused r) old new sink c h stay = absurd h
 read-ends failure.WriteFile old new sink c h stay = absurd h
 read-ends failure.Put old new sink c h stay = absurd h
 
-pub build-ends : (error : BuildError) (oil src arr : List ℕ) → ErrorIs oil src error → JudgeFailed (judge_failure error) oil src arr
-build-ends (error.Refused refusal) oil src arr h = inl h
-build-ends error.Memory oil src arr h = tt
-
 pub judge-ends : (f : Failure) (old new : Files) (sink : Output) (c : Command) (oil src arr : List ℕ)
     → AreInputs old c oil src arr → JudgeFailed f oil src arr → FilesStay old new → CommandFailed f (world old sink) (world new sink) c
 judge-ends (failure.Refused r) old new sink c oil src arr inputs h stay =
@@ -46,30 +42,31 @@ judge-ends failure.TooLong old new sink c oil src arr inputs h stay = absurd h
 judge-ends failure.WriteFile old new sink c oil src arr inputs h stay = absurd h
 judge-ends failure.Put old new sink c oil src arr inputs h stay = absurd h
 
--- an image was built of the inputs, and nothing is written yet
-pub record IsBuilt (old mid : Files) (c : Command) (image : Image) : Type 0 where
+-- an image was built of the inputs, the arrivals are read, and nothing is written yet
+pub record IsBuilt (old mid : Files) (c : Command) (image : Image) (arrivals : List Arrival) : Type 0 where
   pub config : Config
   pub app : App
-  pub accepted : IsAccepted old c config app
+  pub accepted : IsAccepted old c config app arrivals
   pub is_image : IsImageOf config app image
   pub kept : KeepsFiles old mid
 
-pub built-of : (old mid : Files) (c : Command) (config : Config) (app : App) (image : Image) (oil src arr : List ℕ)
-    → AreInputs old c oil src arr → arr ≡ [] → Accepted oil src config app → IsImageOf config app image → KeepsFiles old mid
-    → IsBuilt old mid c image
-built-of old mid c config app image oil src arr inputs none accepted is_image kept = record {
+pub built-of : (old mid : Files) (c : Command) (config : Config) (app : App) (image : Image) (arrivals : List Arrival) (oil src arr : List ℕ)
+    → AreInputs old c oil src arr → Accepted oil src config app → AreRead config arr arrivals → AreArrivals (length config.tasks) arrivals
+    → IsImageOf config app image → KeepsFiles old mid → IsBuilt old mid c image arrivals
+built-of old mid c config app image arrivals oil src arr inputs accepted read in_range is_image kept = record {
   config = config;
   app = app;
-  accepted = record { oil = oil; src = src; inputs = subst (AreInputs old c oil src) none inputs; accepted = accepted };
+  accepted = record { oil = oil; src = src; arr = arr; inputs = inputs; accepted = accepted; read = read; in_range = in_range };
   is_image = is_image;
   kept = kept;
 }
 
-pub done : (old mid new : Files) (c : Command) (image : Image) → IsBuilt old mid c image → IsWritten mid new c.img (image_bytes image)
-    → IsDone old new c (done_text image c.run)
-done old mid new c image b w = record {
+pub done : (old mid new : Files) (c : Command) (image : Image) (arrivals : List Arrival) → IsBuilt old mid c image arrivals
+    → IsWritten mid new c.img (image_bytes image) → IsDone old new c (done_text image arrivals c.run)
+done old mid new c image arrivals b w = record {
   config = b.config;
   app = b.app;
+  arrivals = arrivals;
   image = image;
   accepted = b.accepted;
   is_image = b.is_image;
@@ -77,13 +74,15 @@ done old mid new c image b w = record {
   text_is = refl;
 }
 
-pub perform-ends : (f : Failure) (old mid : Files) (sink : Output) (new : World) (c : Command) (image : Image) → IsBuilt old mid c image
-    → PerformFailed f (world mid sink) new c.img (image_bytes image) (done_text image c.run) → CommandFailed f (world old sink) new c
-perform-ends failure.NoMemory old mid sink new c image is h = (λ name. h.0 name ∙ is.kept.holds name, h.1)
-perform-ends failure.WriteFile old mid sink new c image is h = (
+pub perform-ends : (f : Failure) (old mid : Files) (sink : Output) (new : World) (c : Command) (image : Image) (arrivals : List Arrival)
+    → IsBuilt old mid c image arrivals → PerformFailed f (world mid sink) new c.img (image_bytes image) (done_text image arrivals c.run)
+    → CommandFailed f (world old sink) new c
+perform-ends failure.NoMemory old mid sink new c image arrivals is h = (λ name. h.0 name ∙ is.kept.holds name, h.1)
+perform-ends failure.WriteFile old mid sink new c image arrivals is h = (
   record {
     config = is.config;
     app = is.app;
+    arrivals = arrivals;
     image = image;
     accepted = is.accepted;
     is_image = is.is_image;
@@ -95,10 +94,10 @@ perform-ends failure.WriteFile old mid sink new c image is h = (
   },
   h.2,
 )
-perform-ends failure.Put old mid sink new c image is h = (done_text image c.run, done old mid new.files c image is h.0, h.1)
-perform-ends (failure.Refused r) old mid sink new c image is h = absurd h
-perform-ends failure.ReadFault old mid sink new c image is h = absurd h
-perform-ends failure.TooLong old mid sink new c image is h = absurd h
+perform-ends failure.Put old mid sink new c image arrivals is h = (done_text image arrivals c.run, done old mid new.files c image arrivals is h.0, h.1)
+perform-ends (failure.Refused r) old mid sink new c image arrivals is h = absurd h
+perform-ends failure.ReadFault old mid sink new c image arrivals is h = absurd h
+perform-ends failure.TooLong old mid sink new c image arrivals is h = absurd h
 
 -- two facts of a call that succeeds
 pub both-ok : {T E : Type 0} (r : Result T E) (P Q R : Type 0) → (P → Q → R) → OnOk r P → OnOk r Q → OnOk r R

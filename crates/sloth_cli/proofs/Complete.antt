@@ -1,9 +1,14 @@
 -- Which answer comes, where the inputs are told.
-use Rattle.std.proofs.Common.{◌≡◌, ◌≤◌, ◌<◌, ◌+◌, ◌∙◌, inl, inr, ℕ, List, [], ◌∷◌, Option, None, Some, refl, sym, ap, subst, arith, min, length}
+use Rattle.std.proofs.Common.{◌≡◌, ◌≤◌, ◌<◌, ◌+◌, ◌∙◌, inl, inr, ℕ, List, [], ◌∷◌, Option, None, Some, sym, ap, subst, arith, min, length}
 use Rattle.std.specs.Prelude.{IsTrue, ◌⊎◌}
 use Rattle.std.proofs.Math.Nat.{min-eq_left}
 use Rattle.sloth_base.specs.declared.config.Config.{Config}
 use Rattle.sloth_base.specs.declared.app.App.{App}
+use Rattle.sloth_base.specs.declared.event.Arrival.{Arrival}
+use Rattle.sloth_base.specs.declared.refusal.Part.TheVariants.{Arr}
+use Rattle.sloth_refusal.specs.Order.{IsLeast, NoFault}
+use Rattle.trace_text.specs.ArrivalsText.{arrivals_of, arrivals_in, LineFault, FaultAt, ArrivalsFault}
+use Rattle.sloth_source.proofs.Least.{one_least, of_some}
 use Rattle.sloth_base.specs.declared.image.Image.{Image}
 use Rattle.sloth_base.specs.declared.refusal.Refusal.{Refusal}
 use Rattle.sloth_io.specs.Counts.{Rose, Stays}
@@ -11,14 +16,13 @@ use Rattle.sloth_io.specs.Sink.{Output, HasNoSpace}
 use Rattle.sloth_io.specs.Store.{Files, Holds, IsMissing, IsTooLong, IsUnwritten}
 use Rattle.image_file.specs.ImageText.{image_bytes}
 use Rattle.sloth_build.specs.Form.{Accepted}
-use Rattle.sloth_build.proofs.Unique.{never-both, one-meaning}
-use Rattle.sloth_build.proofs.Refusals.{one_refusal}
+use Rattle.sloth_build.proofs.Unique.{one_meaning, never_both, one_refusal}
 use Rattle.sloth_cli.specs.LastLine.{refusal_line}
 use Rattle.sloth_cli.specs.Command.{Command, Run, IsCommand, NoCommand}
 use Rattle.sloth_cli.specs.declared.top.Status.{Status}
 use Rattle.sloth_cli.specs.declared.top.Status.TheVariants as status
 use Rattle.sloth_cli.specs.Top.{World, input_limit, arrivals_named, inputs_of, FirstUnread, AreInputs, HoldsArrivals, AreThere, IsFailedRead, IsLongRead}
-use Rattle.sloth_cli.specs.Top.{IsRefusal, IsRefused, IsAccepted, IsImageOf, IsDone, IsFailedWrite, Requires, Puts, Took, BrokeOff, EndsAs, Answers}
+use Rattle.sloth_cli.specs.Top.{names_of, AreRead, done_text, IsRefusal, IsRefused, IsAccepted, IsImageOf, IsDone, IsFailedWrite, Requires, Puts, Took, BrokeOff, EndsAs, Answers}
 use Rattle.sloth_cli.specs.Top.{AnswersUsage, AnswersRefused, ReadsWork, WritesWork, HasSpace, PutsWork, CallsWork, TellsUsage, TellsRefused, IsComplete}
 use Rattle.sloth_cli.proofs.Commands.{one-command}
 
@@ -77,27 +81,44 @@ no-long-read old new c oil src arr there =
     (λ name bytes holds short. not-long old new name bytes there.tells holds short)
 
 -- accepted inputs are not refused
-not-refused : (oil src : List ℕ) (config : Config) (app : App) (r : Refusal) → Accepted oil src config app → IsRefusal oil src [] r → ⊥
-not-refused oil src config app r h (inl first) = never-both oil src config app r h first
-not-refused oil src config app r h (inr given) = given.2 refl
+not-refused : (oil src arr : List ℕ) (config : Config) (app : App) (r : Refusal) → Accepted oil src config app
+    → NoFault (ArrivalsFault (names_of config) arr) → IsRefusal oil src arr r → ⊥
+not-refused oil src arr config app r h none (inl first) = never_both oil src config app r h first
+not-refused oil src arr config app r h none (inr other) =
+    let same = one_meaning oil src other.config config other.app app other.accepted h in
+    none r (subst (λ (c : Config). ArrivalsFault (names_of c) arr r) same.0 other.least.is_fault)
 
-one-verdict : (old : Files) (c : Command) (config : Config) (app : App) (oil src arr : List ℕ) (r : Refusal)
-    → AreThere old c oil src arr → IsAccepted old c config app → IsRefusal oil src arr r → ⊥
-one-verdict old c config app oil src arr r there h refusal =
+one-verdict : (old : Files) (c : Command) (config : Config) (app : App) (arrivals : List Arrival) (oil src arr : List ℕ) (r : Refusal)
+    → AreThere old c oil src arr → IsAccepted old c config app arrivals → IsRefusal oil src arr r → ⊥
+one-verdict old c config app arrivals oil src arr r there h refusal =
     let i = h.inputs in
     let oil_is : oil ≡ h.oil = told old c.oil oil h.oil there.tells there.inputs.oil_read i.oil_read in
     let src_is : src ≡ h.src = told old c.src src h.src there.tells there.inputs.src_read i.src_read in
-    let arr_is : arr ≡ [] = told-arrivals old c.run arr [] there.tells there.inputs.arr_read i.arr_read in
-    let by_arr : IsRefusal oil src [] r = subst (λ x. IsRefusal oil src x r) arr_is refusal in
-    let by_src : IsRefusal oil h.src [] r = subst (λ x. IsRefusal oil x [] r) src_is by_arr in
-    not-refused h.oil h.src config app r h.accepted (subst (λ x. IsRefusal x h.src [] r) oil_is by_src)
+    let arr_is : arr ≡ h.arr = told-arrivals old c.run arr h.arr there.tells there.inputs.arr_read i.arr_read in
+    let by_arr : IsRefusal oil src h.arr r = subst (λ x. IsRefusal oil src x r) arr_is refusal in
+    let by_src : IsRefusal oil h.src h.arr r = subst (λ x. IsRefusal oil x h.arr r) src_is by_arr in
+    not-refused h.oil h.src h.arr config app r h.accepted h.read.no_fault (subst (λ x. IsRefusal x h.src h.arr r) oil_is by_src)
+
+-- a fault of arrivals is one of their text
+part-is : (tasks : List (List ℕ)) (before : List Arrival) (n : ℕ) (line : List ℕ) (r : Refusal) → LineFault tasks before n line r → r.part ≡ Arr
+part-is tasks before n line r (inl f) = ap (λ (x : Refusal). x.part) f.1
+part-is tasks before n line r (inr (inl f)) = ap (λ (x : Refusal). x.part) f.1
+part-is tasks before n line r (inr (inr (inl f))) = ap (λ (x : Refusal). x.part) f.1
+part-is tasks before n line r (inr (inr (inr f))) = ap (λ (x : Refusal). x.part) f.1
+
+of-arrivals : (tasks : List (List ℕ)) (text : List ℕ) (r : Refusal) → ArrivalsFault tasks text r → r.part ≡ Arr
+of-arrivals tasks text r h =
+    of_some Arr (FaultAt tasks) (λ front line s f. part-is tasks (arrivals_of tasks front) (length front + 1) line s f) [] _ r h
 
 -- the inputs that are told are refused in one way
 one-way : (oil src arr : List ℕ) (r s : Refusal) → IsRefusal oil src arr r → IsRefusal oil src arr s → r ≡ s
 one-way oil src arr r s (inl a) (inl b) = one_refusal oil src r s a b
-one-way oil src arr r s (inl a) (inr b) = absurd (never-both oil src b.1.0 b.1.1 r b.1.2 a)
-one-way oil src arr r s (inr a) (inl b) = absurd (never-both oil src a.1.0 a.1.1 s a.1.2 b)
-one-way oil src arr r s (inr a) (inr b) = a.0 ∙ sym b.0
+one-way oil src arr r s (inl a) (inr b) = absurd (never_both oil src b.config b.app r b.accepted a)
+one-way oil src arr r s (inr a) (inl b) = absurd (never_both oil src a.config a.app s a.accepted b)
+one-way oil src arr r s (inr a) (inr b) =
+    let same = one_meaning oil src a.config b.config a.app b.app a.accepted b.accepted in
+    one_least Arr (ArrivalsFault (names_of b.config) arr) (of-arrivals (names_of b.config) arr) r s
+    (subst (λ (c : Config). IsLeast (ArrivalsFault (names_of c) arr) r) same.0 a.least) b.least
 
 told-refusal : (old : Files) (c : Command) (oil src arr : List ℕ) (r s : Refusal) → AreThere old c oil src arr → IsRefused old c r → IsRefusal oil src arr s → r ≡ s
 told-refusal old c oil src arr r s there refused refusal =
@@ -109,17 +130,16 @@ told-refusal old c oil src arr r s there refused refusal =
     let by_src : IsRefusal oil refused.src refused.arr s = subst (λ x. IsRefusal oil x refused.arr s) src_is by_arr in
     one-way refused.oil refused.src refused.arr r s refused.is (subst (λ x. IsRefusal x refused.src refused.arr s) oil_is by_src)
 
-refused-verdict : (old : Files) (c : Command) (config : Config) (app : App) (oil src : List ℕ) (r : Refusal)
-    → AreThere old c oil src [] → Accepted oil src config app → IsRefused old c r → ⊥
-refused-verdict old c config app oil src r there h refused =
+refused-verdict : (old : Files) (c : Command) (config : Config) (app : App) (oil src arr : List ℕ) (r : Refusal)
+    → AreThere old c oil src arr → Accepted oil src config app → NoFault (ArrivalsFault (names_of config) arr) → IsRefused old c r → ⊥
+refused-verdict old c config app oil src arr r there h none refused =
     let i = refused.inputs in
-    let accepted : IsAccepted old c config app = record { oil = oil; src = src; inputs = there.inputs; accepted = h } in
     let oil_is : refused.oil ≡ oil = told old c.oil refused.oil oil there.tells i.oil_read there.inputs.oil_read in
     let src_is : refused.src ≡ src = told old c.src refused.src src there.tells i.src_read there.inputs.src_read in
-    let arr_is : refused.arr ≡ [] = told-arrivals old c.run refused.arr [] there.tells i.arr_read there.inputs.arr_read in
-    let by_arr : IsRefusal refused.oil refused.src [] r = subst (λ x. IsRefusal refused.oil refused.src x r) arr_is refused.is in
-    let by_src : IsRefusal refused.oil src [] r = subst (λ x. IsRefusal refused.oil x [] r) src_is by_arr in
-    not-refused oil src config app r h (subst (λ x. IsRefusal x src [] r) oil_is by_src)
+    let arr_is : refused.arr ≡ arr = told-arrivals old c.run refused.arr arr there.tells i.arr_read there.inputs.arr_read in
+    let by_arr : IsRefusal refused.oil refused.src arr r = subst (λ x. IsRefusal refused.oil refused.src x r) arr_is refused.is in
+    let by_src : IsRefusal refused.oil src arr r = subst (λ x. IsRefusal refused.oil x arr r) src_is by_arr in
+    not-refused oil src arr config app r h none (subst (λ x. IsRefusal x src arr r) oil_is by_src)
 
 -- ---- puts and writes
 
@@ -176,12 +196,12 @@ refused-by status.NoMemory answer words old new text c oil src arr r q (inr p) i
 refused-by status.Usage answer words old new text c oil src arr r q p is there works refusal = absurd (q.0 c is)
 refused-by status.Done answer words old new text c oil src arr r q p is there works refusal =
     let d = subst (λ x. IsDone old.files new.files x text) (one-command words q.0 c q.1 is) q.2 in
-    absurd (one-verdict old.files c d.config d.app oil src arr r there d.accepted refusal)
+    absurd (one-verdict old.files c d.config d.app d.arrivals oil src arr r there d.accepted refusal)
 refused-by status.ReadFault answer words old new text c oil src arr r q p is there works refusal =
     absurd (no-failed-read old.files new.files c oil src arr there works (subst (IsFailedRead old.files new.files) (one-command words q.0 c q.1 is) q.2))
 refused-by status.WriteFault answer words old new text c oil src arr r q p is there works refusal =
     let d = subst (IsFailedWrite old.files new.files) (one-command words q.0 c q.1 is) q.2 in
-    absurd (one-verdict old.files c d.config d.app oil src arr r there d.accepted refusal)
+    absurd (one-verdict old.files c d.config d.app d.arrivals oil src arr r there d.accepted refusal)
 refused-by status.TooLong answer words old new text c oil src arr r q p is there works refusal =
     absurd (no-long-read old.files new.files c oil src arr there (subst (IsLongRead old.files new.files) (one-command words q.0 c q.1 is) q.2))
 refused-by status.Stopped answer words old new text c oil src arr r q p is there works refusal = absurd q
@@ -200,14 +220,19 @@ stands wanted answer words old new text w q (inl p) = (p.0, (text, q, p.1))
 stands wanted answer words old new text w q (inr p) = absurd (no-broken-put old.sink new.sink text w p.1)
 
 -- the inputs have one meaning
-one-app : (old : Files) (c : Command) (oil src : List ℕ) (config other : Config) (app another : App) → AreThere old c oil src []
-    → Accepted oil src config app → IsAccepted old c other another → (other ≡ config) × (another ≡ app)
-one-app old c oil src config other app another there h g =
+one-app : (old : Files) (c : Command) (oil src arr : List ℕ) (config other : Config) (app another : App) (arrivals others : List Arrival)
+    → AreThere old c oil src arr → Accepted oil src config app → AreRead config arr arrivals → IsAccepted old c other another others
+    → (other ≡ config) × (another ≡ app) × (others ≡ arrivals)
+one-app old c oil src arr config other app another arrivals others there h read g =
     let i = g.inputs in
     let oil_is : g.oil ≡ oil = told old c.oil g.oil oil there.tells i.oil_read there.inputs.oil_read in
     let src_is : g.src ≡ src = told old c.src g.src src there.tells i.src_read there.inputs.src_read in
+    let arr_is : g.arr ≡ arr = told-arrivals old c.run g.arr arr there.tells i.arr_read there.inputs.arr_read in
     let by_src : Accepted g.oil src other another = subst (λ x. Accepted g.oil x other another) src_is g.accepted in
-    one-meaning oil src other config another app (subst (λ x. Accepted x src other another) oil_is by_src) h
+    let same = one_meaning oil src other config another app (subst (λ x. Accepted x src other another) oil_is by_src) h in
+    let by_names = ap (λ (k : Config). arrivals_in (names_of k) g.arr) same.0 in
+    let by_text = ap (λ x. arrivals_in (names_of config) x) arr_is in
+    (same.0, same.1, g.read.arrivals_are ∙ (by_names ∙ (by_text ∙ sym read.arrivals_are)))
 
 -- an image of one is an image of the other
 image-of : (config other : Config) (app another : App) (image : Image) → (other ≡ config) × (another ≡ app) → IsImageOf other another image
@@ -215,30 +240,36 @@ image-of : (config other : Config) (app another : App) (image : Image) → (othe
 image-of config other app another image same h =
     subst (λ x. IsImageOf config x image) same.1 (subst (λ x. IsImageOf x another image) same.0 h)
 
-complete-by : (wanted answer : Status) (words : List (List ℕ)) (old new : World) (text : List ℕ) (c : Command) (oil src : List ℕ) (config : Config) (app : App)
-    → Requires wanted words old.files new.files text → Puts wanted answer old.sink new.sink text
-    → IsCommand words c → AreThere old.files c oil src [] → Accepted oil src config app → CallsWork c config app old new
-    → EndsAs status.Done words old new answer ⊎ EndsAs status.NoMemory words old new answer
-complete-by status.Done answer words old new text c oil src config app q p is there h works =
-    let d = subst (λ x. IsDone old.files new.files x text) (one-command words q.0 c q.1 is) q.2 in
-    let lines = works.lines d.image (image-of config d.config app d.app d.image (one-app old.files c oil src config d.config app d.app there h d.accepted) d.is_image) in
-    inl (stands status.Done answer words old new text (subst (λ x. PutsWork old.sink new.sink x) (sym d.text_is) lines) q p)
-complete-by status.NoMemory answer words old new text c oil src config app q p is there h works =
-    inr (stands status.NoMemory answer words old new text (subst (λ x. PutsWork old.sink new.sink x) (sym q.2) works.last_line) q p)
-complete-by status.Usage answer words old new text c oil src config app q p is there h works = absurd (q.0 c is)
-complete-by status.Refused answer words old new text c oil src config app q p is there h works =
-    absurd (refused-verdict old.files c config app oil src q.2 there h (subst (λ x. IsRefused old.files x q.2) (one-command words q.0 c q.1 is) q.3))
-complete-by status.ReadFault answer words old new text c oil src config app q p is there h works =
-    absurd (no-failed-read old.files new.files c oil src [] there works.reads (subst (IsFailedRead old.files new.files) (one-command words q.0 c q.1 is) q.2))
-complete-by status.WriteFault answer words old new text c oil src config app q p is there h works =
-    let d = subst (IsFailedWrite old.files new.files) (one-command words q.0 c q.1 is) q.2 in
-    let image = image-of config d.config app d.app d.image (one-app old.files c oil src config d.config app d.app there h d.accepted) d.is_image in
-    absurd (no-failed-write old.files new.files c.img (length (image_bytes d.image)) (works.write d.image image) d.failed)
-complete-by status.TooLong answer words old new text c oil src config app q p is there h works =
-    absurd (no-long-read old.files new.files c oil src [] there (subst (IsLongRead old.files new.files) (one-command words q.0 c q.1 is) q.2))
-complete-by status.Stopped answer words old new text c oil src config app q p is there h works = absurd q
-complete-by status.NotAnImage answer words old new text c oil src config app q p is there h works = absurd q
+module _ (old new : World) (c : Command) (oil src arr : List ℕ) (config : Config) (app : App) (arrivals : List Arrival)
+    (there : AreThere old.files c oil src arr) (h : Accepted oil src config app) (read : AreRead config arr arrivals)
+    (works : CallsWork c config app arrivals old new) where
+  complete-by : (wanted answer : Status) (words : List (List ℕ)) (text : List ℕ) → Requires wanted words old.files new.files text
+      → Puts wanted answer old.sink new.sink text → IsCommand words c
+      → EndsAs status.Done words old new answer ⊎ EndsAs status.NoMemory words old new answer
+  complete-by status.Done answer words text q p is =
+      let d = subst (λ x. IsDone old.files new.files x text) (one-command words q.0 c q.1 is) q.2 in
+      let same = one-app old.files c oil src arr config d.config app d.app arrivals d.arrivals there h read d.accepted in
+      let lines = works.lines d.image (image-of config d.config app d.app d.image (same.0, same.1) d.is_image) in
+      let text_is : text ≡ done_text d.image arrivals c.run = d.text_is ∙ ap (λ (xs : List Arrival). done_text d.image xs c.run) same.2 in
+      inl (stands status.Done answer words old new text (subst (λ x. PutsWork old.sink new.sink x) (sym text_is) lines) q p)
+  complete-by status.NoMemory answer words text q p is =
+      inr (stands status.NoMemory answer words old new text (subst (λ x. PutsWork old.sink new.sink x) (sym q.2) works.last_line) q p)
+  complete-by status.Usage answer words text q p is = absurd (q.0 c is)
+  complete-by status.Refused answer words text q p is =
+      absurd (refused-verdict old.files c config app oil src arr q.2 there h read.no_fault
+      (subst (λ x. IsRefused old.files x q.2) (one-command words q.0 c q.1 is) q.3))
+  complete-by status.ReadFault answer words text q p is =
+      absurd (no-failed-read old.files new.files c oil src arr there works.reads (subst (IsFailedRead old.files new.files) (one-command words q.0 c q.1 is) q.2))
+  complete-by status.WriteFault answer words text q p is =
+      let d = subst (IsFailedWrite old.files new.files) (one-command words q.0 c q.1 is) q.2 in
+      let same = one-app old.files c oil src arr config d.config app d.app arrivals d.arrivals there h read d.accepted in
+      let image = image-of config d.config app d.app d.image (same.0, same.1) d.is_image in
+      absurd (no-failed-write old.files new.files c.img (length (image_bytes d.image)) (works.write d.image image) d.failed)
+  complete-by status.TooLong answer words text q p is =
+      absurd (no-long-read old.files new.files c oil src arr there (subst (IsLongRead old.files new.files) (one-command words q.0 c q.1 is) q.2))
+  complete-by status.Stopped answer words text q p is = absurd q
+  complete-by status.NotAnImage answer words text q p is = absurd q
 
 pub is-complete : (words : List (List ℕ)) (old new : World) (answer : Status) → Answers words old new answer → IsComplete words old new answer
-is-complete words old new answer h c is oil src there config app accepted works =
-    complete-by h.wanted answer words old new h.text c oil src config app h.required h.puts is there accepted works
+is-complete words old new answer a c is oil src arr there config app accepted arrivals read works =
+    complete-by old new c oil src arr config app arrivals there accepted read works a.wanted answer words a.text a.required a.puts is

@@ -1,7 +1,8 @@
 -- A store and a sink in memory, whose calls do not fail.
-use Rattle.std.specs.Prelude.{◌≡◌, ◌+◌, ◌≤◌, [], length, codes, IsTrue}
+use Rattle.std.specs.Prelude.{◌≡◌, ◌+◌, ◌≤◌, List, [], length, codes, IsTrue}
 use Rattle.sloth_base.specs.declared.config.Config.{Config}
 use Rattle.sloth_base.specs.declared.app.App.{App}
+use Rattle.sloth_base.specs.declared.event.Arrival.{Arrival}
 use Rattle.sloth_base.specs.declared.image.Image.{Image}
 use Rattle.sloth_io.specs.MemStore.{files_of, has_space}
 use Rattle.sloth_io.specs.MemSink.{taken_by}
@@ -12,9 +13,9 @@ use Rattle.sloth_cli.specs.Command.{Command}
 use Rattle.sloth_cli.specs.Top.{IsImageOf, done_text}
 
 -- no call is to fail, and there is space for the image and for the lines of the command
-pub record AreEnough (store : MemStore) (sink : MemSink) (c : Command) (config : Config) (app : App) : Type 0 where
+pub record AreEnough (store : MemStore) (sink : MemSink) (c : Command) (config : Config) (app : App) (arrivals : List Arrival) : Type 0 where
   pub store_calls : store.fails.items ≡ []
   pub sink_calls : sink.fails.items ≡ []
   pub file : (image : Image) → IsImageOf config app image → IsTrue (has_space c.img (length (image_bytes image)) (files_of store))
-  pub lines : (image : Image) → IsImageOf config app image → length (taken_by sink) + length (done_text image c.run) ≤ sink.buffer.space
+  pub lines : (image : Image) → IsImageOf config app image → length (taken_by sink) + length (done_text image arrivals c.run) ≤ sink.buffer.space
   pub last_line : length (taken_by sink) + length (codes "no memory\n") ≤ sink.buffer.space

@@ -1,18 +1,22 @@
 -- What the program does, and why it does not.
-use Rattle.std.specs.Prelude.{ℕ, ◌≡◌, ◌≢◌, ◌+◌, ◌≤◌, ◌⊎◌, List, [], ◌∷◌, Option, Some, None, IsTrue, codes, length}
+use Rattle.std.specs.Prelude.{ℕ, ◌≡◌, ◌+◌, ◌≤◌, ◌⊎◌, List, [], ◌∷◌, Option, Some, None, IsTrue, codes, length, map}
 use Rattle.sloth_base.specs.declared.config.Config.{Config}
+use Rattle.sloth_base.specs.declared.config.TaskDecl.{TaskDecl}
 use Rattle.sloth_base.specs.declared.app.App.{App}
+use Rattle.sloth_base.specs.declared.event.Arrival.{Arrival}
 use Rattle.sloth_base.specs.declared.image.Image.{Image}
 use Rattle.sloth_base.specs.declared.refusal.Refusal.{Refusal}
-use Rattle.sloth_base.specs.declared.refusal.Part.TheVariants as part
+use Rattle.sloth_base.specs.Arrivals.{AreArrivals}
 use Rattle.sloth_base.specs.ImageRange.{InFormat}
+use Rattle.sloth_refusal.specs.Order.{IsLeast, NoFault}
 use Rattle.rv32_expand.specs.InPlace.{ItemsInPlace}
 use Rattle.sim_induction.specs.Sound.{Sound}
 use Rattle.sloth_io.specs.Counts.{Rose, Stays}
 use Rattle.sloth_io.specs.Sink.{Output, gains, GainsPart}
 use Rattle.sloth_io.specs.Store.{Files, Holds, KeepsOthers, IsMissing, IsTooLong, IsUnwritten, fits}
 use Rattle.image_file.specs.ImageText.{image_bytes}
-use Rattle.sloth_build.specs.Form.{Accepted, FirstRefusal, not_built}
+use Rattle.sloth_build.specs.Form.{Accepted, FirstRefusal}
+use Rattle.trace_text.specs.ArrivalsText.{ArrivalsFault, arrivals_in}
 use Rattle.sloth_cli.specs.Command.{Command, Run, IsCommand, NoCommand}
 use Rattle.sloth_cli.specs.LastLine.{refusal_line, built_line}
 use Rattle.sloth_cli.specs.Runner.{run_text}
@@ -76,11 +80,25 @@ IsLongRead old new c = FirstUnread old (λ name. IsTooLong old new name input_li
 
 -- ---- the judgement
 
--- The texts are refused so: the configuration or the task code, or else arrivals, of which none may be given yet.
+-- the names of the tasks of a configuration
+abbrev pub names_of : Config → List (List ℕ)
+names_of config = map (λ (t : TaskDecl). t.name) config.tasks
+
+-- the arrivals are read without a fault, and these are they
+pub record AreRead (config : Config) (arr : List ℕ) (arrivals : List Arrival) : Type 0 where
+  pub no_fault : NoFault (ArrivalsFault (names_of config) arr)
+  pub arrivals_are : arrivals ≡ arrivals_in (names_of config) arr
+
+-- the configuration and the task code are accepted, and this is the least fault of the arrivals
+pub record IsArrivalsRefusal (oil src arr : List ℕ) (refusal : Refusal) : Type 0 where
+  pub config : Config
+  pub app : App
+  pub accepted : Accepted oil src config app
+  pub least : IsLeast (ArrivalsFault (names_of config) arr) refusal
+
+-- The texts are refused so: the configuration or the task code, or else the arrivals.
 abbrev pub IsRefusal : List ℕ → List ℕ → List ℕ → Refusal → Type 0
-IsRefusal oil src arr refusal =
-    FirstRefusal oil src refusal
-    ⊎ ((refusal ≡ not_built part.Arr) × ((config : Config) × (app : App) × Accepted oil src config app) × (arr ≢ []))
+IsRefusal oil src arr refusal = FirstRefusal oil src refusal ⊎ IsArrivalsRefusal oil src arr refusal
 
 -- ---- what stands after an answer
 
@@ -92,17 +110,21 @@ FilesStay old new = (name : List ℕ) → new.holds name ≡ old.holds name
 abbrev pub IsWritten : Files → Files → List ℕ → List ℕ → Type 0
 IsWritten old new img bytes = Holds new img bytes × KeepsOthers old new img
 
--- the text of a command that was done: that of the run, or the length of the image's file
-abbrev pub done_text : Image → Option Run → List ℕ
-done_text image None = built_line (length (image_bytes image))
-done_text image (Some run) = run_text image [] run.form run.n
+-- the text of a command that was done: that of the run with these arrivals, or the length of the image's file
+abbrev pub done_text : Image → List Arrival → Option Run → List ℕ
+done_text image arrivals None = built_line (length (image_bytes image))
+done_text image arrivals (Some run) = run_text image arrivals run.form run.n
 
 -- the inputs are accepted, with this meaning
-pub record IsAccepted (old : Files) (c : Command) (config : Config) (app : App) : Type 0 where
+pub record IsAccepted (old : Files) (c : Command) (config : Config) (app : App) (arrivals : List Arrival) : Type 0 where
   pub oil : List ℕ
   pub src : List ℕ
-  pub inputs : AreInputs old c oil src []
+  pub arr : List ℕ
+  pub inputs : AreInputs old c oil src arr
   pub accepted : Accepted oil src config app
+  pub read : AreRead config arr arrivals
+  -- so they are among those of which an image is sound
+  pub in_range : AreArrivals (length config.tasks) arrivals
 
 -- an image of a configuration and its task code
 pub record IsImageOf (config : Config) (app : App) (image : Image) : Type 0 where
@@ -112,16 +134,19 @@ pub record IsImageOf (config : Config) (app : App) (image : Image) : Type 0 wher
   pub items : ItemsInPlace image config app
   -- its numbers and names are those of an image file
   pub format : InFormat image
+  -- its tasks have the names of the configuration
+  pub names : image.tasks ≡ names_of config
 
--- The inputs are of the form, IMG holds the image's file, and this is the text of the image's run, or of its file's length.
+-- The inputs are of the form, IMG holds the image's file, and this is the text of the image's run with the arrivals, or of its file's length.
 pub record IsDone (old new : Files) (c : Command) (text : List ℕ) : Type 0 where
   pub config : Config
   pub app : App
+  pub arrivals : List Arrival
   pub image : Image
-  pub accepted : IsAccepted old c config app
+  pub accepted : IsAccepted old c config app arrivals
   pub is_image : IsImageOf config app image
   pub written : IsWritten old new c.img (image_bytes image)
-  pub text_is : text ≡ done_text image c.run
+  pub text_is : text ≡ done_text image arrivals c.run
 
 -- the inputs are refused so
 pub record IsRefused (old : Files) (c : Command) (refusal : Refusal) : Type 0 where
@@ -135,8 +160,9 @@ pub record IsRefused (old : Files) (c : Command) (refusal : Refusal) : Type 0 wh
 pub record IsFailedWrite (old new : Files) (c : Command) : Type 0 where
   pub config : Config
   pub app : App
+  pub arrivals : List Arrival
   pub image : Image
-  pub accepted : IsAccepted old c config app
+  pub accepted : IsAccepted old c config app arrivals
   pub is_image : IsImageOf config app image
   pub failed : IsUnwritten old new c.img (length (image_bytes image))
   pub others : KeepsOthers old new c.img
@@ -221,10 +247,10 @@ abbrev pub PutsWork : Output → Output → List ℕ → Type 0
 PutsWork old new text = Stays old.faults new.faults ⊎ HasSpace old.taken old.space text
 
 -- No call of the store or of the sink failed: their counts stay, or they tell before that what they are asked for will be done.
-pub record CallsWork (c : Command) (config : Config) (app : App) (old new : World) : Type 0 where
+pub record CallsWork (c : Command) (config : Config) (app : App) (arrivals : List Arrival) (old new : World) : Type 0 where
   pub reads : ReadsWork old.files new.files
   pub write : (image : Image) → IsImageOf config app image → WritesWork old.files new.files c.img (length (image_bytes image))
-  pub lines : (image : Image) → IsImageOf config app image → PutsWork old.sink new.sink (done_text image c.run)
+  pub lines : (image : Image) → IsImageOf config app image → PutsWork old.sink new.sink (done_text image arrivals c.run)
   pub last_line : PutsWork old.sink new.sink (codes "no memory\n")
 
 -- The words are those of no command: Usage.
@@ -240,6 +266,6 @@ TellsRefused words old new answer =
 -- The inputs are there and accepted, and no read, write or put failed: all was done, or memory was wanting, with all that this requires.
 abbrev pub IsComplete : List (List ℕ) → World → World → Status → Type 0
 IsComplete words old new answer =
-    (c : Command) → IsCommand words c → (oil src : List ℕ) → AreThere old.files c oil src []
-    → (config : Config) (app : App) → Accepted oil src config app → CallsWork c config app old new
-    → EndsAs status.Done words old new answer ⊎ EndsAs status.NoMemory words old new answer
+    (c : Command) → IsCommand words c → (oil src arr : List ℕ) → AreThere old.files c oil src arr
+    → (config : Config) (app : App) → Accepted oil src config app → (arrivals : List Arrival) → AreRead config arr arrivals
+    → CallsWork c config app arrivals old new → EndsAs status.Done words old new answer ⊎ EndsAs status.NoMemory words old new answer

@@ -1,5 +1,6 @@
 //! The program, over a store of files and a sink of lines.
-ghost use Rattle.std.specs.Prelude.{◌≡◌, ◌≤◌, IfOk, IfErr, OnOk, [], length};
+ghost use Rattle.std.specs.Prelude.{◌≡◌, ◌≤◌, IfOk, IfErr, OnOk, length};
+ghost use Rattle.sloth_base.specs.Arrivals.{AreArrivals};
 ghost use Rattle.sloth_base.specs.ImageRange.{InFormat};
 ghost use Rattle.sloth_io.specs.Store.{KeepsFiles, Holds};
 ghost use Rattle.image_file.specs.ImageText.{image_bytes};
@@ -8,7 +9,7 @@ ghost use Rattle.sloth_cli.specs.Command.{words_of, IsInLimit};
 ghost use Rattle.sloth_cli.specs.Words.{command_of, run_of};
 ghost use Rattle.sloth_cli.specs.LastLine.{built_line};
 ghost use Rattle.sloth_cli.specs.Runner.{run_text};
-ghost use Rattle.sloth_cli.specs.Top.{world, input_limit, arrivals_named, inputs_of, AreInputs, HoldsArrivals, IsImageOf, IsWritten, done_text};
+ghost use Rattle.sloth_cli.specs.Top.{world, input_limit, arrivals_named, inputs_of, AreInputs, HoldsArrivals, AreRead, IsImageOf, IsWritten, done_text};
 ghost use Rattle.sloth_cli.specs.Top.{Took, Puts, Answers, TellsUsage, TellsRefused, IsComplete};
 ghost use Rattle.sloth_cli.specs.Failures.{read_failure, judge_failure, FetchFailed, ReadFailed, JudgeFailed, PerformFailed};
 ghost use Rattle.sloth_cli.specs.Failures.{CommandFailed, Finished, IsPerformed};
@@ -18,13 +19,17 @@ use crate::command::{CommandWords, RunWords, command};
 use crate::last_line::{built_line, refusal_line};
 use crate::runner::Runner;
 use image_file::write::write_image;
+use sloth_base::app::App;
+use sloth_base::config::Config;
+use sloth_base::event::Arrival;
 use sloth_base::image::Image;
 use sloth_base::memory::NoMemory;
-use sloth_base::refusal::{BuildError, Code, Part, Refusal};
+use sloth_base::refusal::{BuildError, Refusal};
 use sloth_build::{Built, build};
 use sloth_io::sink::{Sink, SinkFault};
 use sloth_io::store::{Store, StoreFault};
 use std::alloc::Global;
+use trace_text::read_arrivals;
 
 /// The greatest number of bytes of an input.
 const LIMIT: usize = 4_194_304;
@@ -145,23 +150,34 @@ fn read_inputs<F: Store>(alloc: Global, files: &mut F, c: &CommandWords) -> Resu
     })
 }
 
+// What is built, and the arrivals.
+#[derive(Drop)]
+struct Judged {
+    config: Config,
+    app: App,
+    image: Image,
+    arrivals: Vec<Arrival>,
+}
+
 // Judges the inputs, and builds the image.
-fn judge(alloc: Global, inputs: &Inputs) -> Result<Built, Failure>
-    requires { length inputs.now.oil.items ≤ input_limit }
-    ensures accepted { IfOk result (λ built. Accepted inputs.now.oil.items inputs.now.src.items built.config built.app) }
-    ensures image { IfOk result (λ built. IsImageOf built.config built.app built.image) }
-    ensures none { OnOk result (inputs.now.arr.items ≡ []) }
+fn judge(alloc: Global, inputs: &Inputs) -> Result<Judged, Failure>
+    requires oil { length inputs.now.oil.items ≤ input_limit }
+    requires src { length inputs.now.src.items ≤ input_limit }
+    requires arr { length inputs.now.arr.items ≤ input_limit }
+    ensures accepted { IfOk result (λ judged. Accepted inputs.now.oil.items inputs.now.src.items judged.config judged.app) }
+    ensures image { IfOk result (λ judged. IsImageOf judged.config judged.app judged.image) }
+    ensures read { IfOk result (λ judged. AreRead judged.config inputs.now.arr.items judged.arrivals.items) }
+    ensures in_range { IfOk result (λ judged. AreArrivals (length judged.config.tasks) judged.arrivals.items) }
     ensures err { IfErr result (λ failure. JudgeFailed failure inputs.now.oil.items inputs.now.src.items inputs.now.arr.items) }
 {
-    let built = build(alloc, inputs.oil.as_slice(), inputs.src.as_slice())?;
-    if !inputs.arr.as_slice().is_empty() {
-        return Err(Failure::Refused(Refusal {
-            part: Part::Arr,
-            line: 1,
-            code: Code::N1,
-        }));
-    }
-    Ok(built)
+    let Built { config, app, image } = build(alloc, inputs.oil.as_slice(), inputs.src.as_slice())?;
+    let arrivals = read_arrivals(alloc, inputs.arr.as_slice(), image.tasks.items())?;
+    Ok(Judged {
+        config,
+        app,
+        image,
+        arrivals,
+    })
 }
 
 // Writes the image's file, and puts its length.
@@ -190,17 +206,19 @@ fn perform_run<F: Store, S: Sink>(
     img: &str,
     run: &RunWords,
     image: &Image,
+    arrivals: &[Arrival],
     bytes: &[u8],
 ) -> Result<(), Failure>
     requires format { InFormat image.now }
+    requires arrivals { AreArrivals (length image.now.tasks) arrivals.now }
     requires few { run.now.n ≤ 1000000 }
     ensures written { OnOk result (IsWritten (F.seen files.old) (F.seen files.new) img.now bytes.now) }
-    ensures text { OnOk result (Took (S.seen out.old) (S.seen out.new) (run_text image.now [] run.now.form run.now.n)) }
+    ensures text { OnOk result (Took (S.seen out.old) (S.seen out.new) (run_text image.now arrivals.now run.now.form run.now.n)) }
     ensures err { IfErr result (λ failure.
         PerformFailed failure (world (F.seen files.old) (S.seen out.old)) (world (F.seen files.new) (S.seen out.new))
-        img.now bytes.now (run_text image.now [] run.now.form run.now.n)) }
+        img.now bytes.now (run_text image.now arrivals.now run.now.form run.now.n)) }
 {
-    let mut runner = Runner::new(alloc, image, &[])?;
+    let mut runner = Runner::new(alloc, image, arrivals)?;
     files.write(img, bytes).map_err(|_| Failure::WriteFile)?;
     runner.run(run.n, run.form, out)?;
     Ok(())
@@ -213,19 +231,30 @@ fn perform<F: Store, S: Sink>(
     out: &mut S,
     c: &CommandWords,
     image: &Image,
+    arrivals: &[Arrival],
 ) -> Result<(), Failure>
     requires format { InFormat image.now }
+    requires arrivals { AreArrivals (length image.now.tasks) arrivals.now }
     requires few { IsInLimit (run_of c.now.run) }
     ensures written { OnOk result (IsWritten (F.seen files.old) (F.seen files.new) c.now.img.now (image_bytes image.now)) }
-    ensures text { OnOk result (Took (S.seen out.old) (S.seen out.new) (done_text image.now (run_of c.now.run))) }
+    ensures text { OnOk result (Took (S.seen out.old) (S.seen out.new) (done_text image.now arrivals.now (run_of c.now.run))) }
     ensures err { IfErr result (λ failure.
         PerformFailed failure (world (F.seen files.old) (S.seen out.old)) (world (F.seen files.new) (S.seen out.new))
-        c.now.img.now (image_bytes image.now) (done_text image.now (run_of c.now.run))) }
+        c.now.img.now (image_bytes image.now) (done_text image.now arrivals.now (run_of c.now.run))) }
 {
     let bytes = write_image(alloc, image)?;
     match &c.run {
         None => perform_build(files, out, c.img, bytes.as_slice()),
-        Some(run) => perform_run(alloc, files, out, c.img, run, image, bytes.as_slice()),
+        Some(run) => perform_run(
+            alloc,
+            files,
+            out,
+            c.img,
+            run,
+            image,
+            arrivals,
+            bytes.as_slice(),
+        ),
     }
 }
 
@@ -243,8 +272,15 @@ fn attempt<F: Store, S: Sink>(
         CommandFailed failure (world (F.seen files.old) (S.seen out.old)) (world (F.seen files.new) (S.seen out.new)) (command_of c.now)) }
 {
     let inputs = read_inputs(alloc, files, c)?;
-    let built = judge(alloc, &inputs)?;
-    perform(alloc, files, out, c, &built.image)
+    let judged = judge(alloc, &inputs)?;
+    perform(
+        alloc,
+        files,
+        out,
+        c,
+        &judged.image,
+        judged.arrivals.as_slice(),
+    )
 }
 
 // Puts a last line. Where it can't be put, the status is WriteFault.

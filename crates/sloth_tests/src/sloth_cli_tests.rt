@@ -33,15 +33,34 @@ const TWO_TASKS: &[u8] =
 const ONE_PRIORITY: &[u8] =
     b"TASK Main { PRIORITY = 1; SCHEDULE = FULL; ACTIVATION = 1; AUTOSTART = FALSE; };\nTASK High { PRIORITY = 1; SCHEDULE = FULL; ACTIVATION = 1; AUTOSTART = FALSE; };\n";
 
+const EXTENDED: &[u8] =
+    b"EVENT E { MASK = AUTO; };\nTASK Main { PRIORITY = 1; SCHEDULE = FULL; ACTIVATION = 1; AUTOSTART = FALSE; EVENT = E; };\n";
+
 const END: &[u8] = b"};\n";
 
 const SRC: &[u8] = b"task Main\naddi t0, x0, 5\nTerminateTask\nend\n";
+
+// Accesses of each kind to a symbol and to the frame.
+const ACCESSES: &[u8] =
+    b"data n, 4, 01020304\ntask Main, 2\nlhu t0, n+2\nsw t0, frame[1]\nlw t1, frame[1]\nsb t1, n\nlw t2, n\nTerminateTask\nend\n";
+
+// A service that is not built yet, in the body of a second task.
+const YIELDING: &[u8] = b"task Main\nTerminateTask\nend\ntask High\nSchedule\nTerminateTask\nend\n";
 
 // Boot, the task's entry, its item, its end, and the idle loop.
 const LINES: &[u8] =
     b"0 13 boot\n14 88 enter Main\n89 89 run Main Main 0 5\n91 140 left Main TerminateTask\n141 141 idle\n";
 
 const BARE_LINES: &[u8] = b"boot\nenter Main\nrun Main Main 0 5\nleft Main TerminateTask\nidle\n";
+
+const ACCESS_LINES: &[u8] =
+    b"boot\nenter Main\nrun Main Main 0 1027\nrun Main Main 1 1027\nrun Main Main 2 1027\nrun Main Main 3 1027\nrun Main Main 4 67305987\nleft Main TerminateTask\nidle\n";
+
+const ADMITTED_IN_BOOT: &[u8] =
+    b"boot\nadmit Main\nadmit Main\nenter Main\nrun Main Main 0 5\nleft Main TerminateTask\nidle\n";
+
+const ADMITTED_TWICE: &[u8] =
+    b"boot\nidle\nadmit Main\nenter Main\nrun Main Main 0 5\nleft Main TerminateTask\nadmit Main\nenter Main\nrun Main Main 0 5\nleft Main TerminateTask\nidle\n";
 
 fn oil(alloc: Global, tasks: &[u8]) -> Result<Vec<u8>, AllocError> {
     [HEAD, tasks, END].concat(alloc)
@@ -64,9 +83,15 @@ fn file(alloc: Global, name: &[u8], bytes: &[u8]) -> Result<MemFile, NoMemory>
 }
 
 // These inputs, and an image that is not written yet.
-fn store(alloc: Global, oil: &[u8], arr: &[u8], fails: &[u32]) -> Result<MemStore, NoMemory> {
+fn store(
+    alloc: Global,
+    oil: &[u8],
+    src: &[u8],
+    arr: &[u8],
+    fails: &[u32],
+) -> Result<MemStore, NoMemory> {
     let oil = file(alloc, b"p.oil", oil)?;
-    let src = file(alloc, b"p.src", SRC)?;
+    let src = file(alloc, b"p.src", src)?;
     let arr = file(alloc, b"p.arr", arr)?;
     let img = file(alloc, b"p.img", b"")?;
     MemStore::new(alloc, &[arr, img, oil, src], fails)
@@ -94,11 +119,12 @@ fn is_image_written(files: &MemStore) -> bool {
     }
 }
 
-// The status of a command over n instructions of these tasks with these arrivals, and whether the image is written then.
+// The status of a command over n instructions of these tasks with this code and these arrivals, and whether the image is written then.
 fn run(
     alloc: Global,
     command: &str,
     tasks: &[u8],
+    src: &[u8],
     arr: &[u8],
     n: &str,
     failing_calls: &[u32],
@@ -106,9 +132,13 @@ fn run(
 ) -> Result<(Status, bool), Fail> {
     let words = words(alloc, command, n)?;
     let oil = oil(alloc, tasks)?;
-    let mut files = store(alloc, oil.as_slice(), arr, failing_calls)?;
+    let mut files = store(alloc, oil.as_slice(), src, arr, failing_calls)?;
     let status = sloth_top(alloc, words.as_slice(), &mut files, out);
     Ok((status, is_image_written(&files)))
+}
+
+fn lines(alloc: Global, line: &[u8], count: usize) -> Result<Vec<u8>, AllocError> {
+    line.repeat(alloc, count)
 }
 
 fn line_feeds(alloc: Global, count: usize) -> Result<Vec<u8>, AllocError> {
@@ -137,7 +167,7 @@ fn texts_refused_as_a_whole(rt: HostRuntime) -> Result<(), Fail> {
     ];
     for (oil, status, text) in rows {
         let words = words(rt.alloc(), "order", "9")?;
-        let mut files = store(rt.alloc(), oil, b"", &[])?;
+        let mut files = store(rt.alloc(), oil, SRC, b"", &[])?;
         let mut out = MemSink::new(rt.alloc(), 200, &[])?;
         let ended = sloth_top(rt.alloc(), words.as_slice(), &mut files, &mut out);
         assert_eq!(rt; ended, status);
@@ -151,12 +181,13 @@ fn texts_refused_as_a_whole(rt: HostRuntime) -> Result<(), Fail> {
 fn runs_and_refusals(rt: HostRuntime) -> Result<(), Fail> {
     let none = b"".as_slice();
     let rows = [
-        ("run", MAIN, none, "142", Status::Done, LINES),
-        ("run", MAIN, none, "0", Status::Done, none),
-        ("order", MAIN, none, "1000", Status::Done, BARE_LINES),
+        ("run", MAIN, SRC, none, "142", Status::Done, LINES),
+        ("run", MAIN, SRC, none, "0", Status::Done, none),
+        ("order", MAIN, SRC, none, "1000", Status::Done, BARE_LINES),
         (
             "order",
             WAITING_MAIN,
+            SRC,
             none,
             "1000",
             Status::Done,
@@ -165,22 +196,25 @@ fn runs_and_refusals(rt: HostRuntime) -> Result<(), Fail> {
         (
             "build",
             MAIN,
+            SRC,
             b"5 Main\n".as_slice(),
             "9",
             Status::Done,
-            b"built 1798\n".as_slice(),
+            b"built 2842\n".as_slice(),
         ),
         (
             "run",
             MAIN,
-            b"5 Main\n".as_slice(),
+            SRC,
+            b"5 Main\n5 Back\n".as_slice(),
             "9",
             Status::Refused,
-            b"refused arr 1 N1\n".as_slice(),
+            b"refused arr 2 T2\n".as_slice(),
         ),
         (
             "build",
             ACTIVATED_TWICE,
+            SRC,
             none,
             "9",
             Status::Refused,
@@ -189,14 +223,43 @@ fn runs_and_refusals(rt: HostRuntime) -> Result<(), Fail> {
         (
             "run",
             TWO_TASKS,
+            SRC,
+            none,
+            "9",
+            Status::Refused,
+            b"refused src 1 A7\n".as_slice(),
+        ),
+        (
+            "run",
+            TWO_TASKS,
+            YIELDING,
+            none,
+            "9",
+            Status::Refused,
+            b"refused src 5 N1\n".as_slice(),
+        ),
+        (
+            "run",
+            EXTENDED,
+            SRC,
             none,
             "9",
             Status::Refused,
             b"refused oil 1 N1\n".as_slice(),
         ),
         (
+            "order",
+            MAIN,
+            ACCESSES,
+            none,
+            "5000",
+            Status::Done,
+            ACCESS_LINES,
+        ),
+        (
             "run",
             ONE_PRIORITY,
+            SRC,
             none,
             "9",
             Status::Refused,
@@ -205,6 +268,7 @@ fn runs_and_refusals(rt: HostRuntime) -> Result<(), Fail> {
         (
             "walk",
             MAIN,
+            SRC,
             none,
             "9",
             Status::Usage,
@@ -213,18 +277,87 @@ fn runs_and_refusals(rt: HostRuntime) -> Result<(), Fail> {
         (
             "run",
             MAIN,
+            SRC,
             none,
             "1000001",
             Status::Usage,
             b"usage\n".as_slice(),
         ),
     ];
-    for (command, tasks, arr, n, status, text) in rows {
-        let mut out = MemSink::new(rt.alloc(), 200, &[])?;
-        let (ended, written) = run(rt.alloc(), command, tasks, arr, n, &[], &mut out)?;
+    for (command, tasks, src, arr, n, status, text) in rows {
+        let mut out = MemSink::new(rt.alloc(), 400, &[])?;
+        let (ended, written) = run(rt.alloc(), command, tasks, src, arr, n, &[], &mut out)?;
         assert_eq!(rt; ended, status);
         assert_eq!(rt; out.taken(), text);
         assert_eq!(rt; written, status == Status::Done);
+    }
+    Ok(())
+}
+
+// One arrival of a task that is Ready, and two of one that is Suspended: behind blank lines and a comment, the last line without its LF.
+#[test]
+fn runs_with_arrivals(rt: HostRuntime) -> Result<(), Fail> {
+    let most = lines(rt.alloc(), b"1000000 Main\n", 100_000)?;
+    let rows = [
+        (MAIN, b"5 Main\n5 Main\n".as_slice(), ADMITTED_IN_BOOT),
+        (
+            WAITING_MAIN,
+            b"# on\n\n0300 Main\r\n400 Main".as_slice(),
+            ADMITTED_TWICE,
+        ),
+        (
+            WAITING_MAIN,
+            b"1000 Main\n".as_slice(),
+            b"boot\nidle\n".as_slice(),
+        ),
+        (MAIN, most.as_slice(), BARE_LINES),
+    ];
+    for (tasks, arr, text) in rows {
+        let mut out = MemSink::new(rt.alloc(), 400, &[])?;
+        let (ended, written) = run(rt.alloc(), "order", tasks, SRC, arr, "1000", &[], &mut out)?;
+        assert_eq!(rt; ended, Status::Done);
+        assert_eq!(rt; out.taken(), text);
+        assert!(rt; written);
+    }
+    Ok(())
+}
+
+// Files of arrivals that are refused: the least fault by its line, and on a line by its code.
+#[test]
+fn arrivals_refused(rt: HostRuntime) -> Result<(), Fail> {
+    let too_many = lines(rt.alloc(), b"5 Main\n", 100_001)?;
+    let rows = [
+        (b"5  Main\n".as_slice(), b"refused arr 1 T1\n".as_slice()),
+        (b"5 Main\r".as_slice(), b"refused arr 1 T1\n".as_slice()),
+        (
+            b"# 5\n\n\n5 9x\n".as_slice(),
+            b"refused arr 4 T1\n".as_slice(),
+        ),
+        (
+            b"9 Main\n3 Back\n".as_slice(),
+            b"refused arr 2 T2\n".as_slice(),
+        ),
+        (
+            b"9 Main\n0 Main\nx\n".as_slice(),
+            b"refused arr 2 T3\n".as_slice(),
+        ),
+        (b"0 Main\n".as_slice(), b"refused arr 1 T4\n".as_slice()),
+        (
+            b"1000001 Main\n".as_slice(),
+            b"refused arr 1 T4\n".as_slice(),
+        ),
+        (
+            b"99999999999999999999 Main\n".as_slice(),
+            b"refused arr 1 T4\n".as_slice(),
+        ),
+        (too_many.as_slice(), b"refused arr 100001 T4\n".as_slice()),
+    ];
+    for (arr, text) in rows {
+        let mut out = MemSink::new(rt.alloc(), 400, &[])?;
+        let (ended, written) = run(rt.alloc(), "order", MAIN, SRC, arr, "1000", &[], &mut out)?;
+        assert_eq!(rt; ended, Status::Refused);
+        assert_eq!(rt; out.taken(), text);
+        assert!(rt; !written);
     }
     Ok(())
 }
@@ -247,7 +380,16 @@ fn faults_of_the_store_and_the_sink(rt: HostRuntime) -> Result<(), Fail> {
     ];
     for (command, call, put, status, text, is_written) in rows {
         let mut out = MemSink::new(rt.alloc(), 200, &[(put, 0)])?;
-        let (ended, written) = run(rt.alloc(), command, MAIN, b"", "1000", &[call], &mut out)?;
+        let (ended, written) = run(
+            rt.alloc(),
+            command,
+            MAIN,
+            SRC,
+            b"",
+            "1000",
+            &[call],
+            &mut out,
+        )?;
         assert_eq!(rt; ended, status);
         assert_eq!(rt; out.taken(), text);
         assert_eq!(rt; written, is_written);
@@ -258,7 +400,7 @@ fn faults_of_the_store_and_the_sink(rt: HostRuntime) -> Result<(), Fail> {
 #[test]
 fn the_idle_loop_goes_on(rt: HostRuntime) -> Result<(), Fail> {
     let mut out = MemSink::new(rt.alloc(), 20_000, &[])?;
-    let (ended, written) = run(rt.alloc(), "run", MAIN, b"", "1000", &[], &mut out)?;
+    let (ended, written) = run(rt.alloc(), "run", MAIN, SRC, b"", "1000", &[], &mut out)?;
     assert_eq!(rt; ended, Status::Done);
     assert!(rt; written);
     assert!(rt; out.taken().starts_with(LINES));

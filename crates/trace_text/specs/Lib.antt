@@ -1,2 +1,3 @@
+pub mod ArrivalsText
 pub mod Lines
 pub mod Texts

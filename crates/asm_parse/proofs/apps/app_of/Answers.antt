@@ -1,4 +1,4 @@
-use Rattle.std.proofs.Common.{ℕ, ◌+◌, ◌<◌, ◌^◌, List, sym, subst, length, arith}
+use Rattle.std.proofs.Common.{◌+◌, ◌<◌, ◌^◌, List, sym, subst, length, arith}
 use Rattle.std.specs.Prelude.{All}
 use Rattle.std.proofs.lemmas.List.Elements.{All-weaker}
 use Rattle.asm_names.specs.Bodies.{BodyText, bodies_of}

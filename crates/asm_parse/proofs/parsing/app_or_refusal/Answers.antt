@@ -1,5 +1,4 @@
 use Rattle.std.proofs.Common.{◌∙◌, ap, sym, subst}
-use Rattle.asm_names.specs.declared.scope.Scope.{Scope}
 use Rattle.asm_names.specs.Scopes.{scope_of}
 use Rattle.asm_parse.specs.Numbered.{IsNumbered}
 use Rattle.asm_parse.proofs.Numbering.{numbered}

@@ -4,6 +4,8 @@ use Rattle.sloth_refusal.specs.Order.{NoFault, IsLeast}
 use Rattle.asm_lines.specs.declared.source_line.SourceLine.{SourceLine}
 use Rattle.asm_lines.proofs.Counts.{lines_few}
 use Rattle.asm_names.specs.NameFaults.{NameFault}
+use Rattle.asm_parse.specs.Apps.{app_of}
+use Rattle.asm_parse.proofs.Range.{text_in_range}
 use Rattle.asm_parse.proofs.Stages.{earlier_error, later, none}
 use Rattle.asm_parse.proofs.parsing.parse_app.Goals as goal
 
@@ -30,3 +32,9 @@ returns-in-Ok-Err-clause-refused c =
     let found = rw c.in-Ok-Err.field-0-is at c.in-Ok-Err.ensures.refused in
     later c.args.config.now c.args.text.now c.in-Ok-Err.refusal c.in_ok-lines.ensures.none
     (subst (λ (ls : List SourceLine). IsLeast (NameFault c.args.config.now ls) c.in-Ok-Err.refusal) (c.items.ensures ∙ c.in_ok-lines.ensures.lines) found)
+
+pub returns-in-Ok-Ok-clause-in_range : goal.returns-in-Ok-Ok-clause-in_range
+returns-in-Ok-Ok-clause-in_range c =
+    let says = rw c.in-Ok-Ok.field-0-is at c.in-Ok-Ok.ensures.app in
+    let same = c.items.ensures ∙ c.in_ok-lines.ensures.lines in
+    text_in_range c.args.text.now c.args.config.now c.in-Ok-Ok.app c.requires.config (returns-in-Ok-Ok-clause-none c) (says ∙ ap (app_of c.args.config.now) same)

@@ -1,0 +1,52 @@
+-- What an operand says that was read in a form.
+use Rattle.std.specs.Prelude.{◌≡◌, ◌≤◌, ℕ, ◌+◌, true, List, [], ◌∷◌}
+use Rattle.sloth_base.specs.ImageRange.{IsWord}
+use Rattle.asm_lines.specs.declared.operands.Operand.{Operand}
+use Rattle.asm_lines.specs.declared.operands.Operand.TheVariants.{Register, Number, Name, Frame, Direct, Indexed, Bytes}
+use Rattle.asm_lines.specs.declared.table.Form.{Form}
+use Rattle.asm_lines.specs.declared.table.Form.TheVariants as form
+use Rattle.asm_lines.specs.declared.table.Mnemonic.{Mnemonic}
+use Rattle.asm_lines.specs.Numbers.{is_within}
+use Rattle.asm_lines.specs.Table.{form_of}
+use Rattle.app_rules.specs.AppRange.{IsRegister}
+
+-- a place in a symbol
+abbrev pub FitsPlace : Operand → Type 0
+FitsPlace (Direct name k) = IsWord name × (k ≤ 65535)
+FitsPlace (Indexed name r k) = IsWord name × IsRegister r × (k ≤ 65535)
+FitsPlace _ = ⊥
+
+-- a place in a symbol or in the frame
+abbrev pub FitsWord : Operand → Type 0
+FitsWord (Frame k) = k ≤ 65535
+FitsWord o = FitsPlace o
+
+-- a register
+abbrev pub FitsRegister : Operand → Type 0
+FitsRegister (Register r) = IsRegister r
+FitsRegister _ = ⊥
+
+-- a name
+abbrev pub FitsName : Operand → Type 0
+FitsName (Name name) = IsWord name
+FitsName _ = ⊥
+
+-- bytes
+abbrev pub FitsBytes : Operand → Type 0
+FitsBytes (Bytes bytes) = Unit {0}
+FitsBytes _ = ⊥
+
+-- an operand of this form
+abbrev pub Fits : Form → Operand → Type 0
+Fits form.Register o = FitsRegister o
+Fits (form.Number low high) (Number n) = is_within low high n ≡ true
+Fits (form.Number low high) _ = ⊥
+Fits form.Name o = FitsName o
+Fits form.Place o = FitsPlace o
+Fits form.WordPlace o = FitsWord o
+Fits form.Bytes o = FitsBytes o
+
+-- the operands of a statement, from place i on, fit their forms
+abbrev pub AllFit : Mnemonic → ℕ → List Operand → Type 0
+AllFit m i [] = Unit {0}
+AllFit m i (o ∷ os) = Fits (form_of m i) o × AllFit m (i + 1) os

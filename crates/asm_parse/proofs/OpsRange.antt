@@ -1,0 +1,340 @@
+-- A statement that was read, whose names are known, is an operation in range.
+use Rattle.std.proofs.Common.{true≢false, ◌≡◌, sym, refl, ⊎_elim, inl, ℕ, ℤ, pos, negsuc, ◌-◌, ◌≤◌, Bool, true, false, List, [], ◌∷◌, length, Some, arith}
+use Rattle.std.specs.Prelude.{◌==◌, not, nat_le, nat_lt, int_lt, if◌then◌else◌}
+use Rattle.std.proofs.lemmas.Bool.{eqb-true, leb-true, ltb-false}
+use Rattle.std.proofs.lemmas.Bool.Decides.{leb_tells, eqb_tells}
+use Rattle.text_pieces.proofs.Tests.{or_right, and_left, and_right}
+use Rattle.sloth_base.specs.declared.app.App.{App}
+use Rattle.sloth_base.specs.declared.app.Func.{Func}
+use Rattle.sloth_base.specs.declared.app.Op.{Op}
+use Rattle.sloth_base.specs.declared.app.Op.TheVariants as op
+use Rattle.sloth_base.specs.declared.app.AluKind.{AluKind}
+use Rattle.sloth_base.specs.declared.app.ImmKind.{ImmKind}
+use Rattle.sloth_base.specs.declared.app.ImmKind.TheVariants.{Addi}
+use Rattle.sloth_base.specs.declared.app.BranchKind.{BranchKind}
+use Rattle.sloth_base.specs.declared.app.Width.{Width}
+use Rattle.sloth_base.specs.declared.app.Width.TheVariants as width
+use Rattle.sloth_base.specs.declared.config.Config.{Config}
+use Rattle.sloth_base.specs.declared.service.Service.{Service}
+use Rattle.sloth_base.specs.declared.service.Service.TheVariants as service
+use Rattle.asm_lines.specs.declared.operands.Operand.{Operand}
+use Rattle.asm_lines.specs.declared.operands.Operand.TheVariants.{Wrong, Outside, Register, Number, Name, Frame, Direct, Indexed, Bytes}
+use Rattle.asm_lines.specs.declared.table.Mnemonic.{Mnemonic}
+use Rattle.asm_lines.specs.declared.table.Mnemonic.TheVariants as m
+use Rattle.asm_lines.specs.Numbers.{is_within}
+use Rattle.asm_lines.specs.Table.{takes}
+use Rattle.asm_names.specs.declared.scope.Kind.TheVariants as kind
+use Rattle.asm_names.specs.declared.scope.Scope.{Scope}
+use Rattle.asm_names.specs.Said.{does}
+use Rattle.asm_names.specs.Scopes.{exists, any_unknown}
+use Rattle.asm_parse.specs.Operations.{as_word, as_short, number_of, op_by}
+use Rattle.app_rules.specs.AppRange.{IsRegister, IsShort, IsAmount, IsOp}
+use Rattle.asm_parse.proofs.Fit.{FitsPlace, FitsWord, AllFit}
+use Rattle.asm_parse.proofs.MnemonicKinds.{HasKind}
+use Rattle.asm_parse.proofs.Known.{IsKnown}
+use Rattle.asm_parse.proofs.Operands.{register_case, name_case, number_case, none_of, one_of, two_of, three_of, some_of, some_two_of, does_exist, all_names}
+use Rattle.asm_parse.proofs.MasksRange.{is_mask}
+
+-- ---- numbers
+
+pub not_true : (b : Bool) → not b ≡ true → b ≡ false
+not_true true e = cc
+not_true false e = refl
+
+-- a natural number from low to high is at most high
+pub at_most : (low : ℤ) (k n : ℕ) → is_within low (pos k) (pos n) ≡ true → n ≤ k
+at_most low k n e = ltb-false k n (not_true (nat_lt k n) (and_right (not (int_lt (pos n) low)) (not (nat_lt k n)) e))
+
+is_short : (n : ℤ) → IsShort (as_short n)
+is_short n = by n (is_within (negsuc 2047) (pos 2047) n) refl
+  where
+    by : (n : ℤ) (b : Bool) → is_within (negsuc 2047) (pos 2047) n ≡ b → IsShort (if b then n else pos 0)
+    by (pos n) true e = at_most (negsuc 2047) 2047 n e
+    by (negsuc n) true e = ltb-false 2047 n (not_true (nat_lt 2047 n) (and_left (not (nat_lt 2047 n)) _ e))
+    by n false e = omega arith
+
+small : (b : Bool) (n k : ℕ) → n ≤ k → (if b then n else 0) ≤ k
+small true n k h = h
+small false n k h = omega arith
+
+amount : (n : ℤ) → is_within (pos 0) (pos 31) n ≡ true → IsAmount (as_short n)
+amount (pos n) e = by (is_within (negsuc 2047) (pos 2047) (pos n))
+  where
+    by : (b : Bool) → IsAmount (if b then pos n else pos 0)
+    by true = at_most (pos 0) 31 n e
+    by false = omega arith
+amount (negsuc n) e = cc
+
+upper : (n : ℤ) → is_within (pos 0) (pos 1048575) n ≡ true → as_word n ≤ 1048575
+upper (pos n) e = small (nat_le n 4294967295) n 1048575 (at_most (pos 0) 1048575 n e)
+upper (negsuc n) e = cc
+
+word : (n : ℤ) → as_word n ≤ 4294967295
+word (pos n) = ⊎_elim (λ t. rw t.0 t.1) (λ t. rw t.0 (omega arith)) (leb_tells n 4294967295)
+word (negsuc n) = small (nat_lt n 2147483648) (4294967295 - n) 4294967295 (omega arith)
+
+-- ---- statements
+
+module _ (config : Config) (app : App) (f : Func) (scope : Scope) (labels : List (List ℕ)) (known : IsKnown config app f scope labels) where
+  -- the operation that a statement is, in range
+  abbrev pub Ranged : Mnemonic → List Operand → Type 0
+  Ranged m os = (o : Op) × (op_by config scope labels m os ≡ Some o) × IsOp config app f o
+
+  -- a statement of operands that fit it, whose names exist
+  abbrev Ranges : Mnemonic → List Operand → Type 0
+  Ranges m os = AllFit m 0 os → any_unknown scope labels m 0 os ≡ false → Ranged m os
+
+  alu_range : (k : AluKind) (a b c : Operand) → Ranges (m.Alu k) (a ∷ b ∷ c ∷ [])
+  alu_range k a b c h u =
+      register_case (λ a. Ranged (m.Alu k) (a ∷ b ∷ c ∷ []))
+      (λ d x. register_case (λ b. Ranged (m.Alu k) (Register d ∷ b ∷ c ∷ []))
+      (λ r y. register_case (λ c. Ranged (m.Alu k) (Register d ∷ Register r ∷ c ∷ [])) (λ s z. (op.Alu k d r s, refl, (x, y, z))) c h.1.1.0)
+      b h.1.0)
+      a h.0
+
+  imm_range : (k : ImmKind) → HasKind (m.Imm k) → (a b c : Operand) → Ranges (m.Imm k) (a ∷ b ∷ c ∷ [])
+  imm_range k g a b c h u =
+      register_case (λ a. Ranged (m.Imm k) (a ∷ b ∷ c ∷ []))
+      (λ d x. register_case (λ b. Ranged (m.Imm k) (Register d ∷ b ∷ c ∷ []))
+      (λ r y. number_case (negsuc 2047) (pos 2047) (λ c. Ranged (m.Imm k) (Register d ∷ Register r ∷ c ∷ []))
+      (λ n z. (op.AluImm k d r (as_short n), refl, (x, y, g (as_short n) (is_short n)))) c h.1.1.0)
+      b h.1.0)
+      a h.0
+
+  shift_range : (k : ImmKind) → HasKind (m.Shift k) → (a b c : Operand) → Ranges (m.Shift k) (a ∷ b ∷ c ∷ [])
+  shift_range k g a b c h u =
+      register_case (λ a. Ranged (m.Shift k) (a ∷ b ∷ c ∷ []))
+      (λ d x. register_case (λ b. Ranged (m.Shift k) (Register d ∷ b ∷ c ∷ []))
+      (λ r y. number_case (pos 0) (pos 31) (λ c. Ranged (m.Shift k) (Register d ∷ Register r ∷ c ∷ []))
+      (λ n z. (op.AluImm k d r (as_short n), refl, (x, y, g (as_short n) (amount n z)))) c h.1.1.0)
+      b h.1.0)
+      a h.0
+
+  lui_range : (a b : Operand) → Ranges m.Lui (a ∷ b ∷ [])
+  lui_range a b h u =
+      register_case (λ a. Ranged m.Lui (a ∷ b ∷ []))
+      (λ d x. number_case (pos 0) (pos 1048575) (λ b. Ranged m.Lui (Register d ∷ b ∷ [])) (λ n z. (op.Lui d (as_word n), refl, (x, upper n z))) b h.1.0)
+      a h.0
+
+  li_range : (a b : Operand) → Ranges m.Li (a ∷ b ∷ [])
+  li_range a b h u =
+      register_case (λ a. Ranged m.Li (a ∷ b ∷ []))
+      (λ d x. number_case (negsuc 2147483647) (pos 4294967295) (λ b. Ranged m.Li (Register d ∷ b ∷ [])) (λ n z. (op.Li d (as_word n), refl, (x, word n))) b h.1.0)
+      a h.0
+
+  move_range : (a b : Operand) → Ranges m.Move (a ∷ b ∷ [])
+  move_range a b h u =
+      register_case (λ a. Ranged m.Move (a ∷ b ∷ []))
+      (λ d x. register_case (λ b. Ranged m.Move (Register d ∷ b ∷ [])) (λ r y. (op.AluImm Addi d r (pos 0), refl, (x, y, omega arith))) b h.1.0)
+      a h.0
+
+  -- ---- accesses
+
+  store_place : (w : Width) (s : ℕ) (p : Operand) → HasKind (m.Store w) → IsRegister s → FitsPlace p → any_unknown scope labels (m.Store w) 0 (Register s ∷ p ∷ []) ≡ false
+      → Ranged (m.Store w) (Register s ∷ p ∷ [])
+  store_place w s (Direct name k) d r h u =
+      (op.Store w s (number_of scope.symbols name) k, by w, (d, r, known.symbol name (does_exist (exists scope labels kind.Symbol name) false u), h.1))
+    where
+      by : (w : Width) → op_by config scope labels (m.Store w) (Register s ∷ Direct name k ∷ []) ≡ Some (op.Store w s (number_of scope.symbols name) k)
+      by width.Byte = refl
+      by width.Half = refl
+      by width.Word = refl
+      by width.ByteU = refl
+      by width.HalfU = refl
+  store_place w s (Indexed name i k) d r h u =
+      (op.StoreAt w s (number_of scope.symbols name) i k, by w, (d, r, known.symbol name (does_exist (exists scope labels kind.Symbol name) false u), h.1, h.2))
+    where
+      by : (w : Width) → op_by config scope labels (m.Store w) (Register s ∷ Indexed name i k ∷ []) ≡ Some (op.StoreAt w s (number_of scope.symbols name) i k)
+      by width.Byte = refl
+      by width.Half = refl
+      by width.Word = refl
+      by width.ByteU = refl
+      by width.HalfU = refl
+  store_place w s Wrong d r h u = absurd h
+  store_place w s Outside d r h u = absurd h
+  store_place w s (Register x) d r h u = absurd h
+  store_place w s (Number x) d r h u = absurd h
+  store_place w s (Name x) d r h u = absurd h
+  store_place w s (Frame x) d r h u = absurd h
+  store_place w s (Bytes x) d r h u = absurd h
+
+  store_word : (s : ℕ) (p : Operand) → IsRegister s → FitsWord p → any_unknown scope labels (m.Store width.Word) 0 (Register s ∷ p ∷ []) ≡ false
+      → Ranged (m.Store width.Word) (Register s ∷ p ∷ [])
+  store_word s (Frame k) r h u = (op.FrameStore s k, refl, (r, h))
+  store_word s (Direct name k) r h u = store_place width.Word s (Direct name k) tt r h u
+  store_word s (Indexed name i k) r h u = store_place width.Word s (Indexed name i k) tt r h u
+  store_word s Wrong r h u = absurd h
+  store_word s Outside r h u = absurd h
+  store_word s (Register x) r h u = absurd h
+  store_word s (Number x) r h u = absurd h
+  store_word s (Name x) r h u = absurd h
+  store_word s (Bytes x) r h u = absurd h
+
+  store_range : (w : Width) → HasKind (m.Store w) → (a b : Operand) → Ranges (m.Store w) (a ∷ b ∷ [])
+  store_range w g a b h = register_case (λ a. any_unknown scope labels (m.Store w) 0 (a ∷ b ∷ []) ≡ false → Ranged (m.Store w) (a ∷ b ∷ [])) (λ s x. by w s x g h.1) a h.0
+    where
+      by : (w : Width) (s : ℕ) → IsRegister s → HasKind (m.Store w) → AllFit (m.Store w) 1 (b ∷ []) → any_unknown scope labels (m.Store w) 0 (Register s ∷ b ∷ []) ≡ false
+          → Ranged (m.Store w) (Register s ∷ b ∷ [])
+      by width.Byte s x g h = store_place width.Byte s b g x h.0
+      by width.Half s x g h = store_place width.Half s b g x h.0
+      by width.Word s x g h = store_word s b x h.0
+      by width.ByteU s x g h = absurd g
+      by width.HalfU s x g h = absurd g
+
+  load_place : (w : Width) (s : ℕ) (p : Operand) → IsRegister s → FitsPlace p → any_unknown scope labels (m.Load w) 0 (Register s ∷ p ∷ []) ≡ false
+      → Ranged (m.Load w) (Register s ∷ p ∷ [])
+  load_place w s (Direct name k) r h u =
+      (op.Load w s (number_of scope.symbols name) k, by w, (r, known.symbol name (does_exist (exists scope labels kind.Symbol name) false u), h.1))
+    where
+      by : (w : Width) → op_by config scope labels (m.Load w) (Register s ∷ Direct name k ∷ []) ≡ Some (op.Load w s (number_of scope.symbols name) k)
+      by width.Byte = refl
+      by width.Half = refl
+      by width.Word = refl
+      by width.ByteU = refl
+      by width.HalfU = refl
+  load_place w s (Indexed name i k) r h u =
+      (op.LoadAt w s (number_of scope.symbols name) i k, by w, (r, known.symbol name (does_exist (exists scope labels kind.Symbol name) false u), h.1, h.2))
+    where
+      by : (w : Width) → op_by config scope labels (m.Load w) (Register s ∷ Indexed name i k ∷ []) ≡ Some (op.LoadAt w s (number_of scope.symbols name) i k)
+      by width.Byte = refl
+      by width.Half = refl
+      by width.Word = refl
+      by width.ByteU = refl
+      by width.HalfU = refl
+  load_place w s Wrong r h u = absurd h
+  load_place w s Outside r h u = absurd h
+  load_place w s (Register x) r h u = absurd h
+  load_place w s (Number x) r h u = absurd h
+  load_place w s (Name x) r h u = absurd h
+  load_place w s (Frame x) r h u = absurd h
+  load_place w s (Bytes x) r h u = absurd h
+
+  load_word : (s : ℕ) (p : Operand) → IsRegister s → FitsWord p → any_unknown scope labels (m.Load width.Word) 0 (Register s ∷ p ∷ []) ≡ false
+      → Ranged (m.Load width.Word) (Register s ∷ p ∷ [])
+  load_word s (Frame k) r h u = (op.FrameLoad s k, refl, (r, h))
+  load_word s (Direct name k) r h u = load_place width.Word s (Direct name k) r h u
+  load_word s (Indexed name i k) r h u = load_place width.Word s (Indexed name i k) r h u
+  load_word s Wrong r h u = absurd h
+  load_word s Outside r h u = absurd h
+  load_word s (Register x) r h u = absurd h
+  load_word s (Number x) r h u = absurd h
+  load_word s (Name x) r h u = absurd h
+  load_word s (Bytes x) r h u = absurd h
+
+  load_range : (w : Width) (a b : Operand) → Ranges (m.Load w) (a ∷ b ∷ [])
+  load_range w a b h = register_case (λ a. any_unknown scope labels (m.Load w) 0 (a ∷ b ∷ []) ≡ false → Ranged (m.Load w) (a ∷ b ∷ [])) (λ s x. by w s x h.1) a h.0
+    where
+      by : (w : Width) (s : ℕ) → IsRegister s → AllFit (m.Load w) 1 (b ∷ []) → any_unknown scope labels (m.Load w) 0 (Register s ∷ b ∷ []) ≡ false
+          → Ranged (m.Load w) (Register s ∷ b ∷ [])
+      by width.Byte s x h = load_place width.Byte s b x h.0
+      by width.Half s x h = load_place width.Half s b x h.0
+      by width.Word s x h = load_word s b x h.0
+      by width.ByteU s x h = load_place width.ByteU s b x h.0
+      by width.HalfU s x h = load_place width.HalfU s b x h.0
+
+  -- ---- ways
+
+  branch_range : (k : BranchKind) (a b c : Operand) → Ranges (m.Branch k) (a ∷ b ∷ c ∷ [])
+  branch_range k a b c h =
+      register_case (λ a. any_unknown scope labels (m.Branch k) 0 (a ∷ b ∷ c ∷ []) ≡ false → Ranged (m.Branch k) (a ∷ b ∷ c ∷ []))
+      (λ d x. register_case (λ b. any_unknown scope labels (m.Branch k) 0 (Register d ∷ b ∷ c ∷ []) ≡ false → Ranged (m.Branch k) (Register d ∷ b ∷ c ∷ []))
+      (λ r y. name_case (λ c. any_unknown scope labels (m.Branch k) 0 (Register d ∷ Register r ∷ c ∷ []) ≡ false → Ranged (m.Branch k) (Register d ∷ Register r ∷ c ∷ []))
+      (λ n w v. (op.Branch k d r (number_of labels n), refl, (x, y, known.label n (does_exist (exists scope labels kind.Label n) false v)))) c h.1.1.0)
+      b h.1.0)
+      a h.0
+
+  jump_range : (a : Operand) → Ranges m.Jump (a ∷ [])
+  jump_range a h =
+      name_case (λ a. any_unknown scope labels m.Jump 0 (a ∷ []) ≡ false → Ranged m.Jump (a ∷ []))
+      (λ n w v. (op.Jump (number_of labels n), refl, known.label n (does_exist (exists scope labels kind.Label n) false v))) a h.0
+
+  invoke_range : (a : Operand) → Ranges m.Invoke (a ∷ [])
+  invoke_range a h =
+      name_case (λ a. any_unknown scope labels m.Invoke 0 (a ∷ []) ≡ false → Ranged m.Invoke (a ∷ []))
+      (λ n w v. (op.Invoke (number_of scope.functions n), refl, known.function n (does_exist (exists scope labels kind.Function n) false v))) a h.0
+
+  -- ---- services
+
+  not_first : (j : ℕ) → 1 ≤ j → (if j == 0 then kind.Task else kind.Event) ≡ kind.Event
+  not_first j h = ⊎_elim (λ t. absurd (let e = t.1 in omega (arith, e, h))) (λ t. rw t.0 refl) (eqb_tells j 0)
+
+  serve_range : (s : Service) (os : List Operand) → takes (m.Serve s) (length os) ≡ true → Ranges (m.Serve s) os
+  serve_range service.TerminateTask os t h u = (_, refl, (refl, refl))
+  serve_range service.Schedule os t h u = (_, refl, (refl, refl))
+  serve_range service.GetTaskID os t h u = (_, refl, (refl, refl))
+  serve_range service.ActivateTask os t h u =
+      one_of (Ranges (m.Serve service.ActivateTask))
+      (λ a h. name_case (λ a. any_unknown scope labels (m.Serve service.ActivateTask) 0 (a ∷ []) ≡ false → Ranged (m.Serve service.ActivateTask) (a ∷ []))
+      (λ n w v. (_, refl, (known.task n (does_exist (exists scope labels kind.Task n) false v), refl))) a h.0)
+      os (eqb-true (length os) 1 t) h u
+  serve_range service.ChainTask os t h u =
+      one_of (Ranges (m.Serve service.ChainTask))
+      (λ a h. name_case (λ a. any_unknown scope labels (m.Serve service.ChainTask) 0 (a ∷ []) ≡ false → Ranged (m.Serve service.ChainTask) (a ∷ []))
+      (λ n w v. (_, refl, (known.task n (does_exist (exists scope labels kind.Task n) false v), refl))) a h.0)
+      os (eqb-true (length os) 1 t) h u
+  serve_range service.GetTaskState os t h u =
+      one_of (Ranges (m.Serve service.GetTaskState))
+      (λ a h. name_case (λ a. any_unknown scope labels (m.Serve service.GetTaskState) 0 (a ∷ []) ≡ false → Ranged (m.Serve service.GetTaskState) (a ∷ []))
+      (λ n w v. (_, refl, (known.task n (does_exist (exists scope labels kind.Task n) false v), refl))) a h.0)
+      os (eqb-true (length os) 1 t) h u
+  serve_range service.GetEvent os t h u =
+      one_of (Ranges (m.Serve service.GetEvent))
+      (λ a h. name_case (λ a. any_unknown scope labels (m.Serve service.GetEvent) 0 (a ∷ []) ≡ false → Ranged (m.Serve service.GetEvent) (a ∷ []))
+      (λ n w v. (_, refl, (known.task n (does_exist (exists scope labels kind.Task n) false v), refl))) a h.0)
+      os (eqb-true (length os) 1 t) h u
+  serve_range service.GetResource os t h u =
+      one_of (Ranges (m.Serve service.GetResource))
+      (λ a h. name_case (λ a. any_unknown scope labels (m.Serve service.GetResource) 0 (a ∷ []) ≡ false → Ranged (m.Serve service.GetResource) (a ∷ []))
+      (λ n w v. (_, refl, (known.resource n (does_exist (exists scope labels kind.Resource n) false v), refl))) a h.0)
+      os (eqb-true (length os) 1 t) h u
+  serve_range service.ReleaseResource os t h u =
+      one_of (Ranges (m.Serve service.ReleaseResource))
+      (λ a h. name_case (λ a. any_unknown scope labels (m.Serve service.ReleaseResource) 0 (a ∷ []) ≡ false → Ranged (m.Serve service.ReleaseResource) (a ∷ []))
+      (λ n w v. (_, refl, (known.resource n (does_exist (exists scope labels kind.Resource n) false v), refl))) a h.0)
+      os (eqb-true (length os) 1 t) h u
+  serve_range service.SetEvent os t h u =
+      some_two_of (Ranges (m.Serve service.SetEvent))
+      (λ a b os h. name_case (λ a. any_unknown scope labels (m.Serve service.SetEvent) 0 (a ∷ b ∷ os) ≡ false → Ranged (m.Serve service.SetEvent) (a ∷ b ∷ os))
+      (λ n w v.
+      let rest = any_unknown scope labels (m.Serve service.SetEvent) 1 (b ∷ os) in (
+        _,
+        refl,
+        (
+          known.task n (does_exist (exists scope labels kind.Task n) rest v),
+          is_mask config scope labels known.event b os
+              (all_names scope labels kind.Event (m.Serve service.SetEvent) 1 (b ∷ os) (λ j l. (refl, not_first j l)) h.1 (or_right (not (exists scope labels kind.Task n)) rest v)),
+        ),
+      ))
+      a h.0)
+      os (leb-true 2 (length os) t) h u
+  serve_range service.ClearEvent os t h u =
+      some_of (Ranges (m.Serve service.ClearEvent))
+      (λ a os h u. (_, refl, (refl, is_mask config scope labels known.event a os (all_names scope labels kind.Event (m.Serve service.ClearEvent) 0 (a ∷ os) (λ j l. (refl, refl)) h u))))
+      os (leb-true 1 (length os) t) h u
+  serve_range service.WaitEvent os t h u =
+      some_of (Ranges (m.Serve service.WaitEvent))
+      (λ a os h u. (_, refl, (refl, is_mask config scope labels known.event a os (all_names scope labels kind.Event (m.Serve service.WaitEvent) 0 (a ∷ os) (λ j l. (refl, refl)) h u))))
+      os (leb-true 1 (length os) t) h u
+
+  -- ---- all
+
+  pub ranged : (m : Mnemonic) (os : List Operand) → does m ≡ true → takes m (length os) ≡ true → HasKind m → Ranges m os
+  ranged m.Data os d t g = absurd (true≢false (sym d))
+  ranged m.Task os d t g = absurd (true≢false (sym d))
+  ranged m.Func os d t g = absurd (true≢false (sym d))
+  ranged m.End os d t g = absurd (true≢false (sym d))
+  ranged m.Label os d t g = absurd (true≢false (sym d))
+  ranged (m.Alu k) os d t g = three_of (Ranges (m.Alu k)) (alu_range k) os (eqb-true (length os) 3 t)
+  ranged (m.Imm k) os d t g = three_of (Ranges (m.Imm k)) (imm_range k g) os (eqb-true (length os) 3 t)
+  ranged (m.Shift k) os d t g = three_of (Ranges (m.Shift k)) (shift_range k g) os (eqb-true (length os) 3 t)
+  ranged m.Lui os d t g = two_of (Ranges m.Lui) lui_range os (eqb-true (length os) 2 t)
+  ranged m.Li os d t g = two_of (Ranges m.Li) li_range os (eqb-true (length os) 2 t)
+  ranged m.Move os d t g = two_of (Ranges m.Move) move_range os (eqb-true (length os) 2 t)
+  ranged m.Nop os d t g = none_of (Ranges m.Nop) (λ h u. (op.AluImm Addi 0 0 (pos 0), refl, (inl refl, inl refl, omega arith))) os (eqb-true (length os) 0 t)
+  ranged (m.Load w) os d t g = two_of (Ranges (m.Load w)) (load_range w) os (eqb-true (length os) 2 t)
+  ranged (m.Store w) os d t g = two_of (Ranges (m.Store w)) (store_range w g) os (eqb-true (length os) 2 t)
+  ranged (m.Branch k) os d t g = three_of (Ranges (m.Branch k)) (branch_range k) os (eqb-true (length os) 3 t)
+  ranged m.Jump os d t g = one_of (Ranges m.Jump) jump_range os (eqb-true (length os) 1 t)
+  ranged m.Invoke os d t g = one_of (Ranges m.Invoke) invoke_range os (eqb-true (length os) 1 t)
+  ranged m.Return os d t g = none_of (Ranges m.Return) (λ h u. (op.Return, refl, tt)) os (eqb-true (length os) 0 t)
+  ranged (m.Serve s) os d t g = serve_range s os t

@@ -1,0 +1,117 @@
+-- The code of ClearEvent has its effect.
+use Rattle.std.proofs.Common.{◌≡◌, ℕ, ◌+◌, ◌-◌, ◌*◌, ◌%◌, ◌^◌, ◌<◌, List, ◌∷◌, ◌++◌, length, get_or, refl, arith, inl}
+use Rattle.std.specs.Prelude.{bit_and, bit_xor}
+use Rattle.std.specs.Int.Bits.{xor_add_and}
+use Rattle.std.proofs.lemmas.Nat.{and_mask}
+use Rattle.sloth_base.specs.Machine.{Core}
+use Rattle.sloth_base.specs.Status.{E_OK}
+use Rattle.sloth_region.specs.Layout.{cur, events, words_high}
+use Rattle.rv32_instr.specs.declared.InstrKind.{InstrKind}
+use Rattle.rv32_instr.specs.declared.InstrKind.TheVariants.{Lui}
+use Rattle.rv32_instr.specs.Ram.{word_at}
+use Rattle.rv32_routine.specs.Place.{at}
+use Rattle.rv32_routine.specs.Masked.{FromOpening}
+use Rattle.rv32_routine.specs.Kernel.{masking}
+use Rattle.rv32_routine.specs.Owes.{Owes}
+use Rattle.rv32_routine.proofs.Spread.{spread}
+use Rattle.rv32_routine.proofs.Whole.{masked}
+use Rattle.service_gen.proofs.Returning.{answered}
+use Rattle.service_gen.proofs.Serving.{opens}
+use Rattle.service_gen.specs.Pieces.{back}
+use Rattle.event_gen.specs.Pieces.{finds_own, clears_own}
+use Rattle.event_gen.specs.ClearEvent.{MayClear, EventsCleared, ClearsEvents, cleared_ram}
+
+abbrev pub body : List InstrKind
+body = Lui 4 words_high ∷ (finds_own ++ (clears_own ++ back))
+
+-- the word of all bits that a mask does not have
+others_of : (mask : ℕ) → mask < 2 ^ 32 → bit_xor mask 4294967295 ≡ 4294967295 - mask
+others_of mask small =
+    let sum = xor_add_and mask 4294967295 in
+    let both : bit_and mask 4294967295 ≡ mask % 2 ^ 32 = and_mask mask 32 in
+    omega (arith, sum, both)
+
+module _ (offset task : ℕ) (c : Core) (h : MayClear offset task (masking ∷ body) c) where
+  abbrev mask : ℕ
+  mask = get_or c.registers 30 0
+
+  body_owes : Owes offset (offset + 4 + 60) (offset + 4) body 0 (EventsCleared task) (at offset (spread c)) (masked (spread c))
+  body_owes =
+      let small = h.is_task in
+      let level = h.level in
+      let low = h.goes_back.can_run.behind in
+      let word = word_at c.ram (events task) in (
+        0x8000_0000,
+        refl,
+        (
+          cur,
+          record { is = refl; aligned = refl; inside = omega arith },
+          task + 1,
+          h.runs,
+          (
+            8 * (task + 1),
+            omega arith,
+            (
+              4 * (task + 1),
+              omega arith,
+              (
+                12 * (task + 1),
+                omega arith,
+                (
+                  0x8000_0000 + 12 * (task + 1),
+                  omega arith,
+                  (
+                    4294967295 - mask,
+                    others_of mask h.is_word,
+                    (
+                      events task,
+                      record { is = omega arith; aligned = omega arith; inside = omega arith },
+                      word,
+                      refl,
+                      (
+                        bit_and word (4294967295 - mask),
+                        refl,
+                        (
+                          events task,
+                          record { is = omega arith; aligned = omega arith; inside = omega arith },
+                          inl (omega arith),
+                          (
+                            E_OK,
+                            refl,
+                            (
+                              c.ilevel,
+                              refl,
+                              refl,
+                              (
+                                c.plevel,
+                                refl,
+                                refl,
+                                (
+                                  c.mepc,
+                                  refl,
+                                  refl,
+                                  record {
+                                    touches = refl;
+                                    status = refl;
+                                    back = answered offset (masking ∷ body) c h.goes_back (4294967295 - mask) c.ilevel c.ilevel E_OK c.pending c.pending (cleared_ram c.ram task mask) (omega arith);
+                                  },
+                                ),
+                              ),
+                            ),
+                          ),
+                        ),
+                      ),
+                    ),
+                  ),
+                ),
+              ),
+            ),
+          ),
+        ),
+      )
+
+  runs_it : FromOpening 15 (at offset c) (EventsCleared task)
+  runs_it = opens offset 15 body c (EventsCleared task) h.goes_back.can_run (omega arith) body_owes
+
+pub clears : ClearsEvents (masking ∷ body)
+clears = record { size = (let n : length (masking ∷ body) ≡ 16 = refl in omega arith); masks = (body, refl); runs = λ offset task core h. runs_it offset task core h }

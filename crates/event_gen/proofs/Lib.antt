@@ -1,0 +1,4 @@
+pub mod Clearing
+pub mod Getting
+pub mod Setting
+pub mod Waiting

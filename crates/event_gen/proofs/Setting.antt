@@ -1,0 +1,271 @@
+-- The code of SetEvent has its effect.
+use Rattle.std.proofs.Common.{◌≡◌, ℕ, ◌+◌, ◌<◌, ◌≤◌, ◌⊎◌, List, ◌∷◌, ◌++◌, length, get_or, refl, ap, arith, inl, inr, ⊎_elim}
+use Rattle.std.specs.Prelude.{false, set, bit_and, bit_or, bit_xor, eqb}
+use Rattle.std.proofs.lemmas.Bool.{eq-eqb, cases_eq, ne_eqb}
+use Rattle.sloth_base.specs.Machine.{Core, State}
+use Rattle.sloth_base.specs.Arrive.{arrive}
+use Rattle.sloth_base.specs.Status.{E_OK, E_OS_STATE}
+use Rattle.sloth_region.specs.Layout.{active, events, wait, words_high, controller_base}
+use Rattle.rv32_instr.specs.declared.InstrKind.{InstrKind}
+use Rattle.rv32_instr.specs.declared.InstrKind.TheVariants.{Lui}
+use Rattle.rv32_instr.specs.Ram.{word_at, with_word}
+use Rattle.rv32_routine.specs.Place.{at}
+use Rattle.rv32_routine.specs.Masked.{FromOpening}
+use Rattle.rv32_routine.specs.Kernel.{masking}
+use Rattle.rv32_routine.specs.Owes.{Owes, Pending, Enabled}
+use Rattle.rv32_routine.proofs.Words.{word_at-other}
+use Rattle.rv32_routine.proofs.Spread.{spread, spread_from}
+use Rattle.rv32_routine.proofs.Whole.{masked}
+use Rattle.rv32_routine.proofs.Leave.{behind}
+use Rattle.service_gen.proofs.Returning.{answered}
+use Rattle.service_gen.proofs.Busy.{bit_arrives, busy_of, busies}
+use Rattle.service_gen.proofs.Chaining.{lands}
+use Rattle.service_gen.proofs.Serving.{opens}
+use Rattle.service_gen.specs.Back.{CanGoBack}
+use Rattle.service_gen.specs.Pieces.{busy, raises, back}
+use Rattle.event_gen.specs.Pieces.{refuses, adds_events, asks_awaited, enables}
+use Rattle.event_gen.specs.SetEvent.{MaySet, EventsSet, SetsEvents, with_mask}
+
+abbrev pub body : ℕ → List InstrKind
+body task = Lui 4 words_high ∷ (busy task 3 1 ++ (refuses 11 ++ (adds_events task ++ (asks_awaited task ++ (raises task ++ (enables task ++ back))))))
+
+module _ (offset task : ℕ) (c : Core) (h : MaySet offset task (masking ∷ body task) c) where
+  abbrev st : List ℕ → State
+  st p = at offset (record (spread c) { pending = p })
+
+  abbrev x2 : ℕ
+  x2 = get_or c.registers 2 0
+
+  abbrev tail : List ℕ
+  tail = spread_from 27 5 c.registers
+
+  abbrev word : ℕ
+  word = word_at c.ram (active task)
+
+  abbrev grown : ℕ
+  grown = with_mask task c
+
+  abbrev ram : List ℕ
+  ram = with_word c.ram (events task) grown
+
+  abbrev waits_for : ℕ
+  waits_for = word_at c.ram (wait task)
+
+  -- the code can go back with another line enabled too
+  enabled_too : (e : List ℕ) → CanGoBack offset (masking ∷ body task) (record c { enabled = e })
+  enabled_too e =
+      let g = h.goes_back in
+      let r = g.can_run in
+      record {
+        can_run = record { controller = r.controller; registers = r.registers; zero = r.zero; lines = r.lines; aligned = r.aligned; behind = r.behind; inside = r.inside; placed = r.placed };
+        previous = g.previous;
+        back = g.back;
+      }
+
+  -- the look at the awaited events
+  asked_owe : (o : ℕ) (p : List ℕ) → o + 8 ≤ 0x20_0000 → (((word ≡ 0) × (get_or p task 0 ≡ 0) × (get_or c.enabled task 0 ≡ 1)) → ⊥) → Owes offset (offset + 4 + 100) o (asks_awaited task ++ (raises task ++ (enables task ++ back))) 0 (λ u. EventsSet task (task ∷ u)) (st p) (record (masked (spread c)) { registers = 0 ∷ word ∷ x2 ∷ grown ∷ 0x8000_0000 ∷ set tail 5 E_OK; pending = p; ram = ram })
+  asked_owe o p small not_suspended =
+      let few = h.is_task in
+      let line : task < 32 = omega arith in
+      let level = h.level in
+      let v = bit_and grown waits_for in (
+        wait task,
+        record { is = omega arith; aligned = omega arith; inside = omega arith },
+        waits_for,
+        word_at-other c.ram (events task) grown (wait task) (inr (omega arith)),
+        (
+          v,
+          refl,
+          record {
+            passed = 4;
+            lands = lands (o + 4 + 4) 20 4 (omega arith) (omega arith) refl;
+            when_taken = λ t. ⊎_elim
+                (λ none. (
+                  c.ilevel,
+                  refl,
+                  refl,
+                  (
+                    c.plevel,
+                    refl,
+                    refl,
+                    (
+                      c.mepc,
+                      refl,
+                      refl,
+                      record {
+                        touches = refl;
+                        done = inr (inl (record {
+                          not_suspended = not_suspended;
+                          none_awaited = none;
+                          status = refl;
+                          back = answered offset (masking ∷ body task) c h.goes_back waits_for c.ilevel c.ilevel E_OK p p ram (omega arith);
+                        }));
+                      },
+                    ),
+                  ),
+                ))
+                (λ some. let f = ne_eqb v 0 some in absurd (cc))
+                (cases_eq v 0);
+            when_not = λ n. ⊎_elim
+                (λ none. absurd (n (eq-eqb v 0 none)))
+                (λ some. (
+                  controller_base,
+                  refl,
+                  (
+                    1,
+                    refl,
+                    (
+                      Pending task,
+                      (omega arith, line),
+                      inl (
+                        (λ z. absurd (cc)),
+                        (
+                          Enabled task,
+                          (omega arith, line),
+                          (
+                            c.ilevel,
+                            refl,
+                            refl,
+                            (
+                              c.plevel,
+                              refl,
+                              refl,
+                              (
+                                c.mepc,
+                                refl,
+                                refl,
+                                record {
+                                  touches = refl;
+                                  done = inr (inr (record {
+                                    not_suspended = not_suspended;
+                                    one_awaited = some;
+                                    status = refl;
+                                    back =
+                                        let w = answered offset (masking ∷ body task) (record c { enabled = set c.enabled task 1 }) (enabled_too (set c.enabled task 1)) controller_base c.ilevel c.ilevel E_OK p (set p task 1) ram (omega arith) in
+                                        record { left = w.left; pc = w.pc; x2 = w.x2; kept = w.kept };
+                                  }));
+                                },
+                              ),
+                            ),
+                          ),
+                        ),
+                      ),
+                    ),
+                  ),
+                ))
+                (cases_eq v 0);
+          },
+        ),
+      )
+
+  -- behind the look at the task, which found v
+  looked_owe : (o : ℕ) (p : List ℕ) (v : ℕ) → o + 40 ≤ 0x20_0000 → (((word ≡ 0) × (get_or p task 0 ≡ 0) × (get_or c.enabled task 0 ≡ 1)) × (v ≡ 0)) ⊎ ((((word ≡ 0) × (get_or p task 0 ≡ 0) × (get_or c.enabled task 0 ≡ 1)) → ⊥) × (v ≡ 1)) → Owes offset (offset + 4 + 100) o (refuses 11 ++ (adds_events task ++ (asks_awaited task ++ (raises task ++ (enables task ++ back))))) 0 (λ u. EventsSet task (task ∷ u)) (st p) (record (masked (spread c)) { registers = 0 ∷ word ∷ x2 ∷ v ∷ 0x8000_0000 ∷ tail; pending = p })
+  looked_owe o p v small found =
+      let few = h.is_task in
+      let low = h.goes_back.can_run.behind in
+      let level = h.level in (
+        E_OS_STATE,
+        refl,
+        record {
+          passed = 11;
+          lands = lands (o + 4) 48 11 (omega arith) (omega arith) refl;
+          when_taken = λ t. ⊎_elim
+              (λ s. (
+                c.ilevel,
+                refl,
+                refl,
+                (
+                  c.plevel,
+                  refl,
+                  refl,
+                  (
+                    c.mepc,
+                    refl,
+                    refl,
+                    record {
+                      touches = refl;
+                      done = inl (record {
+                        suspended = s.0;
+                        status = refl;
+                        back = answered offset (masking ∷ body task) c h.goes_back word c.ilevel c.ilevel E_OS_STATE p p c.ram (omega arith);
+                      });
+                    },
+                  ),
+                ),
+              ))
+              (λ s. let f : eqb v 0 ≡ false = ap (λ x. eqb x 0) s.1 in absurd (cc))
+              found;
+          when_not = λ n. ⊎_elim
+              (λ s. absurd (n (eq-eqb v 0 s.1)))
+              (λ s. (
+                E_OK,
+                refl,
+                (
+                  events task,
+                  record { is = omega arith; aligned = omega arith; inside = omega arith },
+                  word_at c.ram (events task),
+                  refl,
+                  (
+                    grown,
+                    refl,
+                    (
+                      events task,
+                      record { is = omega arith; aligned = omega arith; inside = omega arith },
+                      inl (omega arith),
+                      asked_owe (behind 6 o) p (omega arith) s.0,
+                    ),
+                  ),
+                ),
+              ))
+              found;
+        },
+      )
+
+  body_owes : Owes offset (offset + 4 + 100) (offset + 4) (body task) 0 (EventsSet task) (at offset (spread c)) (masked (spread c))
+  body_owes =
+      let small = h.is_task in
+      let line : task < 32 = omega arith in
+      let long = h.goes_back.can_run.lines in
+      let fits = h.goes_back.can_run.inside in
+      let e = get_or c.enabled task 0 in (
+        0x8000_0000,
+        refl,
+        (
+          controller_base,
+          refl,
+          (
+            Enabled task,
+            (omega arith, line),
+            (
+              bit_xor e 1,
+              refl,
+              (
+                Pending task,
+                (omega arith, line),
+                λ lines only. (
+                  bit_or (bit_xor e 1) (get_or (arrive lines c.pending) task 0),
+                  refl,
+                  (
+                    active task,
+                    record { is = omega arith; aligned = omega arith; inside = omega arith },
+                    word,
+                    refl,
+                    (
+                      busy_of e (get_or (arrive lines c.pending) task 0) word,
+                      refl,
+                      looked_owe (behind 8 (offset + 4)) (arrive lines c.pending) (busy_of e (get_or (arrive lines c.pending) task 0) word) (omega arith)
+                          (busies e (get_or (arrive lines c.pending) task 0) word h.enabled_bit (bit_arrives lines c.pending task (omega arith) h.pending_bit) h.active_bit),
+                    ),
+                  ),
+                ),
+              ),
+            ),
+          ),
+        ),
+      )
+
+  runs_it : FromOpening 25 (at offset c) (EventsSet task)
+  runs_it = opens offset 25 (body task) c (EventsSet task) h.goes_back.can_run (omega arith) body_owes
+
+pub sets : (task : ℕ) → SetsEvents task (masking ∷ body task)
+sets task = record { size = (let n : length (masking ∷ body task) ≡ 26 = refl in omega arith); masks = (body task, refl); runs = λ offset core h. runs_it offset task core h }

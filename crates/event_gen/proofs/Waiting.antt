@@ -1,0 +1,315 @@
+-- The code of WaitEvent has its effect.
+use Rattle.std.proofs.Common.{◌≡◌, ℕ, ◌+◌, ◌*◌, ◌%◌, ◌<◌, ◌≤◌, ◌⊎◌, List, ◌∷◌, ◌++◌, length, get_or, refl, sym, ap, ◌∙◌, subst, arith, inl, inr, ⊎_elim}
+use Rattle.std.specs.Prelude.{set, pos, neg_ℤ}
+use Rattle.std.proofs.lemmas.Bool.{eq-eqb, cases_eq, ne_eqb}
+use Rattle.sloth_base.specs.Machine.{Core, State}
+use Rattle.sloth_base.specs.Arithmetic.{plus}
+use Rattle.sloth_base.specs.Status.{E_OK}
+use Rattle.sloth_region.specs.Layout.{cur, active, events, wait, resume, below_word, idle_context, context_bytes, context_level, context_cur, context_below, words_high, controller_base}
+use Rattle.rv32_instr.specs.declared.InstrKind.{InstrKind}
+use Rattle.rv32_instr.specs.declared.InstrKind.TheVariants.{Lui, Addi}
+use Rattle.rv32_instr.specs.Ram.{word_at, with_word, with_words}
+use Rattle.rv32_routine.specs.Place.{at}
+use Rattle.rv32_routine.specs.Masked.{FromOpening}
+use Rattle.rv32_routine.specs.Pieces.{saves, registers_from}
+use Rattle.rv32_routine.specs.Kernel.{IsBelow, HasLeft, leave, masking}
+use Rattle.rv32_routine.specs.Owes.{IsApart, Owes, Enabled}
+use Rattle.rv32_routine.proofs.Words.{word_at-other, word_at-others}
+use Rattle.rv32_routine.proofs.Spread.{spread, spread_from}
+use Rattle.rv32_routine.proofs.Runs.{saves_owes}
+use Rattle.rv32_routine.proofs.Whole.{masked}
+use Rattle.rv32_routine.proofs.Leave.{leave_owes, behind}
+use Rattle.service_gen.proofs.Returning.{answered}
+use Rattle.service_gen.proofs.Chaining.{lands}
+use Rattle.service_gen.proofs.Serving.{opens}
+use Rattle.service_gen.specs.Pieces.{back}
+use Rattle.event_gen.specs.Pieces.{finds_own, asks_set, answers_set, goes_to_rest, keeps, disables}
+use Rattle.event_gen.specs.WaitEvent.{MayWait, Waited, HasWaited, Waits, set_of, rested_ram, kept_ram}
+
+-- the registers are saved before this code
+abbrev saved_first : List InstrKind → List InstrKind
+saved_first rest = Addi 1 2 (neg_ℤ (pos context_bytes)) ∷ (saves 27 5 1 ++ rest)
+
+abbrev pub body : List InstrKind
+body = Lui 4 words_high ∷ (finds_own ++ (asks_set ++ (answers_set ++ (back ++ (goes_to_rest ++ saved_first (keeps ++ (disables ++ leave)))))))
+
+module _ (offset task place own : ℕ) (c : Core) (h : MayWait offset task place own (masking ∷ body) c) where
+  abbrev st : State
+  st = at offset (spread c)
+
+  abbrev sp : ℕ
+  sp = get_or c.registers 2 0
+
+  abbrev at_own : ℕ
+  at_own = 0x8000_0000 + own
+
+  abbrev tail : List ℕ
+  tail = spread_from 27 5 c.registers
+
+  abbrev found : ℕ
+  found = set_of task c
+
+  abbrev ram : List ℕ
+  ram = kept_ram (spread c) task own
+
+  low : 1024 ≤ offset
+  low = h.goes_back.can_run.behind
+
+  abbrev end : ℕ
+  end = offset + 4 + 360
+
+  apart_by : (k : ℕ) → own ≤ k → k + 4 ≤ own + context_bytes → IsApart offset end k
+  apart_by k l f = let a = h.code_apart in grind (arith, a)
+
+  own_apart : (own + 4 * (5 + 27) ≤ offset) ⊎ (end ≤ own)
+  own_apart = let a = h.code_apart in grind (arith, a)
+
+  own_fits : own + 4 * (5 + 27) ≤ 0x20_0000
+  own_fits = let f = h.inside in omega arith
+
+  own_is : plus sp (neg_ℤ (pos context_bytes)) ≡ at_own
+  own_is = let e = h.x2 in let f = h.inside in omega arith
+
+  -- what stands apart from all that is stored before the task leaves
+  kept : (p : ℕ) → below_word ≤ p → (p + 4 ≤ 632) ⊎ ((idle_context ≤ p) × ((p + 4 ≤ own) ⊎ (own + context_bytes ≤ p))) → word_at ram p ≡ word_at c.ram p
+  kept p past far =
+      let small = h.is_task in
+      let over = h.behind in
+      let ws = registers_from 27 5 (spread c).registers in
+      let r2 = rested_ram (spread c) task in
+      let r3 = with_words r2 (own + 4 * 5) ws in
+      let r4 = with_word r3 own (get_or c.registers 31 0) in
+      word_at-other r4 (resume task) at_own p (grind (arith, far))
+      ∙ word_at-other r3 own (get_or c.registers 31 0) p (grind (arith, far))
+      ∙ word_at-others ws r2 (own + 4 * 5) p (grind (arith, far))
+      ∙ word_at-other (with_word c.ram (active task) 0) (wait task) (get_or c.registers 30 0) p (inr (omega arith))
+      ∙ word_at-other c.ram (active task) 0 p (inr (omega arith))
+
+  -- the context of what runs below stands as it was
+  kept_below : (k : ℕ) → k + 4 ≤ context_bytes → word_at ram (place + k) ≡ word_at c.ram (place + k)
+  kept_below k within =
+      let past = h.below.behind in
+      let a = h.apart in
+      kept (place + k) (omega arith) (inr (omega arith, grind (arith, a)))
+
+  abbrev d : Core
+  d = record (masked (spread c)) { enabled = set c.enabled task 0; ram = ram }
+
+  zero_more : place + 0 ≡ place
+  zero_more = omega arith
+
+  kept_place : word_at ram place ≡ word_at c.ram place
+  kept_place = subst (λ p. word_at ram p ≡ word_at c.ram p) zero_more (kept_below 0 (omega arith))
+
+  still_below : IsBelow place d
+  still_below =
+      let b = h.below in
+      record {
+        is = kept below_word (omega arith) (inl (omega arith)) ∙ b.is;
+        aligned = b.aligned;
+        behind = b.behind;
+        inside = b.inside;
+        returns = ap (λ w. w % 4) kept_place ∙ b.returns;
+        level = subst (λ w. w < 256) (sym (kept_below context_level (omega arith))) b.level;
+      }
+
+  has_waited : (last : State) → found ≡ 0 → HasLeft place d last → HasWaited task place own st last
+  has_waited last none has_left =
+      let l = has_left.left in
+      let at_cur = kept_below context_cur (omega arith) in
+      let at_below = kept_below context_below (omega arith) in
+      record {
+        none_set = none;
+        left = record {
+          zero = l.zero;
+          registers = l.registers;
+          opened = l.opened;
+          previous = l.previous;
+          running = l.running ∙ kept_below context_level (omega arith);
+          pending = l.pending;
+          enabled = l.enabled;
+          levels = l.levels;
+          ram =
+              l.ram
+              ∙ ap (λ w. with_word (with_word ram cur w) below_word (word_at ram (place + context_below))) at_cur
+              ∙ ap (λ w. with_word (with_word ram cur (word_at c.ram (place + context_cur))) below_word w) at_below;
+          scratch = l.scratch;
+          controller = l.controller;
+        };
+        pc = has_left.pc ∙ kept_place;
+        x2 = has_left.x2;
+        loaded = λ i from upto. has_left.loaded i from upto ∙ kept_below (4 * i) (omega arith);
+      }
+
+  -- behind the saved registers
+  kept_owe : (o : ℕ) → found ≡ 0 → Owes offset end o (keeps ++ (disables ++ leave)) 0 (Waited task place own) st (record (masked (spread c)) { registers = 0 ∷ at_own ∷ sp ∷ (0x8000_0000 + 12 * (task + 1)) ∷ 0x8000_0000 ∷ tail; ram = with_words (rested_ram (spread c) task) (own + 4 * 5) (registers_from 27 5 (spread c).registers) })
+  kept_owe o none =
+      let small = h.is_task in
+      let al = h.aligned in
+      let over = h.behind in
+      let fits = h.inside in
+      let under = low in
+      let ws = registers_from 27 5 (spread c).registers in
+      let r2 = rested_ram (spread c) task in
+      let r3 = with_words r2 (own + 4 * 5) ws in
+      let runs_on : word_at (with_word r3 own (get_or c.registers 31 0)) cur ≡ task + 1 =
+      word_at-other r3 own (get_or c.registers 31 0) cur (inl (omega arith))
+      ∙ word_at-others ws r2 (own + 4 * 5) cur (inl (omega arith))
+      ∙ word_at-other (with_word c.ram (active task) 0) (wait task) (get_or c.registers 30 0) cur (inl (omega arith))
+      ∙ word_at-other c.ram (active task) 0 cur (inl (omega arith))
+      ∙ h.runs
+      in (
+        own,
+        record { is = omega arith; aligned = al; inside = omega arith },
+        apart_by own (omega arith) (omega arith),
+        (
+          cur,
+          record { is = refl; aligned = refl; inside = omega arith },
+          task + 1,
+          runs_on,
+          (
+            4 * (task + 1),
+            omega arith,
+            (
+              0x8000_0000 + 4 * (task + 1),
+              omega arith,
+              (
+                resume task,
+                record { is = omega arith; aligned = omega arith; inside = omega arith },
+                inl (omega arith),
+                (
+                  controller_base,
+                  refl,
+                  (
+                    controller_base + (task + 1),
+                    omega arith,
+                    (
+                      Enabled task,
+                      (omega arith, omega arith),
+                      leave_owes offset end (Waited task place own) st place d at_own sp (task + 1) (set tail 25 (controller_base + (task + 1))) refl refl h.goes_back.previous still_below low (behind 8 o)
+                          (λ last left. record { touches = refl; done = inr (has_waited last none left) }),
+                    ),
+                  ),
+                ),
+              ),
+            ),
+          ),
+        ),
+      )
+
+  -- the registers are saved; whatever stands behind
+  saved_owe : (rest : List InstrKind) (E : List ℕ → State → State → Type 0) (o x1 x3 : ℕ) (before : List ℕ) → Owes offset end (behind 1 o + 108) rest 0 E st (record (masked (spread c)) { registers = 0 ∷ at_own ∷ sp ∷ x3 ∷ 0x8000_0000 ∷ tail; ram = with_words before (own + 4 * 5) (registers_from 27 5 (spread c).registers) }) → Owes offset end o (saved_first rest) 0 E st (record (masked (spread c)) { registers = 0 ∷ x1 ∷ sp ∷ x3 ∷ 0x8000_0000 ∷ tail; ram = before })
+  saved_owe rest E o x1 x3 before go = (
+    at_own,
+    own_is,
+    saves_owes offset end E st rest own h.aligned 27 5 1 (behind 1 o) (behind 1 o + 108) (record (masked (spread c)) { registers = 0 ∷ at_own ∷ sp ∷ x3 ∷ 0x8000_0000 ∷ tail; ram = before }) refl refl own_fits own_apart go,
+  )
+
+  -- the task goes to rest; whatever stands behind
+  rested_owe : (rest : List InstrKind) (E : List ℕ → State → State → Type 0) (o : ℕ) → Owes offset end (behind 2 o) rest 0 E st (record (masked (spread c)) { registers = 0 ∷ found ∷ sp ∷ (0x8000_0000 + 12 * (task + 1)) ∷ 0x8000_0000 ∷ tail; ram = rested_ram (spread c) task }) → Owes offset end o (goes_to_rest ++ rest) 0 E st (record (masked (spread c)) { registers = 0 ∷ found ∷ sp ∷ (0x8000_0000 + 12 * (task + 1)) ∷ 0x8000_0000 ∷ tail })
+  rested_owe rest E o go =
+      let small = h.is_task in
+      let under = low in (
+        active task,
+        record { is = omega arith; aligned = omega arith; inside = omega arith },
+        inl (omega arith),
+        (
+          wait task,
+          record { is = omega arith; aligned = omega arith; inside = omega arith },
+          inl (omega arith),
+          go,
+        ),
+      )
+
+  -- the look at the events; whatever stands behind the way back
+  looked_owe : (rest : List InstrKind) → (found ≡ 0 → Owes offset end (behind 14 (offset + 4)) rest 0 (Waited task place own) st (record (masked (spread c)) { registers = 0 ∷ found ∷ sp ∷ (0x8000_0000 + 12 * (task + 1)) ∷ 0x8000_0000 ∷ tail })) → Owes offset end (offset + 4) (Lui 4 words_high ∷ (finds_own ++ (asks_set ++ (answers_set ++ (back ++ rest))))) 0 (Waited task place own) st (masked (spread c))
+  looked_owe rest go =
+      let small = h.is_task in
+      let level = h.level in
+      let fits = h.goes_back.can_run.inside in (
+        0x8000_0000,
+        refl,
+        (
+          cur,
+          record { is = refl; aligned = refl; inside = omega arith },
+          task + 1,
+          h.runs,
+          (
+            8 * (task + 1),
+            omega arith,
+            (
+              4 * (task + 1),
+              omega arith,
+              (
+                12 * (task + 1),
+                omega arith,
+                (
+                  0x8000_0000 + 12 * (task + 1),
+                  omega arith,
+                  (
+                    events task,
+                    record { is = omega arith; aligned = omega arith; inside = omega arith },
+                    word_at c.ram (events task),
+                    refl,
+                    (
+                      found,
+                      refl,
+                      record {
+                        passed = 5;
+                        lands = lands (behind 8 (offset + 4)) 24 5 (omega arith) (omega arith) refl;
+                        when_taken = λ t. ⊎_elim
+                            (λ none. go none)
+                            (λ some. let f = ne_eqb found 0 some in absurd (cc))
+                            (cases_eq found 0);
+                        when_not = λ n. ⊎_elim
+                            (λ none. absurd (n (eq-eqb found 0 none)))
+                            (λ some. (
+                              E_OK,
+                              refl,
+                              (
+                                c.ilevel,
+                                refl,
+                                refl,
+                                (
+                                  c.plevel,
+                                  refl,
+                                  refl,
+                                  (
+                                    c.mepc,
+                                    refl,
+                                    refl,
+                                    record {
+                                      touches = refl;
+                                      done = inl (record {
+                                        one_set = some;
+                                        status = refl;
+                                        back = answered offset (masking ∷ body) c h.goes_back found c.ilevel c.ilevel E_OK c.pending c.pending c.ram (omega arith);
+                                      });
+                                    },
+                                  ),
+                                ),
+                              ),
+                            ))
+                            (cases_eq found 0);
+                      },
+                    ),
+                  ),
+                ),
+              ),
+            ),
+          ),
+        ),
+      )
+
+  body_owes : Owes offset end (offset + 4) body 0 (Waited task place own) st (masked (spread c))
+  body_owes =
+      looked_owe (goes_to_rest ++ saved_first (keeps ++ (disables ++ leave)))
+      (λ none. rested_owe (saved_first (keeps ++ (disables ++ leave))) (Waited task place own) (behind 14 (offset + 4))
+      (saved_owe (keeps ++ (disables ++ leave)) (Waited task place own) (behind 2 (behind 14 (offset + 4))) found (0x8000_0000 + 12 * (task + 1)) (rested_ram (spread c) task)
+      (kept_owe (behind 3 (behind 14 (offset + 4)) + 108) none)))
+
+  runs_it : FromOpening 90 (at offset c) (Waited task place own)
+  runs_it = opens offset 90 body c (Waited task place own) h.goes_back.can_run (omega arith) body_owes
+
+pub waits : Waits (masking ∷ body)
+waits = record { size = (let n : length (masking ∷ body) ≡ 91 = refl in omega arith); masks = (body, refl); runs = λ offset task place own core h. runs_it offset task place own core h }

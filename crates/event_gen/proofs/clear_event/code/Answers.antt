@@ -1,0 +1,12 @@
+use Rattle.std.proofs.Common.{◌≡◌, ◌∷◌, sym, subst}
+use Rattle.rv32_routine.specs.Kernel.{masking}
+use Rattle.event_gen.specs.ClearEvent.{ClearsEvents}
+use Rattle.event_gen.proofs.Clearing.{body, clears}
+use Rattle.event_gen.proofs.clear_event.code.Goals as goal
+
+pub returns : goal.returns
+returns c =
+    let e : c.go_back.new.code.items ≡ masking ∷ body =
+    rw (c.in_ok-go_back.ensures, c.in_ok-clear_own.ensures, c.in_ok-find_own.ensures, c.in_ok-open.ensures, c.new-code.ensures.items)
+    in
+    subst ClearsEvents (sym e) clears

@@ -1,0 +1,12 @@
+use Rattle.std.proofs.Common.{◌≡◌, ◌∷◌, sym, subst}
+use Rattle.rv32_routine.specs.Kernel.{masking}
+use Rattle.event_gen.specs.GetEvent.{TellsEvents}
+use Rattle.event_gen.proofs.Getting.{body, tells}
+use Rattle.event_gen.proofs.get_event.code.Goals as goal
+
+pub returns : goal.returns
+returns c =
+    let e : c.go_back.new.code.items ≡ masking ∷ body c.args.task =
+    rw (c.in_ok-go_back.ensures, c.in_ok-tell.ensures, c.in_ok-refuse.ensures, c.in_ok-look_at.ensures, c.in_ok-open.ensures, c.new-code.ensures.items)
+    in
+    subst (TellsEvents c.args.task) (sym e) (tells c.args.task)

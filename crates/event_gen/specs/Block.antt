@@ -1,0 +1,25 @@
+-- Blocks of services on events.
+use Rattle.std.specs.Prelude.{ℕ, ◌≡◌, ◌<◌, List}
+use Rattle.sloth_base.specs.declared.service.Service.{Service}
+use Rattle.sloth_base.specs.declared.service.Service.TheVariants.{SetEvent, ClearEvent, GetEvent, WaitEvent}
+use Rattle.rv32_instr.specs.declared.InstrKind.{InstrKind}
+use Rattle.event_gen.specs.SetEvent.{SetsEvents}
+use Rattle.event_gen.specs.ClearEvent.{ClearsEvents}
+use Rattle.event_gen.specs.GetEvent.{TellsEvents}
+use Rattle.event_gen.specs.WaitEvent.{Waits}
+
+-- the services on events; the object is a task, or 0 where there is none
+abbrev pub HasBlock : Service → ℕ → Type 0
+HasBlock SetEvent object = object < 30
+HasBlock ClearEvent object = object ≡ 0
+HasBlock GetEvent object = object < 30
+HasBlock WaitEvent object = object ≡ 0
+HasBlock service object = ⊥
+
+-- the code of a service with its object has the service's effect
+abbrev pub Serves : Service → ℕ → List InstrKind → Type 0
+Serves SetEvent object code = SetsEvents object code
+Serves ClearEvent object code = ClearsEvents code
+Serves GetEvent object code = TellsEvents object code
+Serves WaitEvent object code = Waits code
+Serves service object code = ⊥

@@ -1,0 +1,39 @@
+-- ClearEvent (OSEK OS 2.2.3, section 13.5.3.2).
+use Rattle.std.specs.Prelude.{ℕ, ◌+◌, ◌-◌, ◌^◌, ◌≡◌, ◌<◌, ◌≤◌, List, [], ◌∷◌, length, slice_index, bit_and}
+use Rattle.sloth_base.specs.Machine.{Core, State}
+use Rattle.sloth_base.specs.Status.{E_OK}
+use Rattle.sloth_region.specs.Layout.{cur, events}
+use Rattle.rv32_instr.specs.declared.InstrKind.{InstrKind}
+use Rattle.rv32_instr.specs.Ram.{word_at, with_word}
+use Rattle.rv32_routine.specs.Masked.{FromOpening}
+use Rattle.rv32_routine.specs.Place.{at}
+use Rattle.rv32_routine.specs.Kernel.{masking}
+use Rattle.service_gen.specs.Back.{CanGoBack, WentBack, a0}
+
+-- the register of the mask of a service's events
+abbrev pub mask_register : ℕ
+mask_register = 30
+
+-- the code can run, this task runs, and the mask is a word
+pub record MayClear (offset task : ℕ) (code : List InstrKind) (core : Core) : Type 0 where
+  pub goes_back : CanGoBack offset code core
+  pub level : core.ilevel < 256
+  pub runs : word_at core.ram cur ≡ task + 1
+  pub is_task : task < 30
+  pub is_word : slice_index core.registers mask_register < 2 ^ 32
+
+-- the bytes with the events of a mask taken out of the task's
+abbrev pub cleared_ram : List ℕ → ℕ → ℕ → List ℕ
+cleared_ram ram task mask = with_word ram (events task) (bit_and (word_at ram (events task)) (2 ^ 32 - 1 - mask))
+
+-- The events of the mask are not set for the running task; the status is E_OK.
+pub record EventsCleared (task : ℕ) (touched : List ℕ) (start end : State) : Type 0 where
+  pub touches : touched ≡ []
+  pub status : slice_index end.core.registers a0 ≡ E_OK
+  pub back : WentBack a0 (record start.core { ram = cleared_ram start.core.ram task (slice_index start.core.registers mask_register) }) start end
+
+-- Code of ClearEvent: its first instruction masks, and at most 15 more lead to its effect, whatever lines arrive.
+pub record ClearsEvents (code : List InstrKind) : Type 0 where
+  pub size : length code ≤ 16
+  pub masks : (rest : List InstrKind) × (code ≡ masking ∷ rest)
+  pub runs : (offset task : ℕ) (core : Core) → MayClear offset task code core → FromOpening 15 (at offset core) (EventsCleared task)

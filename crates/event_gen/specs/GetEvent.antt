@@ -1,0 +1,45 @@
+-- GetEvent (OSEK OS 2.2.3, section 13.5.3.3).
+use Rattle.std.specs.Prelude.{ℕ, ◌≡◌, ◌<◌, ◌≤◌, ◌⊎◌, List, [], ◌∷◌, length, slice_index}
+use Rattle.sloth_base.specs.Machine.{Core, State}
+use Rattle.sloth_base.specs.Status.{E_OK, E_OS_STATE}
+use Rattle.sloth_region.specs.Layout.{active, events}
+use Rattle.rv32_instr.specs.declared.InstrKind.{InstrKind}
+use Rattle.rv32_instr.specs.Ram.{word_at}
+use Rattle.rv32_routine.specs.Masked.{FromOpening}
+use Rattle.rv32_routine.specs.Place.{at}
+use Rattle.rv32_routine.specs.Kernel.{masking}
+use Rattle.service_gen.specs.Back.{CanGoBack, WentBack, a0, a1}
+use Rattle.service_gen.specs.ActivateTask.{LooksSuspended}
+
+-- the code can run, and what tells of the task are bits
+pub record MayGet (offset task : ℕ) (code : List InstrKind) (core : Core) : Type 0 where
+  pub goes_back : CanGoBack offset code core
+  pub is_task : task < 30
+  pub level : core.ilevel < 256
+  pub active_bit : word_at core.ram (active task) < 2
+  pub pending_bit : slice_index core.pending task < 2
+  pub enabled_bit : slice_index core.enabled task < 2
+
+-- The task is Suspended: the status is E_OS_STATE, and there is no answer.
+pub record HasNotTold (task : ℕ) (start end : State) : Type 0 where
+  pub suspended : LooksSuspended task start.core
+  pub status : slice_index end.core.registers a0 ≡ E_OS_STATE
+  pub back : WentBack a0 start.core start end
+
+-- It is not Suspended: a1 is its events, the status E_OK.
+pub record HasTold (task : ℕ) (start end : State) : Type 0 where
+  pub not_suspended : LooksSuspended task start.core → ⊥
+  pub status : slice_index end.core.registers a0 ≡ E_OK
+  pub answer : slice_index end.core.registers a1 ≡ word_at start.core.ram (events task)
+  pub back : WentBack a1 start.core start end
+
+-- what GetEvent does
+pub record EventsTold (task : ℕ) (touched : List ℕ) (start end : State) : Type 0 where
+  pub touches : touched ≡ task ∷ []
+  pub told : HasNotTold task start end ⊎ HasTold task start end
+
+-- Code of GetEvent: its first instruction masks, and at most 16 more lead to its effect, whatever lines arrive.
+pub record TellsEvents (task : ℕ) (code : List InstrKind) : Type 0 where
+  pub size : length code ≤ 17
+  pub masks : (rest : List InstrKind) × (code ≡ masking ∷ rest)
+  pub runs : (offset : ℕ) (core : Core) → MayGet offset task code core → FromOpening 16 (at offset core) (EventsTold task)

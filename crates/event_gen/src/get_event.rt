@@ -1,0 +1,39 @@
+//! GetEvent: the events of a task that isn't Suspended.
+ghost use Rattle.std.specs.Prelude.{◌≡◌, ◌<◌, ◌++◌, IfOk, OnOk};
+ghost use Rattle.event_gen.specs.Pieces.{tells_events};
+ghost use Rattle.event_gen.specs.GetEvent.{TellsEvents};
+
+use crate::layout::events;
+use crate::pieces::refuse;
+use rv32_instr::Instr;
+use rv32_instr::asm::{A0, A1, X1, X3, X4, ZERO, addi, lw};
+use rv32_routine::emit::emit;
+use service_gen::pieces::{go_back, look_at, open};
+use sloth_base::service::E_OK;
+use std::alloc::{AllocError, Global};
+
+/// How many instructions `tell` adds.
+const TELL: u32 = 2;
+
+/// The look at the task, its events where it isn't Suspended, and the way back.
+pub fn code(alloc: Global, task: u8) -> Result<Vec<Instr>, AllocError>
+    requires { task < 30 }
+    ensures { IfOk result (λ code. TellsEvents task code.items) }
+{
+    let mut code = Vec::new(alloc);
+    open(&mut code)?;
+    look_at(&mut code, task, X3, X1)?;
+    refuse(&mut code, TELL)?;
+    tell(&mut code, task)?;
+    go_back(&mut code)?;
+    Ok(code)
+}
+
+/// a1 := the task's events, with the status E_OK. x4 holds 0x80000000.
+fn tell(code: &mut Vec<Instr>, task: u8) -> Result<(), AllocError>
+    requires { task < 30 }
+    ensures { OnOk result (code.new.items ≡ code.old.items ++ tells_events task) }
+{
+    let told = [addi(A0, ZERO, E_OK as i32), lw(A1, X4, events(task))];
+    emit(code, &told)
+}

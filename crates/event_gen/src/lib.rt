@@ -1,0 +1,87 @@
+//! The code of the operating system services on events (OSEK OS 2.2.3, section 13.5).
+#![tactic(auto)]
+
+ghost use Rattle.std.specs.Prelude.{◌≡◌, ◌+◌, ◌*◌, ◌<◌, ◌≤◌, [], ◌∷◌, IfOk, length, slice_index};
+ghost use Rattle.sloth_base.specs.ServiceCodes.{code_of};
+ghost use Rattle.service_gen.specs.Block.{opening};
+ghost use Rattle.event_gen.specs.Block.{HasBlock, Serves};
+
+mod clear_event;
+mod get_event;
+mod layout;
+mod pieces;
+mod set_event;
+mod wait_event;
+
+use rv32_instr::{Block, Instr};
+use sloth_base::config::Config;
+use sloth_base::image::{Mark, MarkKind};
+use sloth_base::list::List;
+use sloth_base::memory::NoMemory;
+use sloth_base::places::Levels;
+use sloth_base::service::Service;
+use sloth_region::map::Map;
+use std::alloc::{AllocError, Global};
+
+/// The block of a service on events with its object, at its address in the map. Its first instruction, under an opening
+/// mark, masks interrupts.
+pub fn block(
+    alloc: Global,
+    service: Service,
+    object: u32,
+    config: &Config,
+    levels: &Levels,
+    map: &Map,
+) -> Result<Block, NoMemory>
+    requires { HasBlock service object }
+    ensures at { IfOk result (λ block. block.at ≡ slice_index map.now.places.blocks (code_of service * 40 + object)) }
+    ensures marks { IfOk result (λ block. block.marks ≡ opening block.at (code_of service) ∷ []) }
+    ensures size { IfOk result (λ block. length block.code ≤ 256) }
+    ensures effect { IfOk result (λ block. Serves service object block.code) }
+{
+    let number = service.code();
+    let at = map.places.blocks[number as usize * 40 + small(service, object) as usize];
+    let code = code(alloc, service, small(service, object))?;
+    let mark = Mark {
+        address: at,
+        kind: MarkKind::Opening,
+        a: number,
+        b: 0,
+        c: 0,
+    };
+    let marks = Vec::from_slice(alloc, &[mark])?;
+    Ok(Block {
+        at,
+        code: List::from_vec(code),
+        marks: List::from_vec(marks),
+    })
+}
+
+/// The object's number, which is below 40.
+fn small(service: Service, object: u32) -> u8
+    requires { HasBlock service object }
+    ensures is { result ≡ object }
+    ensures below { result < 40 }
+{
+    match service {
+        Service::SetEvent => object as u8,
+        Service::ClearEvent => object as u8,
+        Service::GetEvent => object as u8,
+        Service::WaitEvent => object as u8,
+        _ => unreachable!(),
+    }
+}
+
+/// The instructions.
+fn code(alloc: Global, service: Service, object: u8) -> Result<Vec<Instr>, AllocError>
+    requires { HasBlock service object }
+    ensures { IfOk result (λ code. Serves service object code.items) }
+{
+    match service {
+        Service::SetEvent => set_event::code(alloc, object),
+        Service::ClearEvent => clear_event::code(alloc),
+        Service::GetEvent => get_event::code(alloc, object),
+        Service::WaitEvent => wait_event::code(alloc),
+        _ => unreachable!(),
+    }
+}

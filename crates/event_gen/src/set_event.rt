@@ -1,0 +1,76 @@
+//! SetEvent: the events of the mask are set for a task that isn't Suspended, and it becomes Ready where it waits for one of
+//! its set events.
+ghost use Rattle.std.specs.Prelude.{◌≡◌, ◌<◌, ◌++◌, IfOk, OnOk};
+ghost use Rattle.event_gen.specs.Pieces.{adds_events, asks_awaited, enables};
+ghost use Rattle.event_gen.specs.SetEvent.{SetsEvents};
+
+use crate::layout::{events, wait};
+use crate::pieces::refuse;
+use rv32_instr::Instr;
+use rv32_instr::asm::{A0, X1, X3, X4, X30, ZERO, addi, and, beq, lw, or, sb, sw};
+use rv32_routine::emit::{emit, past};
+use service_gen::pieces::{go_back, look_at, open, raise};
+use sloth_base::service::E_OK;
+use sloth_region::layout::enabled_byte;
+use std::alloc::{AllocError, Global};
+
+/// How many instructions `add_events` adds.
+const ADD: u32 = 4;
+
+/// How many instructions `ask_awaited` adds.
+const ASK: u32 = 3;
+
+/// How many instructions raise the task's line and enable it.
+const WAKE: u32 = 4;
+
+/// The look at the task, its events, its line where one of them is awaited, and the way back.
+pub fn code(alloc: Global, task: u8) -> Result<Vec<Instr>, AllocError>
+    requires { task < 30 }
+    ensures { IfOk result (λ code. SetsEvents task code.items) }
+{
+    let mut code = Vec::new(alloc);
+    open(&mut code)?;
+    look_at(&mut code, task, X3, X1)?;
+    refuse(&mut code, ADD + ASK + WAKE)?;
+    add_events(&mut code, task)?;
+    ask_awaited(&mut code, task)?;
+    raise(&mut code, task)?;
+    enable(&mut code, task)?;
+    go_back(&mut code)?;
+    Ok(code)
+}
+
+/// Adds the events of the mask in x30 to the task's, which stay in x3, with the status E_OK. x4 holds 0x80000000.
+fn add_events(code: &mut Vec<Instr>, task: u8) -> Result<(), AllocError>
+    requires { task < 30 }
+    ensures { OnOk result (code.new.items ≡ code.old.items ++ adds_events task) }
+{
+    let added = [
+        addi(A0, ZERO, E_OK as i32),
+        lw(X3, X4, events(task)),
+        or(X3, X3, X30),
+        sw(X3, X4, events(task)),
+    ];
+    emit(code, &added)
+}
+
+/// Goes on behind what wakes the task where it waits for none of the events in x3. x4 holds 0x80000000.
+fn ask_awaited(code: &mut Vec<Instr>, task: u8) -> Result<(), AllocError>
+    requires { task < 30 }
+    ensures { OnOk result (code.new.items ≡ code.old.items ++ asks_awaited task) }
+{
+    let asked = [
+        lw(X1, X4, wait(task)),
+        and(X3, X3, X1),
+        beq(X3, ZERO, past(WAKE)),
+    ];
+    emit(code, &asked)
+}
+
+/// Enables the task's line. x1 holds the controller's address and x3 1.
+fn enable(code: &mut Vec<Instr>, task: u8) -> Result<(), AllocError>
+    requires { task < 30 }
+    ensures { OnOk result (code.new.items ≡ code.old.items ++ enables task) }
+{
+    emit(code, &[sb(X3, X1, enabled_byte(task))])
+}

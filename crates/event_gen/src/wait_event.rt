@@ -1,0 +1,104 @@
+//! WaitEvent: the running task goes on where one of the events is set; else it waits, and what runs below it goes on.
+ghost use Rattle.std.specs.Prelude.{◌≡◌, ◌++◌, IfOk, OnOk};
+ghost use Rattle.event_gen.specs.Pieces.{asks_set, answers_set, goes_to_rest, saves_own, keeps, disables};
+ghost use Rattle.event_gen.specs.WaitEvent.{Waits};
+
+use crate::pieces::find_own;
+use rv32_instr::Instr;
+use rv32_instr::asm::{
+    A0, X1, X2, X3, X4, X30, X31, ZERO, add, addi, and, beq, lui, lw, sb, slli, sw,
+};
+use rv32_routine::emit::{emit, past, save};
+use rv32_routine::pieces::leave;
+use service_gen::pieces::{BACK, OWN_ACTIVE, OWN_EVENTS, go_back, open};
+use sloth_base::service::E_OK;
+use sloth_region::layout::{CONTEXT_BYTES, CONTEXT_PC, CONTROLLER_HIGH, CUR};
+use std::alloc::{AllocError, Global};
+
+/// The events that the running task waits for, from 12 * `cur` behind the service words.
+const OWN_WAIT: i32 = 0;
+
+/// The address of its own context, from 4 * `cur` behind the service words, as `cur` is its number and 1 more.
+const OWN_RESUME: i32 = 628;
+
+/// The enable byte of its line, from `cur` behind the controller's address.
+const OWN_ENABLED: i32 = 31;
+
+/// The look at the events, and then the way back, or the rest and the way to what runs below.
+pub fn code(alloc: Global) -> Result<Vec<Instr>, AllocError>
+    ensures { IfOk result (λ code. Waits code.items) }
+{
+    let mut code = Vec::new(alloc);
+    open(&mut code)?;
+    find_own(&mut code)?;
+    ask_set(&mut code)?;
+    answer_set(&mut code)?;
+    go_back(&mut code)?;
+    go_to_rest(&mut code)?;
+    save_own(&mut code)?;
+    keep(&mut code)?;
+    disable(&mut code)?;
+    leave(&mut code)?;
+    Ok(code)
+}
+
+/// Goes on behind the way back where none of the events of the mask in x30 is set at x3.
+fn ask_set(code: &mut Vec<Instr>) -> Result<(), AllocError>
+    ensures { OnOk result (code.new.items ≡ code.old.items ++ asks_set) }
+{
+    let asked = [
+        lw(X1, X3, OWN_EVENTS),
+        and(X1, X1, X30),
+        beq(X1, ZERO, past(1 + BACK)),
+    ];
+    emit(code, &asked)
+}
+
+/// The status E_OK.
+fn answer_set(code: &mut Vec<Instr>) -> Result<(), AllocError>
+    ensures { OnOk result (code.new.items ≡ code.old.items ++ answers_set) }
+{
+    emit(code, &[addi(A0, ZERO, E_OK as i32)])
+}
+
+/// The running task, whose words are at x3, isn't Active, and waits for the events of the mask in x30.
+fn go_to_rest(code: &mut Vec<Instr>) -> Result<(), AllocError>
+    ensures { OnOk result (code.new.items ≡ code.old.items ++ goes_to_rest) }
+{
+    let rested = [sw(ZERO, X3, OWN_ACTIVE), sw(X30, X3, OWN_WAIT)];
+    emit(code, &rested)
+}
+
+/// Saves the registers in the context directly below x2.
+fn save_own(code: &mut Vec<Instr>) -> Result<(), AllocError>
+    ensures { OnOk result (code.new.items ≡ code.old.items ++ saves_own) }
+{
+    emit(code, &[addi(X1, X2, -CONTEXT_BYTES)])?;
+    save(code, 5, 32, X1)
+}
+
+/// The context at x1 is the running task's own, with the address in x31 to go on at. x4 holds 0x80000000.
+fn keep(code: &mut Vec<Instr>) -> Result<(), AllocError>
+    ensures { OnOk result (code.new.items ≡ code.old.items ++ keeps) }
+{
+    let kept = [
+        sw(X31, X1, CONTEXT_PC),
+        lw(X3, X4, CUR),
+        slli(X30, X3, 2),
+        add(X30, X30, X4),
+        sw(X1, X30, OWN_RESUME),
+    ];
+    emit(code, &kept)
+}
+
+/// The running task's line is not enabled. x3 holds `cur`.
+fn disable(code: &mut Vec<Instr>) -> Result<(), AllocError>
+    ensures { OnOk result (code.new.items ≡ code.old.items ++ disables) }
+{
+    let disabled = [
+        lui(X30, CONTROLLER_HIGH),
+        add(X30, X30, X3),
+        sb(ZERO, X30, OWN_ENABLED),
+    ];
+    emit(code, &disabled)
+}

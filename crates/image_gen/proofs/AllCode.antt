@@ -1,0 +1,325 @@
+-- All code of an image is gathered.
+use Rattle.std.proofs.Common.{◌≡◌, ◌≤◌, ◌<◌, ◌+◌, ◌*◌, ◌/◌, ◌%◌, ℕ, zero, suc, Bool, true, false, Some, List, [], ◌∷◌, ◌++◌, length, get_or, refl, sym, ap, ◌∙◌, subst, inl, inr, arith}
+use Rattle.std.specs.Prelude.{All, Contains, slice_index}
+use Rattle.std.specs.List.{AllZip}
+use Rattle.std.proofs.lemmas.List.{append_assoc, length-append}
+use Rattle.std.proofs.lemmas.Slice.Zip.{AllZip-long}
+use Rattle.std.proofs.lemmas.List.Sums.{sum-map}
+use Rattle.std.proofs.lemmas.List.Elements.{All-nil, All-cons, All-append, Contains-get_or, Contains-append_left, Contains-append_right}
+use Rattle.sloth_base.specs.ImageRange.{AreFields}
+use Rattle.sloth_base.specs.Named.{function, missing, no_item, operation}
+use Rattle.sim_image.proofs.Serving.{of_code}
+use Rattle.sloth_base.specs.ServiceCodes.{code_of, service_of, services}
+use Rattle.sloth_base.specs.declared.app.App.{App}
+use Rattle.sloth_base.specs.declared.app.Call.{Call}
+use Rattle.sloth_base.specs.declared.app.Func.{Func}
+use Rattle.sloth_base.specs.declared.app.Op.{Op}
+use Rattle.sloth_base.specs.declared.app.Op.TheVariants as op
+use Rattle.sloth_base.specs.declared.config.Config.{Config}
+use Rattle.sloth_base.specs.declared.image.Mark.{Mark}
+use Rattle.sloth_base.specs.declared.image.MarkKind.{MarkKind}
+use Rattle.sloth_base.specs.declared.image.MarkKind.TheVariants as kind
+use Rattle.sloth_base.specs.declared.places.Levels.{Levels}
+use Rattle.sloth_base.specs.declared.service.Service.{Service}
+use Rattle.sloth_base.specs.declared.service.Service.TheVariants as service
+use Rattle.sloth_region.specs.declared.map.Map.{Map}
+use Rattle.app_rules.specs.AppRange.{IsOp, IsRegister}
+use Rattle.rv32_instr.specs.declared.block.Block.{Block}
+use Rattle.rv32_expand.specs.Expansion.{block_address}
+use Rattle.rv32_expand.specs.InPlace.{IsItem, IsOfItem, item_mark, mark_kind, mark_number}
+use Rattle.rv32_expand.specs.Sizes.{items_before}
+use Rattle.service_gen.specs.Block.{opening, Serves}
+use Rattle.vector_gen.specs.Boot.{Boots}
+use Rattle.vector_gen.specs.Idle.{Idles, idle_mark}
+use Rattle.vector_gen.specs.Vectors.{AreJumps}
+use Rattle.mem_map.proofs.Bounds.{before_all}
+use Rattle.mem_map.specs.Plan.{boot_bytes, code_extents, idle_bytes}
+use Rattle.sim_image.specs.Generated.{Has, HasCode}
+use Rattle.sim_image.specs.Rooms.{FitRooms, FitsRoom}
+use Rattle.sim_image.specs.Standing.{HaveItems, IsOwnMark, MarksAreOfItems, item_block}
+use Rattle.image_gen.specs.Gathered.{MayGenerate, IsGathered, MarksInFormat}
+use Rattle.image_gen.specs.Items.{item_blocks}
+use Rattle.image_gen.specs.Prologues.{Each, IsPrologue}
+use Rattle.image_gen.specs.Services.{AreServices, IsService, wanted_from}
+use Rattle.image_gen.proofs.Counting.{Located, few_items, located, before_within, block_at, length_blocks}
+use Rattle.image_gen.proofs.Each.{zip_append}
+use Rattle.image_gen.proofs.Rooming.{none, there, plain, marked, prologues_fit, services_fit, items_fit}
+
+-- ---- services by their numbers
+
+-- a wanted one is there
+found : (R : ℕ → Block → Type 0) (n : ℕ) (wanted : List Bool) (blocks : List Block) (k : ℕ) → get_or wanted k false ≡ true → AllZip R (wanted_from n wanted) blocks
+    → (block : Block) × Contains blocks block × R (n + k) block
+found R n [] blocks zero e h = absurd cc
+found R n [] blocks (suc k) e h = absurd cc
+found R n (true ∷ wanted) [] k e h = absurd h
+found R n (true ∷ wanted) (b ∷ blocks) zero e h = let same : n ≡ n + 0 = omega arith in (b, (0, omega arith, refl), subst (λ m. R m b) same h.0)
+found R n (true ∷ wanted) (b ∷ blocks) (suc k) e h =
+    let r = found R (n + 1) wanted blocks k e h.1 in
+    let same : (n + 1) + k ≡ n + suc k = omega arith in
+    (r.0, Contains-append_right (b ∷ []) blocks r.0 r.1, subst (λ m. R m r.0) same r.2)
+found R n (false ∷ wanted) blocks zero e h = absurd cc
+found R n (false ∷ wanted) blocks (suc k) e h =
+    let r = found R (n + 1) wanted blocks k e h in
+    let same : (n + 1) + k ≡ n + suc k = omega arith in
+    (r.0, r.1, subst (λ m. R m r.0) same r.2)
+
+some_same : {X : Type 0} (x y : X) → Some x ≡ Some y → x ≡ y
+some_same x y e = cc
+
+-- what is so place by place is so at each place
+zip_at : {A B : Type 0} (R : A → B → Type 0) (xs : List A) (ys : List B) (k : ℕ) (d : A) (e : B) → AllZip R xs ys → k < length xs → R (get_or xs k d) (get_or ys k e)
+zip_at R [] ys k d e h l = absurd (omega (arith, l))
+zip_at R (x ∷ xs) [] k d e h l = absurd h
+zip_at R (x ∷ xs) (y ∷ ys) zero d e h l = h.0
+zip_at R (x ∷ xs) (y ∷ ys) (suc k) d e h l = zip_at R xs ys k d e h.1 (omega (arith, l))
+
+even_at : (xs : List ℕ) (k : ℕ) → All (λ address. address % 4 ≡ 0) xs → get_or xs k 0 % 4 ≡ 0
+even_at [] zero h = refl
+even_at [] (suc k) h = refl
+even_at (x ∷ xs) zero h = h 0 0 (omega arith)
+even_at (x ∷ xs) (suc k) h = even_at xs k (λ j d l. h (suc j) d (omega (arith, l)))
+
+-- ---- marks
+
+of_fact : (k : MarkKind) (Fact : Type 0) → Fact → IsOfItem k Fact
+of_fact kind.Item Fact f = f
+of_fact kind.Jump Fact f = f
+of_fact kind.Opening Fact f = tt
+of_fact kind.Idle Fact f = tt
+of_fact kind.Back Fact f = tt
+
+pub zip_all : {A B : Type 0} (R : A → B → Type 0) (P : B → Type 0) (xs : List A) (ys : List B) → ((x : A) (y : B) → R x y → P y) → AllZip R xs ys → All P ys
+zip_all R P [] [] f h = All-nil P
+zip_all R P [] (y ∷ ys) f h = absurd h
+zip_all R P (x ∷ xs) [] f h = absurd h
+zip_all R P (x ∷ xs) (y ∷ ys) f h = All-cons P y ys (f x y h.0) (zip_all R P xs ys f h.1)
+
+wanted_long : (n : ℕ) (wanted : List Bool) → length (wanted_from n wanted) ≤ length wanted
+wanted_long n [] = omega arith
+wanted_long n (true ∷ wanted) = let h = wanted_long (n + 1) wanted in omega (arith, h)
+wanted_long n (false ∷ wanted) = let h = wanted_long (n + 1) wanted in omega (arith, h)
+
+-- ---- the fields of marks
+
+small_register : (r : ℕ) → IsRegister r → r < 32
+small_register r (inl e) = omega (arith, e)
+small_register r (inr h) = let a = h.1 in omega (arith, a)
+
+pub small_code : (s : Service) → code_of s ≤ 11
+small_code s = let l = there services (code_of s) s (of_code s) in omega (arith, l)
+
+fields_of : (config : Config) (app : App) (f : Func) (o : Op) (functions func index : ℕ) → IsOp config app f o → func < functions → index ≤ 4095
+    → AreFields functions (mark_kind o) (mark_number o) func index
+fields_of config app f (op.Alu k rd a b) n func index h l m = (small_register rd h.0, l, m)
+fields_of config app f (op.AluImm k rd a number) n func index h l m = (small_register rd h.0, l, m)
+fields_of config app f (op.Lui rd number) n func index h l m = (small_register rd h.0, l, m)
+fields_of config app f (op.Li rd value) n func index h l m = (small_register rd h.0, l, m)
+fields_of config app f (op.FrameLoad rd word) n func index h l m = (small_register rd h.0, l, m)
+fields_of config app f (op.FrameStore rs word) n func index h l m = (small_register rs h.0, l, m)
+fields_of config app f (op.Load w rd y offset) n func index h l m = (small_register rd h.0, l, m)
+fields_of config app f (op.Store w rs y offset) n func index h l m = (small_register rs h.1, l, m)
+fields_of config app f (op.LoadAt w rd y i mask) n func index h l m = (small_register rd h.0, l, m)
+fields_of config app f (op.StoreAt w rs y i mask) n func index h l m = (small_register rs h.1, l, m)
+fields_of config app f (op.Branch k a b label) n func index h l m = (omega arith, l, m)
+fields_of config app f (op.Jump label) n func index h l m = (omega arith, l, m)
+fields_of config app f (op.Invoke callee) n func index h l m = (omega arith, l, m)
+fields_of config app f op.Return n func index h l m = (omega arith, l, m)
+fields_of config app f (op.Serve call) n func index h l m = (small_code call.service, l, m)
+
+module _ (config : Config) (app : App) (levels : Levels) (wanted : List Bool) (map : Map) (may : MayGenerate config app levels wanted map) where
+  -- those of services
+  served_format : (served : List Block) → AreServices levels map wanted served → All (MarksInFormat (length app.funcs)) served
+  served_format served serve = λ k d l.
+      let numbers : List ℕ = wanted_from 0 wanted in
+      let long = AllZip-long (IsService levels map) numbers served serve in
+      let h = zip_at (IsService levels map) numbers served k 0 d serve (omega (arith, l, long)) in
+      let b : Block = get_or served k d in
+      let P : List Mark → Type 0 = λ marks. All (λ (m : Mark). (m.address % 4 ≡ 0) × AreFields (length app.funcs) m.kind m.a m.b m.c) marks in
+      let n : ℕ = get_or numbers k 0 in
+      let code = there services (n / 40) h.service h.is in
+      let at = h.at in
+      let even = blocks_even n in
+      subst P (sym h.marks) (All-cons (λ (m : Mark). (m.address % 4 ≡ 0) × AreFields (length app.funcs) m.kind m.a m.b m.c) (opening b.at (n / 40)) []
+      (omega (arith, at, even), (omega (arith, code), refl, refl)) (All-nil (λ (m : Mark). (m.address % 4 ≡ 0) × AreFields (length app.funcs) m.kind m.a m.b m.c)))
+    where
+      blocks_even : (k : ℕ) → slice_index map.places.blocks k % 4 ≡ 0
+      blocks_even k = even_at map.places.blocks k may.planned.zones.blocks_aligned
+
+module _ (config : Config) (app : App) (levels : Levels) (wanted : List Bool) (map : Map) (may : MayGenerate config app levels wanted map)
+    (vectors boot idle : Block) (starts served own : List Block)
+    (vectors_at : vectors.at ≡ 0x8000_0400) (vectors_marks : vectors.marks ≡ []) (jumps : AreJumps 32 map.handlers vectors.code)
+    (boot_at : boot.at ≡ 0x8000_0480) (boot_marks : boot.marks ≡ []) (boots : Boots config.tasks levels.task map.idle boot.code)
+    (idle_at : idle.at ≡ map.idle) (idle_marks : idle.marks ≡ idle_mark map.idle ∷ []) (idles : Idles idle.code)
+    (count : length starts ≡ length config.tasks) (each : Each (IsPrologue config app levels map) starts)
+    (serve : AreServices levels map wanted served) (items : own ≡ item_blocks app map.places (length app.funcs)) where
+  abbrev all : List Block
+  all = vectors ∷ boot ∷ idle ∷ (starts ++ (served ++ own))
+
+  in_starts : (b : Block) → Contains starts b → Contains all b
+  in_starts b c = Contains-append_right (vectors ∷ boot ∷ idle ∷ []) (starts ++ (served ++ own)) b (Contains-append_left starts (served ++ own) b c)
+
+  in_served : (b : Block) → Contains served b → Contains all b
+  in_served b c =
+      Contains-append_right (vectors ∷ boot ∷ idle ∷ []) (starts ++ (served ++ own)) b
+      (Contains-append_right starts (served ++ own) b (Contains-append_left served own b c))
+
+  in_own : (b : Block) → Contains own b → Contains all b
+  in_own b c =
+      Contains-append_right (vectors ∷ boot ∷ idle ∷ []) (starts ++ (served ++ own)) b
+      (Contains-append_right starts (served ++ own) b (Contains-append_right served own b c))
+
+  has_service : (func item : ℕ) (call : Call) → IsItem app func item → operation app func item ≡ op.Serve call
+      → Has all (block_address map.places call.service call.object) (opening (block_address map.places call.service call.object) (code_of call.service) ∷ [])
+      (Serves call.service call.object levels)
+  has_service func item call is e =
+      let c = may.calls func item call is e in
+      let number : ℕ = code_of call.service * 40 + call.object in
+      let small = c.0 in
+      let r = found (IsService levels map) 0 wanted served number c.1 serve in
+      let same : 0 + number ≡ number = omega arith in
+      let h : IsService levels map number r.0 = subst (λ n. IsService levels map n r.0) same r.2 in
+      let code : number / 40 ≡ code_of call.service = omega (arith, small) in
+      let object : number % 40 ≡ call.object = omega (arith, small) in
+      let its : h.service ≡ call.service = some_same h.service call.service (sym h.is ∙ ap service_of code ∙ of_code call.service) in
+      let place : r.0.at ≡ block_address map.places call.service call.object = h.at in
+      let P : Service → Type 0 = λ s. Serves s (number % 40) levels r.0.code in
+      let Q : ℕ → Type 0 = λ n. Serves call.service n levels r.0.code in
+      record {
+        block = r.0;
+        among = in_served r.0 r.1;
+        at = place;
+        marks_are = h.marks ∙ ap (λ n. opening r.0.at n ∷ []) code ∙ ap (λ n. opening n (code_of call.service) ∷ []) place;
+        does = subst Q object (subst P its h.serves);
+      }
+
+  has_code : HasCode config app levels map all
+  has_code = record {
+    vectors = record { block = vectors; among = (0, omega arith, refl); at = vectors_at; marks_are = vectors_marks; does = jumps };
+    boot = record { block = boot; among = (1, omega arith, refl); at = boot_at; marks_are = boot_marks; does = boots };
+    idle = record { block = idle; among = (2, omega arith, refl); at = idle_at; marks_are = idle_marks; does = idles };
+    prologues = λ t l.
+        let m : t < length starts = omega (arith, count, l) in
+        let p = each t none m in
+        record { block = get_or starts t none; among = in_starts (get_or starts t none) (Contains-get_or starts t none m); at = p.at; marks_are = p.marks; does = p.enters };
+    services = has_service;
+  }
+
+  have_items : HaveItems app map.places all
+  have_items func index is =
+      let long = length_blocks app map.places (length app.funcs) in
+      let within = before_within app.funcs (length app.funcs) func index is.declared is.inside in
+      let k : ℕ = items_before app.funcs func + index in
+      let here = Contains-get_or (item_blocks app map.places (length app.funcs)) k none (omega (arith, long, within)) in
+      let there : Contains (item_blocks app map.places (length app.funcs)) (item_block app map.places func index) =
+      subst (Contains (item_blocks app map.places (length app.funcs))) (block_at app map.places (length app.funcs) func index none is.declared is.inside) here in
+      in_own (item_block app map.places func index) (subst (λ bs. Contains bs (item_block app map.places func index)) (sym items) there)
+
+  without : (b : Block) → b.marks ≡ [] → MarksAreOfItems app map.places b
+  without b e = subst (All (IsOwnMark app map.places)) (sym e) (All-nil (IsOwnMark app map.places))
+
+  with_one : (b : Block) (m : Mark) → b.marks ≡ m ∷ [] → IsOwnMark app map.places m → MarksAreOfItems app map.places b
+  with_one b m e o = subst (All (IsOwnMark app map.places)) (sym e) (All-cons (IsOwnMark app map.places) m [] o (All-nil (IsOwnMark app map.places)))
+
+  items_own : All (MarksAreOfItems app map.places) (item_blocks app map.places (length app.funcs))
+  items_own = λ k d l.
+      let long = length_blocks app map.places (length app.funcs) in
+      let at : Located app.funcs (length app.funcs) k = located app.funcs (length app.funcs) k (omega (arith, l, long)) in
+      let is : IsItem app at.func at.index = record { declared = at.declared; inside = at.inside } in
+      let block : get_or (item_blocks app map.places (length app.funcs)) k d ≡ item_block app map.places at.func at.index =
+      ap (λ j. get_or (item_blocks app map.places (length app.funcs)) j d) at.is ∙ block_at app map.places (length app.funcs) at.func at.index d at.declared at.inside in
+      let m : Mark = item_mark app map.places at.func at.index in
+      subst (MarksAreOfItems app map.places) (sym block)
+      (with_one (item_block app map.places at.func at.index) m refl (of_fact m.kind (IsItem app m.b m.c × (m ≡ item_mark app map.places m.b m.c)) (is, refl)))
+
+  all_blocks : (P : Block → Type 0) → P vectors → P boot → P idle → All P starts → All P served → All P own → All P all
+  all_blocks P v b i s r o =
+      All-cons P vectors (boot ∷ idle ∷ (starts ++ (served ++ own))) v
+      (All-cons P boot (idle ∷ (starts ++ (served ++ own))) b
+      (All-cons P idle (starts ++ (served ++ own)) i (All-append P starts (served ++ own) s (All-append P served own r o))))
+
+  all_own : All (MarksAreOfItems app map.places) all
+  all_own =
+      all_blocks (MarksAreOfItems app map.places) (without vectors vectors_marks) (without boot boot_marks) (with_one idle (idle_mark map.idle) idle_marks tt)
+      (λ k d l. without (get_or starts k d) (each k d l).marks)
+      (zip_all (IsService levels map) (MarksAreOfItems app map.places) (wanted_from 0 wanted) served (λ n b h. with_one b (opening b.at (n / 40)) h.marks tt) serve)
+      (subst (All (MarksAreOfItems app map.places)) (sym items) items_own)
+
+  -- ---- the format of images
+
+  abbrev InFormat : Mark → Type 0
+  InFormat m = (m.address % 4 ≡ 0) × AreFields (length app.funcs) m.kind m.a m.b m.c
+
+  no_mark : (b : Block) → b.marks ≡ [] → MarksInFormat (length app.funcs) b
+  no_mark b e = subst (All InFormat) (sym e) (All-nil InFormat)
+
+  one_mark : (b : Block) (m : Mark) → b.marks ≡ m ∷ [] → InFormat m → MarksInFormat (length app.funcs) b
+  one_mark b m e o = subst (All InFormat) (sym e) (All-cons InFormat m [] o (All-nil InFormat))
+
+  item_format : (func index : ℕ) → IsItem app func index → MarksInFormat (length app.funcs) (item_block app map.places func index)
+  item_format func index is =
+      let word = may.planned.covers.items func index is in
+      let few = few_items app (config, may.well_formed) func is.declared in
+      let inside = is.inside in
+      let own = (may.well_formed.in_range.bodies func missing is.declared).items index no_item is.inside in
+      one_mark (item_block app map.places func index) (item_mark app map.places func index) refl
+      ((let even = word.2 in omega (arith, even)), fields_of config app (function app func) (operation app func index) (length app.funcs) func index own is.declared (omega (arith, few, inside)))
+
+  items_format : All (MarksInFormat (length app.funcs)) (item_blocks app map.places (length app.funcs))
+  items_format = λ k d l.
+      let long = length_blocks app map.places (length app.funcs) in
+      let at : Located app.funcs (length app.funcs) k = located app.funcs (length app.funcs) k (omega (arith, l, long)) in
+      let block : get_or (item_blocks app map.places (length app.funcs)) k d ≡ item_block app map.places at.func at.index =
+      ap (λ j. get_or (item_blocks app map.places (length app.funcs)) j d) at.is ∙ block_at app map.places (length app.funcs) at.func at.index d at.declared at.inside in
+      subst (MarksInFormat (length app.funcs)) (sym block) (item_format at.func at.index (record { declared = at.declared; inside = at.inside }))
+
+  all_format : All (MarksInFormat (length app.funcs)) all
+  all_format =
+      let even = may.planned.zones.idle_aligned in
+      all_blocks (MarksInFormat (length app.funcs)) (no_mark vectors vectors_marks) (no_mark boot boot_marks) (one_mark idle (idle_mark map.idle) idle_marks (even, (refl, refl, refl)))
+      (λ k d l. no_mark (get_or starts k d) (each k d l).marks)
+      (served_format config app levels wanted map may served serve)
+      (subst (All (MarksInFormat (length app.funcs))) (sym items) items_format)
+
+  few_blocks : length all ≤ 8192
+  few_blocks =
+      let few = may.well_formed.in_range.configuration.few_tasks in
+      let numbers = may.planned.all_numbers in
+      let wanted_few = wanted_long 0 wanted in
+      let served_long = AllZip-long (IsService levels map) (wanted_from 0 wanted) served serve in
+      let own_long : length own ≡ items_before app.funcs (length app.funcs) = ap length items ∙ length_blocks app map.places (length app.funcs) in
+      let total = before_all app.funcs in
+      let sum = sum-map (λ (f : Func). length f.items) app.funcs in
+      let most = may.well_formed.in_range.limits.few_items in
+      let rest = length-append starts (served ++ own) in
+      let last = length-append served own in
+      omega (arith, few, numbers, wanted_few, served_long, own_long, total, sum, most, rest, last, count)
+
+  rooms : FitRooms (code_extents map (length config.tasks) wanted may.planned.sizes) all
+  rooms =
+      let many = jumps.many in
+      let few = boots.size in
+      let word = idles.word in
+      let is = may.planned.addresses.idle in
+      let even = may.planned.zones.idle_aligned in
+      let first = plain (record { base = 0x8000_0400; len = 128 }) vectors vectors_at (omega arith) refl (omega (arith, many)) vectors_marks in
+      let second = plain (record { base = 0x8000_0480; len = boot_bytes (length config.tasks) }) boot boot_at (omega arith) refl (omega (arith, few)) boot_marks in
+      let third = marked (record { base = map.idle; len = idle_bytes }) idle (idle_mark map.idle) idle_at (omega (arith, is)) even (omega (arith, word)) idle_marks
+      (omega (arith, idle_at)) (omega (arith, idle_at, word)) in
+      let rest = zip_append FitsRoom _ starts _ (served ++ own) (prologues_fit config app levels wanted map may starts count each)
+      (zip_append FitsRoom _ served _ own (services_fit config app levels wanted map may served serve)
+      (subst (FitRooms _) (sym items) (items_fit config app levels wanted map may))) in
+      (first, (second, (third, rest)))
+
+  pub gathered : (blocks : List Block) → blocks ≡ ((vectors ∷ boot ∷ idle ∷ starts) ++ served) ++ own → IsGathered config app levels wanted map blocks
+  gathered blocks e =
+      let same : blocks ≡ all = e ∙ append_assoc (vectors ∷ boot ∷ idle ∷ starts) served own in
+      subst (IsGathered config app levels wanted map) (sym same)
+      (record {
+        code = has_code;
+        items = record { well_formed = may.well_formed; agree = may.planned.agree; items = have_items; own = all_own };
+        planned = may.planned;
+        rooms = rooms;
+        few = few_blocks;
+        format = all_format;
+      })

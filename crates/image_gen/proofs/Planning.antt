@@ -1,0 +1,172 @@
+-- What is built so far has a map and levels.
+use Rattle.std.proofs.Common.{◌≡◌, ◌≤◌, ◌<◌, ◌+◌, ◌*◌, ◌/◌, ◌%◌, ℕ, zero, suc, Bool, true, false, List, [], ◌∷◌, length, get_or, refl, sym, ap, ◌∙◌, subst, ⊎_elim, arith}
+use Rattle.std.specs.Prelude.{◌⊎◌, IsTrue, slice_index}
+use Rattle.std.specs.Prelude as prelude
+use Rattle.std.proofs.Math.ListN.{get_or-map}
+use Rattle.std.proofs.lemmas.Bool.{cases_lt}
+use Rattle.sloth_base.specs.Named.{function, missing, no_item, operation, body_of}
+use Rattle.sloth_base.specs.ServiceCodes.{code_of, service_of}
+use Rattle.sloth_base.specs.declared.app.App.{App}
+use Rattle.sloth_base.specs.declared.app.Call.{Call}
+use Rattle.sloth_base.specs.declared.app.Op.TheVariants as op
+use Rattle.sloth_base.specs.declared.config.Config.{Config}
+use Rattle.sloth_base.specs.declared.places.Levels.{Levels}
+use Rattle.sloth_base.specs.declared.service.Service.{Service}
+use Rattle.sloth_base.specs.declared.service.Service.TheVariants as service
+use Rattle.sloth_region.specs.declared.extent.Extent.{Extent}
+use Rattle.sloth_region.specs.declared.map.Map.{Map}
+use Rattle.app_rules.specs.AppRange.{AreOperands, IsOp}
+use Rattle.app_rules.specs.WellFormed.{WellFormed}
+use Rattle.prio_levels.specs.Levels.{AreLevels}
+use Rattle.rv32_expand.specs.InPlace.{IsItem}
+use Rattle.rv32_expand.specs.Sizes.{AreSizes}
+use Rattle.service_gen.specs.Block.{HasBlock}
+use Rattle.sim_items.specs.Place.{IsStraight, IsFlow}
+use Rattle.mem_map.specs.Plan.{MayPlan}
+use Rattle.mem_map.specs.Zones.{nowhere}
+use Rattle.sim_image.specs.Generated.{IsCovered}
+use Rattle.sim_laws.specs.Lawful.{HasLaw}
+use Rattle.sim_image.specs.Zones.{HoldCalls, RoomForCalls}
+use Rattle.image_gen.specs.Gathered.{IsPlanned, MayBuild, MayGenerate}
+use Rattle.image_gen.specs.Services.{AreServed}
+use Rattle.image_gen.specs.Wanted.{is_wanted}
+use Rattle.sim_image.proofs.Serving.{of_code}
+use Rattle.image_gen.proofs.AllCode.{small_code}
+use Rattle.image_gen.proofs.Callers.{Caller, called, marked}
+
+-- ---- levels
+
+beyond : (xs : List ℕ) (i : ℕ) → length xs ≤ i → get_or xs i 0 ≡ 0
+beyond [] zero h = refl
+beyond [] (suc i) h = refl
+beyond (x ∷ xs) zero h = absurd (omega (arith, h))
+beyond (x ∷ xs) (suc i) h = beyond xs i (omega (arith, h))
+
+small_levels : (config : Config) (levels : Levels) → length config.tasks ≤ 30 → length levels.task ≡ 30 → AreLevels config levels
+    → ((t : ℕ) → t < length config.tasks → (0 < slice_index levels.task t) × (slice_index levels.task t ≤ levels.top)) → (t : ℕ) → slice_index levels.task t < 32
+small_levels config levels few long are within t =
+    let top = are.top in
+    ⊎_elim
+    (λ (l : t < length config.tasks). let w = (within t l).1 in omega (arith, w, top, few))
+    (λ (g : length config.tasks ≤ t).
+    ⊎_elim
+    (λ (l : t < 30). let z = are.tasks.no_task t g l in omega (arith, z))
+    (λ (h : 30 ≤ t). let z = beyond levels.task t (omega (arith, long, h)) in omega (arith, z))
+    (cases_lt t 30))
+    (cases_lt t (length config.tasks))
+
+-- ---- what is called has code
+
+-- the object of a service that has code
+small_object : (s : Service) (object : ℕ) → HasBlock s object → object ≤ 32
+small_object service.ActivateTask object h = omega (arith, h)
+small_object service.TerminateTask object h = omega (arith, h)
+small_object service.ChainTask object h = omega (arith, h)
+small_object service.Schedule object h = absurd h
+small_object service.GetTaskID object h = omega (arith, h)
+small_object service.GetTaskState object h = omega (arith, h)
+small_object service.GetResource object h = h
+small_object service.ReleaseResource object h = h
+small_object service.SetEvent object h = absurd h
+small_object service.ClearEvent object h = absurd h
+small_object service.GetEvent object h = absurd h
+small_object service.WaitEvent object h = absurd h
+
+-- a service with a law has code, for each object that task code may name
+code_of_object : (config : Config) (s : Service) (object mask : ℕ) → length config.tasks ≤ 30 → length config.resources ≤ 32 → HasLaw s
+    → AreOperands config s object mask → HasBlock s object
+code_of_object config service.ActivateTask object mask tasks resources law is = let t = is.0 in omega (arith, t, tasks)
+code_of_object config service.TerminateTask object mask tasks resources law is = is.0
+code_of_object config service.ChainTask object mask tasks resources law is = let t = is.0 in omega (arith, t, tasks)
+code_of_object config service.GetTaskID object mask tasks resources law is = is.0
+code_of_object config service.GetResource object mask tasks resources law is =
+    ⊎_elim (λ (r : object < length config.resources). omega (arith, r, resources)) (λ (r : (object ≡ 32) × IsTrue config.res_scheduler). let e = r.0 in omega (arith, e)) is.0
+code_of_object config service.ReleaseResource object mask tasks resources law is =
+    ⊎_elim (λ (r : object < length config.resources). omega (arith, r, resources)) (λ (r : (object ≡ 32) × IsTrue config.res_scheduler). let e = r.0 in omega (arith, e)) is.0
+code_of_object config service.Schedule object mask tasks resources law is = absurd law
+code_of_object config service.GetTaskState object mask tasks resources law is = let t = is.0 in omega (arith, t, tasks)
+code_of_object config service.SetEvent object mask tasks resources law is = absurd law
+code_of_object config service.ClearEvent object mask tasks resources law is = absurd law
+code_of_object config service.GetEvent object mask tasks resources law is = absurd law
+code_of_object config service.WaitEvent object mask tasks resources law is = absurd law
+
+-- what an item calls has code where it is covered
+has_block : (config : Config) (app : App) → WellFormed config app → (func item : ℕ) (call : Call) → IsItem app func item
+    → operation app func item ≡ op.Serve call → IsCovered app func item → HasBlock call.service call.object
+has_block config app well func item call is e covered =
+    let own = (well.in_range.bodies func missing is.declared).items item no_item is.inside in
+    let operands : AreOperands config call.service call.object call.mask = subst (IsOp config app (function app func)) e own in
+    let range = well.in_range.configuration in
+    code_of_object config call.service call.object call.mask range.few_tasks range.few_resources (covered call e) operands
+
+-- ---- the room of stacks
+
+abbrev len_of : Extent → ℕ
+len_of e = e.len
+
+pub room_for_calls : (config : Config) (app : App) (map : Map) (stacks : List ℕ) → prelude.map len_of map.stacks ≡ stacks
+    → ((t : ℕ) → t < length config.tasks → HoldCalls app t (slice_index stacks t)) → RoomForCalls map config app
+room_for_calls config app map stacks are fit t l func outer called =
+    let own : get_or (prelude.map len_of map.stacks) t 0 ≡ (get_or map.stacks t nowhere).len = get_or-map len_of map.stacks t nowhere in
+    let same : get_or (prelude.map len_of map.stacks) t 0 ≡ get_or stacks t 0 = ap (λ (xs : List ℕ). get_or xs t 0) are in
+    let enough = fit t l func outer called in
+    omega (arith, own, same, enough)
+
+-- ---- all of it
+
+module _ (config : Config) (app : App) (stacks : List ℕ) (may : MayBuild config app stacks) (wanted : List Bool) (all : length wanted ≡ 512)
+    (are : (number : ℕ) → number < 512 → get_or wanted number false ≡ is_wanted number app) where
+  block_of : (number : ℕ) → (c : Caller app number) → HasBlock c.call.service c.call.object
+  block_of number c = has_block config app may.well_formed c.func c.item c.call c.is_item c.is (may.covered c.func c.item c.is_item)
+
+  objects : (number : ℕ) → get_or wanted number false ≡ true → number % 40 ≤ 32
+  objects number is =
+      let c = marked app wanted all are number is in
+      let small = small_object c.call.service c.call.object (block_of number c) in
+      let n = c.numbered in
+      omega (arith, small, n)
+
+  served : AreServed wanted
+  served number is =
+      let c = marked app wanted all are number is in
+      let has = block_of number c in
+      let small = small_object c.call.service c.call.object has in
+      let n = c.numbered in
+      let code : number / 40 ≡ code_of c.call.service = omega (arith, small, n) in
+      let object : number % 40 ≡ c.call.object = omega (arith, small, n) in
+      record { service = c.call.service; is = ap service_of code ∙ of_code c.call.service; has_block = subst (HasBlock c.call.service) (sym object) has }
+
+  calls : (func item : ℕ) (call : Call) → IsItem app func item → operation app func item ≡ op.Serve call
+      → (call.object < 40) × (get_or wanted (code_of call.service * 40 + call.object) false ≡ true)
+  calls func item call is e =
+      let small = small_object call.service call.object (has_block config app may.well_formed func item call is e (may.covered func item is)) in
+      let code = small_code call.service in
+      (omega (arith, small), are (code_of call.service * 40 + call.object) (omega (arith, small, code)) ∙ called app func item call is e)
+
+  pub may_plan : (sizes : List ℕ) → AreSizes app sizes → MayPlan config app sizes wanted stacks
+  may_plan sizes sized = record {
+    in_range = may.well_formed.in_range;
+    are_sizes = sized;
+    objects = objects;
+    a_stack_each = may.count;
+    lengths = may.lengths;
+    long = λ t l. let enough = may.calls_fit t l (body_of app.funcs t) [] refl in omega (arith, enough);
+  }
+
+  pub may_generate : (levels : Levels) (map : Map) → AreLevels config levels → length levels.task ≡ 30
+      → ((t : ℕ) → t < length config.tasks → (0 < slice_index levels.task t) × (slice_index levels.task t ≤ levels.top)) → IsPlanned config app wanted map
+      → MayGenerate config app levels wanted map
+  may_generate levels map leveled long within planned =
+      let few = may.well_formed.in_range.configuration.few_tasks in
+      let top = leveled.top in
+      record {
+        well_formed = may.well_formed;
+        named = may.named;
+        basic = may.basic;
+        covered = may.covered;
+        are_levels = leveled;
+        small = (omega (arith, top, few), small_levels config levels few long leveled within);
+        served = served;
+        calls = calls;
+        planned = planned;
+      }

@@ -1,0 +1,214 @@
+-- Each block of the code lies in its room of the map.
+use Rattle.std.proofs.Common.{◌≡◌, ◌≤◌, ◌<◌, ◌+◌, ◌*◌, ◌/◌, ◌%◌, ℕ, zero, suc, Bool, true, false, Some, List, [], ◌∷◌, length, get_or, take, refl, sym, ap, ◌∙◌, subst, arith}
+use Rattle.std.specs.Prelude.{All, slice_index}
+use Rattle.std.specs.Prelude as prelude
+use Rattle.std.specs.List.{AllZip, slice_get}
+use Rattle.std.proofs.lemmas.List.{get_or-take, length-take-le}
+use Rattle.std.proofs.lemmas.List.Elements.{All-nil, All-cons}
+use Rattle.std.proofs.lemmas.Option.{get_or_from_slice_get}
+use Rattle.std.proofs.Math.ListN.{get_or-map, length-map}
+use Rattle.sloth_base.specs.Named.{operation}
+use Rattle.sloth_base.specs.declared.app.App.{App}
+use Rattle.sloth_base.specs.declared.app.Func.{Func}
+use Rattle.sloth_base.specs.declared.config.Config.{Config}
+use Rattle.sloth_base.specs.declared.image.Mark.{Mark}
+use Rattle.sloth_base.specs.declared.places.Levels.{Levels}
+use Rattle.sloth_base.specs.declared.service.Service.{Service}
+use Rattle.sloth_base.specs.declared.service.Service.TheVariants as service
+use Rattle.sloth_region.specs.declared.extent.Extent.{Extent}
+use Rattle.sloth_region.specs.declared.map.Map.{Map}
+use Rattle.prologue_gen.specs.Places.{EntersTask}
+use Rattle.rv32_instr.specs.declared.InstrKind.{InstrKind}
+use Rattle.rv32_instr.specs.declared.block.Block.{Block}
+use Rattle.rv32_expand.specs.Expansion.{is_long, item_address}
+use Rattle.rv32_expand.specs.InPlace.{IsItem, item_mark}
+use Rattle.rv32_expand.specs.Sizes.{items_before}
+use Rattle.rv32_expand.proofs.Counts.{expanded_some}
+use Rattle.service_gen.specs.Block.{opening, Serves}
+use Rattle.mem_map.specs.Plan.{item_bytes, prologue_extent, service_bytes, service_extents, services_at}
+use Rattle.mem_map.specs.Run.{extents_of, starts}
+use Rattle.mem_map.specs.Zones.{nowhere}
+use Rattle.mem_map.proofs.Starts.{length_starts, stands}
+use Rattle.sim_image.proofs.Serving.{some_code}
+use Rattle.sim_image.specs.Rooms.{FitRooms, FitsRoom}
+use Rattle.sim_image.specs.Standing.{item_block}
+use Rattle.sim_image.proofs.Data.{extent_at, extents_long}
+use Rattle.image_gen.specs.Gathered.{MayGenerate}
+use Rattle.image_gen.specs.Items.{item_blocks}
+use Rattle.image_gen.specs.Prologues.{Each, IsPrologue}
+use Rattle.image_gen.specs.Services.{IsService, wanted_from}
+use Rattle.image_gen.proofs.Counting.{located, block_at, length_blocks}
+use Rattle.image_gen.proofs.Each.{zip_from}
+use Rattle.image_gen.proofs.Sizing.{size_of_item}
+use Rattle.image_gen.proofs.Starting.{first_is, items_long}
+
+abbrev pub none : Block
+none = record { at = 0; code = []; marks = [] }
+
+-- a block without marks
+pub plain : (room : Extent) (block : Block) → block.at ≡ room.base → 0x8000_0000 ≤ room.base → room.base % 4 ≡ 0 → 4 * length block.code ≤ room.len → block.marks ≡ []
+    → FitsRoom room block
+plain room block at above aligned short is =
+    let P : List Mark → Type 0 = λ marks. All (λ (m : Mark). (block.at ≤ m.address) × (m.address < block.at + 4 * length block.code)) marks in
+    let n : length block.marks ≡ 0 = ap length is in
+    record {
+      at = at;
+      above = above;
+      aligned = aligned;
+      short = short;
+      few = omega (arith, n);
+      marks = subst P (sym is) (All-nil (λ (m : Mark). (block.at ≤ m.address) × (m.address < block.at + 4 * length block.code)));
+    }
+
+-- a block with one mark
+pub marked : (room : Extent) (block : Block) (mark : Mark) → block.at ≡ room.base → 0x8000_0000 ≤ room.base → room.base % 4 ≡ 0 → 4 * length block.code ≤ room.len
+    → block.marks ≡ mark ∷ [] → block.at ≤ mark.address → mark.address < block.at + 4 * length block.code → FitsRoom room block
+marked room block mark at above aligned short is from to =
+    let Q : Mark → Type 0 = λ m. (block.at ≤ m.address) × (m.address < block.at + 4 * length block.code) in
+    let P : List Mark → Type 0 = λ marks. All Q marks in
+    let n : length block.marks ≡ 1 = ap length is in
+    record {
+      at = at;
+      above = above;
+      aligned = aligned;
+      short = short;
+      few = omega (arith, n);
+      marks = subst P (sym is) (All-cons Q mark [] (from, to) (All-nil Q));
+    }
+
+-- a place in a list where something is
+pub there : {X : Type 0} (xs : List X) (t : ℕ) (e : X) → slice_get xs t ≡ Some e → t < length xs
+there [] zero e h = absurd cc
+there [] (suc t) e h = absurd cc
+there (x ∷ xs) zero e h = omega arith
+there (x ∷ xs) (suc t) e h = let l = there xs t e h in omega (arith, l)
+
+-- a prologue has at most 106 instructions
+short_start : (config : Config) (app : App) (levels : Levels) (map : Map) (t : ℕ) (code : List InstrKind) → All (λ (f : Func). f.frame_words ≤ 32) app.funcs
+    → EntersTask t config app levels map code → length code ≤ 106
+short_start config app levels map t code frames e =
+    let size = e.enters.size in
+    let l = there app.funcs e.body e.func e.is_func in
+    let is = get_or_from_slice_get app.funcs e.body e.func e.func e.is_func in
+    let P : Func → Type 0 = λ f. f.frame_words ≤ 32 in
+    let few = subst P is (frames e.body e.func l) in
+    omega (arith, size, few)
+
+module _ (config : Config) (app : App) (levels : Levels) (wanted : List Bool) (map : Map) (may : MayGenerate config app levels wanted map) where
+  prologue_room : (k : ℕ) (block : Block) → k < length config.tasks → IsPrologue config app levels map k block → FitsRoom (prologue_extent (slice_index map.handlers k)) block
+  prologue_room k block l p =
+      let few = may.well_formed.in_range.configuration.few_tasks in
+      let near = may.planned.reach k (omega (arith, l, few)) in
+      let behind = near.1 in
+      let s = short_start config app levels map k block.code (λ j d m. (may.well_formed.in_range.bodies j d m).frame) p.enters in
+      plain (prologue_extent (slice_index map.handlers k)) block p.at (omega (arith, behind)) near.0 (omega (arith, s)) p.marks
+
+  pub prologues_fit : (starts : List Block) → length starts ≡ length config.tasks → Each (IsPrologue config app levels map) starts
+      → FitRooms (prelude.map prologue_extent (take (length config.tasks) map.handlers)) starts
+  prologues_fit starts n each =
+      let few = may.well_formed.in_range.configuration.few_tasks in
+      let lines = may.planned.addresses.lines in
+      let long = length-take-le (length config.tasks) map.handlers (omega (arith, few, lines)) in
+      let all = length-map (take (length config.tasks) map.handlers) prologue_extent in
+      zip_from FitsRoom (prelude.map prologue_extent (take (length config.tasks) map.handlers)) starts (prologue_extent 0) none (omega (arith, all, long, n))
+      (λ k l.
+      let below : k < length config.tasks = omega (arith, l, all, long) in
+      let is = get_or-map prologue_extent (take (length config.tasks) map.handlers) k 0 ∙ ap prologue_extent (get_or-take (length config.tasks) map.handlers k 0 below) in
+      let P : Extent → Type 0 = λ room. FitsRoom room (get_or starts k none) in
+      subst P (sym is) (prologue_room k (get_or starts k none) below (each k none (omega (arith, below, n)))))
+
+  -- ---- services
+
+  blocks_long : length map.places.blocks ≡ 512
+  blocks_long =
+      ap length may.planned.addresses.blocks ∙ length_starts (services_at (length config.tasks)) (prelude.map service_bytes wanted) ∙ length-map wanted service_bytes
+      ∙ may.planned.all_numbers
+
+  service_room : (number : ℕ) (block : Block) → number < 512 → IsService levels map number block
+      → FitsRoom (record { base = slice_index map.places.blocks number; len = service_bytes true }) block
+  service_room number block l h =
+      let some = some_code h.service (number % 40) levels block.code h.serves in
+      let at = h.at in
+      let few = h.few in
+      let bytes : List ℕ = prelude.map service_bytes wanted in
+      let from : ℕ = services_at (length config.tasks) in
+      let long = blocks_long in
+      let all = may.planned.all_numbers in
+      let counted = length-map wanted service_bytes in
+      let is : slice_index map.places.blocks number ≡ get_or (starts from bytes) number 0 = ap (λ (blocks : List ℕ). get_or blocks number 0) may.planned.addresses.blocks in
+      let above = (stands from bytes number (omega (arith, counted, all, l))).above in
+      let even = may.planned.zones.blocks_aligned number 0 (omega (arith, long, l)) in
+      marked (record { base = slice_index map.places.blocks number; len = service_bytes true }) block (opening block.at (number / 40)) at (omega (arith, is, above)) even
+      (omega (arith, few)) h.marks (omega arith) (omega (arith, some))
+
+  services_fit_from : (n : ℕ) (addresses : List ℕ) (rest : List Bool) (blocks : List Block) → length addresses ≡ length rest → n + length rest ≡ 512
+      → ((k : ℕ) → k < length rest → get_or addresses k 0 ≡ slice_index map.places.blocks (n + k)) → AllZip (IsService levels map) (wanted_from n rest) blocks
+      → FitRooms (service_extents addresses rest) blocks
+  services_fit_from n [] [] blocks e all same h = fit_none blocks h
+    where
+      fit_none : (bs : List Block) → AllZip (IsService levels map) [] bs → FitRooms [] bs
+      fit_none [] g = tt
+      fit_none (b ∷ bs) g = absurd g
+  services_fit_from n [] (w ∷ rest) blocks e all same h = absurd (omega (arith, e))
+  services_fit_from n (a ∷ addresses) [] blocks e all same h = absurd (omega (arith, e))
+  services_fit_from n (a ∷ addresses) (false ∷ rest) blocks e all same h =
+      services_fit_from (n + 1) addresses rest blocks (omega (arith, e)) (omega (arith, all))
+      (λ k l. let k1 : n + suc k ≡ (n + 1) + k = omega arith in same (suc k) (omega (arith, l)) ∙ ap (slice_index map.places.blocks) k1) h
+  services_fit_from n (a ∷ addresses) (true ∷ rest) [] e all same h = absurd h
+  services_fit_from n (a ∷ addresses) (true ∷ rest) (b ∷ blocks) e all same h =
+      let here : a ≡ slice_index map.places.blocks (n + 0) = same 0 (omega arith) in
+      let zero_more : n + 0 ≡ n = omega arith in
+      let is : a ≡ slice_index map.places.blocks n = here ∙ ap (slice_index map.places.blocks) zero_more in
+      let P : ℕ → Type 0 = λ base. FitsRoom (record { base = base; len = service_bytes true }) b in (
+        subst P (sym is) (service_room n b (omega (arith, all)) h.0),
+        services_fit_from (n + 1) addresses rest blocks (omega (arith, e)) (omega (arith, all))
+            (λ k l. let k1 : n + suc k ≡ (n + 1) + k = omega arith in same (suc k) (omega (arith, l)) ∙ ap (slice_index map.places.blocks) k1) h.1,
+      )
+
+  pub services_fit : (blocks : List Block) → AllZip (IsService levels map) (wanted_from 0 wanted) blocks → FitRooms (service_extents map.places.blocks wanted) blocks
+  services_fit blocks h =
+      let long = blocks_long in
+      let all = may.planned.all_numbers in
+      services_fit_from 0 map.places.blocks wanted blocks (omega (arith, long, all)) (omega (arith, all))
+      (λ k l. let same : k ≡ 0 + k = omega arith in ap (slice_index map.places.blocks) same) h
+
+  -- ---- items
+
+  item_room : (func index : ℕ) → IsItem app func index
+      → FitsRoom (record { base = item_address map.places func index; len = item_bytes (get_or may.planned.sizes (items_before app.funcs func + index) 0) }) (item_block app map.places func index)
+  item_room func index is =
+      let word = may.planned.covers.items func index is in
+      let size = size_of_item app (config, may.well_formed) map.places may.planned.agree may.planned.sizes may.planned.are_sizes func index is in
+      let some = expanded_some app map.places func (item_address map.places func index) (is_long map.places func index) (operation app func index) in
+      marked (record { base = item_address map.places func index; len = item_bytes (get_or may.planned.sizes (items_before app.funcs func + index) 0) }) (item_block app map.places func index)
+      (item_mark app map.places func index) refl word.0 word.2 (omega (arith, size)) refl (omega arith) (omega (arith, some))
+
+  pub items_fit : FitRooms (extents_of map.places.items (prelude.map item_bytes may.planned.sizes)) (item_blocks app map.places (length app.funcs))
+  items_fit =
+      let sizes : List ℕ = may.planned.sizes in
+      let count = may.planned.are_sizes.count in
+      let all = length-map sizes item_bytes in
+      let own = items_long config app levels wanted map may in
+      let same : length map.places.items ≡ length (prelude.map item_bytes sizes) = omega (arith, count, all, own) in
+      let rooms = extents_long map.places.items (prelude.map item_bytes sizes) same in
+      let many = length_blocks app map.places (length app.funcs) in
+      zip_from FitsRoom (extents_of map.places.items (prelude.map item_bytes sizes)) (item_blocks app map.places (length app.funcs)) nowhere none (omega (arith, rooms, all, count, many))
+      (λ k l. one k (omega (arith, l, rooms, all, count)) (omega (arith, l, rooms)) same)
+    where
+      one : (k : ℕ) → k < items_before app.funcs (length app.funcs) → k < length (prelude.map item_bytes may.planned.sizes) → length map.places.items ≡ length (prelude.map item_bytes may.planned.sizes)
+          → FitsRoom (get_or (extents_of map.places.items (prelude.map item_bytes may.planned.sizes)) k nowhere) (get_or (item_blocks app map.places (length app.funcs)) k none)
+      one k l m same =
+          let at = located app.funcs (length app.funcs) k l in
+          let is : IsItem app at.func at.index = record { declared = at.declared; inside = at.inside } in
+          let block : get_or (item_blocks app map.places (length app.funcs)) k none ≡ item_block app map.places at.func at.index =
+          ap (λ j. get_or (item_blocks app map.places (length app.funcs)) j none) at.is ∙ block_at app map.places (length app.funcs) at.func at.index none at.declared at.inside in
+          let base : item_address map.places at.func at.index ≡ get_or map.places.items k 0 =
+          ap (λ n. get_or map.places.items (n + at.index) 0) (first_is config app levels wanted map may at.func at.declared) ∙ ap (λ j. get_or map.places.items j 0) (sym at.is) in
+          let len : item_bytes (get_or may.planned.sizes (items_before app.funcs at.func + at.index) 0) ≡ get_or (prelude.map item_bytes may.planned.sizes) k 0 =
+          ap (λ j. item_bytes (get_or may.planned.sizes j 0)) (sym at.is) ∙ sym (get_or-map item_bytes may.planned.sizes k 0) in
+          let room = extent_at map.places.items (prelude.map item_bytes may.planned.sizes) k same m in
+          let B : ℕ → Type 0 = λ b. FitsRoom (record { base = b; len = item_bytes (get_or may.planned.sizes (items_before app.funcs at.func + at.index) 0) }) (item_block app map.places at.func at.index) in
+          let L : ℕ → Type 0 = λ n. FitsRoom (record { base = get_or map.places.items k 0; len = n }) (item_block app map.places at.func at.index) in
+          let R : Extent → Type 0 = λ r. FitsRoom r (item_block app map.places at.func at.index) in
+          let Q : Block → Type 0 = λ b. FitsRoom (get_or (extents_of map.places.items (prelude.map item_bytes may.planned.sizes)) k nowhere) b in
+          subst Q (sym block) (subst R (sym room) (subst L len (subst B base (item_room at.func at.index is))))

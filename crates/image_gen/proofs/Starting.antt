@@ -1,0 +1,80 @@
+-- What the prologues need, by the map and the task code.
+use Rattle.std.proofs.Common.{◌≡◌, ◌<◌, ◌+◌, ℕ, suc, Bool, List, ◌∷◌, length, get_or, ap, ◌∙◌, subst, arith}
+use Rattle.std.specs.Prelude.{All}
+use Rattle.std.specs.Prelude as prelude
+use Rattle.std.proofs.lemmas.List.{get_or_default}
+use Rattle.std.proofs.Math.ListN.{length-map}
+use Rattle.sloth_base.specs.Named.{missing}
+use Rattle.sloth_base.specs.declared.app.App.{App}
+use Rattle.sloth_base.specs.declared.app.Func.{Func}
+use Rattle.sloth_base.specs.declared.config.Config.{Config}
+use Rattle.sloth_base.specs.declared.places.Levels.{Levels}
+use Rattle.sloth_region.specs.declared.extent.Extent.{Extent}
+use Rattle.sloth_region.specs.declared.map.Map.{Map}
+use Rattle.sloth_region.specs.Region.{AreApartWithin}
+use Rattle.prologue_gen.specs.Places.{IsStack}
+use Rattle.rv32_expand.specs.Sizes.{items_before}
+use Rattle.rv32_expand.proofs.Verified.{has_first}
+use Rattle.vector_gen.specs.Vectors.{AreInReach}
+use Rattle.mem_map.specs.Plan.{item_bytes}
+use Rattle.mem_map.specs.Zones.{code_zone, data_zone, nowhere}
+use Rattle.mem_map.proofs.Starts.{length_starts}
+use Rattle.image_gen.specs.Prologues.{MayStart}
+use Rattle.image_gen.specs.Gathered.{MayGenerate}
+use Rattle.image_gen.proofs.Counting.{count_of, starts_at, before_within}
+
+module _ (config : Config) (app : App) (levels : Levels) (wanted : List Bool) (map : Map) (may : MayGenerate config app levels wanted map) where
+  -- the number of items
+  pub items_long : length map.places.items ≡ items_before app.funcs (length app.funcs)
+  items_long =
+      let sizes = may.planned.sizes in
+      ap length may.planned.addresses.items ∙ length_starts _ (prelude.map item_bytes sizes) ∙ length-map sizes item_bytes ∙ may.planned.are_sizes.count
+
+  pub first_long : length map.places.first ≡ length app.funcs
+  first_long = ap length may.planned.addresses.first ∙ length_starts 0 (prelude.map count_of app.funcs) ∙ length-map app.funcs count_of
+
+  pub first_is : (func : ℕ) → func < length app.funcs → get_or map.places.first func 0 ≡ items_before app.funcs func
+  first_is func l =
+      let none : 0 + items_before app.funcs func ≡ items_before app.funcs func = omega arith in
+      ap (λ (firsts : List ℕ). get_or firsts func 0) may.planned.addresses.first ∙ starts_at 0 app.funcs func l ∙ none
+
+  firsts_inside : All (λ i. i < length map.places.items) map.places.first
+  firsts_inside = λ k d l.
+      let n = first_long in
+      let long = items_long in
+      let is = first_is k (omega (arith, n, l)) in
+      let same = get_or_default map.places.first k d 0 l in
+      let within = before_within app.funcs (length app.funcs) k 0 (omega (arith, n, l)) (has_first config app may.well_formed k (omega (arith, n, l))).inside in
+      omega (arith, is, same, within, long)
+
+  stacks : All IsStack map.stacks
+  stacks = λ k d l.
+      let z = may.planned.zones in
+      let n = z.stacks in
+      let apart : AreApartWithin 0x8000_0004 0x8020_0000 (map.words ∷ code_zone map ∷ data_zone map ∷ map.stacks) = subst (AreApartWithin 0x8000_0004 0x8020_0000) z.extents z.apart in
+      let i = apart.inside (suc (suc (suc k))) d (omega (arith, l)) in
+      let same : (get_or map.stacks k nowhere).len ≡ (get_or map.stacks k d).len = ap (λ (e : Extent). e.len) (get_or_default map.stacks k nowhere d l) in
+      let long = z.long k (omega (arith, n, l)) in
+      (omega (arith, i.0), i.2, omega (arith, long, same))
+
+  pub may_start : MayStart config app levels map
+  may_start = record {
+    few = may.well_formed.in_range.configuration.few_tasks;
+    basic = may.basic;
+    levels_fit = may.small;
+    bodies = λ t l.
+        let b = may.well_formed.in_range.tasks.body t l in
+        let task = b.1.1 in
+        (b.0, (b.1.0, λ d. ap (λ (f : Func). f.task) (get_or_default app.funcs b.0 d missing b.1.0) ∙ task));
+    frames = λ k d l. (may.well_formed.in_range.bodies k d l).frame;
+    stacks = (may.planned.zones.stacks, stacks);
+    items = (let n = first_long in omega (arith, n), firsts_inside);
+  }
+
+  pub in_reach : AreInReach map.handlers
+  in_reach = record {
+    long = may.planned.addresses.lines;
+    aligned = λ line l. (may.planned.reach line l).0;
+    behind = λ line l. (may.planned.reach line l).1;
+    near = λ line l. (may.planned.reach line l).2;
+  }

@@ -1,0 +1,6 @@
+use Rattle.std.proofs.Common.{false}
+use Rattle.std.proofs.lemmas.List.{get_or-replicate}
+use Rattle.image_gen.proofs.wanted.wanted.Goals as goal
+
+pub loop-func-init : goal.loop-func-init
+loop-func-init c = λ number below. get_or-replicate 512 number false false below

@@ -1,0 +1,102 @@
+-- What the code of an image is generated from, and the blocks of that code.
+use Rattle.std.specs.Prelude.{ℕ, ◌+◌, ◌*◌, ◌%◌, ◌<◌, ◌≤◌, ◌≡◌, Bool, true, false, List, length, All, get_or, slice_index}
+use Rattle.std.specs.List.Sorted.{IsPermutation, IsStrictlyIncreasing}
+use Rattle.sloth_base.specs.ImageRange.{AreFields}
+use Rattle.sloth_base.specs.Named.{declaration, operation}
+use Rattle.sloth_base.specs.ServiceCodes.{code_of}
+use Rattle.sloth_base.specs.declared.app.App.{App}
+use Rattle.sloth_base.specs.declared.app.Call.{Call}
+use Rattle.sloth_base.specs.declared.app.Op.TheVariants as op
+use Rattle.sloth_base.specs.declared.config.Config.{Config}
+use Rattle.sloth_base.specs.declared.image.Mark.{Mark}
+use Rattle.sloth_base.specs.declared.places.Levels.{Levels}
+use Rattle.sloth_region.specs.declared.map.Map.{Map}
+use Rattle.sloth_region.specs.Region.{FollowWithin}
+use Rattle.app_rules.specs.WellFormed.{WellFormed}
+use Rattle.prio_levels.specs.Levels.{AreLevels}
+use Rattle.prologue_gen.specs.Places.{IsBasic}
+use Rattle.rv32_instr.specs.declared.block.Block.{Block}
+use Rattle.rv32_expand.specs.InPlace.{IsItem, IsBodyName}
+use Rattle.rv32_expand.specs.Sizes.{AgreeWithSizes, AreSizes, Covers}
+use Rattle.mem_map.specs.Plan.{HasAddresses, IsNear, IsStackLength, code_end, code_extents, data_end, data_extents}
+use Rattle.mem_map.specs.Zones.{HasZones}
+use Rattle.sim_relation.specs.Bounds.{AreBelow}
+use Rattle.sloth_link.specs.declared.datum.Datum.{Datum}
+use Rattle.sloth_link.specs.Linked.{addresses, marks_of}
+use Rattle.sim_image.specs.Generated.{HasCode, HasItemBlocks, IsCovered}
+use Rattle.sim_image.specs.Rooms.{FitRooms, HasOwnMarks}
+use Rattle.sim_image.specs.Standing.{IsLinkedIn}
+use Rattle.sim_image.specs.Zones.{HoldCalls, RoomForCalls}
+use Rattle.image_gen.specs.Services.{AreServed}
+
+-- the map has a place for all code of this task code, with the wanted services, and for its data
+pub record IsPlanned (config : Config) (app : App) (wanted : List Bool) (map : Map) : Type 0 where
+  pub sizes : List ℕ
+  pub are_sizes : AreSizes app sizes
+  pub all_numbers : length wanted ≡ 512
+  pub zones : HasZones map config app
+  pub calls_fit : RoomForCalls map config app
+  pub addresses : HasAddresses config app sizes wanted map
+  pub reach : (line : ℕ) → line < 32 → IsNear (slice_index map.handlers line)
+  pub code_follows : FollowWithin 0x8000_0400 (code_end (length config.tasks) wanted sizes) (code_extents map (length config.tasks) wanted sizes)
+  pub data_follows : FollowWithin (code_end (length config.tasks) wanted sizes) (data_end app (code_end (length config.tasks) wanted sizes))
+      (data_extents map app)
+  pub agree : AgreeWithSizes app map.places
+  pub covers : Covers app map.places
+
+-- Well-formed task code of basic tasks, whose items are covered by the laws so far and call wanted services, with its levels and its map. The
+-- body of each task has the task's name.
+pub record MayGenerate (config : Config) (app : App) (levels : Levels) (wanted : List Bool) (map : Map) : Type 0 where
+  pub well_formed : WellFormed config app
+  pub named : (t : ℕ) → t < length config.tasks → IsBodyName app t (declaration config t).name
+  pub basic : (t : ℕ) → t < length config.tasks → IsBasic config.tasks t
+  pub covered : (func item : ℕ) → IsItem app func item → IsCovered app func item
+  pub are_levels : AreLevels config levels
+  pub small : (levels.top < 32) × ((t : ℕ) → slice_index levels.task t < 32)
+  pub served : AreServed wanted
+  pub calls : (func item : ℕ) (call : Call) → IsItem app func item → operation app func item ≡ op.Serve call
+      → (call.object < 40) × (get_or wanted (code_of call.service * 40 + call.object) false ≡ true)
+  pub planned : IsPlanned config app wanted map
+
+-- the marks of a block are as the format of images wants them
+abbrev pub MarksInFormat : (functions : ℕ) → Block → Type 0
+MarksInFormat functions block = All (λ mark. (mark.address % 4 ≡ 0) × AreFields functions mark.kind mark.a mark.b mark.c) block.marks
+
+-- the blocks are all code that the image needs, each where the map has room for it
+pub record IsGathered (config : Config) (app : App) (levels : Levels) (wanted : List Bool) (map : Map) (blocks : List Block) : Type 0 where
+  pub code : HasCode config app levels map blocks
+  pub items : HasItemBlocks config app map.places blocks
+  pub planned : IsPlanned config app wanted map
+  pub rooms : FitRooms (code_extents map (length config.tasks) wanted planned.sizes) blocks
+  pub few : length blocks ≤ 8192
+  pub format : All (MarksInFormat (length app.funcs)) blocks
+
+-- these bytes and marks are those blocks and the data of the task code, linked
+pub record IsImageOf (config : Config) (app : App) (levels : Levels) (map : Map) (memory : List ℕ) (marks : List Mark) : Type 0 where
+  pub size : ℕ
+  pub blocks : List Block
+  pub symbols : List Datum
+  pub linked : IsLinkedIn map config app size blocks symbols memory
+  pub has_code : HasCode config app levels map blocks
+  pub has_items : HasItemBlocks config app map.places blocks
+  pub whole_words : size % 4 ≡ 0
+  pub few : length blocks ≤ 8192
+  pub few_marks : All (λ b. length b.marks ≤ 1) blocks
+  pub format : All (MarksInFormat (length app.funcs)) blocks
+  pub own_marks : All HasOwnMarks blocks
+  pub marks_are : IsPermutation (marks_of blocks) marks
+  pub ascending : IsStrictlyIncreasing (addresses marks)
+  pub bytes : AreBelow 256 memory
+
+-- ---- what is built so far
+
+-- Well-formed task code of basic tasks, each item of which is covered by the laws so far. The body of each task has the task's name, and
+-- each task has so many bytes of stack, at least those that its calls and a context need.
+pub record MayBuild (config : Config) (app : App) (stacks : List ℕ) : Type 0 where
+  pub well_formed : WellFormed config app
+  pub named : (t : ℕ) → t < length config.tasks → IsBodyName app t (declaration config t).name
+  pub basic : (t : ℕ) → t < length config.tasks → IsBasic config.tasks t
+  pub covered : (func item : ℕ) → IsItem app func item → IsCovered app func item
+  pub count : length stacks ≡ length config.tasks
+  pub lengths : All IsStackLength stacks
+  pub calls_fit : (t : ℕ) → t < length config.tasks → HoldCalls app t (slice_index stacks t)

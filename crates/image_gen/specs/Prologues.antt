@@ -1,0 +1,28 @@
+-- The prologues of all tasks.
+use Rattle.std.specs.Prelude.{ℕ, ◌<◌, ◌≤◌, ◌≡◌, List, [], length, All, slice_index, slice_index_or}
+use Rattle.sloth_base.specs.declared.app.App.{App}
+use Rattle.sloth_base.specs.declared.config.Config.{Config}
+use Rattle.sloth_base.specs.declared.places.Levels.{Levels}
+use Rattle.sloth_region.specs.declared.map.Map.{Map}
+use Rattle.rv32_instr.specs.declared.block.Block.{Block}
+use Rattle.prologue_gen.specs.Places.{EntersTask, IsBasic, IsBody, IsStack}
+
+-- what the prologue of each task needs
+pub record MayStart (config : Config) (app : App) (levels : Levels) (map : Map) : Type 0 where
+  pub few : length config.tasks ≤ 30
+  pub basic : (t : ℕ) → t < length config.tasks → IsBasic config.tasks t
+  pub levels_fit : (levels.top < 32) × ((t : ℕ) → slice_index levels.task t < 32)
+  pub bodies : (t : ℕ) → t < length config.tasks → (body : ℕ) × IsBody app.funcs t body
+  pub frames : All (λ func. func.frame_words ≤ 32) app.funcs
+  pub stacks : (length map.stacks ≡ length config.tasks) × All IsStack map.stacks
+  pub items : (length app.funcs ≤ length map.places.first) × All (λ i. i < length map.places.items) map.places.first
+
+-- the prologue of one task
+pub record IsPrologue (config : Config) (app : App) (levels : Levels) (map : Map) (t : ℕ) (block : Block) : Type 0 where
+  pub at : block.at ≡ slice_index map.handlers t
+  pub marks : block.marks ≡ []
+  pub enters : EntersTask t config app levels map block.code
+
+-- each element has the property of its place
+abbrev pub Each : {X : Type 0} → (ℕ → X → Type 0) → List X → Type 0
+Each {X} P xs = (k : ℕ) (d : X) → k < length xs → P k (slice_index_or xs k d)

@@ -1,0 +1,38 @@
+-- The code of the services that are wanted.
+use Rattle.std.specs.Prelude.{ℕ, ◌+◌, ◌/◌, ◌%◌, ◌≤◌, ◌≡◌, Bool, true, false, List, [], ◌∷◌, length, Some, get_or, slice_index}
+use Rattle.std.specs.List.{AllZip}
+use Rattle.sloth_base.specs.ServiceCodes.{service_of}
+use Rattle.sloth_base.specs.declared.places.Levels.{Levels}
+use Rattle.sloth_base.specs.declared.service.Service.{Service}
+use Rattle.sloth_region.specs.declared.map.Map.{Map}
+use Rattle.rv32_instr.specs.declared.block.Block.{Block}
+use Rattle.service_gen.specs.Block.{opening, HasBlock, Serves}
+
+-- the wanted ones, the first of which has this number; a number is service code * 40 + object
+abbrev pub wanted_from : ℕ → List Bool → List ℕ
+wanted_from number [] = []
+wanted_from number (true ∷ wanted) = number ∷ wanted_from (number + 1) wanted
+wanted_from number (false ∷ wanted) = wanted_from (number + 1) wanted
+
+-- code of a service is generated
+pub record IsServed (number : ℕ) : Type 0 where
+  pub service : Service
+  pub is : service_of (number / 40) ≡ Some service
+  pub has_block : HasBlock service (number % 40)
+
+-- so is that of each wanted one
+abbrev pub AreServed : List Bool → Type 0
+AreServed wanted = (number : ℕ) → get_or wanted number false ≡ true → IsServed number
+
+-- the code of a service by its number
+pub record IsService (levels : Levels) (map : Map) (number : ℕ) (block : Block) : Type 0 where
+  pub service : Service
+  pub is : service_of (number / 40) ≡ Some service
+  pub at : block.at ≡ slice_index map.places.blocks number
+  pub marks : block.marks ≡ opening block.at (number / 40) ∷ []
+  pub few : length block.code ≤ 256
+  pub serves : Serves service (number % 40) levels block.code
+
+-- the code of the wanted ones, in the order of their numbers
+abbrev pub AreServices : Levels → Map → List Bool → List Block → Type 0
+AreServices levels map wanted blocks = AllZip (IsService levels map) (wanted_from 0 wanted) blocks

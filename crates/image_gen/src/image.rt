@@ -1,0 +1,58 @@
+//! The image of a configuration and its task code.
+ghost use Rattle.std.specs.Prelude.{◌≡◌, ◌<◌, ℕ, IfOk, false, get_or, length};
+ghost use Rattle.sloth_base.specs.ImageRange.{InFormat};
+ghost use Rattle.sloth_base.specs.Named.{declaration};
+ghost use Rattle.app_rules.specs.WellFormed.{WellFormed};
+ghost use Rattle.prologue_gen.specs.Places.{IsBasic};
+ghost use Rattle.rv32_expand.specs.InPlace.{IsItem, IsBodyName, ItemsInPlace};
+ghost use Rattle.sim_induction.specs.Sound.{Sound};
+ghost use Rattle.sim_image.specs.Generated.{IsCovered};
+ghost use Rattle.image_gen.specs.Gathered.{IsPlanned, MayBuild};
+ghost use Rattle.image_gen.specs.Names.{task_names, function_names};
+ghost use Rattle.image_gen.specs.Wanted.{is_wanted};
+
+use crate::generating::generate;
+use crate::wanted::wanted;
+use mem_map::plan;
+use prio_levels::assign;
+use rv32_expand::sizes;
+use sloth_base::app::App;
+use sloth_base::config::Config;
+use sloth_base::image::Image;
+use sloth_base::memory::NoMemory;
+use sloth_region::map::Map;
+use std::alloc::Global;
+
+// The map, with a place for each of these services, and for each task a stack of so many bytes.
+fn planned(
+    alloc: Global,
+    config: &Config,
+    app: &App,
+    wanted: &[bool; 512],
+    stacks: &[u32],
+) -> Result<Map, NoMemory>
+    requires may_build { MayBuild config.now app.now stacks.now }
+    requires wanted { (number : ℕ) → number < 512 → get_or wanted.now number false ≡ is_wanted number app.now }
+    ensures { IfOk result (λ map. IsPlanned config.now app.now wanted.now map) }
+{
+    let sizes = sizes(alloc, app)?;
+    let map = plan(alloc, config, app, &sizes, wanted, stacks)?;
+    Ok(map)
+}
+
+/// The image of well-formed task code of basic tasks that calls no service but TerminateTask, with so many bytes of stack for each
+/// task (at most 32,768, in whole words; at least those of its calls and a context): every run of it is one of the abstract
+/// scheduler, and its items are in place.
+pub fn image(alloc: Global, config: &Config, app: &App, stacks: &[u32]) -> Result<Image, NoMemory>
+    requires { MayBuild config.now app.now stacks.now }
+    ensures sound { IfOk result (λ image. Sound config.now app.now image) }
+    ensures items { IfOk result (λ image. ItemsInPlace image config.now app.now) }
+    ensures format { IfOk result InFormat }
+    ensures tasks { IfOk result (λ image. image.tasks ≡ task_names config.now) }
+    ensures functions { IfOk result (λ image. image.funcs ≡ function_names app.now) }
+{
+    let levels = assign(config);
+    let wanted = wanted(app);
+    let map = planned(alloc, config, app, &wanted, stacks)?;
+    generate(alloc, config, app, &levels, &wanted, &map)
+}

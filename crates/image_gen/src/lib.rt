@@ -1,0 +1,12 @@
+//! The code of an image, put together and linked.
+#![tactic(auto)]
+
+pub mod gathering;
+pub mod generating;
+pub mod image;
+pub mod items;
+pub mod names;
+pub mod prologues;
+pub mod services;
+pub mod symbols;
+mod wanted;

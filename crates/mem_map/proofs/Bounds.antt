@@ -1,0 +1,135 @@
+-- How long the code, the data and the stacks are at most.
+use Rattle.std.proofs.Common.{◌≡◌, ◌≤◌, ◌<◌, ◌+◌, ◌-◌, ◌*◌, ◌%◌, ◌∙◌, ⊎_elim, ℕ, zero, suc, Bool, true, false, leb, List, [], ◌∷◌, length, get_or, refl, ap, subst, arith}
+use Rattle.std.specs.Prelude.{All, map, sum_by}
+use Rattle.std.proofs.lemmas.Bool.{leb-false}
+use Rattle.std.proofs.lemmas.Grind.{get_or_default_zero}
+use Rattle.std.proofs.lemmas.List.Sums.{sum_by-cons}
+use Rattle.sloth_base.specs.Named.{function, missing, item_of}
+use Rattle.sloth_base.specs.declared.app.App.{App}
+use Rattle.sloth_base.specs.declared.app.Func.{Func}
+use Rattle.sloth_base.specs.declared.app.Symbol.{Symbol}
+use Rattle.sloth_base.specs.declared.config.Config.{Config}
+use Rattle.app_rules.specs.AppRange.{AppInRange}
+use Rattle.rv32_expand.specs.InPlace.{IsItem}
+use Rattle.rv32_expand.specs.Sizes.{AreSizes, items_before}
+use Rattle.rv32_expand.proofs.Counts.{size_few}
+use Rattle.rv32_expand.proofs.Growth.{order}
+use Rattle.rv32_expand.proofs.InRangeOf.{frame_of}
+use Rattle.mem_map.specs.Run.{end_of, room_for}
+use Rattle.mem_map.specs.Plan.{service_bytes, item_bytes, symbol_bytes, IsStackLength}
+
+-- ---- sizes of items
+
+-- where the length with a number stands
+record IsAt (bodies : List Func) (k : ℕ) (d : Func) : Type 0 where
+  func : ℕ
+  index : ℕ
+  declared : func < length bodies
+  inside : index < length (get_or bodies func d).items
+  is : k ≡ items_before bodies func + index
+
+locate : (bodies : List Func) (k : ℕ) (d : Func) → k < items_before bodies (length bodies) → IsAt bodies k d
+locate [] k d h = absurd (omega (arith, h))
+locate (body ∷ bodies) k d h =
+    ⊎_elim
+    (λ (l : k < length body.items). record { func = 0; index = k; declared = omega arith; inside = l; is = omega arith })
+    (λ (l : length body.items ≤ k). let r = locate bodies (k - length body.items) d (omega (arith, h)) in
+    let e = r.is in let n = r.declared in
+    record { func = suc r.func; index = r.index; declared = omega arith; inside = r.inside; is = omega (arith, e) })
+    (order k (length body.items))
+
+-- an item has an instruction, and at most 36
+abbrev pub IsSize : ℕ → Type 0
+IsSize size = (1 ≤ size) × (size ≤ 36)
+
+pub sizes_few : (config : Config) (app : App) (sizes : List ℕ) → AppInRange config app → AreSizes app sizes → All IsSize sizes
+sizes_few config app sizes range are = λ k d l.
+    let n = are.count in
+    let at = locate app.funcs k missing (omega (arith, n, l)) in
+    let item : IsItem app at.func at.index = record { declared = at.declared; inside = at.inside } in
+    let zero_is = get_or_default_zero sizes k d l in
+    let place = ap (λ (i : ℕ). get_or sizes i 0) at.is in
+    let each = are.each at.func at.index item in
+    let few = size_few app (frame_of app (config, range)) (are.long at.func at.index) (item_of (function app at.func) at.index).op in
+    let some = few.some in
+    let most = few.few in
+    (omega (arith, zero_is, place, each, some), omega (arith, zero_is, place, each, most))
+
+pub before_all : (funcs : List Func) → items_before funcs (length funcs) ≡ sum_by (λ (f : Func). length f.items) funcs
+before_all [] = refl
+before_all (body ∷ funcs) =
+    let s = sum_by-cons (λ (f : Func). length f.items) body funcs in
+    let r = before_all funcs in
+    omega (arith, s, r)
+
+-- ---- ends
+
+pub end_is : {X : Type 0} (f : X → ℕ) (from : ℕ) (xs : List X) → end_of from (map f xs) ≡ from + sum_by f xs
+end_is f from [] = omega arith
+end_is f from (x ∷ xs) =
+    let s = sum_by-cons f x xs in
+    let r = end_is f (from + f x) xs in
+    omega (arith, s, r)
+
+pub items_end : (from : ℕ) (sizes : List ℕ) → All IsSize sizes → end_of from (map item_bytes sizes) ≤ from + 144 * length sizes
+items_end from [] few = omega arith
+items_end from (size ∷ sizes) few =
+    let h = few 0 0 (omega arith) in
+    let most = h.1 in
+    let r = items_end (from + 4 * size) sizes (λ k d l. few (suc k) d (omega (arith, l))) in
+    omega (arith, most, r)
+
+pub symbols_end : (from : ℕ) (symbols : List Symbol) → end_of from (map symbol_bytes symbols) ≤ from + sum_by (λ (y : Symbol). length y.bytes) symbols + 3 * length symbols
+symbols_end from [] = omega arith
+symbols_end from (symbol ∷ symbols) =
+    let s = sum_by-cons (λ (y : Symbol). length y.bytes) symbol symbols in
+    let r = symbols_end (from + symbol_bytes symbol) symbols in
+    omega (arith, s, r)
+
+pub stacks_room : (stacks : List ℕ) → All IsStackLength stacks → room_for 16 stacks ≤ 32783 * length stacks
+stacks_room [] all = omega arith
+stacks_room (len ∷ stacks) all =
+    let h = all 0 0 (omega arith) in
+    let most = h.0 in
+    let r = stacks_room stacks (λ k d l. all (suc k) d (omega (arith, l))) in
+    omega (arith, most, r)
+
+-- ---- services
+
+one_if : Bool → ℕ
+one_if true = 1
+one_if false = 0
+
+-- how many of so many numbers from k on have an object that is at most 32
+allowed : ℕ → ℕ → ℕ
+allowed k zero = 0
+allowed k (suc n) = one_if (leb (k % 40) 32) + allowed (k + 1) n
+
+all_allowed : allowed 0 512 ≡ 428
+unfolding allowed one_if
+all_allowed = refl
+
+is_one : (b : Bool) (n : ℕ) → leb n 32 ≡ b → n ≤ 32 → one_if b ≡ 1
+unfolding one_if
+is_one true n e h = refl
+is_one false n e h = let l = leb-false n 32 e in absurd (omega (arith, l, h))
+
+wanted_end : (from k : ℕ) (wanted : List Bool) → ((j : ℕ) → get_or wanted j false ≡ true → (k + j) % 40 ≤ 32)
+    → end_of from (map service_bytes wanted) ≤ from + 1024 * allowed k (length wanted)
+unfolding allowed
+wanted_end from k [] objects = omega arith
+wanted_end from k (true ∷ wanted) objects =
+    let z : k + 0 ≡ k = omega arith in
+    let o = is_one (leb (k % 40) 32) (k % 40) refl (subst (λ (i : ℕ). i % 40 ≤ 32) z (objects 0 refl)) in
+    let r = wanted_end (from + 1024) (k + 1) wanted (λ j e. let s : k + suc j ≡ k + 1 + j = omega arith in subst (λ (i : ℕ). i % 40 ≤ 32) s (objects (suc j) e)) in
+    omega (arith, o, r)
+wanted_end from k (false ∷ wanted) objects =
+    let r = wanted_end (from + 0) (k + 1) wanted (λ j e. let s : k + suc j ≡ k + 1 + j = omega arith in subst (λ (i : ℕ). i % 40 ≤ 32) s (objects (suc j) e)) in
+    omega (arith, r)
+
+pub services_end : (from : ℕ) (wanted : List Bool) → length wanted ≡ 512 → ((j : ℕ) → get_or wanted j false ≡ true → j % 40 ≤ 32)
+    → end_of from (map service_bytes wanted) ≤ from + 438272
+services_end from wanted n objects =
+    let r = wanted_end from 0 wanted (λ j e. let s : j ≡ 0 + j = omega arith in subst (λ (i : ℕ). i % 40 ≤ 32) s (objects j e)) in
+    let a = ap (allowed 0) n ∙ all_allowed in
+    omega (arith, r, a)

@@ -1,0 +1,97 @@
+-- The map that is made of these addresses and zones.
+use Rattle.std.proofs.Common.{◌≡◌, ◌≤◌, ◌<◌, ◌+◌, ◌-◌, ◌%◌, ◌∙◌, ℕ, Bool, List, ◌∷◌, length, get_or, sym, ap, arith}
+use Rattle.std.specs.Prelude.{All, map, slice_index}
+use Rattle.sloth_base.specs.declared.app.App.{App}
+use Rattle.sloth_base.specs.declared.config.Config.{Config}
+use Rattle.sloth_region.specs.declared.extent.Extent.{Extent}
+use Rattle.sloth_region.specs.declared.map.Map.{Map}
+use Rattle.sloth_region.specs.Region.{AreApartWithin}
+use Rattle.mem_map.specs.Run.{starts, end_of}
+use Rattle.mem_map.specs.Zones.{code_zone, data_zone, nowhere, HasZones}
+use Rattle.mem_map.specs.Plan.{MayPlan, HasAddresses, idle_at, prologue_at, services_at, items_at, code_end, service_bytes, item_bytes, symbol_bytes}
+use Rattle.mem_map.proofs.Planned.{few_tasks, services_above, items_above, symbols_above, stack_length, stack_count, stacks_end, items_all_even, blocks_all_even}
+
+module _ (config : Config) (app : App) (sizes : List ℕ) (wanted : List Bool) (stacks : List ℕ) (may : MayPlan config app sizes wanted stacks) (full : length wanted ≡ 512) (plan : Map) where
+  abbrev n : ℕ
+  n = length config.tasks
+
+  abbrev end : ℕ
+  end = code_end n wanted sizes
+
+  -- what the zones are
+  pub record HasExtents (code data_extent : Extent) (code_to data_to : ℕ) : Type 0 where
+    pub extents : plan.extents ≡ plan.words ∷ code ∷ data_extent ∷ plan.stacks
+    pub code_is : code ≡ record { base = 0x8000_0400; len = code_to - 0x8000_0400 }
+    pub data_is : data_extent ≡ record { base = 0x8000_0400 + (code_to - 0x8000_0400); len = data_to + 4 - code_to }
+    pub code_end_is : code_to ≡ end
+    pub data_end_is : data_to ≡ end_of code_to (map symbol_bytes app.symbols)
+
+  module _ (code data_extent : Extent) (code_to data_to : ℕ) (has : HasExtents code data_extent code_to data_to) where
+    code_zone_is : code_zone plan ≡ code
+    code_zone_is = ap (λ (l : List Extent). get_or l 1 nowhere) has.extents
+
+    data_zone_is : data_zone plan ≡ data_extent
+    data_zone_is = ap (λ (l : List Extent). get_or l 2 nowhere) has.extents
+
+    ends : end_of code_to (map symbol_bytes app.symbols) ≡ end_of end (map symbol_bytes app.symbols)
+    ends = ap (λ (from : ℕ). end_of from (map symbol_bytes app.symbols)) has.code_end_is
+
+    -- what the calls give, by their number of tasks
+    pub addressed : (tasks : ℕ) → tasks ≡ n → plan.idle ≡ idle_at tasks → length plan.handlers ≡ 32
+        → ((task : ℕ) → task < tasks → slice_index plan.handlers task ≡ prologue_at tasks task)
+        → ((line : ℕ) → tasks ≤ line → line < 32 → slice_index plan.handlers line ≡ idle_at tasks)
+        → plan.places.blocks ≡ starts (services_at tasks) (map service_bytes wanted)
+        → plan.places.items ≡ starts (items_at tasks wanted) (map item_bytes sizes)
+        → plan.places.first ≡ starts 0 (map (λ f. length f.items) app.funcs)
+        → plan.places.symbols ≡ starts code_to (map symbol_bytes app.symbols)
+        → HasAddresses config app sizes wanted plan
+    addressed tasks count idle lines prologues unused blocks items first symbols =
+        let low = services_above config app sizes wanted stacks may full in
+        let mid = items_above config app sizes wanted stacks may full in
+        let high = symbols_above config app sizes wanted stacks may full in
+        let c = code_zone_is ∙ has.code_is in
+        let d = data_zone_is ∙ has.data_is in
+        let code_from = ap (λ (e : Extent). e.base) c in
+        let code_len = ap (λ (e : Extent). e.len) c in
+        let data_from = ap (λ (e : Extent). e.base) d in
+        let data_len = ap (λ (e : Extent). e.len) d in
+        let e = has.code_end_is in
+        let f = has.data_end_is in
+        let g = ends in
+        record {
+          idle = idle ∙ ap idle_at count;
+          lines = lines;
+          prologues = λ task l. prologues task (omega (arith, l, count)) ∙ ap (λ (t : ℕ). prologue_at t task) count;
+          unused = λ line l m. unused line (omega (arith, l, count)) m ∙ sym idle;
+          blocks = blocks ∙ ap (λ (t : ℕ). starts (services_at t) (map service_bytes wanted)) count;
+          items = items ∙ ap (λ (t : ℕ). starts (items_at t wanted) (map item_bytes sizes)) count;
+          first = first;
+          symbols = symbols ∙ ap (λ (from : ℕ). starts from (map symbol_bytes app.symbols)) e;
+          code_from = code_from;
+          code_to = omega (arith, code_from, code_len, e, low, mid);
+          data_from = omega (arith, data_from, e, low, mid);
+          data_to = omega (arith, data_from, data_len, e, f, g, low, mid, high);
+        }
+
+    pub zoned : HasAddresses config app sizes wanted plan → plan.words ≡ record { base = 0x8000_0004; len = 1020 } → AreApartWithin 0x8000_0004 0x8020_0000 plan.extents
+        → map (λ (e : Extent). e.len) plan.stacks ≡ stacks → All (λ (e : Extent). e.base % 16 ≡ 0) plan.stacks → HasZones plan config app
+    zoned at words apart lengths aligned = record {
+      extents =
+          has.extents ∙ ap (λ (e : Extent). plan.words ∷ e ∷ data_extent ∷ plan.stacks) (sym code_zone_is)
+          ∙ ap (λ (e : Extent). plan.words ∷ code_zone plan ∷ e ∷ plan.stacks) (sym data_zone_is);
+      words = words;
+      apart = apart;
+      few_tasks = few_tasks config app sizes wanted stacks may full;
+      stacks = stack_count plan.stacks stacks lengths ∙ may.a_stack_each;
+      stacks_aligned = aligned;
+      ends_aligned = stacks_end plan.stacks stacks lengths may.lengths aligned;
+      long = λ task l.
+          let count = stack_count plan.stacks stacks lengths in
+          let each = may.a_stack_each in
+          let s = stack_length plan.stacks stacks nowhere task lengths (omega (arith, l, count, each)) in
+          let m = may.long task l in
+          omega (arith, s, m);
+      items_aligned = items_all_even config app sizes wanted stacks may full plan at;
+      blocks_aligned = blocks_all_even config app sizes wanted stacks may full plan at;
+      idle_aligned = let i = at.idle in omega (arith, i);
+    }

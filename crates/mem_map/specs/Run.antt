@@ -1,0 +1,40 @@
+-- Pieces one behind the other: their addresses, and the extents that hold them.
+use Rattle.std.specs.Prelude.{ℕ, ◌+◌, ◌-◌, ◌%◌, ◌≡◌, List, [], ◌∷◌, map, All}
+use Rattle.sloth_region.specs.declared.extent.Extent.{Extent}
+use Rattle.sloth_region.specs.Region.{aligned, AreApartWithin}
+
+-- ---- each right behind the one before it
+
+-- the addresses of pieces of these lengths, the first at an address
+abbrev pub starts : ℕ → List ℕ → List ℕ
+starts from [] = []
+starts from (len ∷ lengths) = from ∷ starts (from + len) lengths
+
+-- the address behind the last of them
+abbrev pub end_of : ℕ → List ℕ → ℕ
+end_of from [] = from
+end_of from (len ∷ lengths) = end_of (from + len) lengths
+
+-- the extents of pieces at these addresses, of these lengths
+abbrev pub extents_of : List ℕ → List ℕ → List Extent
+extents_of [] lengths = []
+extents_of (address ∷ addresses) [] = []
+extents_of (address ∷ addresses) (len ∷ lengths) = record { base = address; len = len } ∷ extents_of addresses lengths
+
+-- ---- each aligned
+
+-- extents of these lengths from an address on, each at the least multiple of `align`
+abbrev pub run : ℕ → ℕ → List ℕ → List Extent
+run align from [] = []
+run align from (len ∷ lengths) = record { base = aligned from align; len = len } ∷ run align (aligned from align + len) lengths
+
+-- bytes that are enough for them, wherever they begin
+abbrev pub room_for : ℕ → List ℕ → ℕ
+room_for align [] = 0
+room_for align (len ∷ lengths) = (align - 1) + len + room_for align lengths
+
+-- what a run of extents is: of these lengths, in order, apart, aligned and inside
+pub record AreRun (align from end : ℕ) (lengths : List ℕ) (extents : List Extent) : Type 0 where
+  pub lengths_are : map (λ (e : Extent). e.len) extents ≡ lengths
+  pub apart : AreApartWithin from end extents
+  pub aligned_each : All (λ e. e.base % align ≡ 0) extents

@@ -1,0 +1,10 @@
+//! Every address of an image: its zones, and where each piece of code and data stands in them.
+#![tactic(auto)]
+
+mod addresses;
+mod lengths;
+mod placing;
+mod planning;
+mod zones;
+
+pub use planning::plan;

@@ -1,0 +1,146 @@
+//! The map of an image.
+ghost use Rattle.std.specs.Prelude.{ℕ, ◌≡◌, ◌≤◌, ◌<◌, ◌+◌, IfOk, All, length, map, slice_index};
+ghost use Rattle.sloth_region.specs.Region.{FollowWithin};
+ghost use Rattle.rv32_expand.specs.Sizes.{AgreeWithSizes, Covers};
+ghost use Rattle.mem_map.specs.Run.{starts, end_of};
+ghost use Rattle.mem_map.specs.Zones.{HasZones};
+ghost use Rattle.mem_map.specs.Plan.{MayPlan, HasAddresses, IsNear, services_at, items_at, code_end, data_end, service_bytes, item_bytes, symbol_bytes, code_extents, data_extents};
+
+use crate::addresses::{Pieces, handlers, idle_at, place_pieces, place_services, prologue_at};
+use crate::lengths::{item_counts, item_lengths, symbol_lengths};
+use crate::zones::plan_zones;
+use sloth_base::app::App;
+use sloth_base::config::Config;
+use sloth_base::list::List;
+use sloth_base::memory::NoMemory;
+use sloth_base::places::Places;
+use sloth_region::map::Map;
+use std::alloc::{AllocError, Global};
+
+/// Where the code begins.
+const CODE: u32 = 0x8000_0400;
+/// The bytes behind the last symbol.
+const WORD: u32 = 4;
+
+/// The addresses of services and items, and the address behind the last item.
+#[derive(Drop)]
+struct Code {
+    services: [u32; 512],
+    items: List<u32>,
+    end: u32,
+}
+
+// The addresses of the services and items behind the prologues of so many tasks.
+fn plan_code(
+    alloc: Global,
+    tasks: u32,
+    sizes: &[u32],
+    wanted: &[bool; 512],
+) -> Result<Code, AllocError>
+    requires few_tasks { tasks ≤ 30 }
+    requires small { All (λ size. size ≤ 36) sizes.now }
+    requires services { items_at tasks wanted.now < 4294967296 }
+    requires items { code_end tasks wanted.now sizes.now < 4294967296 }
+    ensures services { IfOk result (λ code. code.services ≡ starts (services_at tasks) (map service_bytes wanted.now)) }
+    ensures items { IfOk result (λ code. code.items ≡ starts (items_at tasks wanted.now) (map item_bytes sizes.now)) }
+    ensures end { IfOk result (λ code. code.end ≡ code_end tasks wanted.now sizes.now) }
+{
+    let services = place_services(prologue_at(tasks, tasks), wanted);
+    let lengths = item_lengths(alloc, sizes)?;
+    let items = place_pieces(alloc, services.end, &lengths)?;
+    let services = services.starts;
+    Ok(Code {
+        services,
+        items: items.starts,
+        end: items.end,
+    })
+}
+
+// The number of items before those of each function.
+fn plan_first(alloc: Global, app: &App) -> Result<Pieces, AllocError>
+    requires few { All (λ f. length f.items ≤ 4096) app.now.funcs }
+    requires fits { end_of 0 (map (λ f. length f.items) app.now.funcs) < 4294967296 }
+    ensures { IfOk result (λ pieces. pieces.starts ≡ starts 0 (map (λ f. length f.items) app.now.funcs)) }
+{
+    let counts = item_counts(alloc, app.funcs.items())?;
+    place_pieces(alloc, 0, &counts)
+}
+
+// The addresses of the symbols, the first at `from`.
+fn plan_symbols(alloc: Global, from: u32, app: &App) -> Result<Pieces, AllocError>
+    requires few { All (λ y. length y.bytes ≤ 32768) app.now.symbols }
+    requires fits { end_of from (map symbol_bytes app.now.symbols) < 4294967296 }
+    ensures starts { IfOk result (λ pieces. pieces.starts ≡ starts from (map symbol_bytes app.now.symbols)) }
+    ensures end { IfOk result (λ pieces. pieces.end ≡ end_of from (map symbol_bytes app.now.symbols)) }
+{
+    let lengths = symbol_lengths(alloc, app.symbols.items())?;
+    place_pieces(alloc, from, &lengths)
+}
+
+// The map, with its zones and addresses.
+fn make_map(
+    alloc: Global,
+    config: &Config,
+    app: &App,
+    sizes: &[u32],
+    wanted: &[bool; 512],
+    stacks: &[u32],
+) -> Result<Map, NoMemory>
+    requires { MayPlan config.now app.now sizes.now wanted.now stacks.now }
+    ensures zones { IfOk result (λ plan. HasZones plan config.now app.now) }
+    ensures stacks { IfOk result (λ plan. map (λ e. e.len) plan.stacks ≡ stacks.now) }
+    ensures addresses { IfOk result (HasAddresses config.now app.now sizes.now wanted.now) }
+{
+    let tasks = config.tasks.items().len() as u32;
+    let code = plan_code(alloc, tasks, sizes, wanted)?;
+    let first = plan_first(alloc, app)?;
+    let symbols = plan_symbols(alloc, code.end, app)?;
+    let zones = plan_zones(
+        alloc,
+        code.end - CODE,
+        symbols.end + WORD - code.end,
+        stacks,
+    )?;
+    let blocks = code.services;
+    let handlers = handlers(tasks);
+    Ok(Map {
+        extents: zones.extents,
+        places: Places {
+            items: code.items,
+            first: first.starts,
+            symbols: symbols.starts,
+            blocks,
+        },
+        stacks: zones.stacks,
+        words: zones.words,
+        idle: idle_at(tasks),
+        handlers,
+    })
+}
+
+/// The map of an image: in this order the vector words, boot, the idle loop, a prologue for each task, the wanted services
+/// (by service code * 40 + object), all items (of so many instructions each), all symbols, a stack of so many bytes for each task.
+/// There is room for all of them; only memory for the map itself may be missing.
+pub fn plan(
+    alloc: Global,
+    config: &Config,
+    app: &App,
+    sizes: &[u32],
+    wanted: &[bool; 512],
+    stacks: &[u32],
+) -> Result<Map, NoMemory>
+    requires { MayPlan config.now app.now sizes.now wanted.now stacks.now }
+    ensures zones { IfOk result (λ plan. HasZones plan config.now app.now) }
+    ensures stacks { IfOk result (λ plan. map (λ e. e.len) plan.stacks ≡ stacks.now) }
+    ensures addresses { IfOk result (HasAddresses config.now app.now sizes.now wanted.now) }
+    ensures reach { IfOk result (λ plan. (line : ℕ) → line < 32 → IsNear (slice_index plan.handlers line)) }
+    ensures near { IfOk result (λ plan. code_end (length config.now.tasks) wanted.now sizes.now < 0x80100400) }
+    ensures code_follows { IfOk result (λ plan. FollowWithin 0x80000400 (code_end (length config.now.tasks) wanted.now sizes.now)
+        (code_extents plan (length config.now.tasks) wanted.now sizes.now)) }
+    ensures data_follows { IfOk result (λ plan. FollowWithin (code_end (length config.now.tasks) wanted.now sizes.now)
+        (data_end app.now (code_end (length config.now.tasks) wanted.now sizes.now)) (data_extents plan app.now)) }
+    ensures agree { IfOk result (λ plan. AgreeWithSizes app.now plan.places) }
+    ensures covers { IfOk result (λ plan. Covers app.now plan.places) }
+{
+    make_map(alloc, config, app, sizes, wanted, stacks)
+}

@@ -1,0 +1,67 @@
+//! The zones of an image, placed in one region.
+ghost use Rattle.std.specs.Prelude.{◌≡◌, ◌≤◌, ◌+◌, ◌%◌, ◌∷◌, IfOk, All, length, map};
+ghost use Rattle.sloth_region.specs.Region.{AreApartWithin};
+ghost use Rattle.mem_map.specs.Run.{room_for};
+
+use crate::placing::{place_all, put};
+use sloth_base::list::List;
+use sloth_base::memory::NoMemory;
+use sloth_region::extent::Extent;
+use sloth_region::region::Region;
+use std::alloc::Global;
+
+/// The first byte behind the first word of RAM, and how many there are.
+const RAM: u32 = 0x8000_0004;
+
+const RAM_LEN: u32 = 0x001f_fffc;
+/// The bytes of the service words.
+const WORDS_LEN: u32 = 1020;
+/// Words begin at multiples of 4, stacks at multiples of 16.
+const WORD: u32 = 4;
+
+const STACK: u32 = 16;
+
+/// Service words, code, data and stacks, one behind the other.
+#[derive(Drop)]
+pub struct Zones {
+    pub words: Extent,
+    pub code: Extent,
+    pub data: Extent,
+    pub stacks: List<Extent>,
+    /// All of them, in this order.
+    pub extents: List<Extent>,
+}
+
+/// Places zones of these lengths in bytes in RAM, behind its first word: there is room.
+pub fn plan_zones(
+    alloc: Global,
+    code_len: u32,
+    data_len: u32,
+    stack_lens: &[u32],
+) -> Result<Zones, NoMemory>
+    requires some { (1 ≤ code_len) × (1 ≤ data_len) × All (λ len. 1 ≤ len) stack_lens.now }
+    requires words { code_len % 4 ≡ 0 }
+    requires few { length stack_lens.now ≤ 30 }
+    requires room { 1024 + code_len + 3 + data_len + 3 + room_for 16 stack_lens.now ≤ 0x200000 }
+    ensures extents { IfOk result (λ zones. zones.extents ≡ zones.words ∷ zones.code ∷ zones.data ∷ zones.stacks) }
+    ensures apart { IfOk result (λ zones. AreApartWithin 0x80000004 0x80200000 zones.extents) }
+    ensures words { IfOk result (λ zones. zones.words ≡ record { base = 0x80000004; len = 1020 }) }
+    ensures code { IfOk result (λ zones. zones.code ≡ record { base = 0x80000400; len = code_len }) }
+    ensures data_zone { IfOk result (λ zones. zones.data ≡ record { base = 0x80000400 + code_len; len = data_len }) }
+    ensures stacks { IfOk result (λ zones. map (λ e. e.len) zones.stacks ≡ stack_lens.now) }
+    ensures stacks_aligned { IfOk result (λ zones. All (λ e. e.base % 16 ≡ 0) zones.stacks) }
+{
+    let mut region = Region::new(RAM, RAM_LEN);
+    let words = put(&mut region, WORDS_LEN, WORD);
+    let code = put(&mut region, code_len, WORD);
+    let data = put(&mut region, data_len, WORD);
+    let stacks = place_all(alloc, &mut region, stack_lens, STACK)?;
+    let extents = Vec::from_slice(alloc, region.extents())?;
+    Ok(Zones {
+        words,
+        code,
+        data,
+        stacks: List::from_vec(stacks),
+        extents: List::from_vec(extents),
+    })
+}

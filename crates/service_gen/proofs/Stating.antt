@@ -1,0 +1,207 @@
+-- The code of GetTaskState has its effect.
+use Rattle.std.proofs.Common.{◌≡◌, ℕ, ◌+◌, ◌<◌, ◌≤◌, List, [], ◌∷◌, ◌++◌, length, get_or, refl, ap, arith, ⊎_elim}
+use Rattle.std.specs.Prelude.{set, negsuc, nat_lt, ◌≢◌}
+use Rattle.std.proofs.lemmas.Bool.{cases_eq, cases_lt, eq-eqb, ne_eqb, lt-ltb}
+use Rattle.sloth_base.specs.Machine.{Core, State}
+use Rattle.sloth_base.specs.Arithmetic.{plus, difference32, one_if, shifted_left}
+use Rattle.sloth_base.specs.Arrive.{arrive}
+use Rattle.sloth_base.specs.Status.{E_OK}
+use Rattle.sloth_region.specs.Layout.{cur, active, words_high, controller_base}
+use Rattle.rv32_instr.specs.declared.InstrKind.{InstrKind}
+use Rattle.rv32_instr.specs.declared.InstrKind.TheVariants.{Lui}
+use Rattle.rv32_instr.specs.Ram.{word_at}
+use Rattle.rv32_routine.specs.Place.{at}
+use Rattle.rv32_routine.specs.Masked.{FromOpening}
+use Rattle.rv32_routine.specs.Kernel.{masking}
+use Rattle.rv32_routine.specs.Owes.{Owes, Pending, Enabled}
+use Rattle.rv32_routine.proofs.Leave.{behind}
+use Rattle.rv32_routine.proofs.Spread.{spread, spread_from}
+use Rattle.rv32_routine.proofs.Whole.{masked}
+use Rattle.service_gen.proofs.Busy.{bit_arrives}
+use Rattle.service_gen.proofs.Chaining.{lands}
+use Rattle.service_gen.proofs.Returning.{answered_with}
+use Rattle.service_gen.proofs.Serving.{opens}
+use Rattle.service_gen.specs.Pieces.{asks_active, tells_active, asks_waiting, tells_resting, back}
+use Rattle.service_gen.specs.GetTaskState.{MayTellState, IsNumber, StateTold, TellsState}
+use Rattle.service_gen.specs.GetTaskState.IsNumber.{running, preempted, waiting, ready, suspended}
+
+abbrev pub body : ℕ → List InstrKind
+body task = Lui 4 words_high ∷ (asks_active task ++ (tells_active task ++ (back ++ (asks_waiting task ++ (tells_resting task ++ back)))))
+
+-- how far the running task's number is from this one
+abbrev apart : ℕ → ℕ → ℕ
+apart own task = plus (own + 1) (negsuc task)
+
+-- what the code computes of that for an Active task
+abbrev told : ℕ → ℕ
+told v = shifted_left (one_if (nat_lt 0 v)) 1
+
+told_own : (task own : ℕ) → task < 30 → task ≡ own → told (apart own task) ≡ 0
+told_own task own x e = let z : apart own task ≡ 0 = omega arith in ap told z
+
+told_other : (task own : ℕ) → task < 30 → own < 30 → task ≢ own → told (apart own task) ≡ 2
+told_other task own x y ne =
+    ⊎_elim
+    (λ (more : 0 < apart own task). ap (λ t. shifted_left (one_if t) 1) (lt-ltb 0 (apart own task) more))
+    (λ none. absurd (ne (omega arith)))
+    (cases_lt 0 (apart own task))
+
+module _ (offset task own : ℕ) (c : Core) (h : MayTellState offset task own (masking ∷ body task) c) where
+  line : task < 32
+  line = let s = h.is_task in omega arith
+
+  abbrev st : List ℕ → State
+  st p = at offset (record (spread c) { pending = p })
+
+  abbrev x1 : ℕ
+  x1 = get_or c.registers 1 0
+
+  abbrev x2 : ℕ
+  x2 = get_or c.registers 2 0
+
+  abbrev tail : List ℕ
+  tail = spread_from 27 5 c.registers
+
+  abbrev word : ℕ
+  word = word_at c.ram (active task)
+
+  abbrev enabled : ℕ
+  enabled = get_or c.enabled task 0
+
+  -- the way back, with the number in a1, where these lines were touched before
+  back_owe : (o : ℕ) (p before : List ℕ) (x x3 number : ℕ) (rest : List InstrKind) → IsNumber task own (record (spread c) { pending = p }) (before ++ []) number → Owes offset (offset + 4 + 92) o (back ++ rest) 0 (λ u. StateTold task own (before ++ u)) (st p) (record (masked (spread c)) { registers = 0 ∷ x ∷ x2 ∷ x3 ∷ 0x8000_0000 ∷ set (set tail 6 number) 5 E_OK; pending = p })
+  back_owe o p before x x3 number rest is =
+      let level = h.level in (
+        c.ilevel,
+        refl,
+        refl,
+        (
+          c.plevel,
+          refl,
+          refl,
+          (
+            c.mepc,
+            refl,
+            refl,
+            record {
+              status = refl;
+              number = is;
+              back = answered_with offset (masking ∷ body task) c h.goes_back x c.ilevel c.ilevel E_OK number p p c.ram (omega arith);
+            },
+          ),
+        ),
+      )
+
+  -- the task is neither Active nor does it wait: what its pending byte tells
+  rests : (q : ℕ) (p : List ℕ) → word ≡ 0 → enabled ≡ 1 → get_or p task 0 ≡ q → q < 2 → IsNumber task own (record (spread c) { pending = p }) (task ∷ []) (difference32 3 q)
+  rests q p a e is small =
+      ⊎_elim
+      (λ (z : q ≡ 0). suspended (a, (omega arith), e) refl (ap (λ v. difference32 3 v) z))
+      (λ n. let one : q ≡ 1 = ⊎_elim (λ (z : q < 1). absurd (n (omega arith))) (λ (m : 1 ≤ q). omega arith) (cases_lt q 1) in ready a e (omega arith) refl (ap (λ v. difference32 3 v) one))
+      (cases_eq q 0)
+
+  -- the task is not Active
+  resting_owe : (o : ℕ) → o + 12 ≤ 0x20_0000 → word ≡ 0 → Owes offset (offset + 4 + 92) o (asks_waiting task ++ (tells_resting task ++ back)) 0 (StateTold task own) (st c.pending) (record (masked (spread c)) { registers = 0 ∷ x1 ∷ x2 ∷ word ∷ 0x8000_0000 ∷ set tail 5 E_OK; pending = c.pending })
+  resting_owe o low a =
+      let long = h.goes_back.can_run.lines in
+      let below = line in (
+        controller_base,
+        refl,
+        (
+          Enabled task,
+          (omega arith, below),
+          (
+            1,
+            refl,
+            record {
+              passed = 3;
+              lands = lands (behind 3 o) 16 3 (omega arith) (omega arith) refl;
+              when_taken = λ t. ⊎_elim
+                  (λ z. back_owe (behind 7 o) c.pending [] controller_base enabled 1 [] (waiting a z refl refl))
+                  (λ ne. let f = ne_eqb enabled 0 ne in absurd (cc))
+                  (cases_eq enabled 0);
+              when_not = λ n.
+                  let bit = h.enabled_bit in
+                  let e : enabled ≡ 1 = ⊎_elim (λ (z : enabled < 1). absurd (n (eq-eqb enabled 0 (omega arith)))) (λ (m : 1 ≤ enabled). omega arith) (cases_lt enabled 1) in (
+                    Pending task,
+                    (omega arith, below),
+                    λ lines only.
+                        let p = arrive lines c.pending in
+                        let q = get_or p task 0 in (
+                          3,
+                          refl,
+                          (
+                            difference32 3 q,
+                            refl,
+                            back_owe (behind 7 o) p (task ∷ []) controller_base q (difference32 3 q) [] (rests q p a e refl (bit_arrives lines c.pending task (omega arith) h.pending_bit)),
+                          ),
+                        ),
+                  );
+            },
+          ),
+        ),
+      )
+
+  -- the task is Active
+  active_owe : (o : ℕ) → word ≡ 1 → Owes offset (offset + 4 + 92) o (tells_active task ++ (back ++ (asks_waiting task ++ (tells_resting task ++ back)))) 0 (StateTold task own) (st c.pending) (record (masked (spread c)) { registers = 0 ∷ x1 ∷ x2 ∷ word ∷ 0x8000_0000 ∷ set tail 5 E_OK; pending = c.pending })
+  active_owe o a =
+      let v = apart own task in
+      let number : IsNumber task own (spread c) [] (told v) =
+      ⊎_elim
+      (λ (e : task ≡ own). running a e refl (told_own task own h.is_task e))
+      (λ ne. preempted a ne refl (told_other task own h.is_task h.is_own ne))
+      (cases_eq task own)
+      in (
+        cur,
+        record { is = refl; aligned = refl; inside = omega arith },
+        own + 1,
+        h.runs,
+        (
+          v,
+          refl,
+          (
+            one_if (nat_lt 0 v),
+            refl,
+            (
+              told v,
+              refl,
+              back_owe (behind 4 o) c.pending [] x1 v (told v) (asks_waiting task ++ (tells_resting task ++ back)) number,
+            ),
+          ),
+        ),
+      )
+
+  body_owes : Owes offset (offset + 4 + 92) (offset + 4) (body task) 0 (StateTold task own) (at offset (spread c)) (masked (spread c))
+  body_owes =
+      let fits = h.goes_back.can_run.inside in
+      let small = h.is_task in
+      let bit = h.active_bit in (
+        0x8000_0000,
+        refl,
+        (
+          E_OK,
+          refl,
+          (
+            active task,
+            record { is = omega arith; aligned = omega arith; inside = omega arith },
+            word,
+            refl,
+            record {
+              passed = 8;
+              lands = lands (behind 3 (offset + 4)) 36 8 (omega arith) (omega arith) refl;
+              when_taken = λ t. ⊎_elim
+                  (λ z. resting_owe (behind 12 (offset + 4)) (omega arith) z)
+                  (λ ne. let f = ne_eqb word 0 ne in absurd (cc))
+                  (cases_eq word 0);
+              when_not = λ n. active_owe (behind 4 (offset + 4))
+                  (⊎_elim (λ (z : word < 1). absurd (n (eq-eqb word 0 (omega arith)))) (λ (m : 1 ≤ word). omega arith) (cases_lt word 1));
+            },
+          ),
+        ),
+      )
+
+  runs_it : FromOpening 23 (at offset c) (StateTold task own)
+  runs_it = opens offset 23 (body task) c (StateTold task own) h.goes_back.can_run (omega arith) body_owes
+
+pub tells_state : (task : ℕ) → TellsState task (masking ∷ body task)
+tells_state task = record { size = (let n : length (masking ∷ body task) ≡ 24 = refl in omega arith); masks = (body task, refl); runs = λ offset own core h. runs_it offset task own core h }

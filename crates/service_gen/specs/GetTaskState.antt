@@ -1,0 +1,45 @@
+-- GetTaskState (OSEK OS 2.2.3, section 13.2.3.4).
+use Rattle.std.specs.Prelude.{ℕ, ◌+◌, ◌≡◌, ◌≢◌, ◌<◌, ◌≤◌, List, [], ◌∷◌, length, slice_index}
+use Rattle.sloth_base.specs.Machine.{Core, State}
+use Rattle.sloth_base.specs.Status.{E_OK}
+use Rattle.sloth_region.specs.Layout.{cur, active}
+use Rattle.rv32_instr.specs.declared.InstrKind.{InstrKind}
+use Rattle.rv32_instr.specs.Ram.{word_at}
+use Rattle.rv32_routine.specs.Masked.{FromOpening}
+use Rattle.rv32_routine.specs.Place.{at}
+use Rattle.rv32_routine.specs.Kernel.{masking}
+use Rattle.service_gen.specs.Back.{CanGoBack, WentBack, a0, a1}
+use Rattle.service_gen.specs.ActivateTask.{LooksSuspended}
+
+-- the code can run, the task `own` runs, and what tells of the other task are bits
+pub record MayTellState (offset task own : ℕ) (code : List InstrKind) (core : Core) : Type 0 where
+  pub goes_back : CanGoBack offset code core
+  pub level : core.ilevel < 256
+  pub runs : word_at core.ram cur ≡ own + 1
+  pub is_own : own < 30
+  pub is_task : task < 30
+  pub active_bit : word_at core.ram (active task) < 2
+  pub pending_bit : slice_index core.pending task < 2
+  pub enabled_bit : slice_index core.enabled task < 2
+
+-- the number of a task's state where the task `own` runs, and the lines that are touched to tell it
+pub data IsNumber (task own : ℕ) (core : Core) (touched : List ℕ) (number : ℕ) : Type 0 where
+  running : word_at core.ram (active task) ≡ 1 → task ≡ own → touched ≡ [] → number ≡ 0 → IsNumber task own core touched number
+  preempted : word_at core.ram (active task) ≡ 1 → task ≢ own → touched ≡ [] → number ≡ 2 → IsNumber task own core touched number
+  waiting : word_at core.ram (active task) ≡ 0 → slice_index core.enabled task ≡ 0 → touched ≡ [] → number ≡ 1
+      → IsNumber task own core touched number
+  ready : word_at core.ram (active task) ≡ 0 → slice_index core.enabled task ≡ 1 → slice_index core.pending task ≡ 1 → touched ≡ task ∷ []
+      → number ≡ 2 → IsNumber task own core touched number
+  suspended : LooksSuspended task core → touched ≡ task ∷ [] → number ≡ 3 → IsNumber task own core touched number
+
+-- a1 is the number of the task's state, the status E_OK.
+pub record StateTold (task own : ℕ) (touched : List ℕ) (start end : State) : Type 0 where
+  pub status : slice_index end.core.registers a0 ≡ E_OK
+  pub number : IsNumber task own start.core touched (slice_index end.core.registers a1)
+  pub back : WentBack a1 start.core start end
+
+-- Code of GetTaskState: its first instruction masks, and at most 23 more lead to its effect, whatever lines arrive.
+pub record TellsState (task : ℕ) (code : List InstrKind) : Type 0 where
+  pub size : length code ≤ 24
+  pub masks : (rest : List InstrKind) × (code ≡ masking ∷ rest)
+  pub runs : (offset own : ℕ) (core : Core) → MayTellState offset task own code core → FromOpening 23 (at offset core) (StateTold task own)

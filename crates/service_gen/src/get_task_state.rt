@@ -1,0 +1,94 @@
+//! GetTaskState: the number of a task's state, 0 where it runs, 1 Waiting, 2 Ready or preempted, 3 Suspended.
+ghost use Rattle.std.specs.Prelude.{◌≡◌, ◌<◌, ◌++◌, IfOk, OnOk};
+ghost use Rattle.service_gen.specs.Pieces.{asks_active, tells_active, asks_waiting, tells_resting};
+ghost use Rattle.service_gen.specs.GetTaskState.{TellsState};
+
+use crate::pieces::{BACK, go_back, open};
+use rv32_instr::Instr;
+use rv32_instr::asm::{A0, A1, X1, X3, X4, ZERO, addi, beq, lbu, lui, lw, slli, sltu, sub};
+use rv32_routine::emit::{emit, past};
+use sloth_base::service::E_OK;
+use sloth_region::layout::{CONTROLLER_HIGH, CUR, active, enabled_byte, pending_byte};
+use std::alloc::{AllocError, Global};
+
+/// The state's number where the task waits.
+const WAITING: i32 = 1;
+
+/// The state's number where the task is Suspended; 1 more than where it is Ready.
+const SUSPENDED: i32 = 3;
+
+/// How many instructions `tell_active` adds.
+const TELL_ACTIVE: u32 = 4;
+
+/// How many instructions `tell_resting` adds.
+const TELL_RESTING: u32 = 3;
+
+/// The number where the task is Active with the way back, and then the number where it is not, with the way back.
+pub fn code(alloc: Global, task: u8) -> Result<Vec<Instr>, AllocError>
+    requires { task < 30 }
+    ensures { IfOk result (λ code. TellsState task code.items) }
+{
+    let mut code = Vec::new(alloc);
+    open(&mut code)?;
+    ask_active(&mut code, task)?;
+    tell_active(&mut code, task)?;
+    go_back(&mut code)?;
+    ask_waiting(&mut code, task)?;
+    tell_resting(&mut code, task)?;
+    go_back(&mut code)?;
+    Ok(code)
+}
+
+/// The status E_OK; goes on behind the first way back where the task is not Active. x4 holds 0x80000000.
+fn ask_active(code: &mut Vec<Instr>, task: u8) -> Result<(), AllocError>
+    requires { task < 30 }
+    ensures { OnOk result (code.new.items ≡ code.old.items ++ asks_active task) }
+{
+    let asked = [
+        addi(A0, ZERO, E_OK as i32),
+        lw(X3, X4, active(task)),
+        beq(X3, ZERO, past(TELL_ACTIVE + BACK)),
+    ];
+    emit(code, &asked)
+}
+
+/// a1 := 0 where the task runs, and 2 where it is preempted. x4 holds 0x80000000.
+fn tell_active(code: &mut Vec<Instr>, task: u8) -> Result<(), AllocError>
+    requires { task < 30 }
+    ensures { OnOk result (code.new.items ≡ code.old.items ++ tells_active task) }
+{
+    let told = [
+        lw(X3, X4, CUR),
+        addi(X3, X3, -1 - task as i32),
+        sltu(A1, ZERO, X3),
+        slli(A1, A1, 1),
+    ];
+    emit(code, &told)
+}
+
+/// a1 := 1; goes on at the way back where the task waits.
+fn ask_waiting(code: &mut Vec<Instr>, task: u8) -> Result<(), AllocError>
+    requires { task < 30 }
+    ensures { OnOk result (code.new.items ≡ code.old.items ++ asks_waiting task) }
+{
+    let asked = [
+        lui(X1, CONTROLLER_HIGH),
+        lbu(X3, X1, enabled_byte(task)),
+        addi(A1, ZERO, WAITING),
+        beq(X3, ZERO, past(TELL_RESTING)),
+    ];
+    emit(code, &asked)
+}
+
+/// a1 := 3 where the task is Suspended, and 2 where it is Ready. x1 holds the controller's address.
+fn tell_resting(code: &mut Vec<Instr>, task: u8) -> Result<(), AllocError>
+    requires { task < 30 }
+    ensures { OnOk result (code.new.items ≡ code.old.items ++ tells_resting task) }
+{
+    let told = [
+        lbu(X3, X1, pending_byte(task)),
+        addi(A1, ZERO, SUSPENDED),
+        sub(A1, A1, X3),
+    ];
+    emit(code, &told)
+}

@@ -1,0 +1,138 @@
+-- What the zones of an image give.
+use Rattle.std.proofs.Common.{◌≡◌, ◌≢◌, ◌≤◌, ◌<◌, ◌+◌, ◌-◌, ◌%◌, ◌&&◌, ℕ, zero, suc, Bool, true, false, List, [], ◌∷◌, length, get_or, refl, ap, subst, inl, inr, ⊎_elim, arith}
+use Rattle.std.specs.Prelude.{All, nat_le, nat_lt, slice_index_or}
+use Rattle.std.proofs.lemmas.Bool.{leb-true, ltb-true, le-leb, lt-ltb, cases_lt}
+use Rattle.sloth_base.specs.declared.app.App.{App}
+use Rattle.sloth_base.specs.declared.config.Config.{Config}
+use Rattle.sloth_region.specs.declared.extent.Extent.{Extent}
+use Rattle.sloth_region.specs.declared.map.Map.{Map}
+use Rattle.sloth_region.specs.Region.{FollowWithin}
+use Rattle.sloth_region.proofs.Placed.{apart_within}
+use Rattle.rv32_instr.specs.declared.block.Block.{Block}
+use Rattle.rv32_instr.specs.Range.{InRange}
+use Rattle.rv32_routine.proofs.Whole.{in_place}
+use Rattle.sim_relation.specs.Build.{Build, Fits, IsElsewhere}
+use Rattle.sim_relation.specs.Placed.{IsPlaced}
+use Rattle.sim_relation.specs.Stands.{AreApart}
+use Rattle.sloth_link.specs.Linked.{BlockStands}
+use Rattle.mem_map.specs.Zones.{HasZones, code_zone, data_zone, stack_of, nowhere}
+use Rattle.sim_image.specs.Symbols.{HasSymbols}
+use Rattle.sim_image.specs.Zones.{IsInCode, RoomForCalls, is_in, build_of, ZonesFit, StacksAreApart, BlocksArePlaced}
+use Rattle.sim_image.proofs.Data.{symbols_are_apart}
+use Rattle.sim_image.proofs.Following.{follow_from_apart, ends}
+
+-- ---- tests
+
+both : (a b : Bool) → (a && b) ≡ true → (a ≡ true) × (b ≡ true)
+both true b e = (refl, e)
+both false b e = absurd cc
+
+inside : (e : Extent) (i : ℕ) → is_in e i ≡ true → (e.base ≤ 0x8000_0000 + i) × (0x8000_0000 + i < e.base + e.len)
+inside e i h =
+    let p = both (nat_le e.base (0x8000_0000 + i)) (nat_lt (0x8000_0000 + i) (e.base + e.len)) h in
+    (leb-true _ _ p.0, ltb-true _ _ p.1)
+
+and_true : (a b : Bool) → a ≡ true → b ≡ true → (a && b) ≡ true
+and_true true b d e = e
+and_true false b d e = absurd cc
+
+pub here : (e : Extent) (i : ℕ) → e.base ≤ 0x8000_0000 + i → 0x8000_0000 + i < e.base + e.len → is_in e i ≡ true
+here e i a b = and_true (nat_le e.base (0x8000_0000 + i)) (nat_lt (0x8000_0000 + i) (e.base + e.len)) (le-leb _ _ a) (lt-ltb _ _ b)
+
+not_true : (a : Bool) → (a ≡ true → ⊥) → a ≡ false
+not_true true h = absurd (h refl)
+not_true false h = refl
+
+-- ---- numbers that are multiples of 4
+
+aligned_at : (xs : List ℕ) (k : ℕ) → All (λ address. address % 4 ≡ 0) xs → get_or xs k 0 % 4 ≡ 0
+aligned_at [] zero h = refl
+aligned_at [] (suc k) h = refl
+aligned_at (x ∷ xs) zero h = h 0 0 (omega arith)
+aligned_at (x ∷ xs) (suc k) h = aligned_at xs k (λ j d l. h (suc j) d (omega arith))
+
+module _ (config : Config) (app : App) (map : Map) (back : ℕ) (memory : List ℕ) (z : HasZones map config app) where
+  abbrev b : Build
+  b = build_of config app map back memory
+
+  follow : FollowWithin 0x8000_0004 0x8020_0000 (map.words ∷ code_zone map ∷ data_zone map ∷ map.stacks)
+  follow = subst (FollowWithin 0x8000_0004 0x8020_0000) z.extents (follow_from_apart 0x8000_0004 0x8020_0000 map.extents z.apart (omega arith))
+
+  pub code_from : 0x8000_0400 ≤ (code_zone map).base
+  code_from =
+      let w = follow.2.0 in
+      let base = ap (λ (e : Extent). e.base) z.words in
+      let len = ap (λ (e : Extent). e.len) z.words in
+      omega (arith, w, base, len)
+
+  pub code_to : (code_zone map).base + (code_zone map).len ≤ (data_zone map).base
+  code_to = follow.2.2.0
+
+  stacks_follow : FollowWithin ((data_zone map).base + (data_zone map).len) 0x8020_0000 map.stacks
+  stacks_follow = follow.2.2.2
+
+  pub stack_inside : (t : ℕ) → t < length config.tasks → ((data_zone map).base + (data_zone map).len ≤ (stack_of map t).base) × ((stack_of map t).base + (stack_of map t).len ≤ 0x8020_0000)
+  stack_inside t l =
+      let n = z.stacks in
+      let h = (apart_within _ _ map.stacks stacks_follow).inside t nowhere (omega (arith, n, l)) in
+      (h.0, h.2)
+
+  pub end_of_code : (code_zone map).base + (code_zone map).len ≤ 0x8020_0000
+  end_of_code = let s = ends _ _ map.stacks stacks_follow in let c = code_to in omega (arith, s, c)
+
+  pub data_to : (data_zone map).base + (data_zone map).len ≤ 0x8020_0000
+  data_to = ends _ _ map.stacks stacks_follow
+
+  elsewhere : (i : ℕ) → IsElsewhere b i → (0x8000_0400 ≤ 0x8000_0000 + i) × (0x8000_0000 + i < (data_zone map).base + (data_zone map).len)
+  elsewhere i (inl h) = let p = inside (code_zone map) i h in let f = code_from in let t = code_to in (omega (arith, p.0, f), omega (arith, p.1, t))
+  elsewhere i (inr h) = let p = inside (data_zone map) i h in let f = code_from in let t = code_to in (omega (arith, p.0, f, t), p.1)
+
+  pub fits : RoomForCalls map config app → HasSymbols map app → back % 4 ≡ 0 → Fits b
+  fits calls has back_aligned = record {
+    few_tasks = z.few_tasks;
+    elsewhere = λ i e. let h = (elsewhere i e).0 in omega (arith, h);
+    outside = λ t i l e. let h = elsewhere i e in let s = stack_inside t l in inl (omega (arith, h.1, s.0));
+    apart = λ i e. not_true (is_in (data_zone map) i) (λ d. let p = inside (code_zone map) i e in let q = inside (data_zone map) i d in let c = code_to in omega (arith, p.1, q.0, c));
+    items = λ func index. aligned_at map.places.items (get_or map.places.first func 0 + index) z.items_aligned;
+    blocks = λ func index call e. aligned_at map.places.blocks _ z.blocks_aligned;
+    data_inside = λ i e. let p = inside (data_zone map) i e in let d = data_to in omega (arith, p.1, d);
+    symbols = λ y. aligned_at map.places.symbols y has.aligned;
+    symbols_apart = symbols_are_apart map app has;
+    idle_address = z.idle_aligned;
+    back_address = back_aligned;
+    from = λ t l. let s = stack_inside t l in let c = code_to in let f = code_from in omega (arith, s.0, c, f);
+    to = λ t l. let s = stack_inside t l in let n = z.stacks in let a = z.ends_aligned t nowhere (omega (arith, n, l)) in let c = code_to in let f = code_from in (omega (arith, s.1), omega (arith, a, s.0, c, f));
+    room = λ t l func outer called. let s = stack_inside t l in let enough = calls t l func outer called in let c = code_to in let f = code_from in omega (arith, enough, s.0, c, f);
+  }
+
+  apart_in_order : (t u : ℕ) → t < u → u < length config.tasks → b.top t ≤ b.low u
+  apart_in_order t u l m =
+      let n = z.stacks in
+      let h = (apart_within _ _ map.stacks stacks_follow).apart t u nowhere l (omega (arith, n, m)) in
+      omega (arith, h)
+
+  pub stacks_apart : (t u : ℕ) → t < length config.tasks → u < length config.tasks → u ≢ t → AreApart b t u
+  stacks_apart t u l m ne = ⊎_elim (λ (x : t < u). inl (apart_in_order t u x m)) (λ (x : u ≤ t). inr (apart_in_order u t (omega (arith, ne, x)) l)) (cases_lt t u)
+
+  pub placed : (block : Block) → All InRange block.code → IsInCode map block → BlockStands memory block → IsPlaced b (block.at - 0x8000_0000) block.code
+  placed block r c s =
+      let f = code_from in
+      let e = end_of_code in
+      let from = c.from in
+      let to = c.to in
+      let al = c.aligned in
+      record {
+        aligned = omega (arith, al, f, from);
+        inside = omega (arith, f, from, to, e);
+        is_code = λ i a l. here (code_zone map) i (omega (arith, a, f, from)) (omega (arith, l, f, from, to));
+        placed = in_place memory (block.at - 0x8000_0000) block.code r s;
+      }
+
+pub zones_fit : ZonesFit
+zones_fit config app map back memory z calls has = fits config app map back memory z calls has
+
+pub stacks_are_apart : StacksAreApart
+stacks_are_apart config app map back memory z = stacks_apart config app map back memory z
+
+pub blocks_are_placed : BlocksArePlaced
+blocks_are_placed config app map back memory blocks z r c s = λ k d l. placed config app map back memory z (slice_index_or blocks k d) (r k d l) (c k d l) (s k d l)

@@ -1,0 +1,12 @@
+pub mod Following
+pub mod Data
+pub mod Fitting
+pub mod Images
+pub mod Items
+pub mod Placing
+pub mod Apart
+pub mod Marks
+pub mod Generating
+pub mod Ready
+pub mod Housed
+pub mod Serving

@@ -1,0 +1,5 @@
+pub mod Zones
+pub mod Symbols
+pub mod Standing
+pub mod Generated
+pub mod Rooms

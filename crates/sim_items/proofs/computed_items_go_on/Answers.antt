@@ -1,5 +1,0 @@
-use Rattle.sim_items.proofs.computed_items_go_on.Goals as goal
-use Rattle.sim_items.proofs.Outside.{item_outside}
-
-pub returns : goal.returns
-returns c = λ b view arrivals progress count state s t here at is placed more. item_outside b view arrivals progress count state s here t at is placed more

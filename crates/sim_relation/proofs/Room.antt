@@ -1,0 +1,47 @@
+-- How much of its part of the stacks a task takes.
+use Rattle.std.proofs.Common.{◌≡◌, ℕ, ◌+◌, ◌*◌, ◌<◌, ◌≤◌, List, [], ◌∷◌, length, refl, subst, sym, arith}
+use Rattle.std.specs.Prelude.{map}
+use Rattle.sloth_base.specs.Named.{function}
+use Rattle.sloth_region.specs.Layout.{context_bytes}
+use Rattle.app_rules.specs.Code.{Calls}
+use Rattle.osek_machine.specs.State.{Frame, body_of}
+use Rattle.sim_relation.specs.Build.{Build, Fits, IsCalledBy, outer_bytes, frame_bytes, HasRoom}
+use Rattle.sim_relation.specs.Position.{OuterAt, FramesAt}
+
+-- for its first frame
+pub first_room : (b : Build) → Fits b → (t : ℕ) → t < length b.config.tasks
+    → b.low t + context_bytes + 4 * (function b.app (body_of b.app.funcs t)).frame_words ≤ b.top t
+first_room b fits t h = let r = fits.room t h (body_of b.app.funcs t) [] refl in omega arith
+
+pub room_without_calls : (b : Build) (t : ℕ) → ((f g : ℕ) → ¬ (Calls b.app f g))
+    → b.low t + context_bytes + 4 * (function b.app (body_of b.app.funcs t)).frame_words ≤ b.top t → HasRoom b t
+room_without_calls b t none l f [] called = let r = subst (λ g. b.low t + context_bytes + 4 * (function b.app g).frame_words ≤ b.top t) (sym called) l in omega arith
+room_without_calls b t none l f (caller ∷ outer) called = absurd (none caller f called.0)
+
+-- ---- frames that stand
+
+abbrev pub funcs_of : List Frame → List ℕ
+funcs_of frames = map (λ (x : Frame). x.func) frames
+
+outer_top : (b : Build) (ram : List ℕ) (outer : List Frame) (place top : ℕ) → OuterAt b ram outer place top → place + outer_bytes b.app (funcs_of outer) ≡ top
+outer_top b ram [] place top h = omega (arith, h)
+outer_top b ram (frame ∷ outer) place top h =
+    let rest = outer_top b ram outer (place + 4 + 4 * length frame.words) top h.3 in
+    let words = h.1 in
+    omega arith
+
+pub frames_top : (b : Build) (ram : List ℕ) (frame : Frame) (outer : List Frame) (place top : ℕ) → FramesAt b ram frame outer place top
+    → place + frame_bytes b.app frame.func (funcs_of outer) ≡ top
+frames_top b ram frame outer place top h =
+    let rest = outer_top b ram outer (place + 4 * length frame.words) top h.2 in
+    let words = h.0 in
+    omega arith
+
+-- a function that the innermost one calls has room for its frame, and a context below it
+pub called_room : (b : Build) → Fits b → (ram : List ℕ) (t : ℕ) → t < length b.config.tasks → (frame : Frame) (outer : List Frame) (place : ℕ)
+    → FramesAt b ram frame outer place (b.top t) → IsCalledBy b.app t frame.func (funcs_of outer) → (callee : ℕ) → Calls b.app frame.func callee
+    → b.low t + context_bytes + (4 + 4 * (function b.app callee).frame_words) ≤ place
+called_room b fits ram t h frame outer place stood called callee calls =
+    let r = fits.room t h callee (frame.func ∷ funcs_of outer) (calls, called) in
+    let e = frames_top b ram frame outer place (b.top t) stood in
+    omega arith

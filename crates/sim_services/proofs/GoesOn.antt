@@ -1,0 +1,183 @@
+-- Where a service goes back to its caller, the task stands at the item behind it.
+use Rattle.std.proofs.Common.{◌≡◌, ℕ, ◌+◌, ◌<◌, List, [], ◌∷◌, length, refl, sym, ap, ◌∙◌, subst, false, true}
+use Rattle.std.specs.Prelude.{slice_index, Contains}
+use Rattle.std.specs.List.{AllByRecursion}
+use Rattle.sloth_base.specs.declared.app.Op.TheVariants as op
+use Rattle.sloth_base.specs.declared.event.Event.TheVariants as event
+use Rattle.sloth_base.specs.declared.service.Service.{Service}
+use Rattle.sloth_base.specs.Machine.{State}
+use Rattle.sloth_base.specs.Named.{operation}
+use Rattle.sloth_region.specs.Layout.{cur}
+use Rattle.rv32_instr.specs.Ram.{word_at}
+use Rattle.rv32_routine.specs.Kernel.{LeftAs}
+use Rattle.osek_machine.specs.State.{Frame, Task, System, task}
+use Rattle.osek_machine.specs.Meaning.{going_on}
+use Rattle.osek_machine.specs.Services.{moved, is_there, GoesOn, outcome}
+use Rattle.osek_machine.specs.Steps.{OsekStep, IsAt, settled}
+use Rattle.sim_induction.proofs.Stretched.{shows_call}
+use Rattle.sim_relation.specs.Build.{Build, Fits}
+use Rattle.sim_relation.specs.Context.{RunsTask, Running}
+use Rattle.sim_relation.specs.DataStands.{DataStands}
+use Rattle.sim_relation.specs.Moves.{moved_to, TaskStep}
+use Rattle.sim_relation.specs.Position.{FramesAt, Position, thread_of}
+use Rattle.sim_relation.specs.Stands.{Stands, IsActive}
+use Rattle.sim_relation.proofs.AtItem.{position_first}
+use Rattle.sim_relation.proofs.Framing.{position_elim}
+use Rattle.sim_relation.proofs.Placed.{first_by_word, active_by_word}
+use Rattle.sim_relation.proofs.TaskSteps.{task_steps}
+use Rattle.sim_services.specs.Opening.{AtOpening, IsFollowed}
+use Rattle.sim_services.specs.Served.{IsServed, Answers}
+
+module _ (b : Build) (state : State) (s : System) (t : ℕ) (called : Task) (served : Service) (is : IsServed b state s t called served) (fits : Fits b) where
+  abbrev k : Stands b state s
+  k = is.stands
+
+  abbrev opening : AtOpening b state t called served
+  opening = is.opening
+
+  abbrev frame : Frame
+  frame = opening.frame
+
+  abbrev own : Task
+  own = task s t
+
+  pub frames_are : own.frames ≡ frame ∷ opening.outer
+  frames_are = ap (λ (o : Task). o.frames) is.own_is ∙ opening.frames
+
+  pub free : own.owed ≡ false
+  free = ap (λ (o : Task). o.owed) is.own_is ∙ opening.free
+
+  pub active : IsActive b s t
+  active = active_by_word b state s t k opening.current
+
+  -- the task's frames stand on its stack
+  pub stood : (place : ℕ) → Position b state.core.ram t own (thread_of state) place → FramesAt b state.core.ram frame opening.outer place (b.top t)
+  stood place p =
+      let both : p.frame ∷ p.outer ≡ frame ∷ opening.outer = sym p.frames ∙ frames_are in
+      let first : p.frame ≡ frame = cc in
+      let rest : p.outer ≡ opening.outer = cc in
+      let serves : operation b.app p.frame.func p.frame.item ≡ op.Serve opening.block.call = ap (λ (f : Frame). operation b.app f.func f.item) first ∙ opening.block.is in
+      subst (λ (o : List Frame). FramesAt b state.core.ram frame o place (b.top t)) rest
+      (subst (λ (f : Frame). FramesAt b state.core.ram f p.outer place (b.top t)) first
+      (position_elim b state.core.ram t own p.frame p.outer (thread_of state) place (FramesAt b state.core.ram p.frame p.outer place (b.top t))
+      (λ h. h.frames)
+      (λ h. let e : true ≡ false = sym h.owes ∙ free in cc)
+      (λ h. let e : op.Invoke h.callee ≡ op.Serve opening.block.call = sym h.is ∙ serves in cc)
+      (λ h. let e : op.Return ≡ op.Serve opening.block.call = sym h.is ∙ serves in cc)
+      p.here))
+
+  pub long_registers : length own.registers ≡ 25
+  long_registers = (k.tidy.each t active.declared).registers
+
+  -- the machine's registers are the task's
+  pub held_registers : (i : ℕ) → i < 25 → slice_index own.registers i ≡ slice_index state.core.registers (i + 5)
+  held_registers =
+      let f = first_by_word b state s t k.stack k.running opening.current in
+      let run : RunsTask b state s t f.0 = subst (Running b state s) f.1 k.running in
+      run.context.registers
+
+  module _ (followed : IsFollowed b frame.func frame.item) (end : State) (left : LeftAs state.core end.core) (pc : end.pc ≡ slice_index state.core.registers 31)
+      (x2 : slice_index end.core.registers 2 ≡ slice_index state.core.registers 2) (registers : List ℕ) (long : length registers ≡ 25)
+      (held : (i : ℕ) → i < 25 → slice_index registers i ≡ slice_index end.core.registers (i + 5)) where
+    abbrev own_now : Task
+    own_now = record own { registers = registers; frames = moved own.frames }
+
+    frames_now : moved own.frames ≡ going_on frame ∷ opening.outer
+    frames_now = ap moved frames_are
+
+    at_ram : (i : ℕ) → slice_index end.core.ram i ≡ slice_index state.core.ram i
+    at_ram i = ap (λ r. slice_index r i) left.ram
+
+    module _ (below : List ℕ) (stack_is : k.stack ≡ t ∷ below) where
+      run : RunsTask b state s t below
+      run = subst (Running b state s) stack_is k.running
+
+      position : Position b end.core.ram t own_now (thread_of end) run.place
+      position =
+          position_first b end.core.ram t own_now (thread_of end) run.place (going_on frame) opening.outer frames_now free followed.more
+          (pc ∙ opening.block.returns ∙ sym followed.adjacent)
+          (subst (λ r. FramesAt b r (going_on frame) opening.outer run.place (b.top t)) (sym left.ram) (stood run.place run.context.position))
+
+      task_step : TaskStep b state end s t own_now s.symbols
+      task_step = record {
+        machine = record {
+          ram = ap length left.ram;
+          registers = left.registers ∙ sym k.fixed.registers;
+          zero = left.zero ∙ sym k.fixed.zero;
+          pending = left.pending;
+          enabled = left.enabled;
+          levels = left.levels;
+          controller = left.controller;
+          open_to_lines = left.opened;
+          previous = left.previous;
+        };
+        level = left.running;
+        low = λ i x y. at_ram i;
+        code = λ i h. at_ram i;
+        others = λ u h m a i x y. at_ram i;
+        active = active.active;
+        events = refl;
+        held = refl;
+        raised = refl;
+        registers = long;
+        place = run.place;
+        context = record {
+          x2 = x2 ∙ run.context.x2;
+          registers = held;
+          position = position;
+          room = run.context.room;
+          aligned = run.context.aligned;
+        };
+        data_stands = subst (λ r. DataStands b r s.symbols) (sym left.ram) k.data_stands;
+      }
+
+      stands_behind : Stands b end (moved_to s t own_now s.symbols)
+      stands_behind = task_steps b state end s k fits t below stack_is own_now s.symbols task_step
+
+    -- the relation stands there
+    pub behind : Stands b end (moved_to s t own_now s.symbols)
+    behind = let f = first_by_word b state s t k.stack k.running opening.current in stands_behind f.0 f.1
+
+  -- the service answers this status
+  module _ (touched : List ℕ) (end : State) (one other : ℕ) (touches : AllByRecursion (Contains (one ∷ other ∷ [])) touched)
+      (names : is_there b.config called.held served opening.block.call.object ≡ true) (status : ℕ) (status_is : slice_index end.core.registers 10 ≡ status)
+      (after : System) (answer_is : outcome served opening.block.call.object opening.block.call.mask t s ≡ GoesOn status after)
+      (stands : Stands b end (settled after)) (current : word_at end.core.ram cur ≡ word_at state.core.ram cur) where
+    abbrev is_at : IsAt b.app s t (op.Serve opening.block.call)
+    is_at = record {
+      active = active.active;
+      free = free;
+      frame = frame;
+      outer = opening.outer;
+      frames = frames_are;
+      inside = opening.inside;
+      next = opening.block.is;
+    }
+
+    step_is : OsekStep b.config b.app (event.Call t served status) s (settled after)
+    step_is = (
+      k.tidy.booted,
+      (
+        after,
+        record {
+          top = is.top;
+          call = opening.block.call;
+          at = is_at;
+          same = opening.calls;
+          names = ap (λ (o : Task). is_there b.config o.held served opening.block.call.object) is.own_is ∙ names;
+          is = answer_is;
+        },
+        refl,
+      ),
+    )
+
+    pub answers_so : Answers b s t served touched end
+    answers_so = record {
+      one = one;
+      other = other;
+      touches = touches;
+      after = settled after;
+      step_is = subst (λ what. OsekStep b.config b.app what s (settled after))
+          (sym (shows_call t served end (current ∙ opening.current) ∙ ap (λ (v : ℕ). event.Call t served v) status_is)) step_is;
+      stands = stands;
+    }

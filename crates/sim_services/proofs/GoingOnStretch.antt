@@ -1,0 +1,212 @@
+-- The stretches of services that go back to their callers, whatever lines arrive.
+use Rattle.std.proofs.Common.{◌≡◌, ℕ, ◌<◌, ◌≤◌, List, ◌∷◌, length, sym, ap, ◌∙◌, subst, arith}
+use Rattle.std.proofs.lemmas.Bool.{ltb-true}
+use Rattle.sloth_base.specs.declared.app.Call.{Call}
+use Rattle.sloth_base.specs.declared.app.Op.TheVariants as op
+use Rattle.sloth_base.specs.declared.event.Arrival.{Arrival}
+use Rattle.sloth_base.specs.declared.service.Service.{Service}
+use Rattle.sloth_base.specs.declared.service.Service.TheVariants as service
+use Rattle.sloth_base.specs.Arrive.{state_arrive}
+use Rattle.sloth_base.specs.Machine.{State}
+use Rattle.sloth_base.specs.Named.{operation}
+use Rattle.rv32_instr.specs.declared.InstrKind.{InstrKind}
+use Rattle.rv32_machine.specs.Run.{arrived}
+use Rattle.rv32_routine.specs.Kernel.{masking}
+use Rattle.rv32_routine.specs.Masked.{FromOpening}
+use Rattle.rv32_routine.specs.Place.{at}
+use Rattle.observe.specs.Observe.{View}
+use Rattle.service_gen.specs.ActivateTask.{Activates, Activated}
+use Rattle.service_gen.specs.ChainTask.{Chains, Chained}
+use Rattle.service_gen.specs.GetResource.{Takes, Taken}
+use Rattle.service_gen.specs.GetTaskID.{TellsTask, Told}
+use Rattle.service_gen.specs.GetTaskState.{StateTold, TellsState}
+use Rattle.service_gen.specs.ReleaseResource.{Releases, Released}
+use Rattle.osek_machine.specs.State.{Frame, Task, System, task}
+use Rattle.sim_induction.specs.Admits.{IsSetting, lines_at, with_admits}
+use Rattle.sim_relation.specs.Build.{Build, Fits}
+use Rattle.sim_relation.specs.Placed.{setting_of}
+use Rattle.sim_relation.specs.Stands.{Stands}
+use Rattle.sim_services.specs.Laws.{MayGoOn}
+use Rattle.sim_services.specs.Opening.{AtOpening, IsFollowed, CanServe}
+use Rattle.sim_services.specs.Served.{IsServed, Answers}
+use Rattle.sim_services.specs.Stretch.{OpensChainTask, OpensGetResource, OpensGoingOn, Stretches}
+use Rattle.sim_services.proofs.Activated.{activates}
+use Rattle.sim_services.proofs.Chained.{chain_answers}
+use Rattle.sim_services.proofs.Holding.{takes, popped, saved_few, releases}
+use Rattle.sim_relation.proofs.Placed.{active_by_word}
+use Rattle.sim_services.proofs.Raising.{active_bit, enabled_bit}
+use Rattle.sim_services.proofs.ServiceStretch.{k, can_serve, service_stretches}
+use Rattle.sim_services.proofs.StateTold.{tells_state}
+use Rattle.sim_services.proofs.Told.{tells}
+
+-- the same frame and call, where a task is said to stand at a service's opening twice
+module _ (b : Build) (one two : State) (t : ℕ) (own : Task) (served : Service) (a : AtOpening b one t own served) (c : AtOpening b two t own served) where
+  pub same_frame : a.frame ≡ c.frame
+  same_frame = let e : a.frame ∷ a.outer ≡ c.frame ∷ c.outer = sym a.frames ∙ c.frames in cc
+
+  pub same_call : a.block.call ≡ c.block.call
+  same_call =
+      let e : op.Serve a.block.call ≡ op.Serve c.block.call =
+      sym a.block.is ∙ ap (λ (f : Frame). operation b.app f.func f.item) same_frame ∙ c.block.is in
+      cc
+
+module _ (b : Build) (view : View) (arrivals : List Arrival) (count : ℕ) (state : State) (s : System) (t : ℕ) (served : Service) (Contract : ℕ → List InstrKind → Type 0)
+    (fits : Fits b) (setting : IsSetting (setting_of b view arrivals)) (after_boot : 0 < count) (stands : Stands b state s)
+    (o : OpensGoingOn b view (arrived arrivals count state) (with_admits (lines_at arrivals count) s) t served Contract)
+    (masks : (rest : List InstrKind) × (o.opens.block.code ≡ masking ∷ rest)) where
+  abbrev n : State
+  n = arrived arrivals count state
+
+  abbrev own : Task
+  own = task (with_admits (lines_at arrivals count) s) t
+
+  abbrev object : ℕ
+  object = o.opens.opening.block.call.object
+
+  may_go_on : (lines : List ℕ) (s2 : System) → IsServed b (state_arrive lines n) s2 t own served → MayGoOn b (state_arrive lines n) s2 t own served object
+  may_go_on lines s2 is =
+      let opening = o.opens.opening in
+      record {
+        is_served = is;
+        followed = subst (λ (f : Frame). IsFollowed b f.func f.item) (sym (same_frame b (state_arrive lines n) n t own served is.opening opening)) o.followed;
+        object_is = ap (λ (c : Call). c.object) (same_call b (state_arrive lines n) n t own served is.opening opening);
+        names = o.names;
+      }
+
+  -- the code runs as its contract says, and its effect is an answer
+  pub going_on_stretches : (most : ℕ) → most ≤ 159 → (Effect : ℕ → List ℕ → State → State → Type 0)
+      → ((place : ℕ) → CanServe o.opens.block.offset o.opens.block.code t place n.core → FromOpening most (at o.opens.block.offset n.core) (Effect place))
+      → ((place : ℕ) (lines touched : List ℕ) (s2 : System) (end : State) → CanServe o.opens.block.offset o.opens.block.code t place n.core
+      → MayGoOn b (state_arrive lines n) s2 t own served object → Effect place touched (state_arrive lines n) end → Answers b s2 t served touched end)
+      → Stretches b view arrivals count state s
+  going_on_stretches most short Effect runs law =
+      let found = can_serve b view arrivals count state s t served Contract fits setting after_boot stands o.opens masks in
+      service_stretches b view arrivals count state s t served Contract fits setting after_boot stands o.opens masks
+      most short (Effect found.0) (runs found.0 found.1)
+      (λ lines touched s2 end is effect. law found.0 lines touched s2 end found.1 (may_go_on lines s2 is) effect)
+
+pub tells_stretches : (b : Build) (view : View) (arrivals : List Arrival) (count : ℕ) (state : State) (s : System) (t : ℕ)
+    → Fits b → IsSetting (setting_of b view arrivals) → 0 < count → Stands b state s
+    → OpensGoingOn b view (arrived arrivals count state) (with_admits (lines_at arrivals count) s) t service.GetTaskID (λ object. TellsTask)
+    → Stretches b view arrivals count state s
+tells_stretches b view arrivals count state s t fits setting after_boot stands o =
+    let n = arrived arrivals count state in
+    let own = task (with_admits (lines_at arrivals count) s) t in
+    let block = o.opens.block in
+    going_on_stretches b view arrivals count state s t service.GetTaskID (λ object. TellsTask) fits setting after_boot stands o block.serves.masks
+    8 (omega arith) (λ place. Told t)
+    (λ place can. block.serves.runs block.offset t n.core (record { goes_back = can.goes_back; level = can.level; runs = can.current; is_task = can.is_task }))
+    (λ place lines touched s2 end can may effect. tells b (state_arrive lines n) s2 t own o.opens.opening.block.call.object touched end fits may effect)
+
+pub states_stretches : (b : Build) (view : View) (arrivals : List Arrival) (count : ℕ) (state : State) (s : System) (t : ℕ)
+    → Fits b → IsSetting (setting_of b view arrivals) → 0 < count → Stands b state s
+    → OpensGoingOn b view (arrived arrivals count state) (with_admits (lines_at arrivals count) s) t service.GetTaskState TellsState
+    → Stretches b view arrivals count state s
+states_stretches b view arrivals count state s t fits setting after_boot stands o =
+    let n = arrived arrivals count state in
+    let s1 = with_admits (lines_at arrivals count) s in
+    let block = o.opens.block in
+    let object = o.opens.opening.block.call.object in
+    let declared = ltb-true object (length b.config.tasks) o.names in
+    let there = k b view arrivals count state s t service.GetTaskState TellsState fits setting after_boot stands o.opens block.serves.masks in
+    going_on_stretches b view arrivals count state s t service.GetTaskState TellsState fits setting after_boot stands o block.serves.masks
+    23 (omega arith) (λ place. StateTold object t)
+    (λ place can. block.serves.runs block.offset t n.core (record {
+      goes_back = can.goes_back;
+      level = can.level;
+      runs = can.current;
+      is_own = can.is_task;
+      is_task = let f = fits.few_tasks in omega arith;
+      active_bit = active_bit b n s1 there object declared;
+      pending_bit = there.lines.bits object declared;
+      enabled_bit = enabled_bit b n s1 there object declared;
+    }))
+    (λ place lines touched s2 end can may effect. tells_state b (state_arrive lines n) s2 t (task s1 t) object touched end fits may effect)
+
+pub activates_stretches : (b : Build) (view : View) (arrivals : List Arrival) (count : ℕ) (state : State) (s : System) (t : ℕ)
+    → Fits b → IsSetting (setting_of b view arrivals) → 0 < count → Stands b state s
+    → OpensGoingOn b view (arrived arrivals count state) (with_admits (lines_at arrivals count) s) t service.ActivateTask Activates
+    → Stretches b view arrivals count state s
+activates_stretches b view arrivals count state s t fits setting after_boot stands o =
+    let n = arrived arrivals count state in
+    let s1 = with_admits (lines_at arrivals count) s in
+    let block = o.opens.block in
+    let object = o.opens.opening.block.call.object in
+    let declared = ltb-true object (length b.config.tasks) o.names in
+    let there = k b view arrivals count state s t service.ActivateTask Activates fits setting after_boot stands o.opens block.serves.masks in
+    going_on_stretches b view arrivals count state s t service.ActivateTask Activates fits setting after_boot stands o block.serves.masks
+    16 (omega arith) (λ place. Activated object)
+    (λ place can. block.serves.runs block.offset n.core (record {
+      goes_back = can.goes_back;
+      is_task = let f = fits.few_tasks in omega arith;
+      level = can.level;
+      active_bit = active_bit b n s1 there object declared;
+      pending_bit = there.lines.bits object declared;
+      enabled_bit = enabled_bit b n s1 there object declared;
+    }))
+    (λ place lines touched s2 end can may effect. activates b (state_arrive lines n) s2 t (task s1 t) object touched end fits may effect)
+
+pub chain_stretches : (b : Build) (view : View) (arrivals : List Arrival) (count : ℕ) (state : State) (s : System) (t : ℕ)
+    → Fits b → IsSetting (setting_of b view arrivals) → 0 < count → Stands b state s
+    → OpensChainTask b view (arrived arrivals count state) (with_admits (lines_at arrivals count) s) t
+    → Stretches b view arrivals count state s
+chain_stretches b view arrivals count state s t fits setting after_boot stands o =
+    let n = arrived arrivals count state in
+    let s1 = with_admits (lines_at arrivals count) s in
+    let block = o.goes_on.opens.block in
+    let object = o.goes_on.opens.opening.block.call.object in
+    let declared = ltb-true object (length b.config.tasks) o.goes_on.names in
+    let there = k b view arrivals count state s t service.ChainTask Chains fits setting after_boot stands o.goes_on.opens block.serves.masks in
+    going_on_stretches b view arrivals count state s t service.ChainTask Chains fits setting after_boot stands o.goes_on block.serves.masks
+    68 (omega arith) (λ place. Chained object t place)
+    (λ place can. block.serves.runs block.offset t place n.core (record {
+      goes_back = can.goes_back;
+      level = can.level;
+      runs = can.current;
+      is_own = can.is_task;
+      is_task = let f = fits.few_tasks in omega arith;
+      below = can.below;
+      active_bit = active_bit b n s1 there object declared;
+      pending_bit = there.lines.bits object declared;
+      enabled_bit = enabled_bit b n s1 there object declared;
+    }))
+    (λ place lines touched s2 end can may effect.
+    chain_answers b (state_arrive lines n) s2 t (task s1 t) object place touched end fits
+    (record { goes_on = may; holds_nothing = o.holds_nothing; below = can.below.is }) effect)
+
+pub takes_stretches : (b : Build) (view : View) (arrivals : List Arrival) (count : ℕ) (state : State) (s : System) (t level : ℕ)
+    → Fits b → IsSetting (setting_of b view arrivals) → 0 < count → Stands b state s
+    → OpensGetResource b view (arrived arrivals count state) (with_admits (lines_at arrivals count) s) t level
+    → Stretches b view arrivals count state s
+takes_stretches b view arrivals count state s t level fits setting after_boot stands o =
+    let n = arrived arrivals count state in
+    let s1 = with_admits (lines_at arrivals count) s in
+    let block = o.goes_on.opens.block in
+    let object = o.goes_on.opens.opening.block.call.object in
+    going_on_stretches b view arrivals count state s t service.GetResource (λ object. Takes object level) fits setting after_boot stands o.goes_on block.serves.masks
+    10 (omega arith) (λ place. Taken object level)
+    (λ place can. block.serves.runs block.offset n.core
+    (record { goes_back = can.goes_back; is_resource = let l = o.may.is_resource in omega arith; level = can.level }))
+    (λ place lines touched s2 end can may effect. takes b (state_arrive lines n) s2 t (task s1 t) object level touched end fits may o.may effect)
+
+pub releases_stretches : (b : Build) (view : View) (arrivals : List Arrival) (count : ℕ) (state : State) (s : System) (t : ℕ)
+    → Fits b → IsSetting (setting_of b view arrivals) → 0 < count → Stands b state s
+    → OpensGoingOn b view (arrived arrivals count state) (with_admits (lines_at arrivals count) s) t service.ReleaseResource Releases
+    → Stretches b view arrivals count state s
+releases_stretches b view arrivals count state s t fits setting after_boot stands o =
+    let n = arrived arrivals count state in
+    let s1 = with_admits (lines_at arrivals count) s in
+    let block = o.opens.block in
+    let object = o.opens.opening.block.call.object in
+    let there = k b view arrivals count state s t service.ReleaseResource Releases fits setting after_boot stands o.opens block.serves.masks in
+    let here = active_by_word b n s1 t there o.opens.opening.current in
+    let among = (popped b n s1 there t here.declared object o.names).among in
+    going_on_stretches b view arrivals count state s t service.ReleaseResource Releases fits setting after_boot stands o block.serves.masks
+    6 (omega arith) (λ place. Released object)
+    (λ place can. block.serves.runs block.offset n.core
+    (record {
+      goes_back = can.goes_back;
+      is_resource = let l = (there.tidy.each t here.declared).few object among in omega arith;
+      level = saved_few b n s1 there t here.declared object o.names fits.few_tasks;
+    }))
+    (λ place lines touched s2 end can may effect. releases b (state_arrive lines n) s2 t (task s1 t) object touched end fits may effect)

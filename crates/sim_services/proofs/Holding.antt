@@ -1,0 +1,217 @@
+-- GetResource and ReleaseResource are steps, and the relation stands behind them.
+use Rattle.std.proofs.Common.{◌≡◌, ℕ, ◌%◌, ◌<◌, ◌≤◌, List, [], ◌∷◌, ◌++◌, length, set, refl, sym, ap, ◌∙◌, subst, arith, ⊎_elim, inl, inr, true, false, max}
+use Rattle.std.specs.Prelude.{◌≢◌, ◌⊎◌, Contains}
+use Rattle.std.specs.List.{AllByRecursion}
+use Rattle.std.proofs.lemmas.Bool.{cases_Bool, or_cases, eqb-true}
+use Rattle.sloth_base.specs.Status.{E_OK}
+use Rattle.sloth_base.specs.PriorityLevels.{level_of}
+use Rattle.sloth_base.specs.declared.service.Service.TheVariants as service
+use Rattle.sloth_base.specs.Machine.{State}
+use Rattle.sloth_region.specs.Layout.{cur, saved}
+use Rattle.rv32_instr.specs.Ram.{word_at, with_word}
+use Rattle.rv32_routine.proofs.Words.{word_at-same, get_or-with_word, length-with_word}
+use Rattle.service_gen.specs.GetResource.{Taken}
+use Rattle.service_gen.specs.ReleaseResource.{Released}
+use Rattle.app_rules.specs.Code.{is_last, without_last}
+use Rattle.osek_machine.specs.declared.state.TaskState.{TaskState}
+use Rattle.osek_machine.specs.declared.state.TaskState.TheVariants as mode
+use Rattle.osek_machine.specs.State.{Task, System, task, with_task, declaration}
+use Rattle.osek_machine.specs.Priority.{is_in, is_active, ceiling}
+use Rattle.osek_machine.specs.Services.{answers, is_there, GoesOn}
+use Rattle.osek_valid.proofs.Stacks.{is_in-append, in-without_last}
+use Rattle.sim_relation.specs.Build.{Build, Fits}
+use Rattle.sim_relation.specs.Context.{RunsTask, Running}
+use Rattle.sim_relation.specs.ServiceWords.{HeldWords, base_priority}
+use Rattle.sim_relation.specs.Stands.{Stands, AreActive, IsActive}
+use Rattle.sim_relation.proofs.Levels.{level_of-few}
+use Rattle.sim_relation.proofs.Parts.{held_kept, word_other}
+use Rattle.sim_relation.proofs.Placed.{first_by_word}
+use Rattle.sim_relation.proofs.Tops.{below_first}
+use Rattle.sim_services.specs.Served.{IsServed, Answers}
+use Rattle.sim_services.specs.Laws.{MayGoOn, MayHaveResource}
+use Rattle.sim_services.proofs.Answered.{long_status, status_held}
+use Rattle.sim_services.proofs.GoesOn.{active, long_registers, held_registers, answers_so}
+use Rattle.sim_services.proofs.GoesOnHolding.{Holds, behind_holding}
+use Rattle.sim_services.proofs.HeldLevels.{with_held, current_is, with_one_more, words_push, Popped, words_pop, holds_at_least}
+
+is_mode : (m : TaskState) → is_active m ≡ true → m ≡ mode.Active
+is_mode mode.Suspended e = cc
+is_mode mode.Ready e = cc
+is_mode mode.Active e = refl
+is_mode (mode.Waiting mask) e = cc
+
+-- The priority ceiling protocol: another task that holds the resource is below the running one, and so below the ceiling.
+module _ (b : Build) (state : State) (s : System) (k : Stands b state s) (t : ℕ) (below : List ℕ) (stack_is : k.stack ≡ t ∷ below) (r : ℕ)
+    (under : (declaration b.config t).priority ≤ ceiling b.config r) where
+  stack : AreActive b s (t ∷ below)
+  stack = subst (AreActive b s) stack_is k.active
+
+  holds_not : (u : ℕ) → u < length b.config.tasks → u ≢ t → is_in r (task s u).held ≡ true → ⊥
+  holds_not u l n h = ⊎_elim while_active at_rest (cases_Bool (is_active (task s u).state))
+    where
+      lower : is_in u below ≡ true → ⊥
+      lower i =
+          let first = below_first b s t below stack.falling u i in
+          let most = holds_at_least b u (task s u) r h in
+          let c = under in
+          omega arith
+
+      while_active : is_active (task s u).state ≡ true → ⊥
+      while_active a =
+          ⊎_elim (λ e. n (sym (eqb-true t u e))) lower (or_cases _ _ (stack.all u l (is_mode (task s u).state a)))
+
+      at_rest : is_active (task s u).state ≡ false → ⊥
+      at_rest a =
+          let none = ((k.tidy.each u l).at_rest a).0 in
+          let c : is_in r [] ≡ true = subst (λ x. is_in r x ≡ true) none h in
+          cc
+
+  pub other_holder : (u q : ℕ) → u < length b.config.tasks → u ≢ t → is_in q (task s u).held ≡ true → q ≢ r
+  other_holder u q l n h e = holds_not u l n (subst (λ x. is_in x (task s u).held ≡ true) e h)
+
+module _ (b : Build) (state : State) (s : System) (t : ℕ) (called : Task) (object level : ℕ) (touched : List ℕ) (end : State) (fits : Fits b)
+    (on : MayGoOn b state s t called service.GetResource object) (may : MayHaveResource b t called object level) (effect : Taken object level touched state end) where
+  abbrev is : IsServed b state s t called service.GetResource
+  is = on.is_served
+
+  abbrev k : Stands b state s
+  k = is.stands
+
+  abbrev own : Task
+  own = task s t
+
+  abbrev old : List ℕ
+  old = state.core.ram
+
+  abbrev new : List ℕ
+  new = with_word old (saved object) state.core.ilevel
+
+  abbrev held_now : List ℕ
+  held_now = own.held ++ object ∷ []
+
+  abbrev base : ℕ
+  base = base_priority b t own
+
+  here : IsActive b s t
+  here = active b state s t called service.GetResource is fits
+
+  not_yet : is_in object own.held ≡ false
+  not_yet = ap (λ (o : Task). is_in object o.held) is.own_is ∙ may.new
+
+  runs_at : state.core.ilevel ≡ level_of b.config (with_held b base own.held)
+  runs_at =
+      let f = first_by_word b state s t k.stack k.running is.opening.current in
+      let run : RunsTask b state s t f.0 = subst (Running b state s) f.1 k.running in
+      run.level ∙ ap (level_of b.config) (current_is b t own)
+
+  small : state.core.ilevel < 4294967296
+  small = let e = runs_at in let m = level_of-few b.config (with_held b base own.held) in let f = fits.few_tasks in omega arith
+
+  named : (p : ℕ) → p % 4 ≡ 0 → p ≢ saved object → word_at new p ≡ word_at old p
+  named p a n = word_other old (saved object) state.core.ilevel p a (omega arith) n
+
+  saved_is : word_at new (saved object) ≡ level_of b.config (with_held b base own.held)
+  saved_is = let f = k.fixed.ram in let l = may.is_resource in word_at-same old (saved object) state.core.ilevel (omega arith) small ∙ runs_at
+
+  differs : (q : ℕ) → is_in q own.held ≡ true → saved q ≢ saved object
+  differs q i e = let same : q ≡ object = omega arith in let c : is_in object own.held ≡ true = subst (λ x. is_in x own.held ≡ true) same i in let d = not_yet in cc
+
+  words : HeldWords b new base held_now
+  words =
+      words_push b new base own.held object
+      (held_kept b old new base own.held (λ q i. named (saved q) (omega arith) (differs q i)) (k.words t here.declared).held) saved_is
+
+  few : (q : ℕ) → is_in q held_now ≡ true → q < 33
+  few q i = by (or_cases _ _ (sym (is_in-append q own.held (object ∷ [])) ∙ i))
+    where
+      by : (is_in q own.held ≡ true) ⊎ (is_in q (object ∷ []) ≡ true) → q < 33
+      by (inl e) = (k.tidy.each t here.declared).few q e
+      by (inr e) = ⊎_elim (λ x. let same = eqb-true object q x in let l = may.is_resource in omega arith) (λ x. absurd cc) (or_cases _ _ e)
+
+  others : (u q : ℕ) → u < length b.config.tasks → u ≢ t → is_in q (task s u).held ≡ true → word_at new (saved q) ≡ word_at old (saved q)
+  others u q l n i =
+      let f = first_by_word b state s t k.stack k.running is.opening.current in
+      named (saved q) (omega arith) (λ e. other_holder b state s k t f.0 f.1 object may.below u q l n i (omega arith))
+
+  holds : Holds b state s t object held_now (set own.registers 5 E_OK) (max state.core.ilevel level) new end
+  holds =
+      let long = long_registers b state s t called service.GetResource is fits in
+      let same = held_registers b state s t called service.GetResource is fits in
+      let l = may.is_resource in
+      record {
+        left = effect.back.left;
+        pc = effect.back.pc;
+        x2 = effect.back.x2;
+        long = long_status own.registers state.core.registers end.core.registers long same E_OK effect.status;
+        same = status_held own.registers state.core.registers end.core.registers long same E_OK effect.status effect.back.kept;
+        level_is = ap (λ x. max x level) runs_at ∙ may.is_level (with_held b base own.held) ∙ sym (ap (level_of b.config) (with_one_more b base own.held object));
+        words = words;
+        few = few;
+        ram_long = length-with_word old (saved object) state.core.ilevel;
+        high = λ i h. get_or-with_word old (saved object) state.core.ilevel i (inr (omega arith));
+        named = named;
+        others = others;
+      }
+
+  pub takes : Answers b s t service.GetResource touched end
+  takes =
+      answers_so b state s t called service.GetResource is fits touched end t t
+      (subst (AllByRecursion (Contains (t ∷ t ∷ []))) (sym effect.touches) tt)
+      (subst (λ o. is_there b.config called.held service.GetResource o ≡ true) (sym on.object_is) on.names)
+      E_OK effect.status (with_task s t (record (answers E_OK own) { held = own.held ++ (object ∷ []) }))
+      (ap (λ o. GoesOn E_OK (with_task s t (record (answers E_OK own) { held = own.held ++ (o ∷ []) }))) on.object_is)
+      (behind_holding b state s t called service.GetResource is fits on.followed object held_now (set own.registers 5 E_OK) (max state.core.ilevel level) new end holds)
+      (ap (λ r. word_at r cur) effect.back.left.ram ∙ named cur (omega arith) (λ e. omega arith))
+
+module _ (b : Build) (state : State) (s : System) (k : Stands b state s) (t : ℕ) (declared : t < length b.config.tasks) (r : ℕ) (last : is_last r (task s t).held ≡ true) where
+  pub popped : Popped b state.core.ram (base_priority b t (task s t)) (task s t).held r
+  popped = words_pop b state.core.ram (base_priority b t (task s t)) (task s t).held r last (k.words t declared).held
+
+  pub saved_few : length b.config.tasks ≤ 30 → word_at state.core.ram (saved r) < 256
+  saved_few f =
+      let e = popped.level in
+      let m = level_of-few b.config (with_held b (base_priority b t (task s t)) (without_last (task s t).held)) in
+      omega arith
+
+module _ (b : Build) (state : State) (s : System) (t : ℕ) (called : Task) (object : ℕ) (touched : List ℕ) (end : State) (fits : Fits b)
+    (on : MayGoOn b state s t called service.ReleaseResource object) (effect : Released object touched state end) where
+  abbrev release_is : IsServed b state s t called service.ReleaseResource
+  release_is = on.is_served
+
+  abbrev releasing : Task
+  releasing = task s t
+
+  releaser : IsActive b s t
+  releaser = active b state s t called service.ReleaseResource release_is fits
+
+  pop : Popped b state.core.ram (base_priority b t releasing) releasing.held object
+  pop = popped b state s release_is.stands t releaser.declared object (ap (λ (o : Task). is_last object o.held) release_is.own_is ∙ on.names)
+
+  releases_to : Holds b state s t object (without_last releasing.held) (set releasing.registers 5 E_OK) (word_at state.core.ram (saved object)) state.core.ram end
+  releases_to =
+      let long = long_registers b state s t called service.ReleaseResource release_is fits in
+      let same = held_registers b state s t called service.ReleaseResource release_is fits in
+      record {
+        left = effect.back.left;
+        pc = effect.back.pc;
+        x2 = effect.back.x2;
+        long = long_status releasing.registers state.core.registers end.core.registers long same E_OK effect.status;
+        same = status_held releasing.registers state.core.registers end.core.registers long same E_OK effect.status effect.back.kept;
+        level_is = pop.level;
+        words = pop.words;
+        few = λ q i. (release_is.stands.tidy.each t releaser.declared).few q (in-without_last q releasing.held i);
+        ram_long = refl;
+        high = λ i h. refl;
+        named = λ p a n. refl;
+        others = λ u q l n i. refl;
+      }
+
+  pub releases : Answers b s t service.ReleaseResource touched end
+  releases =
+      answers_so b state s t called service.ReleaseResource release_is fits touched end t t
+      (subst (AllByRecursion (Contains (t ∷ t ∷ []))) (sym effect.touches) tt)
+      (subst (λ o. is_there b.config called.held service.ReleaseResource o ≡ true) (sym on.object_is) on.names)
+      E_OK effect.status (with_task s t (record (answers E_OK releasing) { held = without_last releasing.held })) refl
+      (behind_holding b state s t called service.ReleaseResource release_is fits on.followed object (without_last releasing.held) (set releasing.registers 5 E_OK)
+      (word_at state.core.ram (saved object)) state.core.ram end releases_to)
+      (ap (λ r. word_at r cur) effect.back.left.ram)

@@ -1,0 +1,85 @@
+-- A task's line is raised: it is Ready where it was Suspended, and nothing else has changed.
+use Rattle.std.proofs.Common.{◌≡◌, ℕ, ◌<◌, ◌≤◌, [], ◌∷◌, length, refl, ap, subst, arith}
+use Rattle.std.specs.Prelude.{slice_index}
+use Rattle.sloth_base.specs.Arrive.{state_arrive}
+use Rattle.sloth_base.specs.Machine.{State}
+use Rattle.sloth_region.specs.Layout.{active}
+use Rattle.rv32_instr.specs.Ram.{word_at}
+use Rattle.service_gen.specs.ActivateTask.{LooksSuspended}
+use Rattle.osek_machine.specs.declared.state.TaskState.{TaskState}
+use Rattle.osek_machine.specs.declared.state.TaskState.TheVariants as mode
+use Rattle.osek_machine.specs.State.{System, task}
+use Rattle.osek_machine.specs.Services.{if_suspended, activated, Outcome}
+use Rattle.osek_machine.specs.Steps.{admitted, settled}
+use Rattle.sim_relation.specs.Build.{Build}
+use Rattle.sim_relation.specs.ServiceWords.{active_word}
+use Rattle.sim_relation.specs.Stands.{Stands, IsLineOf}
+use Rattle.sim_relation.proofs.Arrive.{arrived_one, not_suspended, stands_fresh}
+
+-- what the kernel's words say of a task
+looks_of : (m : TaskState) (word pending enabled : ℕ) → word ≡ active_word m → IsLineOf m pending enabled → m ≡ mode.Suspended → (word ≡ 0) × (pending ≡ 0) × (enabled ≡ 1)
+looks_of mode.Suspended word pending enabled w l e = (w, l.0, l.1)
+looks_of mode.Ready word pending enabled w l e = cc
+looks_of mode.Active word pending enabled w l e = cc
+looks_of (mode.Waiting mask) word pending enabled w l e = cc
+
+of_looks : (m : TaskState) (word pending enabled : ℕ) → word ≡ active_word m → IsLineOf m pending enabled → word ≡ 0 → pending ≡ 0 → enabled ≡ 1 → m ≡ mode.Suspended
+of_looks mode.Suspended word pending enabled w l x y z = refl
+of_looks mode.Ready word pending enabled w l x y z = let p = l.0 in absurd (omega arith)
+of_looks mode.Active word pending enabled w l x y z = absurd (omega arith)
+of_looks (mode.Waiting mask) word pending enabled w l x y z = absurd (omega arith)
+
+active_small : (m : TaskState) (word : ℕ) → word ≡ active_word m → word < 2
+active_small mode.Suspended word e = omega arith
+active_small mode.Ready word e = omega arith
+active_small mode.Active word e = omega arith
+active_small (mode.Waiting mask) word e = omega arith
+
+enabled_small : (m : TaskState) (pending enabled : ℕ) → IsLineOf m pending enabled → enabled < 2
+enabled_small mode.Suspended pending enabled l = let e = l.1 in omega arith
+enabled_small mode.Ready pending enabled l = let e = l.1 in omega arith
+enabled_small mode.Active pending enabled l = omega arith
+enabled_small (mode.Waiting mask) pending enabled l = omega arith
+
+-- the first or the second outcome
+pub first_outcome : (m : TaskState) (first second : Outcome) → m ≡ mode.Suspended → if_suspended m first second ≡ first
+first_outcome m first second e = ap (λ n. if_suspended n first second) e
+
+pub second_outcome : (m : TaskState) (first second : Outcome) → (m ≡ mode.Suspended → ⊥) → if_suspended m first second ≡ second
+second_outcome mode.Suspended first second n = absurd (n refl)
+second_outcome mode.Ready first second n = refl
+second_outcome mode.Active first second n = refl
+second_outcome (mode.Waiting mask) first second n = refl
+
+module _ (b : Build) (state : State) (s : System) (k : Stands b state s) (u : ℕ) (declared : u < length b.config.tasks) where
+  word_is : word_at state.core.ram (active u) ≡ active_word (task s u).state
+  word_is = (k.words u declared).activity
+
+  line_is : IsLineOf (task s u).state (slice_index state.core.pending u) (slice_index state.core.enabled u)
+  line_is = k.lines.each u declared
+
+  pub looks : (task s u).state ≡ mode.Suspended → LooksSuspended u state.core
+  looks e = looks_of (task s u).state (word_at state.core.ram (active u)) (slice_index state.core.pending u) (slice_index state.core.enabled u) word_is line_is e
+
+  pub is_so : LooksSuspended u state.core → (task s u).state ≡ mode.Suspended
+  is_so h = of_looks (task s u).state (word_at state.core.ram (active u)) (slice_index state.core.pending u) (slice_index state.core.enabled u) word_is line_is h.0 h.1 h.2
+
+  pub active_bit : word_at state.core.ram (active u) < 2
+  active_bit = active_small (task s u).state (word_at state.core.ram (active u)) word_is
+
+  pub enabled_bit : slice_index state.core.enabled u < 2
+  enabled_bit = enabled_small (task s u).state (slice_index state.core.pending u) (slice_index state.core.enabled u) line_is
+
+  module _ (few : length b.config.tasks ≤ 32) where
+    one : Stands b (state_arrive (u ∷ []) state) (admitted u s)
+    one = arrived_one b state s u k declared few
+
+    -- a Suspended task is Ready now
+    pub readied : (task s u).state ≡ mode.Suspended → Stands b (state_arrive (u ∷ []) state) (settled (activated s u))
+    readied e =
+        stands_fresh b (state_arrive (u ∷ []) state) (record (activated s u) { fresh = u ∷ s.fresh }) []
+        (subst (λ x. Stands b (state_arrive (u ∷ []) state) x) (ap (λ m. if_suspended m (record (activated s u) { fresh = u ∷ s.fresh }) s) e) one)
+
+    -- any other task stays as it was
+    pub stayed : ((task s u).state ≡ mode.Suspended → ⊥) → Stands b (state_arrive (u ∷ []) state) s
+    stayed n = subst (λ x. Stands b (state_arrive (u ∷ []) state) x) (not_suspended (task s u).state (record (activated s u) { fresh = u ∷ s.fresh }) s n) one

@@ -1,0 +1,115 @@
+-- Sections that are written one after the other.
+use Rattle.std.proofs.Common.{◌≡◌, ◌≤◌, ◌<◌, ◌+◌, ◌*◌, ◌⊎◌, ℕ, zero, suc, List, [], ◌∷◌, ◌++◌, length, refl, ap, ◌∙◌, inl, inr, ⊎_elim, arith}
+use Rattle.std.specs.Prelude.{All, AllPairs, set, map, replicate, slice_index}
+use Rattle.std.proofs.lemmas.List.{length-append, length-set, length-replicate, get_or-set_same, get_or-set_other}
+use Rattle.std.proofs.lemmas.List.Elements.{All-cons, All-head, All-tail}
+use Rattle.std.specs.Int.{to_le_bytes, w32}
+use Rattle.rv32_instr.specs.Encode.{Encode}
+use Rattle.rv32_instr.specs.declared.InstrKind.{InstrKind}
+use Rattle.sloth_link.specs.Linked.{Section, code_bytes, with_bytes, linked, Holds, Misses, IsInside, AreApart, AreLinked}
+
+pub code_bytes_length : (code : List InstrKind) → length (code_bytes code) ≡ 4 * length code
+code_bytes_length [] = refl
+code_bytes_length (kind ∷ code) =
+    let n = length-append {A = ℕ} (to_le_bytes w32 (Encode kind)) (code_bytes code) in
+    let four : length (to_le_bytes w32 (Encode kind)) ≡ 4 = refl in
+    let rest = code_bytes_length code in
+    omega (arith, n, four, rest)
+
+-- ---- bytes
+
+pub length-with_bytes : (bytes memory : List ℕ) (o : ℕ) → length (with_bytes memory o bytes) ≡ length memory
+length-with_bytes [] memory o = refl
+length-with_bytes (b ∷ bytes) memory o = length-with_bytes bytes (set memory o b) (o + 1) ∙ length-set memory o b
+
+pub with_bytes-append : (xs ys memory : List ℕ) (o : ℕ) → with_bytes memory o (xs ++ ys) ≡ with_bytes (with_bytes memory o xs) (o + length xs) ys
+with_bytes-append [] ys memory o = ap (λ k. with_bytes memory k ys) (let e : o ≡ o + 0 = omega arith in e)
+with_bytes-append (x ∷ xs) ys memory o =
+    with_bytes-append xs ys (set memory o x) (o + 1)
+    ∙ ap (λ k. with_bytes (with_bytes (set memory o x) (o + 1) xs) k ys) (let e : o + 1 + length xs ≡ o + suc (length xs) = omega arith in e)
+
+-- all other bytes stay
+pub other_byte : (bytes memory : List ℕ) (o i : ℕ) → (i < o) ⊎ (o + length bytes ≤ i) → slice_index (with_bytes memory o bytes) i ≡ slice_index memory i
+other_byte [] memory o i h = refl
+other_byte (b ∷ bytes) memory o i h =
+    other_byte bytes (set memory o b) (o + 1) i (⊎_elim (λ x. inl (omega arith)) (λ x. inr (omega arith)) h)
+    ∙ get_or-set_other memory o i b 0 (⊎_elim (λ x e. omega arith) (λ x e. omega arith) h)
+
+-- the bytes are there
+pub own_byte : (bytes memory : List ℕ) (o k : ℕ) → k < length bytes → o + length bytes ≤ length memory → slice_index (with_bytes memory o bytes) (o + k) ≡ slice_index bytes k
+own_byte [] memory o k h l = absurd (omega arith)
+own_byte (b ∷ bytes) memory o zero h l =
+    let e : o + 0 ≡ o = omega arith in
+    ap (λ j. slice_index (with_bytes (set memory o b) (o + 1) bytes) j) e
+    ∙ other_byte bytes (set memory o b) (o + 1) o (inl (omega arith))
+    ∙ get_or-set_same memory o b 0 (omega arith)
+own_byte (b ∷ bytes) memory o (suc k) h l =
+    let e : o + suc k ≡ o + 1 + k = omega arith in
+    let n = length-set memory o b in
+    ap (λ j. slice_index (with_bytes (set memory o b) (o + 1) bytes) j) e
+    ∙ own_byte bytes (set memory o b) (o + 1) k (omega arith) (omega (arith, n))
+
+-- ---- sections
+
+pub length-linked : (sections : List Section) (memory : List ℕ) → length (linked memory sections) ≡ length memory
+length-linked [] memory = refl
+length-linked (p ∷ sections) memory = length-linked sections (with_bytes memory p.offset p.bytes) ∙ length-with_bytes p.bytes memory p.offset
+
+pub linked_append : (xs ys : List Section) (memory : List ℕ) → linked memory (xs ++ ys) ≡ linked (linked memory xs) ys
+linked_append [] ys memory = refl
+linked_append (x ∷ xs) ys memory = linked_append xs ys (with_bytes memory x.offset x.bytes)
+
+pub untouched : (sections : List Section) (memory : List ℕ) (i : ℕ) → All (Misses i) sections → slice_index (linked memory sections) i ≡ slice_index memory i
+untouched [] memory i h = refl
+untouched (p ∷ sections) memory i h =
+    untouched sections (with_bytes memory p.offset p.bytes) i (All-tail (Misses i) p sections h)
+    ∙ other_byte p.bytes memory p.offset i (All-head (Misses i) p sections h)
+
+misses : (p q : Section) (k : ℕ) → k < length p.bytes → AreApart p q → Misses (p.offset + k) q
+misses p q k l (inl x) = inl (omega arith)
+misses p q k l (inr x) = inr (omega arith)
+
+later : (p : Section) (sections : List Section) → AllPairs AreApart (p ∷ sections) → All (AreApart p) sections
+later p sections h = λ k d l. h 0 (suc k) d (omega arith) (omega arith)
+
+rest : (p : Section) (sections : List Section) → AllPairs AreApart (p ∷ sections) → AllPairs AreApart sections
+rest p sections h = λ i j d l m. h (suc i) (suc j) d (omega arith) (omega arith)
+
+pub all_hold : (sections : List Section) (memory : List ℕ) → All (IsInside (length memory)) sections → AllPairs AreApart sections → All (Holds (linked memory sections)) sections
+all_hold [] memory inside apart = λ k d l. absurd (omega arith)
+all_hold (p ∷ sections) memory inside apart =
+    let first = with_bytes memory p.offset p.bytes in
+    let n = length-with_bytes p.bytes memory p.offset in
+    All-cons (Holds (linked first sections)) p sections
+    (λ k l. untouched sections first (p.offset + k) (λ j d m. misses p _ k l (later p sections apart j d m)) ∙ own_byte p.bytes memory p.offset k l (All-head (IsInside (length memory)) p sections inside))
+    (all_hold sections first (λ j d m. let h = All-tail (IsInside (length memory)) p sections inside j d m in omega (arith, n, h)) (rest p sections apart))
+
+zero_at : (n i : ℕ) → slice_index (replicate n 0) i ≡ 0
+zero_at zero zero = refl
+zero_at zero (suc i) = refl
+zero_at (suc n) zero = refl
+zero_at (suc n) (suc i) = zero_at n i
+
+pub are_linked : (size : ℕ) (sections : List Section) → All (IsInside size) sections → AllPairs AreApart sections → AreLinked size sections (linked (replicate size 0) sections)
+are_linked size sections inside apart =
+    let n = length-replicate {A = ℕ} size 0 in
+    record {
+      size_is = length-linked sections (replicate size 0) ∙ n;
+      hold = all_hold sections (replicate size 0) (λ j d m. let h = inside j d m in omega (arith, n, h)) apart;
+      zeros = λ i h. untouched sections (replicate size 0) i h ∙ zero_at size i;
+    }
+
+-- ---- lists of sections
+
+pub front_of : {X : Type 0} (P : Section → Type 0) (f : X → Section) (xs : List X) (others : List Section) → All P (map f xs ++ others) → All (λ x. P (f x)) xs
+front_of P f [] others h = λ k d l. absurd (omega arith)
+front_of P f (x ∷ xs) others h =
+    All-cons (λ y. P (f y)) x xs (All-head P (f x) (map f xs ++ others) h) (front_of P f xs others (All-tail P (f x) (map f xs ++ others) h))
+
+pub back_of : (P : Section → Type 0) (front others : List Section) → All P (front ++ others) → All P others
+back_of P [] others h = h
+back_of P (x ∷ front) others h = back_of P front others (All-tail P x (front ++ others) h)
+
+pub each_of : {X : Type 0} (P : Section → Type 0) (f : X → Section) (xs : List X) → All P (map f xs) → All (λ x. P (f x)) xs
+each_of P f [] h = λ k d l. absurd (omega arith)
+each_of P f (x ∷ xs) h = All-cons (λ y. P (f y)) x xs (All-head P (f x) (map f xs) h) (each_of P f xs (All-tail P (f x) (map f xs) h))

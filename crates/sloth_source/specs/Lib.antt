@@ -1,0 +1,3 @@
+pub mod OilText
+pub mod SourceText
+pub mod Texts

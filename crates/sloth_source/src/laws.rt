@@ -1,0 +1,22 @@
+//! Laws of the definitions.
+ghost use Rattle.std.specs.Prelude.{◌≡◌, ℕ, List};
+ghost use Rattle.sloth_base.specs.declared.config.Config.{Config};
+ghost use Rattle.sloth_base.specs.declared.app.App.{App};
+ghost use Rattle.sloth_base.specs.declared.refusal.Refusal.{Refusal};
+ghost use Rattle.sloth_source.specs.Texts.{Accepted, FirstRefusal};
+
+/// Texts have one meaning at most, and one refusal at most.
+pub fn one_meaning()
+    ensures meaning { (oil src : List ℕ) (config other : Config) (app another : App) →
+        Accepted oil src config app → Accepted oil src other another → (config ≡ other) × (app ≡ another) }
+    ensures refusal { (oil src : List ℕ) (refusal other : Refusal) →
+        FirstRefusal oil src refusal → FirstRefusal oil src other → refusal ≡ other }
+{}
+
+/// Texts are accepted or have a first refusal: they have not both, and they don't lack both.
+pub fn one_verdict()
+    ensures not_both { (oil src : List ℕ) (config : Config) (app : App) (refusal : Refusal) →
+        Accepted oil src config app → FirstRefusal oil src refusal → ⊥ }
+    ensures not_neither { (oil src : List ℕ) →
+        ((config : Config) (app : App) → Accepted oil src config app → ⊥) → ((refusal : Refusal) → FirstRefusal oil src refusal → ⊥) → ⊥ }
+{}

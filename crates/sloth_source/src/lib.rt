@@ -1,0 +1,10 @@
+//! Reads a configuration and its task code whole: what both texts mean, or their first refusal.
+#![tactic(auto)]
+
+mod configuration;
+mod laws;
+mod reading;
+
+pub use configuration::read_config;
+pub use laws::{one_meaning, one_verdict};
+pub use reading::{Source, read};

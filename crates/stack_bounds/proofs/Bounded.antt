@@ -1,0 +1,188 @@
+-- What is computed of verified task code are its bounds.
+use Rattle.std.proofs.Common.{◌≡◌, ℕ, ◌+◌, ◌*◌, ◌<◌, ◌≤◌, ◌⊎◌, inl, inr, ⊎_elim, Bool, false, cond, List, [], length, get_or, sym, ap, ◌∙◌, subst, arith}
+use Rattle.std.specs.Prelude.{nat_lt, ◌&&◌, All}
+use Rattle.std.specs.Bool.{Decides}
+use Rattle.std.proofs.lemmas.Bool.{and_parts, and_from, and_right, ltb-true, lt-ltb, le-ltb, cases_Bool, cases_lt, cond-true, cond-false, true≢false}
+use Rattle.std.proofs.lemmas.List.{get_or_past, get_or_default}
+use Rattle.sloth_base.specs.declared.config.Config.{Config}
+use Rattle.sloth_base.specs.declared.config.TaskDecl.{TaskDecl}
+use Rattle.sloth_base.specs.declared.app.App.{App}
+use Rattle.sloth_base.specs.declared.app.Func.{Func}
+use Rattle.sloth_base.specs.Named.{declaration, function, body_of, undeclared}
+use Rattle.app_rules.specs.WellFormed.{WellFormed}
+use Rattle.call_graph.specs.declared.ranking.Ranks.{Ranks}
+use Rattle.call_graph.specs.Ranks.{RanksOf}
+use Rattle.stack_bounds.specs.Bounds.{total, IsGreatest, context_bytes, frame_bytes, call_bytes, CallsInTurn, used_bytes, IsBasic, MayBePreempted, AreStacked, AreBounds, HaveRoom, IsLength}
+use Rattle.stack_bounds.specs.Tables.{sum_below, in_table, IsTable, task_bytes, gives_way, bytes_under, bytes_with_lower, most_stacked, AreStacks, task_of}
+use Rattle.stack_bounds.proofs.Bodies.{has_body, callable}
+use Rattle.stack_bounds.proofs.Chains.{greatest, greatest_small, inwards, words}
+use Rattle.stack_bounds.proofs.Yielding.{Decides-gives_way}
+use Rattle.stack_bounds.proofs.Stacked as stacked
+
+-- with the same bytes more on both sides
+with_more : (Kind : List ℕ → Type 0) (size : List ℕ → ℕ) (n before behind : ℕ) → IsGreatest Kind size n
+    → IsGreatest Kind (λ list. before + size list + behind) (before + n + behind)
+with_more Kind size n before behind is = record {
+  some = (is.some.0, is.some.1, ap (λ (x : ℕ). before + x + behind) is.some.2);
+  none_greater = λ list kind. let l = is.none_greater list kind in omega (arith, l);
+}
+
+-- the tables of verified task code
+pub record AreTables (config : Config) (app : App) (ranks : Ranks) (table : List ℕ) (yielding : List Bool) (bytes : List ℕ) : Type 0 where
+  pub verified : WellFormed config app
+  pub belong : RanksOf app ranks
+  pub calls : IsTable app.funcs (length app.funcs) table
+  pub bytes_count : length bytes ≡ length config.tasks
+  pub bytes_are : (t : ℕ) → t < length config.tasks → get_or bytes t 0 ≡ task_bytes app.funcs table t
+  pub yielding_count : length yielding ≡ length config.tasks
+  pub yielding_are : (t : ℕ) → t < length config.tasks
+      → get_or yielding t false ≡ gives_way (declaration config t) (get_or ranks.pauses (body_of app.funcs t) false)
+
+-- they are those that the functions make
+pub made : (config : Config) (app : App) (ranks : Ranks) (tasks : List TaskDecl) (funcs : List Func) (pauses : List Bool) (table slice : List ℕ) (yielding : List Bool) (bytes : List ℕ)
+    → WellFormed config app → RanksOf app ranks → tasks ≡ config.tasks → funcs ≡ app.funcs → pauses ≡ ranks.pauses → slice ≡ table → IsTable funcs (length funcs) table
+    → length bytes ≡ length tasks → ((t : ℕ) → t < length tasks → get_or bytes t 0 ≡ task_bytes funcs slice t)
+    → length yielding ≡ length tasks → ((t : ℕ) → t < length tasks → get_or yielding t false ≡ gives_way (task_of tasks t) (get_or pauses (body_of funcs t) false))
+    → AreTables config app ranks table yielding bytes
+made config app ranks tasks funcs pauses table slice yielding bytes w belong e f p s calls count are yields yield = record {
+  verified = w;
+  belong = belong;
+  calls = subst (λ (x : List Func). IsTable x (length x) table) f calls;
+  bytes_count = count ∙ ap length e;
+  bytes_are = λ t l. are t (subst (λ (x : List TaskDecl). t < length x) (sym e) l)
+      ∙ ap (λ (x : List Func). task_bytes x slice t) f
+      ∙ ap (λ (x : List ℕ). task_bytes app.funcs x t) s;
+  yielding_count = yields ∙ ap length e;
+  yielding_are = λ t l. yield t (subst (λ (x : List TaskDecl). t < length x) (sym e) l)
+      ∙ ap (λ (x : List TaskDecl). gives_way (task_of x t) (get_or pauses (body_of funcs t) false)) e
+      ∙ ap (λ (x : List Func). gives_way (declaration config t) (get_or pauses (body_of x t) false)) f
+      ∙ ap (λ (x : List Bool). gives_way (declaration config t) (get_or x (body_of app.funcs t) false)) p;
+}
+
+module _ (config : Config) (app : App) (ranks : Ranks) (table : List ℕ) (yielding : List Bool) (bytes : List ℕ)
+    (h : AreTables config app ranks table yielding bytes) where
+  -- ---- each task's bytes
+
+  greatest_calls : (f : ℕ) → f < length app.funcs → IsGreatest (CallsInTurn app f) (total (call_bytes app)) (in_table table f)
+  greatest_calls f known =
+      subst (IsGreatest (CallsInTurn app f) (total (call_bytes app))) (sym (h.calls.calls f known)) (greatest app (callable config app h.verified.in_range) ranks h.belong f known)
+
+  greatest_bytes : (t : ℕ) → t < length config.tasks
+      → IsGreatest (CallsInTurn app (body_of app.funcs t)) (used_bytes app (body_of app.funcs t)) (get_or bytes t 0)
+  greatest_bytes t declared =
+      let body = body_of app.funcs t in
+      subst (IsGreatest (CallsInTurn app body) (used_bytes app body)) (sym (h.bytes_are t declared))
+      (with_more (CallsInTurn app body) (total (call_bytes app)) (in_table table body) (frame_bytes app body) context_bytes
+      (greatest_calls body (has_body config app h.verified.in_range t declared).0))
+
+  length_is : (t : ℕ) → t < length config.tasks → IsLength (get_or bytes t 0)
+  length_is t declared =
+      let body = body_of app.funcs t in
+      let known = (has_body config app h.verified.in_range t declared).0 in
+      let functions = callable config app h.verified.in_range in
+      let calls = greatest_calls body known in
+      let small = greatest_small app functions ranks h.belong body (in_table table body) known calls in
+      let frame = functions.frames body known in
+      let is = h.bytes_are t declared in
+      let whole = words app calls.some.0 in
+      let e = calls.some.2 in
+      let f = whole.1 in
+      let all : get_or bytes t 0 ≡ 4 * ((function app body).frame_words + whole.0 + 32) = omega (arith, is, e, f) in
+      (omega (arith, is, small, frame), omega (arith, all))
+
+  pub lengths : All IsLength bytes
+  lengths t d l = let declared : t < length config.tasks = subst (λ (n : ℕ). t < n) h.bytes_count l in
+      subst IsLength (get_or_default bytes t 0 d l) (length_is t declared)
+
+  pub stacks : AreStacks config.tasks yielding bytes
+  stacks = record {
+    few = h.verified.in_range.configuration.few_tasks;
+    yielding_count = h.yielding_count;
+    bytes_count = h.bytes_count;
+    small = λ t. ⊎_elim
+        (λ declared. let l = (length_is t declared).0 in omega (arith, l))
+        (λ past. let e = get_or_past bytes t 0 (let c = h.bytes_count in omega (arith, past, c)) in omega (arith, e))
+        (cases_lt t (length config.tasks));
+  }
+
+  -- ---- the stack of all basic tasks
+
+  abbrev priority : ℕ → ℕ
+  priority t = (declaration config t).priority
+
+  abbrev size : ℕ → ℕ
+  size t = get_or bytes t 0
+
+  abbrev counted : ℕ → ℕ → ℕ
+  counted = bytes_under config.tasks yielding bytes
+
+  abbrev test : ℕ → ℕ → Bool
+  test below t = get_or yielding t false && nat_lt (priority t) below
+
+  abbrev IsUnder : ℕ → ℕ → Type 0
+  IsUnder below t = IsBasic config t × MayBePreempted config app t × (priority t < below)
+
+  decides : (t : ℕ) → t < length config.tasks → Decides (get_or yielding t false) (IsBasic config t × MayBePreempted config app t)
+  decides t declared =
+      subst (λ b. Decides b (IsBasic config t × MayBePreempted config app t)) (sym (h.yielding_are t declared)) (Decides-gives_way config app h.verified ranks h.belong t declared)
+
+  counts : (below t : ℕ) → t < length config.tasks → (IsUnder below t × (counted below t ≡ size t)) ⊎ (counted below t ≡ 0)
+  counts below t declared = ⊎_elim
+      (λ yes.
+      let parts = and_parts (get_or yielding t false) (nat_lt (priority t) below) yes in
+      let may = (decides t declared).0 parts.0 in
+      inl ((may.0, may.1, ltb-true (priority t) below parts.1), ap (λ b. cond b (size t) 0) yes))
+      (λ no. inr (ap (λ b. cond b (size t) 0) no))
+      (cases_Bool (test below t))
+
+  under : (below t : ℕ) → IsUnder below t → counted below t ≡ size t
+  under below t is =
+      ap (λ b. cond b (size t) 0) (and_from _ _ ((decides t is.0.0).1 (is.0, is.1)) (lt-ltb (priority t) below is.2))
+
+  above : (below t : ℕ) → below ≤ priority t → counted below t ≡ 0
+  above below t l = ap (λ b. cond b (size t) 0) (and_right (get_or yielding t false) _ (le-ltb (priority t) below l))
+
+  more : (below other t : ℕ) → below ≤ other → counted below t ≤ counted other t
+  more below other t l = ⊎_elim
+      (λ yes.
+      let parts = and_parts (get_or yielding t false) (nat_lt (priority t) below) yes in
+      let less = ltb-true (priority t) below parts.1 in
+      let one : counted below t ≡ size t = ap (λ b. cond b (size t) 0) yes in
+      let two : counted other t ≡ size t = ap (λ b. cond b (size t) 0) (and_from _ _ parts.0 (lt-ltb (priority t) other (omega (arith, less, l)))) in
+      omega (arith, one, two))
+      (λ no. let one : counted below t ≡ 0 = ap (λ b. cond b (size t) 0) no in omega (arith, one))
+      (cases_Bool (test below t))
+
+  abbrev best : ℕ → ℕ
+  best = bytes_with_lower config.tasks yielding bytes
+
+  bests : (t : ℕ) → t < length config.tasks
+      → (IsBasic config t × (best t ≡ sum_below (length config.tasks) (counted (priority t)) + size t)) ⊎ ((IsBasic config t → ⊥) × (best t ≡ 0))
+  bests t declared = ⊎_elim
+      (λ extended. inr (λ basic. true≢false (sym extended ∙ basic.1), cond-true (declaration config t).extended 0 (sum_below (length config.tasks) (counted (priority t)) + size t) extended))
+      (λ basic. inl ((declared, basic), cond-false (declaration config t).extended 0 (sum_below (length config.tasks) (counted (priority t)) + size t) basic))
+      (cases_Bool (declaration config t).extended)
+
+  differ : (t u : ℕ) → t < u → u < length config.tasks → priority t ≡ priority u → ⊥
+  differ t u l m = h.verified.in_range.configuration.priorities_differ t u undeclared l m
+
+  greatest_shared : IsGreatest (AreStacked config app) (total size) (most_stacked config.tasks yielding bytes)
+  greatest_shared =
+      stacked.greatest (length config.tasks) priority size (IsBasic config) (MayBePreempted config app) counted best (λ t basic. basic.0) differ counts under above more bests
+
+  pub bounds : AreBounds config app (record { bytes = bytes; shared = most_stacked config.tasks yielding bytes })
+  bounds = record {
+    count = h.bytes_count;
+    bytes = λ t body is.
+        let declared = h.verified.in_range.tasks.declared t body is in
+        let same = h.verified.in_range.tasks.one t (body_of app.funcs t) body (has_body config app h.verified.in_range t declared) is in
+        subst (λ (b : ℕ). IsGreatest (CallsInTurn app b) (used_bytes app b) (get_or bytes t 0)) same (greatest_bytes t declared);
+    shared = greatest_shared;
+  }
+
+  pub room : (shared : ℕ) → HaveRoom config app (record { bytes = bytes; shared = shared })
+  room shared t f callers declared called =
+      let whole = inwards app t f callers [] called tt in
+      let most = (greatest_bytes t declared).none_greater whole.0 whole.1 in
+      let e = whole.2 in
+      omega (arith, most, e)

@@ -1,0 +1,93 @@
+//! The most bytes that each function's calls need.
+ghost use Rattle.std.specs.Prelude.{◌≡◌, ℕ, ◌<◌, max, length, get_or, IfOk};
+ghost use Rattle.sloth_base.specs.Named.{no_item};
+ghost use Rattle.stack_bounds.specs.Tables.{bytes_called, most_called, in_table, func_of, IsTable, IsKnown, IsSmall, AreCallable};
+
+use sloth_base::app::{Func, Item, Op};
+use sloth_base::memory::NoMemory;
+use std::alloc::Global;
+
+/// The bytes of a word, and of a return address.
+const WORD: u32 = 4;
+
+/// The larger of two numbers.
+pub fn larger(one: u32, other: u32) -> u32
+    ensures { result ≡ max one other }
+{
+    if one < other { other } else { one }
+}
+
+/// The bytes of the call that an operation may be, with the calls that the function then makes by the table.
+fn bytes_called(funcs: &[Func], table: &[u32], op: Op) -> u32
+    requires known { IsKnown funcs.now op }
+    requires frames { AreCallable funcs.now }
+    requires small { IsSmall funcs.now table.now }
+    ensures { result ≡ bytes_called funcs.now (in_table table.now) op }
+{
+    match op {
+        Op::Invoke { func } => {
+            let callee = func.0 as usize;
+            WORD + WORD * funcs[callee].frame_words + table[callee]
+        }
+        _ => 0,
+    }
+}
+
+/// The most bytes of calls by one of these items.
+fn most_called(funcs: &[Func], table: &[u32], items: &[Item]) -> u32
+    requires known { (i : ℕ) → i < length items.now → IsKnown funcs.now (get_or items.now i no_item).op }
+    requires frames { AreCallable funcs.now }
+    requires small { IsSmall funcs.now table.now }
+    ensures { result ≡ most_called funcs.now (in_table table.now) items.now }
+{
+    let mut most = 0;
+    for item in items {
+        most = larger(most, bytes_called(funcs, table, item.op));
+    }
+    most
+}
+
+/// The table of calls that are one deeper.
+fn deeper(alloc: Global, funcs: &[Func], table: &[u32]) -> Result<Vec<u32>, NoMemory>
+    requires frames { AreCallable funcs.now }
+    requires small { IsSmall funcs.now table.now }
+    ensures count { IfOk result (λ next. length next.items ≡ length funcs.now) }
+    ensures calls { IfOk result (λ next. (f : ℕ) → f < length funcs.now
+        → in_table next.items f ≡ most_called funcs.now (in_table table.now) (func_of funcs.now f).items) }
+{
+    let mut next = Vec::new(alloc);
+    for func in funcs {
+        match next.push(most_called(funcs, table, func.items.items())) {
+            Ok(()) => {}
+            Err(_) => return Err(NoMemory),
+        }
+    }
+    Ok(next)
+}
+
+/// So many zeros.
+fn no_calls(alloc: Global, count: usize) -> Result<Vec<u32>, NoMemory>
+    ensures count { IfOk result (λ table. length table.items ≡ count) }
+    ensures none { IfOk result (λ table. (f : ℕ) → in_table table.items f ≡ 0) }
+{
+    let mut table = Vec::new(alloc);
+    for _number in 0..count {
+        match table.push(0) {
+            Ok(()) => {}
+            Err(_) => return Err(NoMemory),
+        }
+    }
+    Ok(table)
+}
+
+/// The most bytes that each function's calls need, as deep as there are functions.
+pub fn most_calls(alloc: Global, funcs: &[Func]) -> Result<Vec<u32>, NoMemory>
+    requires { AreCallable funcs.now }
+    ensures { IfOk result (λ table. IsTable funcs.now (length funcs.now) table.items) }
+{
+    let mut table = no_calls(alloc, funcs.len())?;
+    for _depth in 0..funcs.len() {
+        table = deeper(alloc, funcs, &table)?;
+    }
+    Ok(table)
+}

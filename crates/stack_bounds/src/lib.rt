@@ -1,0 +1,39 @@
+//! The bytes of stack that tasks may need: each for itself, and the basic tasks together on one stack.
+#![tactic(auto)]
+
+ghost use Rattle.std.specs.Prelude.{◌≡◌, All, IfOk};
+ghost use Rattle.call_graph.specs.Ranks.{RanksOf};
+ghost use Rattle.stack_bounds.specs.Bounds.{AreBounds, HaveRoom, IsLength};
+
+mod calls;
+mod shared;
+mod tasks;
+
+use crate::calls::most_calls;
+use crate::shared::most_stacked;
+use crate::tasks::{bytes_of_tasks, yielding_tasks};
+use call_graph::ranking::Ranks;
+use sloth_base::list::List;
+use sloth_base::memory::NoMemory;
+use sloth_base::places::Bounds;
+use std::alloc::Global;
+use task_verify::verified::Verified;
+
+/// The bytes that each task needs at most (128 to 8,572, in whole words), and those that all basic tasks need together.
+pub fn bound(alloc: Global, verified: &Verified, ranks: &Ranks) -> Result<Bounds, NoMemory>
+    requires { RanksOf verified.now.app ranks.now }
+    ensures bounds { IfOk result (AreBounds verified.now.config verified.now.app) }
+    ensures room { IfOk result (HaveRoom verified.now.config verified.now.app) }
+    ensures lengths { IfOk result (λ bounds. All IsLength bounds.bytes) }
+{
+    let tasks = verified.config().tasks.items();
+    let funcs = verified.app().funcs.items();
+    let table = most_calls(alloc, funcs)?;
+    let bytes = bytes_of_tasks(alloc, funcs, &table, tasks.len())?;
+    let yielding = yielding_tasks(alloc, tasks, funcs, ranks.pauses.items())?;
+    let shared = most_stacked(tasks, &yielding, &bytes);
+    Ok(Bounds {
+        bytes: List::from_vec(bytes),
+        shared,
+    })
+}

@@ -1,0 +1,55 @@
+//! The most bytes that all basic tasks need on one stack.
+ghost use Rattle.std.specs.Prelude.{◌≡◌, ℕ, ◌<◌, ◌≤◌, false, length, get_or, cond, nat_lt, ◌&&◌};
+ghost use Rattle.stack_bounds.specs.Tables.{sum_below, task_of, bytes_under, bytes_with_lower, most_stacked, AreStacks};
+
+use crate::calls::larger;
+use sloth_base::config::TaskDecl;
+
+fn bytes_under(task: &TaskDecl, yielding: bool, bytes: u32, priority: u32) -> u32
+    ensures { result ≡ cond (yielding && nat_lt task.now.priority priority) bytes 0 }
+{
+    if yielding && task.priority < priority {
+        bytes
+    } else {
+        0
+    }
+}
+
+/// The bytes of all tasks that may stand below one of this priority.
+fn bytes_below(tasks: &[TaskDecl], yielding: &[bool], bytes: &[u32], priority: u32) -> u32
+    requires { AreStacks tasks.now yielding.now bytes.now }
+    ensures is { result ≡ sum_below (length tasks.now) (bytes_under tasks.now yielding.now bytes.now priority) }
+    ensures small { result ≤ 261120 }
+{
+    let mut sum = 0;
+    for (number, task) in tasks.iter().enumerate() {
+        sum += bytes_under(task, yielding[number], bytes[number], priority);
+    }
+    sum
+}
+
+/// The bytes of a basic task with all that may stand below it, 0 for an extended task.
+fn bytes_with_lower(tasks: &[TaskDecl], yielding: &[bool], bytes: &[u32], number: usize) -> u32
+    requires stacks { AreStacks tasks.now yielding.now bytes.now }
+    requires known { number < length tasks.now }
+    ensures { result ≡ bytes_with_lower tasks.now yielding.now bytes.now number }
+{
+    let task = &tasks[number];
+    if task.extended {
+        0
+    } else {
+        bytes_below(tasks, yielding, bytes, task.priority) + bytes[number]
+    }
+}
+
+/// The most bytes of a basic task with all that may stand below it.
+pub fn most_stacked(tasks: &[TaskDecl], yielding: &[bool], bytes: &[u32]) -> u32
+    requires { AreStacks tasks.now yielding.now bytes.now }
+    ensures { result ≡ most_stacked tasks.now yielding.now bytes.now }
+{
+    let mut most = 0;
+    for number in 0..tasks.len() {
+        most = larger(most, bytes_with_lower(tasks, yielding, bytes, number));
+    }
+    most
+}

@@ -1,0 +1,93 @@
+//! What each task needs for itself, and which tasks may be preempted.
+ghost use Rattle.std.specs.Prelude.{◌≡◌, ℕ, ◌<◌, ◌||◌, ◌&&◌, not, false, length, get_or, Some, IfOk};
+ghost use Rattle.sloth_base.specs.Options.{is_number};
+ghost use Rattle.sloth_base.specs.Named.{body_of};
+ghost use Rattle.stack_bounds.specs.Tables.{AreCallable, HasBody, IsSmall, func_of, task_of, task_bytes, gives_way};
+
+use sloth_base::app::Func;
+use sloth_base::config::TaskDecl;
+use sloth_base::memory::NoMemory;
+use std::alloc::Global;
+
+/// The bytes of a word.
+const WORD: u32 = 4;
+
+/// The bytes of a context, 32 words: where a task goes on, what was below it, and its registers.
+const CONTEXT: u32 = 128;
+
+fn belongs_to(func: &Func, task: usize) -> bool
+    ensures { result ≡ is_number task func.now.task }
+{
+    match func.task {
+        Some(owner) => owner.0 as usize == task,
+        None => false,
+    }
+}
+
+/// The number of the task's body. There is one.
+fn body_of(funcs: &[Func], task: usize) -> usize
+    requires { HasBody funcs.now task }
+    ensures is { result ≡ body_of funcs.now task }
+    ensures known { result < length funcs.now }
+{
+    for (number, func) in funcs.iter().enumerate() {
+        if belongs_to(func, task) {
+            return number;
+        }
+    }
+    funcs.len()
+}
+
+/// The bytes of each task: the frame of its body, the calls that need most, and a context.
+pub fn bytes_of_tasks(
+    alloc: Global,
+    funcs: &[Func],
+    table: &[u32],
+    count: usize,
+) -> Result<Vec<u32>, NoMemory>
+    requires frames { AreCallable funcs.now }
+    requires small { IsSmall funcs.now table.now }
+    requires bodies { (t : ℕ) → t < count → HasBody funcs.now t }
+    ensures count { IfOk result (λ bytes. length bytes.items ≡ count) }
+    ensures bytes { IfOk result (λ bytes. (t : ℕ) → t < count → get_or bytes.items t 0 ≡ task_bytes funcs.now table.now t) }
+{
+    let mut bytes = Vec::new(alloc);
+    for task in 0..count {
+        let body = body_of(funcs, task);
+        match bytes.push(WORD * funcs[body].frame_words + table[body] + CONTEXT) {
+            Ok(()) => {}
+            Err(_) => return Err(NoMemory),
+        }
+    }
+    Ok(bytes)
+}
+
+/// Whether it is a basic task that may be preempted, by whether its body waits or calls Schedule.
+fn gives_way(task: &TaskDecl, pauses: bool) -> bool
+    ensures { result ≡ gives_way task.now pauses }
+{
+    !task.extended && (!task.non || pauses)
+}
+
+/// Whether each task is a basic one that may be preempted, from the functions that wait or call Schedule.
+pub fn yielding_tasks(
+    alloc: Global,
+    tasks: &[TaskDecl],
+    funcs: &[Func],
+    pauses: &[bool],
+) -> Result<Vec<bool>, NoMemory>
+    requires bodies { (t : ℕ) → t < length tasks.now → HasBody funcs.now t }
+    requires same { length pauses.now ≡ length funcs.now }
+    ensures count { IfOk result (λ yielding. length yielding.items ≡ length tasks.now) }
+    ensures yielding { IfOk result (λ yielding. (t : ℕ) → t < length tasks.now
+        → get_or yielding.items t false ≡ gives_way (task_of tasks.now t) (get_or pauses.now (body_of funcs.now t) false)) }
+{
+    let mut yielding = Vec::new(alloc);
+    for (number, task) in tasks.iter().enumerate() {
+        match yielding.push(gives_way(task, pauses[body_of(funcs, number)])) {
+            Ok(()) => {}
+            Err(_) => return Err(NoMemory),
+        }
+    }
+    Ok(yielding)
+}

@@ -1,0 +1,99 @@
+-- What is read is in range.
+use Rattle.std.proofs.Common.{◌≡◌, ◌∙◌, inl, inr, ℕ, zero, suc, ◌+◌, ◌-◌, ◌<◌, ◌≤◌, Bool, true, false, not, List, [], ◌∷◌, ◌++◌, Option, Some, None, take, length, length-append, arith, refl, sym, ap}
+use Rattle.std.specs.Prelude.{◌==◌, ◌&&◌, ◌||◌, nat_le, nat_lt, is_some, unwrap_or, bytes_eq, slice_index_or, IfSome}
+use Rattle.std.specs.List.{All}
+use Rattle.std.proofs.lemmas.Bool.{ltb-false, leb-false}
+use Rattle.std.proofs.lemmas.List.{length-take}
+use Rattle.std.proofs.lemmas.List.Elements.{All-nil, All-cons, All-append, All-head, All-tail}
+use Rattle.std.proofs.lemmas.List.Quantifiers.{position-Some}
+use Rattle.std.proofs.Math.Nat.{min-le_left, min-le_right}
+use Rattle.asm_lines.proofs.Cuts.{neither}
+use Rattle.sloth_base.specs.Arrivals.{AreArrivals, NeverFalls}
+use Rattle.sloth_base.specs.declared.event.Arrival.{Arrival}
+use Rattle.sloth_base.specs.declared.refusal.Part.TheVariants.{Arr}
+use Rattle.sloth_base.specs.declared.refusal.Code.TheVariants.{T2, T3, T4}
+use Rattle.sloth_refusal.specs.Order.{NoFault}
+use Rattle.sloth_refusal.proofs.Nowhere.{case_false}
+use Rattle.trace_text.specs.ArrivalsText.{is_arrival, moment_of, task_of, task_text, arrival_of, last_moment, is_outside, is_t2, is_t3, is_t4, LineFault}
+
+last-at : (none : ℕ) (xs : List Arrival) (k : ℕ) (d : Arrival) → length xs ≡ suc k → (slice_index_or xs k d).at ≡ last_moment none xs
+last-at none [] k d h = absurd (omega (arith, h))
+last-at none (x ∷ []) zero d h = refl
+last-at none (x ∷ []) (suc k) d h = absurd (omega (arith, h))
+last-at none (x ∷ y ∷ xs) zero d h = absurd (omega (arith, h))
+last-at none (x ∷ y ∷ xs) (suc k) d h = last-at x.at (y ∷ xs) k d (omega (arith, h))
+
+-- the moment of the last arrival of a list that has one
+pub last-is : (none : ℕ) (xs : List Arrival) (d : Arrival) → (length xs == 0) ≡ false → (slice_index_or xs (length xs - 1) d).at ≡ last_moment none xs
+last-is none [] d h = cc
+last-is none (x ∷ xs) d h = last-at none (x ∷ xs) (length (x ∷ xs) - 1) d (omega arith)
+
+pub last-fits : (none : ℕ) (xs : List Arrival) → none ≤ 1000000 → All (λ a. a.at ≤ 1000000) xs → last_moment none xs ≤ 1000000
+last-fits none [] h all = h
+last-fits none (x ∷ xs) h all = last-fits x.at xs (All-head (λ a. a.at ≤ 1000000) x xs all) (All-tail (λ a. a.at ≤ 1000000) x xs all)
+
+-- a place that is found is one of the first 256
+pub found-below : (o : Option ℕ) (tasks : List (List ℕ)) (line : List ℕ) → o ≡ task_of tasks line → (i : ℕ) → o ≡ Some i → (i < 256) × (i < length tasks)
+found-below o tasks line q i e =
+    let h = (position-Some (bytes_eq (task_text line)) (take 256 tasks) i [] (sym q ∙ e)).0 in
+    let l = length-take 256 tasks in
+    let a = min-le_left 256 (length tasks) in
+    let b = min-le_right 256 (length tasks) in
+    (omega (arith, h, l, a), omega (arith, h, l, b))
+
+pub some-is : (o : Option ℕ) (P : ℕ → Type 0) → ((i : ℕ) → o ≡ Some i → P i) → IfSome o P
+some-is None P f = tt
+some-is (Some i) P f = f i refl
+
+falls : (b : ℕ) (xs : List Arrival) (a : Arrival) → NeverFalls b xs → last_moment b xs ≤ a.at → NeverFalls b (xs ++ a ∷ [])
+falls b [] a n l = (l, tt)
+falls b (x ∷ xs) a n l = (n.0, falls x.at xs a n.1 l)
+
+last-by : (xs : List Arrival) (m : ℕ) → last_moment 0 xs ≤ m → 1 ≤ m → last_moment 1 xs ≤ m
+last-by [] m l h = h
+last-by (x ∷ xs) m l h = l
+
+without : (a b : Bool) → a ≡ true → (a && b) ≡ false → b ≡ false
+without true b e h = h
+without false b e h = cc
+
+some-of : (o : Option ℕ) → not (is_some o) ≡ false → (i : ℕ) × (o ≡ Some i)
+some-of None h = cc
+some-of (Some i) h = (i, refl)
+
+module _ (tasks : List (List ℕ)) (before : List Arrival) (n : ℕ) (line : List ℕ) (none : NoFault (LineFault tasks before n line)) (is : is_arrival line ≡ true) where
+  is-in : (nat_le 100000 (length before) ≡ false) × (nat_lt (moment_of line) 1 ≡ false) × (nat_lt 1000000 (moment_of line) ≡ false)
+  is-in =
+      let t4 = case_false Arr (is_t4 before line) n T4 (λ r f. none r (inr (inr (inr f)))) in
+      let w = neither (nat_le 100000 (length before)) (is_outside line) (without (is_arrival line) (nat_le 100000 (length before) || is_outside line) is t4) in
+      let v = neither (nat_lt (moment_of line) 1) (nat_lt 1000000 (moment_of line)) w.1 in
+      (w.0, v.0, v.1)
+
+  pub moment-fits : moment_of line ≤ 1000000
+  moment-fits = ltb-false 1000000 (moment_of line) is-in.2
+
+  names-task : unwrap_or (task_of tasks line) 0 < length tasks
+  names-task =
+      let t2 = case_false Arr (is_t2 tasks line) n T2 (λ r f. none r (inr (inl f))) in
+      let some = some-of (task_of tasks line) (without (is_arrival line) (not (is_some (task_of tasks line))) is t2) in
+      let e : unwrap_or (task_of tasks line) 0 ≡ some.0 = ap (λ o. unwrap_or o 0) some.1 in
+      let h = (found-below (task_of tasks line) tasks line refl some.0 some.1).1 in omega (arith, e, h)
+
+  rises : last_moment 0 before ≤ moment_of line
+  rises =
+      let t3 = case_false Arr (is_t3 before line) n T3 (λ r f. none r (inr (inr (inl f)))) in
+      ltb-false (moment_of line) (last_moment 0 before) (without (is_arrival line) (nat_lt (moment_of line) (last_moment 0 before)) is t3)
+
+  -- one arrival more
+  pub one-more : AreArrivals (length tasks) before → AreArrivals (length tasks) (before ++ arrival_of tasks line ∷ [])
+  one-more h =
+      let a = arrival_of tasks line in
+      let single : (P : Arrival → Type 0) → P a → All P (a ∷ []) = λ P p. All-cons P a [] p (All-nil P) in
+      let few = leb-false 100000 (length before) is-in.0 in
+      let l : length (before ++ a ∷ []) ≡ length before + 1 = length-append before (a ∷ []) in
+      record {
+        few = omega (arith, few, l);
+        moments_in_range = All-append (λ a. a.at ≤ 1000000) before (a ∷ []) h.moments_in_range (single (λ a. a.at ≤ 1000000) moment-fits);
+        ordered = falls 1 before a h.ordered (last-by before (moment_of line) rises (ltb-false (moment_of line) 1 is-in.1));
+        lines_of_tasks = All-append (λ a. a.line < length tasks) before (a ∷ []) h.lines_of_tasks (single (λ a. a.line < length tasks) names-task);
+      }

@@ -1,0 +1,31 @@
+use Rattle.std.proofs.Common.{arith, ◌∙◌, sym, ap, subst, List, length, ◌++◌, ◌∷◌, []}
+use Rattle.sloth_base.specs.declared.event.Arrival.{Arrival}
+use Rattle.sloth_base.specs.Arrivals.{AreArrivals}
+use Rattle.sloth_refusal.specs.Order.{NoFault}
+use Rattle.trace_text.specs.ArrivalsText.{LineFault}
+use Rattle.trace_text.proofs.Kept.{last-fits, moment-fits, one-more}
+use Rattle.trace_text.proofs.arrivals.read_line.Goals as goal
+
+pub line_fault-requires : goal.line_fault-requires
+line_fault-requires c =
+    rw (c.as_slice.ensures.value) (last-fits 0 c.args.read.now.items (omega arith) c.requires.moments_in_range)
+
+pub arrival_of-requires : goal.arrival_of-requires
+arrival_of-requires c =
+    moment-fits c.args.tasks.now c.as_slice.result.now c.args.number c.args.line.now c.in_default.ensures (sym c.is_arrival.ensures ∙ c.if-is_arrival.true)
+
+pub returns-in_ok-push-clause-in_range : goal.returns-in_ok-push-clause-in_range
+returns-in_ok-push-clause-in_range c =
+    let read = c.args.read.now.items in
+    let tasks = c.args.tasks.now in
+    let none = subst (λ (xs : List Arrival). NoFault (LineFault tasks xs c.args.number c.args.line.now)) c.as_slice.ensures.value c.in_default.ensures in
+    subst (AreArrivals (length tasks)) (sym (c.in_ok-push.ensures ∙ ap (λ (a : Arrival). read ++ a ∷ []) c.arrival_of.ensures))
+    (one-more tasks read c.args.number c.args.line.now none (sym c.is_arrival.ensures ∙ c.if-is_arrival.true) c.requires)
+
+pub returns-in_ok-push-clause-none : goal.returns-in_ok-push-clause-none
+returns-in_ok-push-clause-none c =
+    subst (λ (xs : List Arrival). NoFault (LineFault c.args.tasks.now xs c.args.number c.args.line.now)) c.as_slice.ensures.value c.in_default.ensures
+
+pub returns-else-is_arrival-clause-none : goal.returns-else-is_arrival-clause-none
+returns-else-is_arrival-clause-none c =
+    subst (λ (xs : List Arrival). NoFault (LineFault c.args.tasks.now xs c.args.number c.args.line.now)) c.as_slice.ensures.value c.in_default.ensures

@@ -1,0 +1,104 @@
+-- The text of an arrivals file: what it means, and its faults.
+use Rattle.std.specs.Prelude.{ℕ, ◌+◌, ◌==◌, ◌&&◌, ◌||◌, ◌⊎◌, not, nat_le, nat_lt, Bool, true, List, [], ◌∷◌, length, map, filter, take}
+use Rattle.std.specs.Prelude.{Option, position, is_some, unwrap_or, bytes_eq}
+use Rattle.std.specs.List.{list_all, before_first, after_first}
+use Rattle.std.specs.Char.{is_ascii_digit}
+use Rattle.sloth_base.specs.declared.event.Arrival.{Arrival}
+use Rattle.sloth_base.specs.declared.refusal.Part.TheVariants.{Arr}
+use Rattle.sloth_base.specs.declared.refusal.Code.TheVariants as code
+use Rattle.sloth_base.specs.declared.refusal.Refusal.{Refusal}
+use Rattle.sloth_refusal.specs.Search.{Somewhere}
+use Rattle.sloth_refusal.specs.Cases.{CaseOf}
+use Rattle.text_pieces.specs.Bytes.{is_name}
+use Rattle.text_pieces.specs.Digits.{value_from}
+use Rattle.asm_lines.specs.Lines.{lines}
+
+-- ---- a line
+
+-- what stands before the first space (32)
+abbrev pub moment_text : List ℕ → List ℕ
+moment_text line = before_first (λ b. b == 32) line
+
+-- what stands behind the first space
+abbrev pub task_text : List ℕ → List ℕ
+task_text line = after_first (λ b. b == 32) line
+
+-- a line that is empty, or begins with `#` (35)
+abbrev pub is_comment : List ℕ → Bool
+is_comment [] = true
+is_comment (b ∷ rest) = b == 35
+
+-- at least one decimal digit, and no other byte
+abbrev pub are_digits : List ℕ → Bool
+are_digits t = not (length t == 0) && list_all is_ascii_digit t
+
+-- a line of decimal digits, one space and a word
+unfoldable pub is_arrival : List ℕ → Bool
+is_arrival line = are_digits (moment_text line) && is_name (task_text line)
+
+-- the moment of an arrival: the number of its digits
+abbrev pub moment_of : List ℕ → ℕ
+moment_of line = value_from 10 0 (moment_text line)
+
+-- the number of the task with the arrival's name. A controller's line has a byte as its number, so none is behind the first 256 names.
+abbrev pub task_of : List (List ℕ) → List ℕ → Option ℕ
+task_of tasks line = position (bytes_eq (task_text line)) (take 256 tasks)
+
+-- ---- the arrivals
+
+-- the arrival of a line, with the names of the tasks
+abbrev pub arrival_of : List (List ℕ) → List ℕ → Arrival
+arrival_of tasks line = record { at = moment_of line; line = unwrap_or (task_of tasks line) 0 }
+
+-- the arrivals of these lines, in their order
+abbrev pub arrivals_of : List (List ℕ) → List (List ℕ) → List Arrival
+arrivals_of tasks ls = map (arrival_of tasks) (filter is_arrival ls)
+
+-- the arrivals of a text
+abbrev pub arrivals_in : List (List ℕ) → List ℕ → List Arrival
+arrivals_in tasks text = arrivals_of tasks (lines text)
+
+-- ---- the faults
+
+-- the moment of the last of these arrivals; where there is none, this one
+abbrev pub last_moment : ℕ → List Arrival → ℕ
+last_moment none [] = none
+last_moment none (a ∷ rest) = last_moment a.at rest
+
+-- T1: a line of another shape
+abbrev pub is_t1 : List ℕ → Bool
+is_t1 line = not (is_comment line) && not (is_arrival line)
+
+-- T2: a name that is no task's
+abbrev pub is_t2 : List (List ℕ) → List ℕ → Bool
+is_t2 tasks line = is_arrival line && not (is_some (task_of tasks line))
+
+-- T3: a moment less than that of the arrival before
+abbrev pub is_t3 : List Arrival → List ℕ → Bool
+is_t3 before line = is_arrival line && nat_lt (moment_of line) (last_moment 0 before)
+
+-- a moment outside 1 to 1,000,000
+abbrev pub is_outside : List ℕ → Bool
+is_outside line = nat_lt (moment_of line) 1 || nat_lt 1000000 (moment_of line)
+
+-- T4: one arrival more than 100,000, or a moment out of range
+abbrev pub is_t4 : List Arrival → List ℕ → Bool
+is_t4 before line = is_arrival line && (nat_le 100000 (length before) || is_outside line)
+
+-- r is a fault of a line of this number, which these arrivals stand before
+abbrev pub LineFault : List (List ℕ) → List Arrival → ℕ → List ℕ → Refusal → Type 0
+LineFault tasks before number line r =
+    CaseOf Arr (is_t1 line) number code.T1 r ⊎ (CaseOf Arr (is_t2 tasks line) number code.T2 r
+    ⊎ (CaseOf Arr (is_t3 before line) number code.T3 r ⊎ CaseOf Arr (is_t4 before line) number code.T4 r))
+
+-- r is a fault of a line, which these lines stand before
+abbrev pub FaultAt : List (List ℕ) → List (List ℕ) → List ℕ → Refusal → Type 0
+FaultAt tasks front line r = LineFault tasks (arrivals_of tasks front) (length front + 1) line r
+
+-- r is a fault of some of these lines
+abbrev pub LinesFault : List (List ℕ) → List (List ℕ) → Refusal → Type 0
+LinesFault tasks ls r = Somewhere (FaultAt tasks) ls r
+
+-- r is a fault of an arrivals text, with the names of the tasks
+abbrev pub ArrivalsFault : List (List ℕ) → List ℕ → Refusal → Type 0
+ArrivalsFault tasks text r = LinesFault tasks (lines text) r

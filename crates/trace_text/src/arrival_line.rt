@@ -1,0 +1,155 @@
+//! A line of an arrivals file, and its faults: T1 to T4.
+ghost use Rattle.std.specs.Prelude.{◌≡◌, ◌<◌, ◌≤◌, length, take, position, bytes_eq, IfSome};
+ghost use Rattle.std.specs.List.{list_all};
+ghost use Rattle.std.specs.Char.{is_ascii_digit};
+ghost use Rattle.sloth_refusal.specs.Search.{Finds};
+ghost use Rattle.text_pieces.specs.Digits.{capped};
+ghost use Rattle.trace_text.specs.ArrivalsText.{is_comment, are_digits, is_arrival, moment_of, task_of, arrival_of};
+ghost use Rattle.trace_text.specs.ArrivalsText.{last_moment, is_outside, is_t1, is_t2, is_t3, is_t4, LineFault};
+
+use sloth_base::event::Arrival;
+use sloth_base::name::Name;
+use sloth_base::numbers::Line;
+use sloth_base::refusal::{Code, Part, Refusal};
+use sloth_refusal::{merge, when};
+use text_pieces::bytes::{before, behind, is_name, same};
+use text_pieces::numerals::value;
+
+/// The greatest number of arrivals.
+const MOST_ARRIVALS: usize = 100_000;
+
+/// The last moment of an arrival.
+const LAST_MOMENT: u64 = 1_000_000;
+
+/// How many numbers a controller's line may have.
+const LINES: usize = 256;
+
+// Empty, or a comment.
+fn is_comment(line: &[u8]) -> bool
+    ensures { result ≡ is_comment line.now }
+{
+    line.is_empty() || line[0] == b'#'
+}
+
+fn all_digits(text: &[u8]) -> bool
+    ensures { result ≡ list_all is_ascii_digit text.now }
+{
+    text.iter().all(|byte| byte.is_ascii_digit())
+}
+
+fn are_digits(text: &[u8]) -> bool
+    ensures { result ≡ are_digits text.now }
+{
+    !text.is_empty() && all_digits(text)
+}
+
+/// Whether the line has the shape of an arrival: decimal digits, one space and a word.
+#[tactic(auto, unfolding(crate::specs::ArrivalsText::is_arrival))]
+pub fn is_arrival(line: &[u8]) -> bool
+    ensures { result ≡ is_arrival line.now }
+{
+    are_digits(before(line, b' ')) && is_name(behind(line, b' '))
+}
+
+// The moment, or a greater number than any moment.
+fn moment(line: &[u8]) -> u64
+    ensures moment { result ≡ capped (moment_of line.now) }
+    ensures small { result ≤ 4294967296 }
+{
+    value(before(line, b' '), 10)
+}
+
+fn position(tasks: &[Name], name: &[u8]) -> Option<usize>
+    ensures { result ≡ position (bytes_eq name.now) tasks.now }
+{
+    tasks.iter().position(|task| same(name, task.bytes()))
+}
+
+fn first_names(tasks: &[Name], count: usize) -> &[Name]
+    ensures { result.now ≡ take count tasks.now }
+{
+    if count < tasks.len() {
+        return &tasks[..count];
+    }
+    tasks
+}
+
+// The number of the task that the line names.
+fn task_of(tasks: &[Name], line: &[u8]) -> Option<usize>
+    ensures task { result ≡ task_of tasks.now line.now }
+    ensures small { IfSome result (λ number. number < 256) }
+{
+    position(first_names(tasks, LINES), behind(line, b' '))
+}
+
+/// The arrival of a line, whose moment is at most 1,000,000.
+pub fn arrival_of(tasks: &[Name], line: &[u8]) -> Arrival
+    requires { moment_of line.now ≤ 1000000 }
+    ensures { result ≡ arrival_of tasks.now line.now }
+{
+    let at = moment(line) as u32;
+    let number = task_of(tasks, line).unwrap_or(0) as u8;
+    Arrival {
+        at,
+        line: Line(number),
+    }
+}
+
+// The moment of the last arrival, or 0.
+fn last_moment(arrivals: &[Arrival]) -> u32
+    ensures { result ≡ last_moment 0 arrivals.now }
+{
+    if arrivals.is_empty() {
+        return 0;
+    }
+    arrivals[arrivals.len() - 1].at
+}
+
+// A line of another shape.
+fn is_t1(line: &[u8]) -> bool
+    ensures { result ≡ is_t1 line.now }
+{
+    !is_comment(line) && !is_arrival(line)
+}
+
+// A name that is no task's.
+fn is_t2(tasks: &[Name], line: &[u8]) -> bool
+    ensures { result ≡ is_t2 tasks.now line.now }
+{
+    is_arrival(line) && task_of(tasks, line).is_none()
+}
+
+// A moment less than that of the arrival before, which is at most 1,000,000.
+fn is_t3(before: &[Arrival], line: &[u8]) -> bool
+    requires { last_moment 0 before.now ≤ 1000000 }
+    ensures { result ≡ is_t3 before.now line.now }
+{
+    is_arrival(line) && moment(line) < u64::from(last_moment(before))
+}
+
+// One arrival too many, or a moment out of range.
+fn is_t4(before: &[Arrival], line: &[u8]) -> bool
+    ensures { result ≡ is_t4 before.now line.now }
+{
+    is_arrival(line) && (before.len() >= MOST_ARRIVALS || is_outside(line))
+}
+
+// A moment out of range.
+fn is_outside(line: &[u8]) -> bool
+    ensures { result ≡ is_outside line.now }
+{
+    let moment = moment(line);
+    moment < 1 || LAST_MOMENT < moment
+}
+
+/// The least fault of a line that these arrivals stand before, each at a moment of at most 1,000,000.
+pub fn line_fault(tasks: &[Name], before: &[Arrival], number: u32, line: &[u8]) -> Option<Refusal>
+    requires { last_moment 0 before.now ≤ 1000000 }
+    ensures { Finds (LineFault tasks.now before.now number line.now) result }
+{
+    let t1 = when(is_t1(line), Part::Arr, number, Code::T1);
+    let t2 = when(is_t2(tasks, line), Part::Arr, number, Code::T2);
+    let t3 = when(is_t3(before, line), Part::Arr, number, Code::T3);
+    let t4 = when(is_t4(before, line), Part::Arr, number, Code::T4);
+    merge(t1, merge(t2, merge(t3, t4)))
+}
