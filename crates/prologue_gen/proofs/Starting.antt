@@ -1,41 +1,38 @@
--- The code of a prologue has its effect.
-use Rattle.std.proofs.Common.{◌≡◌, ℕ, zero, suc, ◌+◌, ◌-◌, ◌*◌, ◌%◌, ◌^◌, ◌<◌, ◌≤◌, ◌⊎◌, List, [], ◌∷◌, ◌++◌, length, get_or, refl, ap, ◌∙◌, subst, arith, inl, inr, length-append, lit<, lit≤}
-use Rattle.std.specs.Prelude.{false, true, pos, neg_ℤ, replicate}
+-- The code of a prologue has its effect where the task starts anew.
+use Rattle.std.proofs.Common.{◌≡◌, ℕ, suc, ◌+◌, ◌-◌, ◌*◌, ◌%◌, ◌^◌, ◌<◌, ◌≤◌, ◌⊎◌, List, [], ◌∷◌, ◌++◌, length, get_or, refl, ap, ◌∙◌, subst, arith, inl, inr, length-append, lit<, lit≤}
+use Rattle.std.specs.Prelude.{false, true, replicate}
 use Rattle.sloth_base.specs.Machine.{Core, State}
-use Rattle.sloth_region.specs.Layout.{cur, active, below_word, idle_context, context_bytes, context_pc, context_level, context_cur, context_below}
 use Rattle.rv32_instr.specs.declared.InstrKind.{InstrKind}
-use Rattle.rv32_instr.specs.declared.InstrKind.TheVariants.{Addi, Mret}
-use Rattle.rv32_instr.specs.Ram.{word_at, with_word, with_words}
-use Rattle.sloth_base.specs.Arithmetic.{plus, hi}
+use Rattle.rv32_instr.specs.declared.InstrKind.TheVariants.{Mret}
+use Rattle.rv32_instr.specs.Ram.{with_words}
+use Rattle.sloth_base.specs.Arithmetic.{hi}
 use Rattle.rv32_routine.specs.Place.{at}
 use Rattle.rv32_routine.specs.Masked.{Masked, WithArrivals}
-use Rattle.rv32_routine.specs.Owes.{IsWordAt, IsApart, Owes}
-use Rattle.rv32_routine.specs.Pieces.{saves, clears, clears_words, registers_from, cleared}
+use Rattle.rv32_routine.specs.Owes.{Owes}
+use Rattle.rv32_routine.specs.Pieces.{clears, clears_words, cleared}
 use Rattle.rv32_routine.proofs.Parts.{hi_lo}
-use Rattle.rv32_routine.proofs.Words.{word_at-other, word_at-others}
 use Rattle.rv32_routine.proofs.Spread.{spread, spread_is, spread_from, others}
-use Rattle.rv32_routine.proofs.Runs.{saves_owes, clears_owes, clears_words_owes, length-clears_words, length-cleared, cleared_at, cleared_other}
+use Rattle.rv32_routine.proofs.Runs.{clears_owes, clears_words_owes, length-clears_words, length-cleared, cleared_at, cleared_other}
 use Rattle.rv32_routine.proofs.Leave.{behind}
 use Rattle.rv32_routine.proofs.Whole.{jumps_in}
-use Rattle.prologue_gen.specs.Pieces.{saves_csrs, saves_words, marks_active, begins}
+use Rattle.prologue_gen.specs.Pieces.{begins}
 use Rattle.prologue_gen.specs.Fresh.{vector, MayEnter, Entered, Enters}
-
--- what stands behind the registers that are saved, and then the start of the task
-abbrev pub starts : ℕ → ℕ → ℕ → ℕ → List InstrKind
-starts task level frame first = saves_csrs ++ (saves_words ++ (marks_active task level ++ begins frame first))
+use Rattle.prologue_gen.specs.Resumed.{with_entry}
+use Rattle.prologue_gen.proofs.Entering.{enters_first, entered, enters_owe}
 
 abbrev pub last : ℕ → List InstrKind
 last words = clears_words words 0 2 ++ (clears 25 5 ++ Mret ∷ [])
 
-abbrev pub code : ℕ → ℕ → ℕ → ℕ → ℕ → List InstrKind
-code task level frame words first = Addi 1 2 (neg_ℤ (pos context_bytes)) ∷ (saves 27 5 1 ++ (starts task level frame first ++ last words))
+-- the start of the task
+abbrev pub starts : ℕ → ℕ → ℕ → List InstrKind
+starts frame words first = begins frame first ++ last words
 
-module _ (from to task level first place frame words offset : ℕ) (c : Core) (is_task : task < 30) (low_level : level < 32) (first_fits : first < 2 ^ 32) (first_aligned : first % 4 ≡ 0) (masked : c.mie ≡ false) (previous : c.mpie ≡ true) (x2 : get_or c.registers 2 0 ≡ 0x8000_0000 + (place + context_bytes)) (aligned : place % 4 ≡ 0) (past : idle_context ≤ place) (inside : place + context_bytes ≤ 0x20_0000) (apart : (place + context_bytes ≤ from) ⊎ (to ≤ place)) (frame_aligned : frame % 4 ≡ 0) (frame_inside : frame + 4 * words ≤ 0x20_0000) (frame_apart : (frame + 4 * words ≤ from) ⊎ (to ≤ frame)) (low : 1024 ≤ from) (few : words ≤ 32) where
+abbrev pub code : ℕ → ℕ → ℕ → ℕ → ℕ → List InstrKind
+code task level frame words first = enters_first task level (starts frame words first)
+
+module _ (from to task level first place frame words x1 : ℕ) (c : Core) (low_level : level < 32) (first_fits : first < 2 ^ 32) (first_aligned : first % 4 ≡ 0) (masked : c.mie ≡ false) (previous : c.mpie ≡ true) (frame_aligned : frame % 4 ≡ 0) (frame_inside : frame + 4 * words ≤ 0x20_0000) (frame_apart : (frame + 4 * words ≤ from) ⊎ (to ≤ frame)) where
   abbrev sp : ℕ
   sp = 0x8000_0000 + frame
-
-  abbrev own : ℕ
-  own = 0x8000_0000 + place
 
   abbrev start : State
   start = at (vector task) (spread c)
@@ -43,20 +40,11 @@ module _ (from to task level first place frame words offset : ℕ) (c : Core) (i
   abbrev tail : List ℕ
   tail = spread_from 27 5 c.registers
 
-  abbrev ram1 : List ℕ
-  ram1 = with_words c.ram (place + 20) (registers_from 27 5 (spread c).registers)
-
-  abbrev ram3 : List ℕ
-  ram3 = with_word (with_word ram1 place c.mepc) (place + 4) c.plevel
-
-  abbrev ram4 : List ℕ
-  ram4 = with_word ram3 (place + 4 + 4) (word_at c.ram cur)
-
   abbrev ram8 : List ℕ
-  ram8 = with_word (with_word (with_word (with_word ram4 (place + 4 + 4 + 4) (word_at c.ram below_word)) below_word own) cur (task + 1)) (active task) 1
+  ram8 = with_entry (spread c) task place
 
   abbrev regs : List ℕ
-  regs = 0 ∷ own ∷ sp ∷ first ∷ 0x8000_0000 ∷ tail
+  regs = 0 ∷ x1 ∷ sp ∷ first ∷ 0x8000_0000 ∷ tail
 
   -- the state behind all that is stored and set
   abbrev stored : Core
@@ -80,7 +68,7 @@ module _ (from to task level first place frame words offset : ℕ) (c : Core) (i
     pc = first_is;
     x2 = cleared_other 25 5 regs 2 (inl (lit< tt));
     zeros = λ i from upto. cleared_at 25 5 regs i from upto (lit≤ tt);
-    kept = λ i past. cleared_other 25 5 regs i (inr past) ∙ others own sp first 0x8000_0000 (get_or c.registers 1 0) (get_or c.registers 2 0) (get_or c.registers 3 0) (get_or c.registers 4 0) tail i (below_ten i past);
+    kept = λ i past. cleared_other 25 5 regs i (inr past) ∙ others x1 sp first 0x8000_0000 (get_or c.registers 1 0) (get_or c.registers 2 0) (get_or c.registers 3 0) (get_or c.registers 4 0) tail i (below_ten i past);
     left = record {
       zero = cleared_other 25 5 regs 0 (inl (lit< tt));
       registers = length-cleared 25 5 regs;
@@ -108,177 +96,42 @@ module _ (from to task level first place frame words offset : ℕ) (c : Core) (i
   zeroed_owe : (o : ℕ) → Owes from to o (last words) 0 (Entered task level first place frame words) start stored
   zeroed_owe o = clears_words_owes from to (Entered task level first place frame words) start (clears 25 5 ++ Mret ∷ []) frame frame_aligned words 0 2 o (o + 4 * words) stored refl refl refl frame_fits frame_clear (cleared_owe (o + 4 * words))
 
-  found : (p : ℕ) → p + 4 ≤ idle_context → word_at ram3 p ≡ word_at c.ram p
-  found p under =
-      word_at-other (with_word ram1 place c.mepc) (place + 4) c.plevel p (inl (omega arith))
-      ∙ word_at-other ram1 place c.mepc p (inl (omega arith))
-      ∙ word_at-others (registers_from 27 5 (spread c).registers) c.ram (place + 20) p (inl (omega arith))
-
-  found_below : word_at ram4 below_word ≡ word_at c.ram below_word
-  found_below = word_at-other ram3 (place + 4 + 4) (word_at c.ram cur) below_word (inl (omega arith)) ∙ found below_word (lit≤ tt)
-
   sp_fits : sp < 2 ^ 32
   sp_fits = omega arith
 
-  word0 : IsWordAt (plus own (pos context_pc)) place
-  word0 = record { is = omega arith; aligned = aligned; inside = omega arith }
-
-  word4 : IsWordAt (plus own (pos context_level)) (place + 4)
-  word4 = record { is = omega arith; aligned = omega arith; inside = omega arith }
-
-  word8 : IsWordAt (plus own (pos context_cur)) (place + 4 + 4)
-  word8 = record { is = omega arith; aligned = omega arith; inside = omega arith }
-
-  word12 : IsWordAt (plus own (pos context_below)) (place + 4 + 4 + 4)
-  word12 = record { is = omega arith; aligned = omega arith; inside = omega arith }
-
-  word_active : IsWordAt (plus 0x8000_0000 (pos (active task))) (active task)
-  word_active = record { is = omega arith; aligned = omega arith; inside = omega arith }
-
-  apart_by : (k : ℕ) → place ≤ k → k + 4 ≤ place + context_bytes → IsApart from to k
-  apart_by k l h = grind (arith, apart)
-
-  apart0 : IsApart from to place
-  apart0 = apart_by place (omega arith) (omega arith)
-
-  apart4 : IsApart from to (place + 4)
-  apart4 = apart_by (place + 4) (omega arith) (omega arith)
-
-  apart8 : IsApart from to (place + 4 + 4)
-  apart8 = apart_by (place + 4 + 4) (omega arith) (omega arith)
-
-  apart12 : IsApart from to (place + 4 + 4 + 4)
-  apart12 = apart_by (place + 4 + 4 + 4) (omega arith) (omega arith)
-
-  under : (k : ℕ) → k + 4 ≤ 1024 → IsApart from to k
-  under k h = inl (omega arith)
-
-  active_under : active task + 4 ≤ 1024
-  active_under = omega arith
-
-  next_task : plus 0 (pos (task + 1)) ≡ task + 1
-  next_task = omega arith
-
-  -- what is stored in the context, and the start of the task
-  begun_owe : (o x3 x4 : ℕ) → Owes from to o (starts task level sp first ++ last words) 0 (Entered task level first place frame words) start (record (spread c) { registers = 0 ∷ own ∷ get_or c.registers 2 0 ∷ x3 ∷ x4 ∷ tail; ram = ram1 })
-  begun_owe o x3 x4 = (
-    0x8000_0000,
+  -- the start of the task, in the state behind the entry
+  pub starts_owe : (o x2 x3 : ℕ) → Owes from to o (starts sp words first) 0 (Entered task level first place frame words) start (entered task level place c x1 x2 x3)
+  starts_owe o x2 x3 = (
+    hi sp * 4096,
     refl,
     (
-      c.mepc,
-      refl,
-      masked,
+      sp,
+      hi_lo sp sp_fits,
       (
-        place,
-        word0,
-        apart0,
+        hi first * 4096,
+        refl,
         (
-          c.plevel,
-          refl,
-          masked,
+          first,
+          hi_lo first first_fits,
           (
-            place + 4,
-            word4,
-            apart4,
-            (
-              cur,
-              record { is = refl; aligned = refl; inside = lit≤ tt },
-              word_at c.ram cur,
-              found cur (lit≤ tt),
-              (
-                place + 4 + 4,
-                word8,
-                apart8,
-                (
-                  below_word,
-                  record { is = refl; aligned = refl; inside = lit≤ tt },
-                  word_at c.ram below_word,
-                  found_below,
-                  (
-                    place + 4 + 4 + 4,
-                    word12,
-                    apart12,
-                    (
-                      below_word,
-                      record { is = refl; aligned = refl; inside = lit≤ tt },
-                      under below_word (lit≤ tt),
-                      (
-                        task + 1,
-                        next_task,
-                        (
-                          cur,
-                          record { is = refl; aligned = refl; inside = lit≤ tt },
-                          under cur (lit≤ tt),
-                          (
-                            1,
-                            refl,
-                            (
-                              active task,
-                              word_active,
-                              under (active task) active_under,
-                              (
-                                c.plevel,
-                                refl,
-                                masked,
-                                (
-                                  hi sp * 4096,
-                                  refl,
-                                  (
-                                    sp,
-                                    hi_lo sp sp_fits,
-                                    (
-                                      hi first * 4096,
-                                      refl,
-                                      (
-                                        first,
-                                        hi_lo first first_fits,
-                                        (
-                                          c.mepc,
-                                          refl,
-                                          masked,
-                                          zeroed_owe (behind 20 o),
-                                        ),
-                                      ),
-                                    ),
-                                  ),
-                                ),
-                              ),
-                            ),
-                          ),
-                        ),
-                      ),
-                    ),
-                  ),
-                ),
-              ),
-            ),
+            c.mepc,
+            refl,
+            masked,
+            zeroed_owe (behind 5 o),
           ),
         ),
       ),
     ),
   )
 
-  own_is : plus (get_or c.registers 2 0) (neg_ℤ (pos context_bytes)) ≡ own
-  own_is = omega arith
-
-  context_fits : place + 4 * (5 + 27) ≤ 0x20_0000
-  context_fits = omega arith
-
-  context_apart : (place + 4 * (5 + 27) ≤ from) ⊎ (to ≤ place)
-  context_apart = grind (arith, apart)
-
-  owes : Owes from to offset (code task level sp words first) 0 (Entered task level first place frame words) start (spread c)
-  owes = (
-    own,
-    own_is,
-    saves_owes from to (Entered task level first place frame words) start (starts task level sp first ++ last words) place aligned 27 5 1 (offset + 4) (offset + 4 + 108) (record (spread c) { registers = 0 ∷ own ∷ get_or c.registers 2 0 ∷ get_or c.registers 3 0 ∷ get_or c.registers 4 0 ∷ tail }) refl refl context_fits context_apart (begun_owe (offset + 4 + 108) (get_or c.registers 3 0) (get_or c.registers 4 0)),
-  )
-
-length-code : (task level sp words first : ℕ) → length (code task level sp words first) ≡ words + 74
-length-code task level sp words first =
+pub length-starts : (frame words first : ℕ) → length (starts frame words first) ≡ words + 31
+length-starts frame words first =
     let e = length-append (clears_words words 0 2) (clears 25 5 ++ Mret ∷ []) in
     let f = length-clears_words words 0 2 in
     omega arith
+
+length-code : (task level frame words first : ℕ) → length (code task level frame words first) ≡ words + 74
+length-code task level frame words first = let e = length-starts frame words first in omega arith
 
 module _ (task level first frame words : ℕ) (is_task : task < 30) (low_level : level < 32) (first_fits : first < 2 ^ 32) (first_aligned : first % 4 ≡ 0) (few : words ≤ 32) (offset place : ℕ) (c : Core) (h : MayEnter offset task place frame words (code task level (0x8000_0000 + frame) words first) c) where
   abbrev whole : List InstrKind
@@ -292,7 +145,9 @@ module _ (task level first frame words : ℕ) (is_task : task < 30) (low_level :
       let e : suc n ≡ 75 + words = omega arith in
       let to = offset + 4 * length whole in
       let E = Entered task level first place frame words in
-      let all = owes offset to task level first place frame words offset c is_task low_level first_fits first_aligned h.masked h.previous h.x2 h.aligned h.behind h.inside h.apart h.frame_aligned h.frame_inside h.frame_apart can.behind few in
+      let own = 0x8000_0000 + place in
+      let began = starts_owe offset to task level first place frame words own c low_level first_fits first_aligned h.masked h.previous h.frame_aligned h.frame_inside h.frame_apart (behind 15 (offset + 4 + 108)) (get_or c.registers 2 0) 1 in
+      let all = enters_owe offset to task level place c E (at (vector task) (spread c)) (starts (0x8000_0000 + frame) words first) is_task h.masked h.x2 h.aligned h.behind h.inside h.apart can.behind offset began in
       subst (λ k. Masked k (at (vector task) c) (WithArrivals E (at (vector task) c))) e
       (jumps_in (vector task) offset n h.jump whole c E (at (vector task) c) (omega arith) h.vector_word h.to_code
       (record { masked = h.masked; there = can.controller; lines = can.lines; aligned = can.aligned; fits = can.inside; placed = can.placed })

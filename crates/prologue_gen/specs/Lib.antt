@@ -1,3 +1,4 @@
 pub mod Fresh
+pub mod Resumed
 pub mod Places
 pub mod Pieces

@@ -1,11 +1,12 @@
 -- The pieces of a prologue.
 use Rattle.std.specs.Prelude.{ℕ, ◌+◌, pos, neg_ℤ, List, [], ◌∷◌, ◌++◌}
-use Rattle.sloth_region.specs.Layout.{cur, active, below_word, context_bytes, context_pc, context_level, context_cur, context_below, words_high}
+use Rattle.sloth_region.specs.Layout.{cur, active, resume, below_word, context_bytes, context_pc, context_level, context_cur, context_below, words_high}
 use Rattle.rv32_instr.specs.declared.csr.TheConstants.{MEPC, PLEVEL}
 use Rattle.rv32_instr.specs.declared.InstrKind.{InstrKind}
-use Rattle.rv32_instr.specs.declared.InstrKind.TheVariants.{Lui, Addi, Lw, Sw, Csrrs, Csrrw, Csrrwi, Mret}
+use Rattle.rv32_instr.specs.declared.InstrKind.TheVariants.{Lui, Addi, Lw, Sw, Beq, Csrrs, Csrrw, Csrrwi, Mret}
 use Rattle.sloth_base.specs.Arithmetic.{hi, lo}
-use Rattle.rv32_routine.specs.Pieces.{saves, clears, clears_words}
+use Rattle.sloth_base.specs.Status.{E_OK}
+use Rattle.rv32_routine.specs.Pieces.{past, saves, restores, clears, clears_words}
 
 -- what the CSRs say goes into the context at x1; leaves 0x80000000 in x4
 abbrev pub saves_csrs : List InstrKind
@@ -32,3 +33,19 @@ begins frame first = Lui 2 (hi frame) ∷ Addi 2 2 (lo frame) ∷ Lui 3 (hi firs
 -- a start with a frame of zero words and zero registers
 abbrev pub starts_anew : ℕ → ℕ → ℕ → List InstrKind
 starts_anew frame words first = begins frame first ++ (clears_words words 0 2 ++ (clears 25 5 ++ Mret ∷ []))
+
+-- no context is kept for the task any more; its pc and x2 are those of its context at x1
+abbrev pub takes_own : ℕ → List InstrKind
+takes_own task = Sw 4 0 (pos (resume task)) ∷ Lw 3 1 (pos context_pc) ∷ Csrrw 0 3 MEPC ∷ Addi 2 1 (pos context_bytes) ∷ []
+
+-- the service that waited has done so
+abbrev pub answers_wait : List InstrKind
+answers_wait = Addi 10 0 (pos E_OK) ∷ Mret ∷ []
+
+-- the task goes on behind its wait, as its context at x1 says
+abbrev pub goes_on : ℕ → List InstrKind
+goes_on task = takes_own task ++ (restores 27 5 1 ++ answers_wait)
+
+-- x1 is the address of the task's context; where there is none, what takes it up is passed
+abbrev pub asks_kept : ℕ → List InstrKind
+asks_kept task = Lw 1 4 (pos (resume task)) ∷ Beq 1 0 (past (goes_on task)) ∷ []

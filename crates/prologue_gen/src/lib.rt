@@ -4,5 +4,6 @@
 mod body;
 mod fresh;
 mod prologue_block;
+mod resumed;
 
 pub use prologue_block::prologue;

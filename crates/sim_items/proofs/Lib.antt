@@ -10,6 +10,7 @@ pub mod FlowRoute
 pub mod InRam
 pub mod Inner
 pub mod Jump
+pub mod MaskedJump
 pub mod Keeping
 pub mod Masked
 pub mod Outside

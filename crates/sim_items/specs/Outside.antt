@@ -1,5 +1,5 @@
 -- Items and the idle loop as instructions of a run outside the stretches.
-use Rattle.std.specs.Prelude.{ℕ, ◌+◌, ◌<◌, ◌≤◌, ◌≡◌, ◌⊎◌, List, [], ◌∷◌, length, Some, None}
+use Rattle.std.specs.Prelude.{ℕ, ◌+◌, ◌^◌, ◌<◌, ◌≤◌, ◌≡◌, ◌⊎◌, List, [], ◌∷◌, length, Some, None}
 use Rattle.sloth_base.specs.declared.app.Call.{Call}
 use Rattle.sloth_base.specs.declared.app.Op.TheVariants as op
 use Rattle.sloth_base.specs.declared.event.Arrival.{Arrival}
@@ -11,7 +11,7 @@ use Rattle.sloth_region.specs.Layout.{cur}
 use Rattle.rv32_instr.specs.declared.InstrKind.{InstrKind}
 use Rattle.rv32_instr.specs.Ram.{word_at}
 use Rattle.rv32_machine.specs.Run.{arrived}
-use Rattle.rv32_expand.specs.Expansion.{item_address, block_address, mask_of, expansion}
+use Rattle.rv32_expand.specs.Expansion.{item_address, block_address, mask_of, number_in, expansion}
 use Rattle.sloth_base.specs.Named.{operation, function}
 use Rattle.observe.specs.Observe.{View, mark_at}
 use Rattle.vector_gen.specs.Idle.{Idles}
@@ -112,6 +112,30 @@ abbrev pub ServiceJumpsGoOn : Type 0
 ServiceJumpsGoOn = (b : Build) (view : View) (arrivals : List Arrival) (count : ℕ) (state : State) (s : System) (t : ℕ)
     → At b view arrivals count state s → (here : AtItem b (arrived arrivals count state) (with_admits (lines_at arrivals count) s) t)
     → ItemStands b view here.frame.func here.frame.item → JumpsToService b here.frame.func here.frame.item
+    → GoesOutside b view arrivals (progress_in b) count state s
+
+-- ---- the same with a mask
+
+-- the register of the mask of a service's events
+abbrev pub mask_register : ℕ
+mask_register = 30
+
+-- the item is a call with a mask of events, a word; the block is in RAM, apart from the item
+pub record JumpsWithMask (b : Build) (func item : ℕ) : Type 0 where
+  pub call : Call
+  pub is : operation b.app func item ≡ op.Serve call
+  pub has_mask : mask_of call.service call.mask ≡ number_in mask_register call.mask
+  pub is_word : call.mask < 2 ^ 32
+  pub block : ℕ
+  pub block_is : block_address b.places call.service call.object ≡ 0x8000_0000 + block
+  pub in_ram : block < 0x20_0000
+  pub apart : (0x8000_0000 + block < item_address b.places func item) ⊎ (item_address b.places func item + 12 ≤ 0x8000_0000 + block)
+
+-- Each instruction of it makes progress; the last one leads to the opening mark of the block, with the mask in its register.
+abbrev pub MaskedJumpsGoOn : Type 0
+MaskedJumpsGoOn = (b : Build) (view : View) (arrivals : List Arrival) (count : ℕ) (state : State) (s : System) (t : ℕ)
+    → At b view arrivals count state s → (here : AtItem b (arrived arrivals count state) (with_admits (lines_at arrivals count) s) t)
+    → ItemStands b view here.frame.func here.frame.item → JumpsWithMask b here.frame.func here.frame.item
     → GoesOutside b view arrivals (progress_in b) count state s
 
 -- ---- the idle loop

@@ -3,7 +3,7 @@
 #![tactic(auto)]
 
 ghost use Rattle.sim_items.specs.Laws.{StraightItemsRun};
-ghost use Rattle.sim_items.specs.Outside.{StraightItemsGoOn, ExpansionsGoOn, FlowingItemsGoOn, CallsBegin, CallsGoOn, ReturnsBegin, ReturnsGoOn, ServiceJumpsGoOn, IdleGoesOn};
+ghost use Rattle.sim_items.specs.Outside.{StraightItemsGoOn, ExpansionsGoOn, FlowingItemsGoOn, CallsBegin, CallsGoOn, ReturnsBegin, ReturnsGoOn, MaskedJumpsGoOn, ServiceJumpsGoOn, IdleGoesOn};
 
 /// The last instruction of an item behind which the next one follows is the item's Run event, with its result.
 pub fn straight_items_run()
@@ -50,6 +50,11 @@ pub fn returns_go_on()
 /// The jump to a service without a mask leads to the service's opening mark and shows nothing.
 pub fn service_jumps_go_on()
     ensures { ServiceJumpsGoOn }
+{}
+
+/// Each instruction of a call of a service with a mask of events makes progress, and the jump leads to the opening mark with the mask.
+pub fn masked_jumps_go_on()
+    ensures { MaskedJumpsGoOn }
 {}
 
 /// The idle loop stays and shows Idle.

@@ -19,5 +19,6 @@ pub mod Entering
 pub mod Leaving
 pub mod First
 pub mod Starting
+pub mod Changing
 pub mod AtItem
 pub mod Placed

@@ -3,6 +3,7 @@ use Rattle.std.specs.Prelude.{ℕ, ◌+◌, ◌*◌, ◌<◌, ◌≤◌, ◌≡�
 use Rattle.sloth_base.specs.Machine.{State}
 use Rattle.sloth_base.specs.Arrive.{state_arrive}
 use Rattle.sloth_base.specs.Choose.{choose}
+use Rattle.osek_machine.specs.declared.state.TaskState.{TaskState}
 use Rattle.osek_machine.specs.declared.state.TaskState.TheVariants as mode
 use Rattle.rv32_routine.specs.Kernel.{IsBelow}
 use Rattle.osek_machine.specs.State.{Task, System, task, with_task, body_of}
@@ -16,6 +17,7 @@ use Rattle.sim_induction.specs.Mirror.{Mirror, Runs}
 use Rattle.sim_relation.specs.Build.{Build, Fits, HasRoom}
 use Rattle.sim_relation.specs.Stands.{Stands}
 use Rattle.sim_relation.specs.Moves.{moved_to, TaskStep, TaskMove, TaskLeave}
+use Rattle.sim_relation.specs.Changes.{changed_to, TaskChange}
 use Rattle.sim_relation.specs.Entry.{TaskEntry}
 use Rattle.sim_relation.specs.Start.{Starts, started}
 
@@ -58,6 +60,11 @@ MovesKeep = (b : Build) (old now : State) (s : System) (t : ℕ) (own : Task) (s
 abbrev pub LeavesKeep : Type 0
 LeavesKeep = (b : Build) (old now : State) (s : System) (t : ℕ) (own : Task) (place : ℕ) → Fits b → Stands b old s → Runs b.config s t
     → TaskLeave b old now s t own place → Stands b now (settled (with_task s t own))
+
+-- a change of any task's events and state, that of the running one or of another
+abbrev pub ChangesKeep : Type 0
+ChangesKeep = (b : Build) (old now : State) (s : System) (t : ℕ) (state : TaskState) (set : ℕ) → Fits b → Stands b old s → t < length b.config.tasks
+    → TaskChange b old now s t state set → Stands b now (changed_to s t state set)
 
 -- the entry of the task whose line is taken
 abbrev pub EntriesKeep : Type 0

@@ -8,6 +8,7 @@ pub mod Framing
 pub mod Moves
 pub mod Entry
 pub mod Start
+pub mod Changes
 pub mod Laws
 pub mod Placed
 pub mod Bounds

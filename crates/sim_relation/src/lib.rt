@@ -2,7 +2,7 @@
 //! keeps it. It stands on the offsets of `sloth_region` (`specs/Layout`) and on no generator.
 #![tactic(auto)]
 
-ghost use Rattle.sim_relation.specs.Laws.{MirrorOfStands, ArrivalsAreAdmits, TakenIsTop, NoneTaken, StepsKeep, MovesKeep, LeavesKeep, EntriesKeep, BelowIsFound, StartsStand, RoomWithoutCalls};
+ghost use Rattle.sim_relation.specs.Laws.{MirrorOfStands, ArrivalsAreAdmits, TakenIsTop, NoneTaken, StepsKeep, MovesKeep, LeavesKeep, ChangesKeep, EntriesKeep, BelowIsFound, StartsStand, RoomWithoutCalls};
 
 /// Where the relation stands, the interrupt controller mirrors the abstract scheduler.
 pub fn mirror_of_stands()
@@ -37,6 +37,11 @@ pub fn moves_keep()
 /// The relation stands behind the end or the wait of the running task.
 pub fn leaves_keep()
     ensures { LeavesKeep }
+{}
+
+/// The relation stands behind a change of any task's events and state.
+pub fn changes_keep()
+    ensures { ChangesKeep }
 {}
 
 /// The relation stands behind the entry of the task whose line is taken.

@@ -1,0 +1,183 @@
+-- What was preempted is saved, and the task is the running one.
+use Rattle.std.proofs.Common.{◌≡◌, ℕ, ◌+◌, ◌*◌, ◌%◌, ◌<◌, ◌≤◌, ◌⊎◌, List, ◌∷◌, ◌++◌, get_or, refl, ◌∙◌, arith, inl, lit≤}
+use Rattle.std.specs.Prelude.{false, pos, neg_ℤ}
+use Rattle.sloth_base.specs.Machine.{Core, State}
+use Rattle.sloth_region.specs.Layout.{cur, active, below_word, idle_context, context_bytes, context_pc, context_level, context_cur, context_below}
+use Rattle.rv32_instr.specs.declared.InstrKind.{InstrKind}
+use Rattle.rv32_instr.specs.declared.InstrKind.TheVariants.{Addi}
+use Rattle.rv32_instr.specs.Ram.{word_at, with_word, with_words}
+use Rattle.sloth_base.specs.Arithmetic.{plus}
+use Rattle.rv32_routine.specs.Owes.{IsWordAt, IsApart, Owes}
+use Rattle.rv32_routine.specs.Pieces.{saves, registers_from}
+use Rattle.rv32_routine.proofs.Words.{word_at-other, word_at-others}
+use Rattle.rv32_routine.proofs.Spread.{spread, spread_from}
+use Rattle.rv32_routine.proofs.Runs.{saves_owes}
+use Rattle.rv32_routine.proofs.Leave.{behind}
+use Rattle.prologue_gen.specs.Pieces.{saves_csrs, saves_words, marks_active}
+use Rattle.prologue_gen.specs.Resumed.{with_entry}
+
+-- what stands before this code in each prologue
+abbrev pub enters_first : ℕ → ℕ → List InstrKind → List InstrKind
+enters_first task level rest = Addi 1 2 (neg_ℤ (pos context_bytes)) ∷ (saves 27 5 1 ++ (saves_csrs ++ (saves_words ++ (marks_active task level ++ rest))))
+
+-- the state behind it, whatever x1, x2 and x3 are
+abbrev pub entered : ℕ → ℕ → ℕ → Core → ℕ → ℕ → ℕ → Core
+entered task level place c x1 x2 x3 = record c { registers = 0 ∷ x1 ∷ x2 ∷ x3 ∷ 0x8000_0000 ∷ spread_from 27 5 c.registers; plevel = level % 256; ram = with_entry (spread c) task place }
+
+module _ (from to task level place : ℕ) (c : Core) (E : List ℕ → State → State → Type 0) (start : State) (rest : List InstrKind) (is_task : task < 30) (masked : c.mie ≡ false) (x2 : get_or c.registers 2 0 ≡ 0x8000_0000 + (place + context_bytes)) (aligned : place % 4 ≡ 0) (past : idle_context ≤ place) (inside : place + context_bytes ≤ 0x20_0000) (apart : (place + context_bytes ≤ from) ⊎ (to ≤ place)) (low : 1024 ≤ from) where
+  abbrev own : ℕ
+  own = 0x8000_0000 + place
+
+  abbrev tail : List ℕ
+  tail = spread_from 27 5 c.registers
+
+  abbrev ram1 : List ℕ
+  ram1 = with_words c.ram (place + 20) (registers_from 27 5 (spread c).registers)
+
+  abbrev ram3 : List ℕ
+  ram3 = with_word (with_word ram1 place c.mepc) (place + 4) c.plevel
+
+  abbrev ram4 : List ℕ
+  ram4 = with_word ram3 (place + 4 + 4) (word_at c.ram cur)
+
+  found : (p : ℕ) → p + 4 ≤ idle_context → word_at ram3 p ≡ word_at c.ram p
+  found p under =
+      word_at-other (with_word ram1 place c.mepc) (place + 4) c.plevel p (inl (omega arith))
+      ∙ word_at-other ram1 place c.mepc p (inl (omega arith))
+      ∙ word_at-others (registers_from 27 5 (spread c).registers) c.ram (place + 20) p (inl (omega arith))
+
+  found_below : word_at ram4 below_word ≡ word_at c.ram below_word
+  found_below = word_at-other ram3 (place + 4 + 4) (word_at c.ram cur) below_word (inl (omega arith)) ∙ found below_word (lit≤ tt)
+
+  word0 : IsWordAt (plus own (pos context_pc)) place
+  word0 = record { is = omega arith; aligned = aligned; inside = omega arith }
+
+  word4 : IsWordAt (plus own (pos context_level)) (place + 4)
+  word4 = record { is = omega arith; aligned = omega arith; inside = omega arith }
+
+  word8 : IsWordAt (plus own (pos context_cur)) (place + 4 + 4)
+  word8 = record { is = omega arith; aligned = omega arith; inside = omega arith }
+
+  word12 : IsWordAt (plus own (pos context_below)) (place + 4 + 4 + 4)
+  word12 = record { is = omega arith; aligned = omega arith; inside = omega arith }
+
+  word_active : IsWordAt (plus 0x8000_0000 (pos (active task))) (active task)
+  word_active = record { is = omega arith; aligned = omega arith; inside = omega arith }
+
+  apart_by : (k : ℕ) → place ≤ k → k + 4 ≤ place + context_bytes → IsApart from to k
+  apart_by k l h = grind (arith, apart)
+
+  apart0 : IsApart from to place
+  apart0 = apart_by place (omega arith) (omega arith)
+
+  apart4 : IsApart from to (place + 4)
+  apart4 = apart_by (place + 4) (omega arith) (omega arith)
+
+  apart8 : IsApart from to (place + 4 + 4)
+  apart8 = apart_by (place + 4 + 4) (omega arith) (omega arith)
+
+  apart12 : IsApart from to (place + 4 + 4 + 4)
+  apart12 = apart_by (place + 4 + 4 + 4) (omega arith) (omega arith)
+
+  under : (k : ℕ) → k + 4 ≤ 1024 → IsApart from to k
+  under k h = inl (omega arith)
+
+  active_under : active task + 4 ≤ 1024
+  active_under = omega arith
+
+  next_task : plus 0 (pos (task + 1)) ≡ task + 1
+  next_task = omega arith
+
+  -- what is stored in the context, and the words of the entry
+  begun_owe : (o x3 x4 : ℕ) → Owes from to (behind 15 o) rest 0 E start (entered task level place c own (get_or c.registers 2 0) 1) → Owes from to o (saves_csrs ++ (saves_words ++ (marks_active task level ++ rest))) 0 E start (record (spread c) { registers = 0 ∷ own ∷ get_or c.registers 2 0 ∷ x3 ∷ x4 ∷ tail; ram = ram1 })
+  begun_owe o x3 x4 go = (
+    0x8000_0000,
+    refl,
+    (
+      c.mepc,
+      refl,
+      masked,
+      (
+        place,
+        word0,
+        apart0,
+        (
+          c.plevel,
+          refl,
+          masked,
+          (
+            place + 4,
+            word4,
+            apart4,
+            (
+              cur,
+              record { is = refl; aligned = refl; inside = lit≤ tt },
+              word_at c.ram cur,
+              found cur (lit≤ tt),
+              (
+                place + 4 + 4,
+                word8,
+                apart8,
+                (
+                  below_word,
+                  record { is = refl; aligned = refl; inside = lit≤ tt },
+                  word_at c.ram below_word,
+                  found_below,
+                  (
+                    place + 4 + 4 + 4,
+                    word12,
+                    apart12,
+                    (
+                      below_word,
+                      record { is = refl; aligned = refl; inside = lit≤ tt },
+                      under below_word (lit≤ tt),
+                      (
+                        task + 1,
+                        next_task,
+                        (
+                          cur,
+                          record { is = refl; aligned = refl; inside = lit≤ tt },
+                          under cur (lit≤ tt),
+                          (
+                            1,
+                            refl,
+                            (
+                              active task,
+                              word_active,
+                              under (active task) active_under,
+                              (
+                                c.plevel,
+                                refl,
+                                masked,
+                                go,
+                              ),
+                            ),
+                          ),
+                        ),
+                      ),
+                    ),
+                  ),
+                ),
+              ),
+            ),
+          ),
+        ),
+      ),
+    ),
+  )
+
+  own_is : plus (get_or c.registers 2 0) (neg_ℤ (pos context_bytes)) ≡ own
+  own_is = omega arith
+
+  context_fits : place + 4 * (5 + 27) ≤ 0x20_0000
+  context_fits = omega arith
+
+  context_apart : (place + 4 * (5 + 27) ≤ from) ⊎ (to ≤ place)
+  context_apart = grind (arith, apart)
+
+  pub enters_owe : (o : ℕ) → Owes from to (behind 15 (o + 4 + 108)) rest 0 E start (entered task level place c own (get_or c.registers 2 0) 1) → Owes from to o (enters_first task level rest) 0 E start (spread c)
+  enters_owe o go = (
+    own,
+    own_is,
+    saves_owes from to E start (saves_csrs ++ (saves_words ++ (marks_active task level ++ rest))) place aligned 27 5 1 (o + 4) (o + 4 + 108) (record (spread c) { registers = 0 ∷ own ∷ get_or c.registers 2 0 ∷ get_or c.registers 3 0 ∷ get_or c.registers 4 0 ∷ tail }) refl refl context_fits context_apart (begun_owe (o + 4 + 108) (get_or c.registers 3 0) (get_or c.registers 4 0) go),
+  )

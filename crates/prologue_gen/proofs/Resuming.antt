@@ -1,0 +1,282 @@
+-- The code of an extended task's prologue has its effect.
+use Rattle.std.proofs.Common.{◌≡◌, ◌≢◌, ℕ, suc, ◌+◌, ◌-◌, ◌*◌, ◌%◌, ◌^◌, ◌<◌, ◌≤◌, ◌⊎◌, List, [], ◌∷◌, ◌++◌, length, get_or, refl, ap, ◌∙◌, subst, arith, inl, inr, lit<, lit≤}
+use Rattle.std.specs.Prelude.{ℤ, false, true, pos, set}
+use Rattle.std.proofs.lemmas.Bool.{ne_eqb}
+use Rattle.std.proofs.lemmas.List.{get_or-set_same, get_or-set_other, length-set}
+use Rattle.sloth_base.specs.Machine.{Core, State}
+use Rattle.sloth_base.specs.Arithmetic.{plus}
+use Rattle.sloth_base.specs.Status.{E_OK}
+use Rattle.sloth_region.specs.Layout.{cur, active, resume, below_word, idle_context, context_bytes}
+use Rattle.rv32_instr.specs.declared.InstrKind.{InstrKind}
+use Rattle.rv32_instr.specs.Ram.{word_at, with_word, with_words}
+use Rattle.rv32_routine.specs.Place.{at, InPlace}
+use Rattle.rv32_routine.specs.Kernel.{CanRun}
+use Rattle.rv32_instr.specs.declared.InstrKind.TheVariants.{Jal}
+use Rattle.rv32_routine.specs.Masked.{Masked, WithArrivals}
+use Rattle.rv32_routine.specs.Owes.{Owes}
+use Rattle.rv32_routine.specs.Pieces.{restores, restored, registers_from}
+use Rattle.rv32_routine.proofs.Words.{word_at-other, word_at-others}
+use Rattle.rv32_routine.proofs.Spread.{spread, spread_is, spread_from}
+use Rattle.rv32_routine.proofs.Runs.{restores_owes, length-restored, restored_other, restored_at}
+use Rattle.rv32_routine.proofs.Leave.{behind}
+use Rattle.rv32_routine.proofs.Whole.{jumps_in}
+use Rattle.prologue_gen.specs.Pieces.{takes_own, answers_wait, asks_kept}
+use Rattle.prologue_gen.specs.Fresh.{vector, Entered}
+use Rattle.prologue_gen.specs.Resumed.{MayStart, MayResume, Resumed, EntersOrResumes, with_entry}
+use Rattle.prologue_gen.proofs.Entering.{enters_first, entered, enters_owe}
+use Rattle.prologue_gen.proofs.Starting.{starts, starts_owe, length-starts}
+
+-- what stands behind the entry, before the start
+abbrev pub asks_first : ℕ → List InstrKind → List InstrKind
+asks_first task rest = asks_kept task ++ (takes_own task ++ (restores 27 5 1 ++ (answers_wait ++ rest)))
+
+abbrev pub either : ℕ → ℕ → ℕ → ℕ → List InstrKind
+either task frame words first = asks_first task (starts frame words first)
+
+abbrev pub code : ℕ → ℕ → ℕ → ℕ → ℕ → List InstrKind
+code task level frame words first = enters_first task level (either task frame words first)
+
+-- where the branch lands
+lands : (o : ℕ) → o ≤ 0x20_0004 → plus (0x8000_0000 + o) (pos 136) ≡ 0x8000_0000 + (o + 4 + 4 * 33)
+lands o small = omega arith
+
+-- a word apart from all that the entry stores
+entry_keeps : (c : Core) (task place p : ℕ) → (p + 4 ≤ place) ⊎ (place + context_bytes ≤ p) → (4 ≤ p) → (p + 4 ≤ below_word) ⊎ (below_word + 4 ≤ p) → (p + 4 ≤ active task) ⊎ (active task + 4 ≤ p) → word_at (with_entry c task place) p ≡ word_at c.ram p
+entry_keeps c task place p far past below activity =
+    let ws = registers_from 27 5 c.registers in
+    let r1 = with_words c.ram (place + 4 * 5) ws in
+    let r2 = with_word r1 place c.mepc in
+    let r3 = with_word r2 (place + 4) c.plevel in
+    let r4 = with_word r3 (place + 4 + 4) (word_at c.ram cur) in
+    let r5 = with_word r4 (place + 4 + 4 + 4) (word_at c.ram below_word) in
+    let r6 = with_word r5 below_word (0x8000_0000 + place) in
+    let r7 = with_word r6 cur (task + 1) in
+    word_at-other r7 (active task) 1 p activity
+    ∙ word_at-other r6 cur (task + 1) p (inr (omega arith))
+    ∙ word_at-other r5 below_word (0x8000_0000 + place) p below
+    ∙ word_at-other r4 (place + 4 + 4 + 4) (word_at c.ram below_word) p (grind (arith, far))
+    ∙ word_at-other r3 (place + 4 + 4) (word_at c.ram cur) p (grind (arith, far))
+    ∙ word_at-other r2 (place + 4) c.plevel p (grind (arith, far))
+    ∙ word_at-other r1 place c.mepc p (grind (arith, far))
+    ∙ word_at-others ws c.ram (place + 4 * 5) p (grind (arith, far))
+
+-- the resume word stands apart from it
+kept_word : (c : Core) (task place : ℕ) → task < 30 → idle_context ≤ place → word_at (with_entry c task place) (resume task) ≡ word_at c.ram (resume task)
+kept_word c task place is_task past = entry_keeps c task place (resume task) (inl (omega arith)) (omega arith) (inr (omega arith)) (inr (omega arith))
+
+-- no context is kept: the task starts anew
+module _ (from to task level first place frame words : ℕ) (c : Core) (is_task : task < 30) (past : idle_context ≤ place) (none : word_at c.ram (resume task) ≡ 0) where
+  abbrev E : List ℕ → State → State → Type 0
+  E = Entered task level first place frame words
+
+  abbrev start : State
+  start = at (vector task) (spread c)
+
+  pub fresh_owe : (o x1 x2 : ℕ) → o ≤ 0x20_0000 → ((o' : ℕ) → Owes from to o' (starts (0x8000_0000 + frame) words first) 0 E start (entered task level place c 0 x2 1)) → Owes from to o (either task (0x8000_0000 + frame) words first) 0 E start (entered task level place c x1 x2 1)
+  fresh_owe o x1 x2 small go = (
+    resume task,
+    record { is = omega arith; aligned = omega arith; inside = omega arith },
+    0,
+    kept_word (spread c) task place is_task past ∙ none,
+    record {
+      passed = 33;
+      lands = lands (o + 4) (omega arith);
+      when_taken = λ t. go (behind 33 (behind 2 o));
+      when_not = λ n. absurd (n refl);
+    },
+  )
+
+-- a context is kept, at `own`
+module _ (from to task level place own : ℕ) (c : Core) (rest : List InstrKind) (is_task : task < 30) (low_level : level < 32) (masked : c.mie ≡ false) (previous : c.mpie ≡ true) (past : idle_context ≤ place) (inside : place + context_bytes ≤ 0x20_0000) (is : word_at c.ram (resume task) ≡ 0x8000_0000 + own) (aligned : own % 4 ≡ 0) (own_past : 1024 ≤ own) (own_inside : own + context_bytes ≤ 0x20_0000) (apart : (own + context_bytes ≤ place) ⊎ (place + context_bytes ≤ own)) (returns : word_at c.ram own % 4 ≡ 0) (low : 1024 ≤ from) where
+  abbrev R : List ℕ → State → State → Type 0
+  R = Resumed task level place own
+
+  abbrev begun : State
+  begun = at (vector task) (spread c)
+
+  abbrev at_own : ℕ
+  at_own = 0x8000_0000 + own
+
+  abbrev sp : ℕ
+  sp = 0x8000_0000 + (own + context_bytes)
+
+  abbrev ram : List ℕ
+  ram = with_word (with_entry (spread c) task place) (resume task) 0
+
+  kept : (k : ℕ) → k + 4 ≤ context_bytes → word_at ram (own + k) ≡ word_at c.ram (own + k)
+  kept k within =
+      word_at-other (with_entry (spread c) task place) (resume task) 0 (own + k) (inr (omega arith))
+      ∙ entry_keeps (spread c) task place (own + k) (grind (arith, apart)) (omega arith) (inr (omega arith)) (inr (omega arith))
+
+  zero_more : own + 0 ≡ own
+  zero_more = omega arith
+
+  kept_pc : word_at ram own ≡ word_at c.ram own
+  kept_pc = subst (λ p. word_at ram p ≡ word_at c.ram p) zero_more (kept 0 (lit≤ tt))
+
+  abbrev pc : ℕ
+  pc = word_at c.ram own
+
+  pc_is : pc - pc % 4 ≡ pc
+  pc_is = omega arith
+
+  level_is : level % 256 ≡ level
+  level_is = omega arith
+
+  abbrev regs : List ℕ
+  regs = 0 ∷ at_own ∷ sp ∷ pc ∷ 0x8000_0000 ∷ spread_from 27 5 c.registers
+
+  abbrev loaded : List ℕ
+  loaded = restored 27 5 ram own regs
+
+  long : length loaded ≡ 32
+  long = length-restored 27 5 ram own regs
+
+  abbrev final : List ℕ
+  final = set loaded 10 E_OK
+
+  other : (i : ℕ) → i ≢ 10 → get_or final i 0 ≡ get_or loaded i 0
+  other i ne = get_or-set_other loaded 10 i E_OK 0 (λ e. absurd (ne e))
+
+  done : R [] begun (record { pc = pc - pc % 4; core = record c { registers = final; mepc = pc - pc % 4; plevel = level % 256; ram = ram; ilevel = level % 256; mie = c.mpie; mpie = true } })
+  done = record {
+    touches = refl;
+    left = record {
+      zero = other 0 (λ e. absurd (omega arith)) ∙ restored_other 27 5 ram own regs 0 (inl (lit< tt));
+      registers = length-set loaded 10 E_OK ∙ long;
+      opened = previous;
+      previous = refl;
+      running = level_is;
+      pending = refl;
+      enabled = refl;
+      levels = refl;
+      ram = refl;
+      scratch = refl;
+      controller = refl;
+    };
+    pc = pc_is;
+    x2 = other 2 (λ e. absurd (omega arith)) ∙ restored_other 27 5 ram own regs 2 (inl (lit< tt));
+    status = get_or-set_same loaded 10 E_OK 0 (omega (arith, long));
+    loaded = λ i from upto ne. other i ne ∙ restored_at 27 5 ram own regs i from upto (lit≤ tt) ∙ kept (4 * i) (omega arith);
+  }
+
+  abbrev stored : Core
+  stored = record c { registers = regs; mepc = pc - pc % 4; plevel = level % 256; ram = ram }
+
+  zero_there : get_or loaded 0 0 ≡ 0
+  zero_there = restored_other 27 5 ram own regs 0 (inl (lit< tt))
+
+  answered_owe : (o : ℕ) → Owes from to o (answers_wait ++ rest) 0 R begun (record stored { registers = loaded })
+  answered_owe o = (E_OK, ap (λ z. plus z (pos E_OK)) zero_there, done)
+
+  own_fits : own + 4 * (5 + 27) ≤ 0x20_0000
+  own_fits = omega arith
+
+  restored_owe : (o : ℕ) → Owes from to o (restores 27 5 1 ++ (answers_wait ++ rest)) 0 R begun stored
+  restored_owe o = restores_owes from to R begun (answers_wait ++ rest) own aligned 27 5 1 o (o + 108) stored refl (lit< tt) refl own_fits (answered_owe (o + 108))
+
+  sp_is : plus at_own (pos context_bytes) ≡ sp
+  sp_is = omega arith
+
+  goes_on_owe : (o x2 x3 : ℕ) → Owes from to o (takes_own task ++ (restores 27 5 1 ++ (answers_wait ++ rest))) 0 R begun (entered task level place c at_own x2 x3)
+  goes_on_owe o x2 x3 = (
+    resume task,
+    record { is = omega arith; aligned = omega arith; inside = omega arith },
+    inl (omega arith),
+    (
+      own,
+      record { is = omega arith; aligned = aligned; inside = omega arith },
+      pc,
+      kept_pc,
+      (
+        c.mepc,
+        refl,
+        masked,
+        (
+          sp,
+          sp_is,
+          restored_owe (behind 4 o),
+        ),
+      ),
+    ),
+  )
+
+  not_zero : at_own ≢ 0
+  not_zero e = absurd (omega arith)
+
+  pub resumed_owe : (o x1 x2 x3 : ℕ) → o ≤ 0x20_0000 → Owes from to o (asks_first task rest) 0 R begun (entered task level place c x1 x2 x3)
+  resumed_owe o x1 x2 x3 small = (
+    resume task,
+    record { is = omega arith; aligned = omega arith; inside = omega arith },
+    at_own,
+    kept_word (spread c) task place is_task past ∙ is,
+    record {
+      passed = 33;
+      lands = lands (o + 4) (omega arith);
+      when_taken = λ t. let f = ne_eqb at_own 0 not_zero in absurd (cc);
+      when_not = λ n. goes_on_owe (behind 2 o) x2 x3;
+    },
+  )
+
+length-code : (task level frame words first : ℕ) → length (code task level frame words first) ≡ words + 109
+length-code task level frame words first = let e = length-starts frame words first in omega arith
+
+module _ (task level first frame words : ℕ) (is_task : task < 30) (low_level : level < 32) (first_fits : first < 2 ^ 32) (few : words ≤ 32) (offset place : ℕ) (c : Core) where
+  abbrev whole : List InstrKind
+  whole = code task level (0x8000_0000 + frame) words first
+
+  abbrev rest : List InstrKind
+  rest = either task (0x8000_0000 + frame) words first
+
+  -- from the vector word on
+  whole_runs : (E : List ℕ → State → State → Type 0) (jump : ℤ) → CanRun offset whole c → c.mie ≡ false → InPlace c.ram (vector task) (Jal 0 jump ∷ []) → plus (0x8000_0000 + vector task) jump ≡ 0x8000_0000 + offset → Owes offset (offset + 4 * length whole) offset whole 0 E (at (vector task) (spread c)) (spread c) → Masked (110 + words) (at (vector task) c) (WithArrivals E (at (vector task) c))
+  whole_runs E jump can masked vector_word to_code all =
+      let long = length-code task level (0x8000_0000 + frame) words first in
+      let n = words + 109 in
+      let e : suc n ≡ 110 + words = omega arith in
+      let to = offset + 4 * length whole in
+      subst (λ k. Masked k (at (vector task) c) (WithArrivals E (at (vector task) c))) e
+      (jumps_in (vector task) offset n jump whole c E (at (vector task) c) (omega arith) vector_word to_code
+      (record { masked = masked; there = can.controller; lines = can.lines; aligned = can.aligned; fits = can.inside; placed = can.placed })
+      (omega arith)
+      (subst (λ x. Owes offset to offset whole 0 E (at (vector task) x) x) (spread_is c can.registers can.zero) all))
+
+  small_offset : CanRun offset whole c → behind 15 (offset + 4 + 108) ≤ 0x20_0000
+  small_offset can =
+      let long = length-code task level (0x8000_0000 + frame) words first in
+      let fits = can.inside in
+      omega arith
+
+  starts_it : first % 4 ≡ 0 → MayStart offset task place frame words whole c → Masked (110 + words) (at (vector task) c) (WithArrivals (Entered task level first place frame words) (at (vector task) c))
+  starts_it first_aligned may =
+      let h = may.enters in
+      let can = h.can_run in
+      let to = offset + 4 * length whole in
+      let E = Entered task level first place frame words in
+      let sp = get_or c.registers 2 0 in
+      let o = behind 15 (offset + 4 + 108) in
+      let chosen = fresh_owe offset to task level first place frame words c is_task h.behind may.kept_none o (0x8000_0000 + place) sp (small_offset can)
+      (λ o'. starts_owe offset to task level first place frame words 0 c low_level first_fits first_aligned h.masked h.previous h.frame_aligned h.frame_inside h.frame_apart o' sp 1)
+      in
+      whole_runs E h.jump can h.masked h.vector_word h.to_code
+      (enters_owe offset to task level place c E (at (vector task) (spread c)) rest is_task h.masked h.x2 h.aligned h.behind h.inside h.apart can.behind offset chosen)
+
+  resumes_it : (own : ℕ) → MayResume offset task place own whole c → Masked (110 + words) (at (vector task) c) (WithArrivals (Resumed task level place own) (at (vector task) c))
+  resumes_it own h =
+      let can = h.can_run in
+      let to = offset + 4 * length whole in
+      let E = Resumed task level place own in
+      let sp = get_or c.registers 2 0 in
+      let o = behind 15 (offset + 4 + 108) in
+      let chosen = resumed_owe offset to task level place own c (starts (0x8000_0000 + frame) words first) is_task low_level h.masked h.previous h.behind h.inside h.resumes h.own_aligned h.own_behind h.own_inside h.own_apart h.returns can.behind o (0x8000_0000 + place) sp 1 (small_offset can) in
+      whole_runs E h.jump can h.masked h.vector_word h.to_code
+      (enters_owe offset to task level place c E (at (vector task) (spread c)) rest is_task h.masked h.x2 h.aligned h.behind h.inside h.apart can.behind offset chosen)
+
+pub enters_or_resumes : (task level first frame words : ℕ) → task < 30 → level < 32 → first < 2 ^ 32 → words ≤ 32 → EntersOrResumes task level first frame words (code task level (0x8000_0000 + frame) words first)
+enters_or_resumes task level first frame words a b d f =
+    let long = length-code task level (0x8000_0000 + frame) words first in
+    record {
+      size = omega arith;
+      starts = λ offset place core e h. starts_it task level first frame words a b d f offset place core e h;
+      resumes = λ offset place own core h. resumes_it task level first frame words a b d f offset place core own h;
+    }

@@ -1,0 +1,65 @@
+-- The prologue of a task that goes on behind a wait: what was preempted is saved in a context, and the task's own is restored.
+use Rattle.std.specs.Prelude.{ℕ, ℤ, ◌+◌, ◌*◌, ◌%◌, ◌≡◌, ◌≢◌, ◌<◌, ◌≤◌, ◌⊎◌, false, true, List, [], ◌∷◌, length, slice_index}
+use Rattle.sloth_base.specs.Machine.{Core, State}
+use Rattle.sloth_base.specs.Status.{E_OK}
+use Rattle.sloth_region.specs.Layout.{cur, active, resume, below_word, idle_context, context_bytes}
+use Rattle.rv32_instr.specs.declared.InstrKind.{InstrKind}
+use Rattle.rv32_instr.specs.declared.InstrKind.TheVariants.{Jal}
+use Rattle.rv32_instr.specs.Ram.{word_at, with_word}
+use Rattle.sloth_base.specs.Arithmetic.{plus}
+use Rattle.rv32_routine.specs.Masked.{Masked, WithArrivals}
+use Rattle.rv32_routine.specs.Place.{at, InPlace}
+use Rattle.rv32_routine.specs.Kernel.{CanRun, LeftAs}
+use Rattle.prologue_gen.specs.Fresh.{vector, IsApartFrom, MayEnter, Entered, with_context}
+
+-- The state in which the line of a task that is to start anew has just been taken: no context is kept for it.
+pub record MayStart (offset task place frame words : ℕ) (code : List InstrKind) (core : Core) : Type 0 where
+  pub enters : MayEnter offset task place frame words code core
+  pub kept_none : word_at core.ram (resume task) ≡ 0
+
+-- The state in which the line of a task that is to go on has just been taken. The context of what was preempted is to stand at
+-- `place`, directly below x2, and the task's own stands at `own`, apart from it.
+pub record MayResume (offset task place own : ℕ) (code : List InstrKind) (core : Core) : Type 0 where
+  pub can_run : CanRun offset code core
+  pub masked : core.mie ≡ false
+  pub previous : core.mpie ≡ true
+  pub jump : ℤ
+  pub vector_word : InPlace core.ram (vector task) (Jal 0 jump ∷ [])
+  pub to_code : plus (0x8000_0000 + vector task) jump ≡ 0x8000_0000 + offset
+  pub x2 : slice_index core.registers 2 ≡ 0x8000_0000 + (place + context_bytes)
+  pub aligned : place % 4 ≡ 0
+  pub behind : idle_context ≤ place
+  pub inside : place + context_bytes ≤ 0x20_0000
+  pub apart : IsApartFrom offset (length code) place context_bytes
+  pub resumes : word_at core.ram (resume task) ≡ 0x8000_0000 + own
+  pub own_aligned : own % 4 ≡ 0
+  pub own_behind : 1024 ≤ own
+  pub own_inside : own + context_bytes ≤ 0x20_0000
+  pub own_apart : (own + context_bytes ≤ place) ⊎ (place + context_bytes ≤ own)
+  pub returns : word_at core.ram own % 4 ≡ 0
+
+-- the bytes in which a task is the running one and Active, with the context of what it preempted at `place`
+abbrev pub with_entry : Core → ℕ → ℕ → List ℕ
+with_entry core task place =
+    with_word (with_word (with_word (with_context core place) below_word (0x8000_0000 + place)) cur (task + 1)) (active task) 1
+
+-- The task runs at its level, Active, as its context says, but for a0, which is the status of the service that waited; no
+-- context is kept for it any more.
+pub record Resumed (task level place own : ℕ) (touched : List ℕ) (start end : State) : Type 0 where
+  pub touches : touched ≡ []
+  pub left : LeftAs (record start.core { ilevel = level; ram = with_word (with_entry start.core task place) (resume task) 0 }) end.core
+  pub pc : end.pc ≡ word_at start.core.ram own
+  pub x2 : slice_index end.core.registers 2 ≡ 0x8000_0000 + (own + context_bytes)
+  pub status : slice_index end.core.registers 10 ≡ E_OK
+  pub loaded : (i : ℕ) → 5 ≤ i → i < 32 → i ≢ 10 → slice_index end.core.registers i ≡ word_at start.core.ram (own + 4 * i)
+
+-- Code of the prologue of an extended task: with the jump of the vector word, at most 110 + words instructions lead to a start
+-- where no context is kept, and to the place of the wait where one is, whatever lines arrive.
+pub record EntersOrResumes (task level first frame words : ℕ) (code : List InstrKind) : Type 0 where
+  pub size : length code ≡ 109 + words
+  pub starts :
+      (offset place : ℕ) (core : Core) → first % 4 ≡ 0 → MayStart offset task place frame words code core
+      → Masked (110 + words) (at (vector task) core) (WithArrivals (Entered task level first place frame words) (at (vector task) core))
+  pub resumes :
+      (offset place own : ℕ) (core : Core) → MayResume offset task place own code core
+      → Masked (110 + words) (at (vector task) core) (WithArrivals (Resumed task level place own) (at (vector task) core))
