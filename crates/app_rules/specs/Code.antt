@@ -7,7 +7,7 @@ use Rattle.sloth_base.specs.declared.app.Op.{Op}
 use Rattle.sloth_base.specs.declared.app.Op.TheVariants as op
 use Rattle.sloth_base.specs.declared.service.Service.{Service}
 use Rattle.sloth_base.specs.declared.service.Service.TheVariants as service
-use Rattle.sloth_base.specs.Named.{function, item_of, operation, label_of, IsBodyOf}
+use Rattle.sloth_base.specs.Named.{function, item_of, operation, label_of, body_of, IsBodyOf}
 
 -- ---- items
 
@@ -39,6 +39,11 @@ Reaches app f g = (f ≡ g) ⊎ ((between : List ℕ) × CallChain app f between
 -- the body of task t reaches function f
 abbrev pub TaskReaches : App → ℕ → ℕ → Type 0
 TaskReaches app t f = (b : ℕ) × IsBodyOf app t b × Reaches app b f
+
+-- Function f was called by the first of these functions, that one by the next, and so on. Without a caller f is the body of task t.
+abbrev pub IsCalledBy : App → (t f : ℕ) → (callers : List ℕ) → Type 0
+IsCalledBy app t f [] = f ≡ body_of app.funcs t
+IsCalledBy app t f (caller ∷ outer) = Calls app caller f × IsCalledBy app t caller outer
 
 -- a service in which the caller may wait, or let others run
 abbrev pub Pauses : Service → Type 0

@@ -28,7 +28,7 @@ AccessesPast app f (op.Load w rd y offset) = symbol_size app y < offset + size_o
 AccessesPast app f (op.Store w rs y offset) = symbol_size app y < offset + size_of w
 AccessesPast app f _ = ⊥
 
--- V3: a direct offset or a mask that is no multiple of the access size_of
+-- V3: a direct offset or a mask that is no multiple of the access size
 abbrev pub IsUneven : Op → Type 0
 IsUneven (op.Load w rd y offset) = offset % size_of w ≢ 0
 IsUneven (op.Store w rs y offset) = offset % size_of w ≢ 0
@@ -36,7 +36,7 @@ IsUneven (op.LoadAt w rd y index mask) = mask % size_of w ≢ 0
 IsUneven (op.StoreAt w rs y index mask) = mask % size_of w ≢ 0
 IsUneven _ = ⊥
 
--- V4: a mask above 32,767, or mask plus access size_of above the symbol's size_of
+-- V4: a mask above 32,767, or mask plus access size above the symbol's size
 abbrev pub MasksPast : App → Op → Type 0
 MasksPast app (op.LoadAt w rd y index mask) = (32767 < mask) ⊎ (symbol_size app y < mask + size_of w)
 MasksPast app (op.StoreAt w rs y index mask) = (32767 < mask) ⊎ (symbol_size app y < mask + size_of w)

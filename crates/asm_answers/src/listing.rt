@@ -3,6 +3,7 @@ ghost use Rattle.app_rules.specs.AppRange.{IsTaskCode};
 
 use rv32_expand::sizes;
 use sloth_base::app::{App, Func, Label};
+use stack_bounds::stacks::Stacks;
 
 // Bytes as text, or `?` where they are none.
 fn shown(bytes: &[u8]) -> &str {
@@ -75,5 +76,22 @@ pub fn list_sizes(rt: &(impl Print + AllocGlobal), app: &App) -> anyhow::Result<
         all = all.saturating_add(u64::from(*size));
     }
     println!(rt; "first {} all {all}", sizes.first().copied().unwrap_or(0))?;
+    Ok(())
+}
+
+fn list_numbers(rt: &impl Print, name: &str, numbers: &[u32]) -> anyhow::Result<()> {
+    print!(rt; "{name}")?;
+    for number in numbers {
+        print!(rt; " {number}")?;
+    }
+    println!(rt; "")?;
+    Ok(())
+}
+
+/// Prints the bytes of each task, the offset of its part in its stack, and the bytes of the shared stack.
+pub fn list_stacks(rt: &impl Print, stacks: &Stacks) -> anyhow::Result<()> {
+    list_numbers(rt, "bytes", stacks.bounds.bytes.items())?;
+    list_numbers(rt, "offsets", stacks.offsets.items())?;
+    println!(rt; "shared {}", stacks.bounds.shared)?;
     Ok(())
 }

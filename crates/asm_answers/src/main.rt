@@ -10,7 +10,7 @@ ghost use Rattle.app_rules.specs.AppRange.{IsTaskCode};
 mod listing;
 mod repeats;
 
-use crate::listing::{list_app, list_counts, list_sizes};
+use crate::listing::{list_app, list_counts, list_sizes, list_stacks};
 use crate::repeats::add_line;
 use asm_parse::parse_app;
 use oil_lex::tokens;
@@ -19,6 +19,7 @@ use oil_parse::parse;
 use sloth_base::app::App;
 use sloth_base::config::Config;
 use sloth_base::refusal::BuildError;
+use sloth_source::read;
 use std::alloc::Global;
 use std::io::Read;
 
@@ -53,6 +54,17 @@ fn list_error(rt: &impl Print, error: BuildError) -> anyhow::Result<()> {
     Ok(())
 }
 
+// Answers what the tasks of a text need of the stacks.
+fn answer_stacks(rt: &(impl Print + AllocGlobal), oil: &[u8], text: &[u8]) -> anyhow::Result<()>
+    requires oil { length oil.now ≤ 16000000 }
+    requires text { length text.now ≤ 16000000 }
+{
+    match read(rt.alloc(), oil, text) {
+        Ok(source) => list_stacks(rt, &source.stacks),
+        Err(error) => list_error(rt, error),
+    }
+}
+
 // Answers what is asked of a text.
 fn answer(
     rt: &(impl Print + AllocGlobal),
@@ -63,6 +75,9 @@ fn answer(
     requires oil { length oil.now ≤ 16000000 }
     requires text { length text.now ≤ 16000000 }
 {
+    if asked == b"stacks".as_slice() {
+        return answer_stacks(rt, oil, text);
+    }
     match app(rt.alloc(), oil, text) {
         Ok(app) => {
             if asked == b"listing".as_slice() {

@@ -2,7 +2,7 @@
 #![tactic(auto)]
 
 mod bytes;
-mod cutting;
+pub mod cutting;
 mod laws;
 mod numerals;
 mod operands;

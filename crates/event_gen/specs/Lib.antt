@@ -1,4 +1,5 @@
 pub mod Block
+pub mod Calls
 pub mod Pieces
 pub mod ClearEvent
 pub mod GetEvent

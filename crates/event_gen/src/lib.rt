@@ -8,7 +8,6 @@ ghost use Rattle.event_gen.specs.Block.{HasBlock, Serves};
 
 mod clear_event;
 mod get_event;
-mod layout;
 mod pieces;
 mod set_event;
 mod wait_event;

@@ -28,7 +28,10 @@ use Rattle.rv32_instr.specs.declared.block.Block.{Block}
 use Rattle.rv32_expand.specs.Expansion.{block_address}
 use Rattle.rv32_expand.specs.InPlace.{IsItem, IsOfItem, item_mark, mark_kind, mark_number}
 use Rattle.rv32_expand.specs.Sizes.{items_before}
-use Rattle.service_gen.specs.Block.{opening, Serves}
+use Rattle.service_gen.specs.Block.{opening, back_mark, further_marks}
+use Rattle.event_gen.specs.Calls.{ServesCall}
+use Rattle.service_gen.specs.Schedule.{way_back}
+use Rattle.sloth_base.specs.Arithmetic.{sum32}
 use Rattle.vector_gen.specs.Boot.{Boots}
 use Rattle.vector_gen.specs.Idle.{Idles, idle_mark}
 use Rattle.vector_gen.specs.Vectors.{AreJumps}
@@ -74,7 +77,7 @@ zip_at R (x ∷ xs) [] k d e h l = absurd h
 zip_at R (x ∷ xs) (y ∷ ys) zero d e h l = h.0
 zip_at R (x ∷ xs) (y ∷ ys) (suc k) d e h l = zip_at R xs ys k d e h.1 (omega (arith, l))
 
-even_at : (xs : List ℕ) (k : ℕ) → All (λ address. address % 4 ≡ 0) xs → get_or xs k 0 % 4 ≡ 0
+pub even_at : (xs : List ℕ) (k : ℕ) → All (λ address. address % 4 ≡ 0) xs → get_or xs k 0 % 4 ≡ 0
 even_at [] zero h = refl
 even_at [] (suc k) h = refl
 even_at (x ∷ xs) zero h = h 0 0 (omega arith)
@@ -127,6 +130,21 @@ fields_of config app f (op.Invoke callee) n func index h l m = (omega arith, l, 
 fields_of config app f op.Return n func index h l m = (omega arith, l, m)
 fields_of config app f (op.Serve call) n func index h l m = (small_code call.service, l, m)
 
+-- a fact on the marks behind the opening, of which there is one alone
+by_further : (P : Mark → Type 0) (s : Service) (at : ℕ) → P (back_mark (sum32 at way_back)) → All P (further_marks s at)
+by_further P service.ActivateTask at back = All-nil P
+by_further P service.TerminateTask at back = All-nil P
+by_further P service.ChainTask at back = All-nil P
+by_further P service.Schedule at back = All-cons P (back_mark (sum32 at way_back)) [] back (All-nil P)
+by_further P service.GetTaskID at back = All-nil P
+by_further P service.GetTaskState at back = All-nil P
+by_further P service.GetResource at back = All-nil P
+by_further P service.ReleaseResource at back = All-nil P
+by_further P service.SetEvent at back = All-nil P
+by_further P service.ClearEvent at back = All-nil P
+by_further P service.GetEvent at back = All-nil P
+by_further P service.WaitEvent at back = All-nil P
+
 module _ (config : Config) (app : App) (levels : Levels) (wanted : List Bool) (map : Map) (may : MayGenerate config app levels wanted map) where
   -- those of services
   served_format : (served : List Block) → AreServices levels map wanted served → All (MarksInFormat (length app.funcs)) served
@@ -140,8 +158,9 @@ module _ (config : Config) (app : App) (levels : Levels) (wanted : List Bool) (m
       let code = there services (n / 40) h.service h.is in
       let at = h.at in
       let even = blocks_even n in
-      subst P (sym h.marks) (All-cons (λ (m : Mark). (m.address % 4 ≡ 0) × AreFields (length app.funcs) m.kind m.a m.b m.c) (opening b.at (n / 40)) []
-      (omega (arith, at, even), (omega (arith, code), refl, refl)) (All-nil (λ (m : Mark). (m.address % 4 ≡ 0) × AreFields (length app.funcs) m.kind m.a m.b m.c)))
+      subst P (sym h.marks) (All-cons (λ (m : Mark). (m.address % 4 ≡ 0) × AreFields (length app.funcs) m.kind m.a m.b m.c) (opening b.at (n / 40)) (further_marks h.service b.at)
+      (omega (arith, at, even), (omega (arith, code), refl, refl))
+      (by_further (λ (m : Mark). (m.address % 4 ≡ 0) × AreFields (length app.funcs) m.kind m.a m.b m.c) h.service b.at (omega (arith, at, even), (refl, refl, refl))))
     where
       blocks_even : (k : ℕ) → slice_index map.places.blocks k % 4 ≡ 0
       blocks_even k = even_at map.places.blocks k may.planned.zones.blocks_aligned
@@ -170,8 +189,9 @@ module _ (config : Config) (app : App) (levels : Levels) (wanted : List Bool) (m
       (Contains-append_right starts (served ++ own) b (Contains-append_right served own b c))
 
   has_service : (func item : ℕ) (call : Call) → IsItem app func item → operation app func item ≡ op.Serve call
-      → Has all (block_address map.places call.service call.object) (opening (block_address map.places call.service call.object) (code_of call.service) ∷ [])
-      (Serves call.service call.object levels)
+      → Has all (block_address map.places call.service call.object)
+      (opening (block_address map.places call.service call.object) (code_of call.service) ∷ further_marks call.service (block_address map.places call.service call.object))
+      (ServesCall call.service call.object levels)
   has_service func item call is e =
       let c = may.calls func item call is e in
       let number : ℕ = code_of call.service * 40 + call.object in
@@ -183,13 +203,15 @@ module _ (config : Config) (app : App) (levels : Levels) (wanted : List Bool) (m
       let object : number % 40 ≡ call.object = omega (arith, small) in
       let its : h.service ≡ call.service = some_same h.service call.service (sym h.is ∙ ap service_of code ∙ of_code call.service) in
       let place : r.0.at ≡ block_address map.places call.service call.object = h.at in
-      let P : Service → Type 0 = λ s. Serves s (number % 40) levels r.0.code in
-      let Q : ℕ → Type 0 = λ n. Serves call.service n levels r.0.code in
+      let P : Service → Type 0 = λ s. ServesCall s (number % 40) levels r.0.code in
+      let Q : ℕ → Type 0 = λ n. ServesCall call.service n levels r.0.code in
       record {
         block = r.0;
         among = in_served r.0 r.1;
         at = place;
-        marks_are = h.marks ∙ ap (λ n. opening r.0.at n ∷ []) code ∙ ap (λ n. opening n (code_of call.service) ∷ []) place;
+        marks_are =
+            h.marks ∙ ap (λ v. opening r.0.at (number / 40) ∷ further_marks v r.0.at) its
+            ∙ ap (λ n. opening r.0.at n ∷ further_marks call.service r.0.at) code ∙ ap (λ n. opening n (code_of call.service) ∷ further_marks call.service n) place;
         does = subst Q object (subst P its h.serves);
       }
 
@@ -242,7 +264,9 @@ module _ (config : Config) (app : App) (levels : Levels) (wanted : List Bool) (m
   all_own =
       all_blocks (MarksAreOfItems app map.places) (without vectors vectors_marks) (without boot boot_marks) (with_one idle (idle_mark map.idle) idle_marks tt)
       (λ k d l. without (get_or starts k d) (each k d l).marks)
-      (zip_all (IsService levels map) (MarksAreOfItems app map.places) (wanted_from 0 wanted) served (λ n b h. with_one b (opening b.at (n / 40)) h.marks tt) serve)
+      (zip_all (IsService levels map) (MarksAreOfItems app map.places) (wanted_from 0 wanted) served
+      (λ n b h. subst (All (IsOwnMark app map.places)) (sym h.marks)
+      (All-cons (IsOwnMark app map.places) (opening b.at (n / 40)) (further_marks h.service b.at) tt (by_further (IsOwnMark app map.places) h.service b.at tt))) serve)
       (subst (All (MarksAreOfItems app map.places)) (sym items) items_own)
 
   -- ---- the format of images

@@ -1,5 +1,5 @@
 -- What is linked is in the format of images.
-use Rattle.std.proofs.Common.{◌≡◌, ◌≤◌, ℕ, Bool, List, [], ◌∷◌, length, get_or, sym, ap, ◌∙◌, subst, arith}
+use Rattle.std.proofs.Common.{◌*◌, ◌≡◌, ◌≤◌, ℕ, Bool, List, [], ◌∷◌, length, get_or, sym, ap, ◌∙◌, subst, arith}
 use Rattle.std.specs.Prelude.{All}
 use Rattle.std.specs.Prelude as prelude
 use Rattle.std.proofs.lemmas.List.{length-append}
@@ -20,12 +20,12 @@ use Rattle.sloth_link.proofs.Written.{code_bytes_length, front_of}
 use Rattle.sim_image.proofs.Items.{all_marks}
 use Rattle.image_gen.specs.Gathered.{MayGenerate, IsImageOf}
 
--- at most as many marks as blocks
-marks_few : (blocks : List Block) → All (λ b. length b.marks ≤ 1) blocks → length (marks_of blocks) ≤ length blocks
+-- at most twice as many marks as blocks
+marks_few : (blocks : List Block) → All (λ b. length b.marks ≤ 2) blocks → length (marks_of blocks) ≤ 2 * length blocks
 marks_few [] h = omega arith
 marks_few (b ∷ blocks) h =
-    let first = All-head (λ (x : Block). length x.marks ≤ 1) b blocks h in
-    let rest = marks_few blocks (All-tail (λ (x : Block). length x.marks ≤ 1) b blocks h) in
+    let first = All-head (λ (x : Block). length x.marks ≤ 2) b blocks h in
+    let rest = marks_few blocks (All-tail (λ (x : Block). length x.marks ≤ 2) b blocks h) in
     let n = length-append b.marks (marks_of blocks) in
     omega (arith, first, rest, n)
 

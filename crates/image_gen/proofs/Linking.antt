@@ -1,6 +1,6 @@
 -- What is gathered has room, and linked it is an image.
-use Rattle.std.proofs.Common.{◌≡◌, ◌≤◌, ◌<◌, ◌+◌, ◌%◌, ℕ, Bool, List, [], length, refl, sym, ap, ◌∙◌, subst, arith}
-use Rattle.std.specs.Prelude.{All, slice_index}
+use Rattle.std.proofs.Common.{◌≡◌, ◌≤◌, ◌<◌, ◌+◌, ◌*◌, ◌%◌, ℕ, Bool, List, [], length, refl, sym, ap, ◌∙◌, subst, arith}
+use Rattle.std.specs.Prelude.{All, get_or, slice_index}
 use Rattle.std.specs.Prelude as prelude
 use Rattle.std.specs.List.Sorted.{IsPermutation, IsStrictlyIncreasing}
 use Rattle.std.proofs.lemmas.List.{get_or_default}
@@ -35,7 +35,13 @@ use Rattle.sim_image.proofs.Fitting.{code_from, code_to, data_to}
 use Rattle.sim_image.proofs.Generating.{built_is_generated, built_is_in_place}
 use Rattle.sim_image.proofs.Housed.{blocks_are_in, blocks_are_in_code, marks_differ}
 use Rattle.image_gen.specs.Gathered.{MayGenerate, IsGathered, IsImageOf, IsPlanned}
-use Rattle.image_gen.proofs.AllCode.{zip_all}
+use Rattle.image_gen.proofs.AllCode.{even_at, zip_all}
+use Rattle.image_gen.proofs.Planning.{called_with}
+use Rattle.sloth_base.specs.ServiceCodes.{code_of}
+use Rattle.sloth_base.specs.declared.service.Service.TheVariants as service
+use Rattle.rv32_expand.specs.Expansion.{block_address}
+use Rattle.event_gen.specs.Calls.{IsCalledWith}
+use Rattle.service_gen.specs.Schedule.{way_back}
 
 module _ (config : Config) (app : App) (levels : Levels) (wanted : List Bool) (map : Map) (p : IsPlanned config app wanted map) where
   pub has_symbols : HasSymbols map app
@@ -67,10 +73,10 @@ module _ (config : Config) (app : App) (levels : Levels) (wanted : List Bool) (m
       omega (arith, symbols)
 
   pub data_above : 0x8000_0000 ≤ (data_zone map).base
-  data_above = let f = code_from config app map 0 [] p.zones in let t = code_to config app map 0 [] p.zones in omega (arith, f, t)
+  data_above = let f = code_from config app map p.stacks 0 [] p.zones in let t = code_to config app map p.stacks 0 [] p.zones in omega (arith, f, t)
 
   pub data_below : (data_zone map).base + (data_zone map).len ≤ 0x8020_0000
-  data_below = data_to config app map 0 [] p.zones
+  data_below = data_to config app map p.stacks 0 [] p.zones
 
   module _ (blocks : List Block) (symbols : List Datum) (size : ℕ) (rooms : FitRooms (code_extents map (length config.tasks) wanted p.sizes) blocks)
       (are : symbols ≡ data_of map.places.symbols app.symbols) (to : 0x8000_0000 + size ≡ (data_zone map).base + (data_zone map).len) where
@@ -100,8 +106,10 @@ module _ (config : Config) (app : App) (levels : Levels) (wanted : List Bool) (m
       size = size;
       blocks = blocks;
       symbols = symbols;
+      stacks = p.stacks;
       linked = record {
         zones = p.zones;
+        has_stacks = p.has_stacks;
         calls_fit = p.calls_fit;
         small = (let end = data_below in omega (arith, to, end));
         in_code = blocks_are_in_code map (code_extents map (length config.tasks) wanted p.sizes) blocks code_follows rooms;
@@ -116,7 +124,7 @@ module _ (config : Config) (app : App) (levels : Levels) (wanted : List Bool) (m
       has_items = g.items;
       whole_words = (let e = end_even in let d = p.addresses.data_to in omega (arith, to, e, d));
       few = g.few;
-      few_marks = zip_all FitsRoom (λ b. length b.marks ≤ 1) (code_extents map (length config.tasks) wanted p.sizes) blocks (λ r b h. h.few) rooms;
+      few_marks = zip_all FitsRoom (λ b. length b.marks ≤ 2) (code_extents map (length config.tasks) wanted p.sizes) blocks (λ r b h. h.few) rooms;
       format = g.format;
       own_marks = zip_all FitsRoom HasOwnMarks (code_extents map (length config.tasks) wanted p.sizes) blocks (λ r b h. h.marks) rooms;
       marks_are = moved;
@@ -127,7 +135,17 @@ module _ (config : Config) (app : App) (levels : Levels) (wanted : List Bool) (m
 module _ (config : Config) (app : App) (levels : Levels) (wanted : List Bool) (map : Map) (may : MayGenerate config app levels wanted map) (image : Image)
     (h : IsImageOf config app levels map image.memory image.marks) (tasks : image.tasks ≡ prelude.map (λ d. d.name) config.tasks)
     (functions : image.funcs ≡ prelude.map (λ f. f.name) app.funcs) where
-  built : IsBuiltBy config app levels map 0 h.size h.blocks h.symbols image
+  -- the way back stands in Schedule's block
+  abbrev way : ℕ
+  way = block_address map.places service.Schedule 0 + way_back
+
+  way_even : way % 4 ≡ 0
+  way_even =
+      let even = even_at map.places.blocks (code_of service.Schedule * 40 + 0) may.planned.zones.blocks_aligned in
+      let is : block_address map.places service.Schedule 0 ≡ get_or map.places.blocks (code_of service.Schedule * 40 + 0) 0 = refl in
+      omega (arith, even, is)
+
+  built : IsBuiltBy config app levels map h.stacks way h.size h.blocks h.symbols image
   built = record {
     are_levels = may.are_levels;
     linked = h.linked;
@@ -138,14 +156,17 @@ module _ (config : Config) (app : App) (levels : Levels) (wanted : List Bool) (m
     ascending = h.ascending;
     names = record { functions = functions; tasks = tasks; bodies = may.named };
     bytes = h.bytes;
-    back_aligned = refl;
-    covered = may.covered;
+    back_aligned = way_even;
+    back_is = λ func item call is e s.
+        let object = called_with config app may.well_formed func item call is e in
+        let none : call.object ≡ 0 = subst (λ v. IsCalledWith v call.object) s object in
+        sym (ap (λ v. block_address map.places v call.object + way_back) s ∙ ap (λ o. block_address map.places service.Schedule o + way_back) none);
   }
 
   pub in_place : ItemsInPlace image config app
-  in_place = built_is_in_place config app levels map 0 h.size h.blocks h.symbols image built
+  in_place = built_is_in_place config app levels map h.stacks way h.size h.blocks h.symbols image built
 
   pub sound : Sound config app image
   sound =
-      runs.sound_kernel (build_of config app map 0 image.memory) image
-      (kernels.generated_kernel (build_of config app map 0 image.memory) image levels map (built_is_generated config app levels map 0 h.size h.blocks h.symbols image built))
+      runs.sound_kernel (build_of config app map h.stacks way image.memory) image
+      (kernels.generated_kernel (build_of config app map h.stacks way image.memory) image levels map (built_is_generated config app levels map h.stacks way h.size h.blocks h.symbols image built))

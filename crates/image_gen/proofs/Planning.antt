@@ -1,8 +1,7 @@
--- What is built so far has a map and levels.
+-- What is built has a map and levels.
 use Rattle.std.proofs.Common.{◌≡◌, ◌≤◌, ◌<◌, ◌+◌, ◌*◌, ◌/◌, ◌%◌, ℕ, zero, suc, Bool, true, false, List, [], ◌∷◌, length, get_or, refl, sym, ap, ◌∙◌, subst, ⊎_elim, arith}
 use Rattle.std.specs.Prelude.{◌⊎◌, IsTrue, slice_index}
 use Rattle.std.specs.Prelude as prelude
-use Rattle.std.proofs.Math.ListN.{get_or-map}
 use Rattle.std.proofs.lemmas.Bool.{cases_lt}
 use Rattle.sloth_base.specs.Named.{function, missing, no_item, operation, body_of}
 use Rattle.sloth_base.specs.ServiceCodes.{code_of, service_of}
@@ -13,20 +12,18 @@ use Rattle.sloth_base.specs.declared.config.Config.{Config}
 use Rattle.sloth_base.specs.declared.places.Levels.{Levels}
 use Rattle.sloth_base.specs.declared.service.Service.{Service}
 use Rattle.sloth_base.specs.declared.service.Service.TheVariants as service
-use Rattle.sloth_region.specs.declared.extent.Extent.{Extent}
 use Rattle.sloth_region.specs.declared.map.Map.{Map}
 use Rattle.app_rules.specs.AppRange.{AreOperands, IsOp}
 use Rattle.app_rules.specs.WellFormed.{WellFormed}
 use Rattle.prio_levels.specs.Levels.{AreLevels}
 use Rattle.rv32_expand.specs.InPlace.{IsItem}
 use Rattle.rv32_expand.specs.Sizes.{AreSizes}
-use Rattle.service_gen.specs.Block.{HasBlock}
+use Rattle.event_gen.specs.Calls.{IsCalledWith}
 use Rattle.sim_items.specs.Place.{IsStraight, IsFlow}
-use Rattle.mem_map.specs.Plan.{MayPlan}
+use Rattle.mem_map.specs.Plan.{AreNeeds, MayPlan}
 use Rattle.mem_map.specs.Zones.{nowhere}
-use Rattle.sim_image.specs.Generated.{IsCovered}
-use Rattle.sim_laws.specs.Lawful.{HasLaw}
-use Rattle.sim_image.specs.Zones.{HoldCalls, RoomForCalls}
+use Rattle.stack_bounds.specs.declared.stacks.Stacks.{Stacks}
+use Rattle.sim_image.specs.Zones.{RoomForCalls}
 use Rattle.image_gen.specs.Gathered.{IsPlanned, MayBuild, MayGenerate}
 use Rattle.image_gen.specs.Services.{AreServed}
 use Rattle.image_gen.specs.Wanted.{is_wanted}
@@ -58,66 +55,58 @@ small_levels config levels few long are within t =
 -- ---- what is called has code
 
 -- the object of a service that has code
-small_object : (s : Service) (object : ℕ) → HasBlock s object → object ≤ 32
+small_object : (s : Service) (object : ℕ) → IsCalledWith s object → object ≤ 32
 small_object service.ActivateTask object h = omega (arith, h)
 small_object service.TerminateTask object h = omega (arith, h)
 small_object service.ChainTask object h = omega (arith, h)
-small_object service.Schedule object h = absurd h
+small_object service.Schedule object h = omega (arith, h)
 small_object service.GetTaskID object h = omega (arith, h)
 small_object service.GetTaskState object h = omega (arith, h)
 small_object service.GetResource object h = h
 small_object service.ReleaseResource object h = h
-small_object service.SetEvent object h = absurd h
-small_object service.ClearEvent object h = absurd h
-small_object service.GetEvent object h = absurd h
-small_object service.WaitEvent object h = absurd h
+small_object service.SetEvent object h = omega (arith, h)
+small_object service.ClearEvent object h = omega (arith, h)
+small_object service.GetEvent object h = omega (arith, h)
+small_object service.WaitEvent object h = omega (arith, h)
 
--- a service with a law has code, for each object that task code may name
-code_of_object : (config : Config) (s : Service) (object mask : ℕ) → length config.tasks ≤ 30 → length config.resources ≤ 32 → HasLaw s
-    → AreOperands config s object mask → HasBlock s object
-code_of_object config service.ActivateTask object mask tasks resources law is = let t = is.0 in omega (arith, t, tasks)
-code_of_object config service.TerminateTask object mask tasks resources law is = is.0
-code_of_object config service.ChainTask object mask tasks resources law is = let t = is.0 in omega (arith, t, tasks)
-code_of_object config service.GetTaskID object mask tasks resources law is = is.0
-code_of_object config service.GetResource object mask tasks resources law is =
+-- a service has code, for each object that task code may name
+code_of_object : (config : Config) (s : Service) (object mask : ℕ) → length config.tasks ≤ 30 → length config.resources ≤ 32
+    → AreOperands config s object mask → IsCalledWith s object
+code_of_object config service.ActivateTask object mask tasks resources is = let t = is.0 in omega (arith, t, tasks)
+code_of_object config service.TerminateTask object mask tasks resources is = is.0
+code_of_object config service.ChainTask object mask tasks resources is = let t = is.0 in omega (arith, t, tasks)
+code_of_object config service.GetTaskID object mask tasks resources is = is.0
+code_of_object config service.GetResource object mask tasks resources is =
     ⊎_elim (λ (r : object < length config.resources). omega (arith, r, resources)) (λ (r : (object ≡ 32) × IsTrue config.res_scheduler). let e = r.0 in omega (arith, e)) is.0
-code_of_object config service.ReleaseResource object mask tasks resources law is =
+code_of_object config service.ReleaseResource object mask tasks resources is =
     ⊎_elim (λ (r : object < length config.resources). omega (arith, r, resources)) (λ (r : (object ≡ 32) × IsTrue config.res_scheduler). let e = r.0 in omega (arith, e)) is.0
-code_of_object config service.Schedule object mask tasks resources law is = absurd law
-code_of_object config service.GetTaskState object mask tasks resources law is = let t = is.0 in omega (arith, t, tasks)
-code_of_object config service.SetEvent object mask tasks resources law is = absurd law
-code_of_object config service.ClearEvent object mask tasks resources law is = absurd law
-code_of_object config service.GetEvent object mask tasks resources law is = absurd law
-code_of_object config service.WaitEvent object mask tasks resources law is = absurd law
+code_of_object config service.Schedule object mask tasks resources is = is.0
+code_of_object config service.GetTaskState object mask tasks resources is = let t = is.0 in omega (arith, t, tasks)
+code_of_object config service.SetEvent object mask tasks resources is = let t = is.0 in omega (arith, t, tasks)
+code_of_object config service.ClearEvent object mask tasks resources is = is.0
+code_of_object config service.GetEvent object mask tasks resources is = let t = is.0 in omega (arith, t, tasks)
+code_of_object config service.WaitEvent object mask tasks resources is = is.0
 
--- what an item calls has code where it is covered
-has_block : (config : Config) (app : App) → WellFormed config app → (func item : ℕ) (call : Call) → IsItem app func item
-    → operation app func item ≡ op.Serve call → IsCovered app func item → HasBlock call.service call.object
-has_block config app well func item call is e covered =
+-- what an item calls has code
+pub called_with : (config : Config) (app : App) → WellFormed config app → (func item : ℕ) (call : Call) → IsItem app func item
+    → operation app func item ≡ op.Serve call → IsCalledWith call.service call.object
+called_with config app well func item call is e =
     let own = (well.in_range.bodies func missing is.declared).items item no_item is.inside in
     let operands : AreOperands config call.service call.object call.mask = subst (IsOp config app (function app func)) e own in
     let range = well.in_range.configuration in
-    code_of_object config call.service call.object call.mask range.few_tasks range.few_resources (covered call e) operands
+    code_of_object config call.service call.object call.mask range.few_tasks range.few_resources operands
 
 -- ---- the room of stacks
 
-abbrev len_of : Extent → ℕ
-len_of e = e.len
-
-pub room_for_calls : (config : Config) (app : App) (map : Map) (stacks : List ℕ) → prelude.map len_of map.stacks ≡ stacks
-    → ((t : ℕ) → t < length config.tasks → HoldCalls app t (slice_index stacks t)) → RoomForCalls map config app
-room_for_calls config app map stacks are fit t l func outer called =
-    let own : get_or (prelude.map len_of map.stacks) t 0 ≡ (get_or map.stacks t nowhere).len = get_or-map len_of map.stacks t nowhere in
-    let same : get_or (prelude.map len_of map.stacks) t 0 ≡ get_or stacks t 0 = ap (λ (xs : List ℕ). get_or xs t 0) are in
-    let enough = fit t l func outer called in
-    omega (arith, own, same, enough)
+pub room_for_calls : (config : Config) (app : App) (stacks : Stacks) → AreNeeds config app stacks → RoomForCalls stacks config app
+room_for_calls config app stacks needs t declared func outer calls = let fits = needs.room t func outer declared calls in omega (arith, fits)
 
 -- ---- all of it
 
-module _ (config : Config) (app : App) (stacks : List ℕ) (may : MayBuild config app stacks) (wanted : List Bool) (all : length wanted ≡ 512)
+module _ (config : Config) (app : App) (stacks : Stacks) (may : MayBuild config app stacks) (wanted : List Bool) (all : length wanted ≡ 512)
     (are : (number : ℕ) → number < 512 → get_or wanted number false ≡ is_wanted number app) where
-  block_of : (number : ℕ) → (c : Caller app number) → HasBlock c.call.service c.call.object
-  block_of number c = has_block config app may.well_formed c.func c.item c.call c.is_item c.is (may.covered c.func c.item c.is_item)
+  block_of : (number : ℕ) → (c : Caller app number) → IsCalledWith c.call.service c.call.object
+  block_of number c = called_with config app may.well_formed c.func c.item c.call c.is_item c.is
 
   objects : (number : ℕ) → get_or wanted number false ≡ true → number % 40 ≤ 32
   objects number is =
@@ -134,12 +123,12 @@ module _ (config : Config) (app : App) (stacks : List ℕ) (may : MayBuild confi
       let n = c.numbered in
       let code : number / 40 ≡ code_of c.call.service = omega (arith, small, n) in
       let object : number % 40 ≡ c.call.object = omega (arith, small, n) in
-      record { service = c.call.service; is = ap service_of code ∙ of_code c.call.service; has_block = subst (HasBlock c.call.service) (sym object) has }
+      record { service = c.call.service; is = ap service_of code ∙ of_code c.call.service; called_with = subst (IsCalledWith c.call.service) (sym object) has }
 
   calls : (func item : ℕ) (call : Call) → IsItem app func item → operation app func item ≡ op.Serve call
       → (call.object < 40) × (get_or wanted (code_of call.service * 40 + call.object) false ≡ true)
   calls func item call is e =
-      let small = small_object call.service call.object (has_block config app may.well_formed func item call is e (may.covered func item is)) in
+      let small = small_object call.service call.object (called_with config app may.well_formed func item call is e) in
       let code = small_code call.service in
       (omega (arith, small), are (code_of call.service * 40 + call.object) (omega (arith, small, code)) ∙ called app func item call is e)
 
@@ -148,9 +137,7 @@ module _ (config : Config) (app : App) (stacks : List ℕ) (may : MayBuild confi
     in_range = may.well_formed.in_range;
     are_sizes = sized;
     objects = objects;
-    a_stack_each = may.count;
-    lengths = may.lengths;
-    long = λ t l. let enough = may.calls_fit t l (body_of app.funcs t) [] refl in omega (arith, enough);
+    needs = may.needs;
   }
 
   pub may_generate : (levels : Levels) (map : Map) → AreLevels config levels → length levels.task ≡ 30
@@ -162,8 +149,6 @@ module _ (config : Config) (app : App) (stacks : List ℕ) (may : MayBuild confi
       record {
         well_formed = may.well_formed;
         named = may.named;
-        basic = may.basic;
-        covered = may.covered;
         are_levels = leveled;
         small = (omega (arith, top, few), small_levels config levels few long leveled within);
         served = served;

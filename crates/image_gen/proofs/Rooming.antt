@@ -3,7 +3,7 @@ use Rattle.std.proofs.Common.{◌≡◌, ◌≤◌, ◌<◌, ◌+◌, ◌*◌, �
 use Rattle.std.specs.Prelude.{All, slice_index}
 use Rattle.std.specs.Prelude as prelude
 use Rattle.std.specs.List.{AllZip, slice_get}
-use Rattle.std.proofs.lemmas.List.{get_or-take, length-take-le}
+use Rattle.std.proofs.lemmas.List.{get_or-take, length-append, length-take-le}
 use Rattle.std.proofs.lemmas.List.Elements.{All-nil, All-cons}
 use Rattle.std.proofs.lemmas.Option.{get_or_from_slice_get}
 use Rattle.std.proofs.Math.ListN.{get_or-map, length-map}
@@ -17,20 +17,26 @@ use Rattle.sloth_base.specs.declared.service.Service.{Service}
 use Rattle.sloth_base.specs.declared.service.Service.TheVariants as service
 use Rattle.sloth_region.specs.declared.extent.Extent.{Extent}
 use Rattle.sloth_region.specs.declared.map.Map.{Map}
-use Rattle.prologue_gen.specs.Places.{EntersTask}
+use Rattle.prologue_gen.specs.Places.{EntersTask, start_level, first_item, frame_at}
+use Rattle.prologue_gen.proofs.BothKinds.{size}
 use Rattle.rv32_instr.specs.declared.InstrKind.{InstrKind}
 use Rattle.rv32_instr.specs.declared.block.Block.{Block}
 use Rattle.rv32_expand.specs.Expansion.{is_long, item_address}
 use Rattle.rv32_expand.specs.InPlace.{IsItem, item_mark}
 use Rattle.rv32_expand.specs.Sizes.{items_before}
 use Rattle.rv32_expand.proofs.Counts.{expanded_some}
-use Rattle.service_gen.specs.Block.{opening, Serves}
-use Rattle.mem_map.specs.Plan.{item_bytes, prologue_extent, service_bytes, service_extents, services_at}
+use Rattle.service_gen.specs.Block.{opening, back_mark, further_marks}
+use Rattle.event_gen.specs.Calls.{ServesCall}
+use Rattle.service_gen.specs.Schedule.{way_back}
+use Rattle.rv32_routine.specs.Kernel.{masking}
+use Rattle.sloth_base.specs.Arithmetic.{sum32}
+use Rattle.mem_map.specs.Plan.{item_bytes, items_at, prologue_extent, service_bytes, service_extents, services_at}
 use Rattle.mem_map.specs.Run.{extents_of, starts}
 use Rattle.mem_map.specs.Zones.{nowhere}
-use Rattle.mem_map.proofs.Starts.{length_starts, stands}
+use Rattle.mem_map.proofs.Starts.{end_above, length_starts, stands}
+use Rattle.sim_image.proofs.Fitting.{end_of_code}
 use Rattle.sim_image.proofs.Serving.{some_code}
-use Rattle.sim_image.specs.Rooms.{FitRooms, FitsRoom}
+use Rattle.sim_image.specs.Rooms.{FitRooms, FitsRoom, MarksRise}
 use Rattle.sim_image.specs.Standing.{item_block}
 use Rattle.sim_image.proofs.Data.{extent_at, extents_long}
 use Rattle.image_gen.specs.Gathered.{MayGenerate}
@@ -57,6 +63,7 @@ plain room block at above aligned short is =
       aligned = aligned;
       short = short;
       few = omega (arith, n);
+      rising = subst MarksRise (sym is) tt;
       marks = subst P (sym is) (All-nil (λ (m : Mark). (block.at ≤ m.address) × (m.address < block.at + 4 * length block.code)));
     }
 
@@ -73,8 +80,62 @@ marked room block mark at above aligned short is from to =
       aligned = aligned;
       short = short;
       few = omega (arith, n);
+      rising = subst MarksRise (sym is) tt;
       marks = subst P (sym is) (All-cons Q mark [] (from, to) (All-nil Q));
     }
+
+-- what a service's marks are in its block, of which the way back is the second
+record HasServiceMarks (at bytes : ℕ) (marks : List Mark) : Type 0 where
+  few : length marks ≤ 2
+  rising : MarksRise marks
+  own : All (λ (m : Mark). (at ≤ m.address) × (m.address < at + bytes)) marks
+
+opening_alone : (at bytes code : ℕ) → 0 < bytes → HasServiceMarks at bytes (opening at code ∷ [])
+opening_alone at bytes code some =
+    let Q : Mark → Type 0 = λ m. (at ≤ m.address) × (m.address < at + bytes) in
+    record { few = omega arith; rising = tt; own = All-cons Q (opening at code) [] (omega arith, omega arith) (All-nil Q) }
+
+-- the way back stands behind the opening
+with_back : (at bytes code : ℕ) → at + bytes < 4294967296 → way_back < bytes → HasServiceMarks at bytes (opening at code ∷ back_mark (sum32 at way_back) ∷ [])
+with_back at bytes code room long =
+    let Q : Mark → Type 0 = λ m. (at ≤ m.address) × (m.address < at + bytes) in
+    record {
+      few = omega arith;
+      rising = (omega arith, tt);
+      own = All-cons Q (opening at code) (back_mark (sum32 at way_back) ∷ []) (omega arith, omega arith)
+          (All-cons Q (back_mark (sum32 at way_back)) [] (omega arith, omega arith) (All-nil Q));
+    }
+
+-- the marks of a service's block
+service_marks : (s : Service) (object : ℕ) (levels : Levels) (code : List InstrKind) (at number : ℕ) → at + 4 * length code < 4294967296
+    → ServesCall s object levels code → HasServiceMarks at (4 * length code) (opening at number ∷ further_marks s at)
+service_marks service.ActivateTask object levels code at number room h =
+    let some = some_code service.ActivateTask object levels code h in opening_alone at (4 * length code) number (omega (arith, some))
+service_marks service.TerminateTask object levels code at number room h =
+    let some = some_code service.TerminateTask object levels code h in opening_alone at (4 * length code) number (omega (arith, some))
+service_marks service.ChainTask object levels code at number room h =
+    let some = some_code service.ChainTask object levels code h in opening_alone at (4 * length code) number (omega (arith, some))
+service_marks service.Schedule object levels code at number room h =
+    let again = h.masks_again in
+    let long = ap length again.2 ∙ length-append again.0 (masking ∷ again.1) in
+    let behind = again.3 in
+    with_back at (4 * length code) number room (omega (arith, long, behind))
+service_marks service.GetTaskID object levels code at number room h =
+    let some = some_code service.GetTaskID object levels code h in opening_alone at (4 * length code) number (omega (arith, some))
+service_marks service.GetTaskState object levels code at number room h =
+    let some = some_code service.GetTaskState object levels code h in opening_alone at (4 * length code) number (omega (arith, some))
+service_marks service.GetResource object levels code at number room h =
+    let some = some_code service.GetResource object levels code h in opening_alone at (4 * length code) number (omega (arith, some))
+service_marks service.ReleaseResource object levels code at number room h =
+    let some = some_code service.ReleaseResource object levels code h in opening_alone at (4 * length code) number (omega (arith, some))
+service_marks service.SetEvent object levels code at number room h =
+    let some = some_code service.SetEvent object levels code h in opening_alone at (4 * length code) number (omega (arith, some))
+service_marks service.ClearEvent object levels code at number room h =
+    let some = some_code service.ClearEvent object levels code h in opening_alone at (4 * length code) number (omega (arith, some))
+service_marks service.GetEvent object levels code at number room h =
+    let some = some_code service.GetEvent object levels code h in opening_alone at (4 * length code) number (omega (arith, some))
+service_marks service.WaitEvent object levels code at number room h =
+    let some = some_code service.WaitEvent object levels code h in opening_alone at (4 * length code) number (omega (arith, some))
 
 -- a place in a list where something is
 pub there : {X : Type 0} (xs : List X) (t : ℕ) (e : X) → slice_get xs t ≡ Some e → t < length xs
@@ -83,16 +144,16 @@ there [] (suc t) e h = absurd cc
 there (x ∷ xs) zero e h = omega arith
 there (x ∷ xs) (suc t) e h = let l = there xs t e h in omega (arith, l)
 
--- a prologue has at most 106 instructions
+-- a prologue has at most 141 instructions
 short_start : (config : Config) (app : App) (levels : Levels) (map : Map) (t : ℕ) (code : List InstrKind) → All (λ (f : Func). f.frame_words ≤ 32) app.funcs
-    → EntersTask t config app levels map code → length code ≤ 106
+    → EntersTask t config app levels map code → length code ≤ 141
 short_start config app levels map t code frames e =
-    let size = e.enters.size in
+    let short = (size e.decl.extended t (start_level e.decl t levels) (first_item map.places e.body) (frame_at (slice_index map.tops t) e.func.frame_words) e.func.frame_words code e.enters).1 in
     let l = there app.funcs e.body e.func e.is_func in
     let is = get_or_from_slice_get app.funcs e.body e.func e.func e.is_func in
     let P : Func → Type 0 = λ f. f.frame_words ≤ 32 in
     let few = subst P is (frames e.body e.func l) in
-    omega (arith, size, few)
+    omega (arith, short, few)
 
 module _ (config : Config) (app : App) (levels : Levels) (wanted : List Bool) (map : Map) (may : MayGenerate config app levels wanted map) where
   prologue_room : (k : ℕ) (block : Block) → k < length config.tasks → IsPrologue config app levels map k block → FitsRoom (prologue_extent (slice_index map.handlers k)) block
@@ -127,7 +188,6 @@ module _ (config : Config) (app : App) (levels : Levels) (wanted : List Bool) (m
   service_room : (number : ℕ) (block : Block) → number < 512 → IsService levels map number block
       → FitsRoom (record { base = slice_index map.places.blocks number; len = service_bytes true }) block
   service_room number block l h =
-      let some = some_code h.service (number % 40) levels block.code h.serves in
       let at = h.at in
       let few = h.few in
       let bytes : List ℕ = prelude.map service_bytes wanted in
@@ -136,10 +196,24 @@ module _ (config : Config) (app : App) (levels : Levels) (wanted : List Bool) (m
       let all = may.planned.all_numbers in
       let counted = length-map wanted service_bytes in
       let is : slice_index map.places.blocks number ≡ get_or (starts from bytes) number 0 = ap (λ (blocks : List ℕ). get_or blocks number 0) may.planned.addresses.blocks in
-      let above = (stands from bytes number (omega (arith, counted, all, l))).above in
+      let stood = stands from bytes number (omega (arith, counted, all, l)) in
+      let above = stood.above in
+      let below = stood.below in
+      let end = may.planned.addresses.code_to in
+      let items = end_above (items_at (length config.tasks) wanted) (prelude.map item_bytes may.planned.sizes) in
+      let last = end_of_code config app map may.planned.stacks 0 [] may.planned.zones in
       let even = may.planned.zones.blocks_aligned number 0 (omega (arith, long, l)) in
-      marked (record { base = slice_index map.places.blocks number; len = service_bytes true }) block (opening block.at (number / 40)) at (omega (arith, is, above)) even
-      (omega (arith, few)) h.marks (omega arith) (omega (arith, some))
+      let marks = service_marks h.service (number % 40) levels block.code block.at (number / 40) (omega (arith, at, is, below, few, items, end, last)) h.serves in
+      let own = sym h.marks in
+      record {
+        at = at;
+        above = omega (arith, is, above);
+        aligned = even;
+        short = omega (arith, few);
+        few = subst (λ ms. length ms ≤ 2) own marks.few;
+        rising = subst MarksRise own marks.rising;
+        marks = subst (All (λ (m : Mark). (block.at ≤ m.address) × (m.address < block.at + 4 * length block.code))) own marks.own;
+      }
 
   services_fit_from : (n : ℕ) (addresses : List ℕ) (rest : List Bool) (blocks : List Block) → length addresses ≡ length rest → n + length rest ≡ 512
       → ((k : ℕ) → k < length rest → get_or addresses k 0 ≡ slice_index map.places.blocks (n + k)) → AllZip (IsService levels map) (wanted_from n rest) blocks

@@ -1,23 +1,21 @@
 -- What the prologues need, by the map and the task code.
-use Rattle.std.proofs.Common.{◌≡◌, ◌<◌, ◌+◌, ℕ, suc, Bool, List, ◌∷◌, length, get_or, ap, ◌∙◌, subst, arith}
+use Rattle.std.proofs.Common.{◌≡◌, ◌<◌, ◌+◌, ℕ, Bool, List, [], length, get_or, refl, ap, ◌∙◌, arith}
 use Rattle.std.specs.Prelude.{All}
 use Rattle.std.specs.Prelude as prelude
 use Rattle.std.proofs.lemmas.List.{get_or_default}
 use Rattle.std.proofs.Math.ListN.{length-map}
-use Rattle.sloth_base.specs.Named.{missing}
+use Rattle.sloth_base.specs.Named.{missing, body_of}
 use Rattle.sloth_base.specs.declared.app.App.{App}
 use Rattle.sloth_base.specs.declared.app.Func.{Func}
 use Rattle.sloth_base.specs.declared.config.Config.{Config}
 use Rattle.sloth_base.specs.declared.places.Levels.{Levels}
-use Rattle.sloth_region.specs.declared.extent.Extent.{Extent}
 use Rattle.sloth_region.specs.declared.map.Map.{Map}
-use Rattle.sloth_region.specs.Region.{AreApartWithin}
-use Rattle.prologue_gen.specs.Places.{IsStack}
+use Rattle.prologue_gen.specs.Places.{IsTop}
 use Rattle.rv32_expand.specs.Sizes.{items_before}
 use Rattle.rv32_expand.proofs.Verified.{has_first}
 use Rattle.vector_gen.specs.Vectors.{AreInReach}
 use Rattle.mem_map.specs.Plan.{item_bytes}
-use Rattle.mem_map.specs.Zones.{code_zone, data_zone, nowhere}
+use Rattle.sim_image.proofs.Fitting.{part_inside, code_from, code_to}
 use Rattle.mem_map.proofs.Starts.{length_starts}
 use Rattle.image_gen.specs.Prologues.{MayStart}
 use Rattle.image_gen.specs.Gathered.{MayGenerate}
@@ -47,27 +45,28 @@ module _ (config : Config) (app : App) (levels : Levels) (wanted : List Bool) (m
       let within = before_within app.funcs (length app.funcs) k 0 (omega (arith, n, l)) (has_first config app may.well_formed k (omega (arith, n, l))).inside in
       omega (arith, is, same, within, long)
 
-  stacks : All IsStack map.stacks
-  stacks = λ k d l.
-      let z = may.planned.zones in
-      let n = z.stacks in
-      let apart : AreApartWithin 0x8000_0004 0x8020_0000 (map.words ∷ code_zone map ∷ data_zone map ∷ map.stacks) = subst (AreApartWithin 0x8000_0004 0x8020_0000) z.extents z.apart in
-      let i = apart.inside (suc (suc (suc k))) d (omega (arith, l)) in
-      let same : (get_or map.stacks k nowhere).len ≡ (get_or map.stacks k d).len = ap (λ (e : Extent). e.len) (get_or_default map.stacks k nowhere d l) in
-      let long = z.long k (omega (arith, n, l)) in
-      (omega (arith, i.0), i.2, omega (arith, long, same))
+  tops : All IsTop map.tops
+  tops = λ k d l.
+      let p = may.planned in
+      let count = p.has_stacks.tops in
+      let declared : k < length config.tasks = omega (arith, l, count) in
+      let i = part_inside config app map p.stacks 0 [] p.zones p.has_stacks k declared in
+      let f = code_from config app map p.stacks 0 [] p.zones in
+      let t = code_to config app map p.stacks 0 [] p.zones in
+      let enough = p.calls_fit k declared (body_of app.funcs k) [] refl in
+      let same = get_or_default map.tops k 0 d l in
+      (omega (arith, i.0, f, t, enough, same), omega (arith, i.1, same))
 
   pub may_start : MayStart config app levels map
   may_start = record {
     few = may.well_formed.in_range.configuration.few_tasks;
-    basic = may.basic;
     levels_fit = may.small;
     bodies = λ t l.
         let b = may.well_formed.in_range.tasks.body t l in
         let task = b.1.1 in
         (b.0, (b.1.0, λ d. ap (λ (f : Func). f.task) (get_or_default app.funcs b.0 d missing b.1.0) ∙ task));
     frames = λ k d l. (may.well_formed.in_range.bodies k d l).frame;
-    stacks = (may.planned.zones.stacks, stacks);
+    tops = (may.planned.has_stacks.tops, tops);
     items = (let n = first_long in omega (arith, n), firsts_inside);
   }
 

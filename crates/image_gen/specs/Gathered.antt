@@ -13,20 +13,21 @@ use Rattle.sloth_base.specs.declared.places.Levels.{Levels}
 use Rattle.sloth_region.specs.declared.map.Map.{Map}
 use Rattle.sloth_region.specs.Region.{FollowWithin}
 use Rattle.app_rules.specs.WellFormed.{WellFormed}
+use Rattle.stack_bounds.specs.declared.stacks.Stacks.{Stacks}
 use Rattle.prio_levels.specs.Levels.{AreLevels}
-use Rattle.prologue_gen.specs.Places.{IsBasic}
 use Rattle.rv32_instr.specs.declared.block.Block.{Block}
 use Rattle.rv32_expand.specs.InPlace.{IsItem, IsBodyName}
 use Rattle.rv32_expand.specs.Sizes.{AgreeWithSizes, AreSizes, Covers}
-use Rattle.mem_map.specs.Plan.{HasAddresses, IsNear, IsStackLength, code_end, code_extents, data_end, data_extents}
+use Rattle.mem_map.specs.Plan.{AreNeeds, HasAddresses, IsNear, code_end, code_extents, data_end, data_extents}
+use Rattle.mem_map.specs.Stacks.{HasStacks}
 use Rattle.mem_map.specs.Zones.{HasZones}
 use Rattle.sim_relation.specs.Bounds.{AreBelow}
 use Rattle.sloth_link.specs.declared.datum.Datum.{Datum}
 use Rattle.sloth_link.specs.Linked.{addresses, marks_of}
-use Rattle.sim_image.specs.Generated.{HasCode, HasItemBlocks, IsCovered}
+use Rattle.sim_image.specs.Generated.{HasCode, HasItemBlocks}
 use Rattle.sim_image.specs.Rooms.{FitRooms, HasOwnMarks}
 use Rattle.sim_image.specs.Standing.{IsLinkedIn}
-use Rattle.sim_image.specs.Zones.{HoldCalls, RoomForCalls}
+use Rattle.sim_image.specs.Zones.{RoomForCalls}
 use Rattle.image_gen.specs.Services.{AreServed}
 
 -- the map has a place for all code of this task code, with the wanted services, and for its data
@@ -34,8 +35,10 @@ pub record IsPlanned (config : Config) (app : App) (wanted : List Bool) (map : M
   pub sizes : List ℕ
   pub are_sizes : AreSizes app sizes
   pub all_numbers : length wanted ≡ 512
-  pub zones : HasZones map config app
-  pub calls_fit : RoomForCalls map config app
+  pub zones : HasZones map config
+  pub stacks : Stacks
+  pub has_stacks : HasStacks config app stacks map
+  pub calls_fit : RoomForCalls stacks config app
   pub addresses : HasAddresses config app sizes wanted map
   pub reach : (line : ℕ) → line < 32 → IsNear (slice_index map.handlers line)
   pub code_follows : FollowWithin 0x8000_0400 (code_end (length config.tasks) wanted sizes) (code_extents map (length config.tasks) wanted sizes)
@@ -44,13 +47,10 @@ pub record IsPlanned (config : Config) (app : App) (wanted : List Bool) (map : M
   pub agree : AgreeWithSizes app map.places
   pub covers : Covers app map.places
 
--- Well-formed task code of basic tasks, whose items are covered by the laws so far and call wanted services, with its levels and its map. The
--- body of each task has the task's name.
+-- Well-formed task code whose items call wanted services, with its levels and its map. The body of each task has the task's name.
 pub record MayGenerate (config : Config) (app : App) (levels : Levels) (wanted : List Bool) (map : Map) : Type 0 where
   pub well_formed : WellFormed config app
   pub named : (t : ℕ) → t < length config.tasks → IsBodyName app t (declaration config t).name
-  pub basic : (t : ℕ) → t < length config.tasks → IsBasic config.tasks t
-  pub covered : (func item : ℕ) → IsItem app func item → IsCovered app func item
   pub are_levels : AreLevels config levels
   pub small : (levels.top < 32) × ((t : ℕ) → slice_index levels.task t < 32)
   pub served : AreServed wanted
@@ -76,27 +76,23 @@ pub record IsImageOf (config : Config) (app : App) (levels : Levels) (map : Map)
   pub size : ℕ
   pub blocks : List Block
   pub symbols : List Datum
-  pub linked : IsLinkedIn map config app size blocks symbols memory
+  pub stacks : Stacks
+  pub linked : IsLinkedIn map config app stacks size blocks symbols memory
   pub has_code : HasCode config app levels map blocks
   pub has_items : HasItemBlocks config app map.places blocks
   pub whole_words : size % 4 ≡ 0
   pub few : length blocks ≤ 8192
-  pub few_marks : All (λ b. length b.marks ≤ 1) blocks
+  pub few_marks : All (λ b. length b.marks ≤ 2) blocks
   pub format : All (MarksInFormat (length app.funcs)) blocks
   pub own_marks : All HasOwnMarks blocks
   pub marks_are : IsPermutation (marks_of blocks) marks
   pub ascending : IsStrictlyIncreasing (addresses marks)
   pub bytes : AreBelow 256 memory
 
--- ---- what is built so far
+-- ---- what is built
 
--- Well-formed task code of basic tasks, each item of which is covered by the laws so far. The body of each task has the task's name, and
--- each task has so many bytes of stack, at least those that its calls and a context need.
-pub record MayBuild (config : Config) (app : App) (stacks : List ℕ) : Type 0 where
+-- Well-formed task code. The body of each task has the task's name, and these are what the tasks need of the stacks.
+pub record MayBuild (config : Config) (app : App) (stacks : Stacks) : Type 0 where
   pub well_formed : WellFormed config app
   pub named : (t : ℕ) → t < length config.tasks → IsBodyName app t (declaration config t).name
-  pub basic : (t : ℕ) → t < length config.tasks → IsBasic config.tasks t
-  pub covered : (func item : ℕ) → IsItem app func item → IsCovered app func item
-  pub count : length stacks ≡ length config.tasks
-  pub lengths : All IsStackLength stacks
-  pub calls_fit : (t : ℕ) → t < length config.tasks → HoldCalls app t (slice_index stacks t)
+  pub needs : AreNeeds config app stacks

@@ -5,16 +5,15 @@ use Rattle.sloth_base.specs.declared.config.Config.{Config}
 use Rattle.sloth_base.specs.declared.places.Levels.{Levels}
 use Rattle.sloth_region.specs.declared.map.Map.{Map}
 use Rattle.rv32_instr.specs.declared.block.Block.{Block}
-use Rattle.prologue_gen.specs.Places.{EntersTask, IsBasic, IsBody, IsStack}
+use Rattle.prologue_gen.specs.Places.{EntersTask, IsBody, IsTop}
 
 -- what the prologue of each task needs
 pub record MayStart (config : Config) (app : App) (levels : Levels) (map : Map) : Type 0 where
   pub few : length config.tasks ≤ 30
-  pub basic : (t : ℕ) → t < length config.tasks → IsBasic config.tasks t
   pub levels_fit : (levels.top < 32) × ((t : ℕ) → slice_index levels.task t < 32)
   pub bodies : (t : ℕ) → t < length config.tasks → (body : ℕ) × IsBody app.funcs t body
   pub frames : All (λ func. func.frame_words ≤ 32) app.funcs
-  pub stacks : (length map.stacks ≡ length config.tasks) × All IsStack map.stacks
+  pub tops : (length map.tops ≡ length config.tasks) × All IsTop map.tops
   pub items : (length app.funcs ≤ length map.places.first) × All (λ i. i < length map.places.items) map.places.first
 
 -- the prologue of one task

@@ -6,7 +6,8 @@ use Rattle.sloth_base.specs.declared.places.Levels.{Levels}
 use Rattle.sloth_base.specs.declared.service.Service.{Service}
 use Rattle.sloth_region.specs.declared.map.Map.{Map}
 use Rattle.rv32_instr.specs.declared.block.Block.{Block}
-use Rattle.service_gen.specs.Block.{opening, HasBlock, Serves}
+use Rattle.service_gen.specs.Block.{opening, further_marks}
+use Rattle.event_gen.specs.Calls.{IsCalledWith, ServesCall}
 
 -- the wanted ones, the first of which has this number; a number is service code * 40 + object
 abbrev pub wanted_from : ℕ → List Bool → List ℕ
@@ -14,11 +15,11 @@ wanted_from number [] = []
 wanted_from number (true ∷ wanted) = number ∷ wanted_from (number + 1) wanted
 wanted_from number (false ∷ wanted) = wanted_from (number + 1) wanted
 
--- code of a service is generated
+-- the number is that of a service with an object
 pub record IsServed (number : ℕ) : Type 0 where
   pub service : Service
   pub is : service_of (number / 40) ≡ Some service
-  pub has_block : HasBlock service (number % 40)
+  pub called_with : IsCalledWith service (number % 40)
 
 -- so is that of each wanted one
 abbrev pub AreServed : List Bool → Type 0
@@ -29,9 +30,9 @@ pub record IsService (levels : Levels) (map : Map) (number : ℕ) (block : Block
   pub service : Service
   pub is : service_of (number / 40) ≡ Some service
   pub at : block.at ≡ slice_index map.places.blocks number
-  pub marks : block.marks ≡ opening block.at (number / 40) ∷ []
+  pub marks : block.marks ≡ opening block.at (number / 40) ∷ further_marks service block.at
   pub few : length block.code ≤ 256
-  pub serves : Serves service (number % 40) levels block.code
+  pub serves : ServesCall service (number % 40) levels block.code
 
 -- the code of the wanted ones, in the order of their numbers
 abbrev pub AreServices : Levels → Map → List Bool → List Block → Type 0

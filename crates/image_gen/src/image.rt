@@ -3,10 +3,8 @@ ghost use Rattle.std.specs.Prelude.{◌≡◌, ◌<◌, ℕ, IfOk, false, get_or
 ghost use Rattle.sloth_base.specs.ImageRange.{InFormat};
 ghost use Rattle.sloth_base.specs.Named.{declaration};
 ghost use Rattle.app_rules.specs.WellFormed.{WellFormed};
-ghost use Rattle.prologue_gen.specs.Places.{IsBasic};
 ghost use Rattle.rv32_expand.specs.InPlace.{IsItem, IsBodyName, ItemsInPlace};
 ghost use Rattle.sim_induction.specs.Sound.{Sound};
-ghost use Rattle.sim_image.specs.Generated.{IsCovered};
 ghost use Rattle.image_gen.specs.Gathered.{IsPlanned, MayBuild};
 ghost use Rattle.image_gen.specs.Names.{task_names, function_names};
 ghost use Rattle.image_gen.specs.Wanted.{is_wanted};
@@ -21,15 +19,16 @@ use sloth_base::config::Config;
 use sloth_base::image::Image;
 use sloth_base::memory::NoMemory;
 use sloth_region::map::Map;
+use stack_bounds::stacks::Stacks;
 use std::alloc::Global;
 
-// The map, with a place for each of these services, and for each task a stack of so many bytes.
+// The map, with a place for each of these services, and the stacks that the tasks need.
 fn planned(
     alloc: Global,
     config: &Config,
     app: &App,
     wanted: &[bool; 512],
-    stacks: &[u32],
+    stacks: &Stacks,
 ) -> Result<Map, NoMemory>
     requires may_build { MayBuild config.now app.now stacks.now }
     requires wanted { (number : ℕ) → number < 512 → get_or wanted.now number false ≡ is_wanted number app.now }
@@ -40,10 +39,9 @@ fn planned(
     Ok(map)
 }
 
-/// The image of well-formed task code of basic tasks that calls no service but TerminateTask, with so many bytes of stack for each
-/// task (at most 32,768, in whole words; at least those of its calls and a context): every run of it is one of the abstract
-/// scheduler, and its items are in place.
-pub fn image(alloc: Global, config: &Config, app: &App, stacks: &[u32]) -> Result<Image, NoMemory>
+/// The image of well-formed task code, with the stacks that the tasks need: every run of it is one of the abstract scheduler, and its
+/// items are in place.
+pub fn image(alloc: Global, config: &Config, app: &App, stacks: &Stacks) -> Result<Image, NoMemory>
     requires { MayBuild config.now app.now stacks.now }
     ensures sound { IfOk result (λ image. Sound config.now app.now image) }
     ensures items { IfOk result (λ image. ItemsInPlace image config.now app.now) }

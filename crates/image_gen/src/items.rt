@@ -8,6 +8,7 @@ ghost use Rattle.sim_image.specs.Standing.{item_block};
 ghost use Rattle.image_gen.specs.Items.{items_of, item_blocks};
 
 use crate::prologues::push;
+use rv32_expand::addresses::item_address;
 use rv32_expand::expand;
 use rv32_instr::Block;
 use sloth_base::app::{App, Item, Op};
@@ -19,20 +20,6 @@ use std::alloc::Global;
 
 /// The bytes of an instruction.
 const INSTRUCTION: u32 = 4;
-
-// The address of an item of a function.
-fn item_address(places: &Places, func: u32, index: u32) -> u32
-    ensures { result ≡ item_address places.now func index }
-{
-    let first = match places.first.items().get(func as usize) {
-        Some(first) => *first as usize,
-        None => 0,
-    };
-    match places.items.items().get(first + index as usize) {
-        Some(address) => *address,
-        None => 0,
-    }
-}
 
 // The register of an item's result, or 0.
 fn result_register(op: Op) -> u8

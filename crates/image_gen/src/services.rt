@@ -1,10 +1,12 @@
 //! The code of the services that are wanted.
-ghost use Rattle.std.specs.Prelude.{◌<◌, IfOk};
+ghost use Rattle.std.specs.Prelude.{◌≡◌, ◌+◌, ◌*◌, ◌<◌, ◌≤◌, ◌∷◌, IfOk, length, slice_index};
+ghost use Rattle.sloth_base.specs.ServiceCodes.{code_of};
+ghost use Rattle.service_gen.specs.Block.{opening, further_marks};
+ghost use Rattle.event_gen.specs.Calls.{IsCalledWith, ServesCall};
 ghost use Rattle.image_gen.specs.Services.{IsServed, AreServed, IsService, AreServices};
 
 use crate::prologues::push;
 use rv32_instr::Block;
-use service_gen::block;
 use sloth_base::config::Config;
 use sloth_base::memory::NoMemory;
 use sloth_base::places::Levels;
@@ -17,6 +19,30 @@ const NUMBERS: usize = 512;
 
 /// The objects of a service.
 const OBJECTS: usize = 40;
+
+// The code of a service with its object.
+fn called(
+    alloc: Global,
+    service: Service,
+    object: u32,
+    config: &Config,
+    levels: &Levels,
+    map: &Map,
+) -> Result<Block, NoMemory>
+    requires { IsCalledWith service object }
+    ensures at { IfOk result (λ block. block.at ≡ slice_index map.now.places.blocks (code_of service * 40 + object)) }
+    ensures marks { IfOk result (λ block. block.marks ≡ opening block.at (code_of service) ∷ further_marks service block.at) }
+    ensures few { IfOk result (λ block. length block.code ≤ 256) }
+    ensures serves { IfOk result (λ block. ServesCall service object levels.now block.code) }
+{
+    match service {
+        Service::SetEvent => event_gen::block(alloc, service, object, config, levels, map),
+        Service::ClearEvent => event_gen::block(alloc, service, object, config, levels, map),
+        Service::GetEvent => event_gen::block(alloc, service, object, config, levels, map),
+        Service::WaitEvent => event_gen::block(alloc, service, object, config, levels, map),
+        _ => service_gen::block(alloc, service, object, config, levels, map),
+    }
+}
 
 // The code of a service by its number.
 fn one(
@@ -32,7 +58,7 @@ fn one(
 {
     let object = (number % OBJECTS) as u32;
     match Service::from_code((number / OBJECTS) as u8) {
-        Some(service) => block(alloc, service, object, config, levels, map),
+        Some(service) => called(alloc, service, object, config, levels, map),
         None => unreachable!(),
     }
 }

@@ -19,7 +19,8 @@ fn names(alloc: Global, name: &[u8]) -> Result<List<Name>, NoMemory>
 
 /// The task `Main`, the function `step`, and one word of memory, which is marked as an item.
 pub fn small_image(alloc: Global) -> Result<Image, NoMemory>
-    ensures { IfOk result InFormat }
+    ensures format { IfOk result InFormat }
+    ensures word { IfOk result (λ image. image.memory ≡ 1 ∷ 2 ∷ 3 ∷ 4 ∷ []) }
 {
     let mark = Mark {
         address: 0x8000_0000,

@@ -15,4 +15,6 @@ mod sloth_io_tests;
 #[cfg(test)]
 mod sloth_region_tests;
 #[cfg(test)]
+mod summary_tests;
+#[cfg(test)]
 mod trace_text_tests;

@@ -1,10 +1,11 @@
-// Event lines.
+// Lines of events and of listings.
 
 use crate::images::small_image;
 use sloth_base::event::{Event, Stamp, Stamped};
 use sloth_base::service::Service;
 use std::test::Fail;
 use trace_text::print::{Form, print};
+use trace_text::{listing_line, read_line};
 
 #[test]
 fn lines_of_events(rt: HostRuntime) -> Result<(), Fail> {
@@ -45,6 +46,41 @@ fn lines_of_events(rt: HostRuntime) -> Result<(), Fail> {
         assert_eq!(rt; print(&event, Form::Bare, &image).bytes(), line);
         let counted = print(&event, Form::Counted, &image);
         assert_eq!(rt; counted.bytes().strip_prefix(b"9 1000000 "), Some(line));
+        let read = read_line(counted.bytes(), image.tasks.items(), image.funcs.items());
+        assert_eq!(rt; read, Some(event));
     }
+    Ok(())
+}
+
+#[test]
+fn texts_that_are_no_event_lines(rt: HostRuntime) -> Result<(), Fail> {
+    let image = small_image(rt.alloc())?;
+    let rows = [
+        b"".as_slice(),
+        b"idle".as_slice(),
+        b"9 10 idle ".as_slice(),
+        b"09 10 idle".as_slice(),
+        b"9  10 idle".as_slice(),
+        b"9 4294967296 idle".as_slice(),
+        b"9 10 admit main".as_slice(),
+        b"9 10 run Main - 0 0".as_slice(),
+        b"9 10 call Main activateTask 0".as_slice(),
+    ];
+    for text in rows {
+        assert_eq!(rt;
+            read_line(text, image.tasks.items(), image.funcs.items()),
+            None
+        );
+    }
+    Ok(())
+}
+
+#[test]
+fn lines_of_a_listing(rt: HostRuntime) -> Result<(), Fail> {
+    let image = small_image(rt.alloc())?;
+    let sizes = b"tasks 1 functions 1 bytes 4 marks 1".as_slice();
+    assert_eq!(rt; listing_line(&image, 0).bytes(), sizes);
+    let word = b"80000000 04030201 item step 7".as_slice();
+    assert_eq!(rt; listing_line(&image, 1).bytes(), word);
     Ok(())
 }

@@ -16,7 +16,7 @@ use Rattle.rv32_expand.proofs.Counts.{size_few}
 use Rattle.rv32_expand.proofs.Growth.{order}
 use Rattle.rv32_expand.proofs.InRangeOf.{frame_of}
 use Rattle.mem_map.specs.Run.{end_of, room_for}
-use Rattle.mem_map.specs.Plan.{service_bytes, item_bytes, symbol_bytes, IsStackLength}
+use Rattle.mem_map.specs.Plan.{service_bytes, item_bytes, symbol_bytes}
 
 -- ---- sizes of items
 
@@ -85,14 +85,6 @@ symbols_end from (symbol ∷ symbols) =
     let s = sum_by-cons (λ (y : Symbol). length y.bytes) symbol symbols in
     let r = symbols_end (from + symbol_bytes symbol) symbols in
     omega (arith, s, r)
-
-pub stacks_room : (stacks : List ℕ) → All IsStackLength stacks → room_for 16 stacks ≤ 32783 * length stacks
-stacks_room [] all = omega arith
-stacks_room (len ∷ stacks) all =
-    let h = all 0 0 (omega arith) in
-    let most = h.0 in
-    let r = stacks_room stacks (λ k d l. all (suc k) d (omega (arith, l))) in
-    omega (arith, most, r)
 
 -- ---- services
 

@@ -5,3 +5,6 @@ pub mod Bounds
 pub mod Covering
 pub mod Planned
 pub mod Mapped
+pub mod StackNumbers
+pub mod StackLengths
+pub mod StackParts

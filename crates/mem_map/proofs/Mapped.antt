@@ -1,17 +1,18 @@
 -- The map that is made of these addresses and zones.
-use Rattle.std.proofs.Common.{◌≡◌, ◌≤◌, ◌<◌, ◌+◌, ◌-◌, ◌%◌, ◌∙◌, ℕ, Bool, List, ◌∷◌, length, get_or, sym, ap, arith}
+use Rattle.std.proofs.Common.{◌≡◌, ◌≤◌, ◌<◌, ◌+◌, ◌-◌, ◌%◌, ◌∙◌, ℕ, Bool, List, ◌∷◌, length, get_or, drop, sym, ap, arith}
 use Rattle.std.specs.Prelude.{All, map, slice_index}
 use Rattle.sloth_base.specs.declared.app.App.{App}
 use Rattle.sloth_base.specs.declared.config.Config.{Config}
 use Rattle.sloth_region.specs.declared.extent.Extent.{Extent}
 use Rattle.sloth_region.specs.declared.map.Map.{Map}
 use Rattle.sloth_region.specs.Region.{AreApartWithin}
+use Rattle.stack_bounds.specs.declared.stacks.Stacks.{Stacks}
 use Rattle.mem_map.specs.Run.{starts, end_of}
-use Rattle.mem_map.specs.Zones.{code_zone, data_zone, nowhere, HasZones}
+use Rattle.mem_map.specs.Zones.{code_zone, data_zone, all_stacks, nowhere, HasZones}
 use Rattle.mem_map.specs.Plan.{MayPlan, HasAddresses, idle_at, prologue_at, services_at, items_at, code_end, service_bytes, item_bytes, symbol_bytes}
-use Rattle.mem_map.proofs.Planned.{few_tasks, services_above, items_above, symbols_above, stack_length, stack_count, stacks_end, items_all_even, blocks_all_even}
+use Rattle.mem_map.proofs.Planned.{few_tasks, services_above, items_above, symbols_above, items_all_even, blocks_all_even}
 
-module _ (config : Config) (app : App) (sizes : List ℕ) (wanted : List Bool) (stacks : List ℕ) (may : MayPlan config app sizes wanted stacks) (full : length wanted ≡ 512) (plan : Map) where
+module _ (config : Config) (app : App) (sizes : List ℕ) (wanted : List Bool) (stacks : Stacks) (may : MayPlan config app sizes wanted stacks) (full : length wanted ≡ 512) (plan : Map) where
   abbrev n : ℕ
   n = length config.tasks
 
@@ -20,7 +21,8 @@ module _ (config : Config) (app : App) (sizes : List ℕ) (wanted : List Bool) (
 
   -- what the zones are
   pub record HasExtents (code data_extent : Extent) (code_to data_to : ℕ) : Type 0 where
-    pub extents : plan.extents ≡ plan.words ∷ code ∷ data_extent ∷ plan.stacks
+    pub all : List Extent
+    pub extents : plan.extents ≡ plan.words ∷ code ∷ data_extent ∷ all
     pub code_is : code ≡ record { base = 0x8000_0400; len = code_to - 0x8000_0400 }
     pub data_is : data_extent ≡ record { base = 0x8000_0400 + (code_to - 0x8000_0400); len = data_to + 4 - code_to }
     pub code_end_is : code_to ≡ end
@@ -73,24 +75,19 @@ module _ (config : Config) (app : App) (sizes : List ℕ) (wanted : List Bool) (
           data_to = omega (arith, data_from, data_len, e, f, g, low, mid, high);
         }
 
+    pub all_stacks_are : all_stacks plan ≡ has.all
+    all_stacks_are = ap (λ (l : List Extent). drop 3 l) has.extents
+
     pub zoned : HasAddresses config app sizes wanted plan → plan.words ≡ record { base = 0x8000_0004; len = 1020 } → AreApartWithin 0x8000_0004 0x8020_0000 plan.extents
-        → map (λ (e : Extent). e.len) plan.stacks ≡ stacks → All (λ (e : Extent). e.base % 16 ≡ 0) plan.stacks → HasZones plan config app
-    zoned at words apart lengths aligned = record {
+        → HasZones plan config
+    zoned at words apart = record {
       extents =
-          has.extents ∙ ap (λ (e : Extent). plan.words ∷ e ∷ data_extent ∷ plan.stacks) (sym code_zone_is)
-          ∙ ap (λ (e : Extent). plan.words ∷ code_zone plan ∷ e ∷ plan.stacks) (sym data_zone_is);
+          has.extents ∙ ap (λ (e : Extent). plan.words ∷ e ∷ data_extent ∷ has.all) (sym code_zone_is)
+          ∙ ap (λ (e : Extent). plan.words ∷ code_zone plan ∷ e ∷ has.all) (sym data_zone_is)
+          ∙ ap (λ (l : List Extent). plan.words ∷ code_zone plan ∷ data_zone plan ∷ l) (sym all_stacks_are);
       words = words;
       apart = apart;
       few_tasks = few_tasks config app sizes wanted stacks may full;
-      stacks = stack_count plan.stacks stacks lengths ∙ may.a_stack_each;
-      stacks_aligned = aligned;
-      ends_aligned = stacks_end plan.stacks stacks lengths may.lengths aligned;
-      long = λ task l.
-          let count = stack_count plan.stacks stacks lengths in
-          let each = may.a_stack_each in
-          let s = stack_length plan.stacks stacks nowhere task lengths (omega (arith, l, count, each)) in
-          let m = may.long task l in
-          omega (arith, s, m);
       items_aligned = items_all_even config app sizes wanted stacks may full plan at;
       blocks_aligned = blocks_all_even config app sizes wanted stacks may full plan at;
       idle_aligned = let i = at.idle in omega (arith, i);

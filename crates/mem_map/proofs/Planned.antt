@@ -13,15 +13,16 @@ use Rattle.sloth_region.specs.declared.extent.Extent.{Extent}
 use Rattle.sloth_region.specs.declared.map.Map.{Map}
 use Rattle.sloth_region.specs.Region.{FollowWithin}
 use Rattle.rv32_expand.proofs.Growth.{order}
-use Rattle.mem_map.specs.Run.{end_of, extents_of, room_for}
-use Rattle.mem_map.specs.Plan.{MayPlan, HasAddresses, IsNear, IsStackLength, prologue_at, services_at, items_at, code_end, data_end, service_bytes, item_bytes, symbol_bytes, prologue_extent, service_extents, code_extents, data_extents}
-use Rattle.mem_map.proofs.Bounds.{sizes_few, before_all, items_end, symbols_end, stacks_room, services_end, IsSize}
+use Rattle.stack_bounds.specs.declared.stacks.Stacks.{Stacks}
+use Rattle.mem_map.specs.Run.{end_of, extents_of}
+use Rattle.mem_map.specs.Plan.{MayPlan, HasAddresses, IsNear, prologue_at, services_at, items_at, code_end, data_end, service_bytes, item_bytes, symbol_bytes, prologue_extent, service_extents, code_extents, data_extents}
+use Rattle.mem_map.proofs.Bounds.{sizes_few, before_all, items_end, symbols_end, services_end, IsSize}
 use Rattle.mem_map.proofs.Covering.{ArePlaced, item_bytes_aligned, service_bytes_aligned}
 use Rattle.mem_map.proofs.Starts.{end_above, end_aligned, starts_aligned, follow_from, extents_follow, prologues_follow, services_follow}
 
 -- ---- what is needed before there are addresses
 
-module _ (config : Config) (app : App) (sizes : List ℕ) (wanted : List Bool) (stacks : List ℕ) (may : MayPlan config app sizes wanted stacks) (full : length wanted ≡ 512) where
+module _ (config : Config) (app : App) (sizes : List ℕ) (wanted : List Bool) (stacks : Stacks) (may : MayPlan config app sizes wanted stacks) (full : length wanted ≡ 512) where
   abbrev n : ℕ
   n = length config.tasks
 
@@ -71,20 +72,6 @@ module _ (config : Config) (app : App) (sizes : List ℕ) (wanted : List Bool) (
       let f = may.in_range.limits.few_symbols in
       omega (arith, e, s, f)
 
-  pub stacks_short : room_for 16 stacks ≤ 983490
-  stacks_short =
-      let r = stacks_room stacks may.lengths in
-      let e = may.a_stack_each in
-      let f = few_tasks in
-      omega (arith, r, e, f)
-
-  pub stacks_some : All (λ (len : ℕ). 1 ≤ len) stacks
-  stacks_some = λ k d l.
-      let e = may.a_stack_each in
-      let long = may.long k (omega (arith, e, l)) in
-      let z = get_or_default_zero stacks k d l in
-      omega (arith, long, z)
-
   -- ---- multiples of 4
 
   pub services_even : services_at n % 4 ≡ 0
@@ -111,7 +98,7 @@ module _ (config : Config) (app : App) (sizes : List ℕ) (wanted : List Bool) (
     pub below : code_to ≤ data_to
     pub fits : data_to + 4 < 4294967296
     pub even : (code_to - 0x8000_0400) % 4 ≡ 0
-    pub room : 1024 + (code_to - 0x8000_0400) + 3 + (data_to + 4 - code_to) + 3 + room_for 16 stacks ≤ 0x20_0000
+    pub room : 1024 + (code_to - 0x8000_0400) + 3 + (data_to + 4 - code_to) + 3 + 983490 ≤ 0x20_0000
 
   pub ends_are : (code_to data_to : ℕ) → code_to ≡ code_end n wanted sizes → data_to ≡ end_of code_to (map symbol_bytes app.symbols) → AreEnds code_to data_to
   ends_are code_to data_to e f =
@@ -121,14 +108,13 @@ module _ (config : Config) (app : App) (sizes : List ℕ) (wanted : List Bool) (
       let high = symbols_above in
       let short = code_short in
       let symbols = symbols_short in
-      let room = stacks_short in
       let even = code_even in
       record {
         some = omega (arith, e, low, mid);
         below = omega (arith, e, f, g, high);
         fits = omega (arith, f, g, symbols, short);
         even = omega (arith, e, even, low, mid);
-        room = omega (arith, e, f, g, symbols, short, room, low, mid, high);
+        room = omega (arith, e, f, g, symbols, short, low, mid, high);
       }
 
   symbol_some : All (λ (y : ℕ). 1 ≤ y) (map symbol_bytes app.symbols)
@@ -180,7 +166,7 @@ module _ (config : Config) (app : App) (sizes : List ℕ) (wanted : List Bool) (
         let services = subst Q (sym at.blocks) (services_follow (services_at n) end wanted (extents_of plan.places.items (map item_bytes sizes)) items) in
         let rest : List Extent = service_extents plan.places.blocks wanted ++ extents_of plan.places.items (map item_bytes sizes) in
         let R : ℕ → Type 0 = λ free. FollowWithin free end rest in
-        let at_end : services_at n ≡ prologue_at n 0 + 512 * length (take n plan.handlers) = omega (arith, count) in
+        let at_end : services_at n ≡ prologue_at n 0 + 576 * length (take n plan.handlers) = omega (arith, count) in
         let prologues = prologues_follow (prologue_at n 0) end (take n plan.handlers) rest
         (λ k l. get_or-take n plan.handlers k 0 (omega (arith, l, count)) ∙ at.prologues k (omega (arith, l, count)) ∙ omega arith)
         (subst R at_end services) in
@@ -202,20 +188,3 @@ module _ (config : Config) (app : App) (sizes : List ℕ) (wanted : List Bool) (
     blocks_all_even =
         let P : List ℕ → Type 0 = λ addresses. All (λ address. address % 4 ≡ 0) addresses in
         subst P (sym at.blocks) (starts_aligned (services_at n) (map service_bytes wanted) services_even (service_bytes_aligned wanted))
-
--- ---- stacks
-
-pub stack_length : (extents : List Extent) (stacks : List ℕ) (d : Extent) (k : ℕ) → map (λ (e : Extent). e.len) extents ≡ stacks → k < length extents → (get_or extents k d).len ≡ slice_index stacks k
-stack_length extents stacks d k e l = sym (get_or-map (λ (e : Extent). e.len) extents k d 0 l) ∙ ap (λ (xs : List ℕ). get_or xs k 0) e
-
-pub stack_count : (extents : List Extent) (stacks : List ℕ) → map (λ (e : Extent). e.len) extents ≡ stacks → length extents ≡ length stacks
-stack_count extents stacks e = sym (length-map extents (λ (e : Extent). e.len)) ∙ ap length e
-
-pub stacks_end : (extents : List Extent) (stacks : List ℕ) → map (λ (e : Extent). e.len) extents ≡ stacks → All IsStackLength stacks → All (λ (e : Extent). e.base % 16 ≡ 0) extents
-    → All (λ (e : Extent). (e.base + e.len) % 4 ≡ 0) extents
-stacks_end extents stacks e lengths aligned = λ k d l.
-    let n = stack_count extents stacks e in
-    let s = stack_length extents stacks d k e l in
-    let h = (lengths k 0 (omega (arith, l, n))).1 in
-    let a = aligned k d l in
-    omega (arith, s, h, a)

@@ -84,16 +84,16 @@ extents_follow from end (len ∷ lengths) some le =
 
 -- prologues at even distances
 pub prologues_follow : (from end : ℕ) (addresses : List ℕ) (rest : List Extent)
-    → ((k : ℕ) → k < length addresses → get_or addresses k 0 ≡ from + 512 * k)
-    → FollowWithin (from + 512 * length addresses) end rest → FollowWithin from end (map prologue_extent addresses ++ rest)
-prologues_follow from end [] rest at f = follow_from from (from + 512 * 0) end rest (omega arith) f
+    → ((k : ℕ) → k < length addresses → get_or addresses k 0 ≡ from + 576 * k)
+    → FollowWithin (from + 576 * length addresses) end rest → FollowWithin from end (map prologue_extent addresses ++ rest)
+prologues_follow from end [] rest at f = follow_from from (from + 576 * 0) end rest (omega arith) f
 prologues_follow from end (address ∷ addresses) rest at f =
     let first = at 0 (omega arith) in
     let P : ℕ → Type 0 = λ free. FollowWithin free end rest in
-    let e : from + 512 * suc (length addresses) ≡ address + 512 + 512 * length addresses = omega (arith, first) in (
+    let e : from + 576 * suc (length addresses) ≡ address + 576 + 576 * length addresses = omega (arith, first) in (
       omega (arith, first),
       omega arith,
-      prologues_follow (address + 512) end addresses rest
+      prologues_follow (address + 576) end addresses rest
           (λ k l. let a = at (suc k) (omega (arith, l)) in omega (arith, a, first))
           (subst P e f),
     )

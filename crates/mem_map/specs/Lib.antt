@@ -1,3 +1,4 @@
 pub mod Run
 pub mod Zones
+pub mod Stacks
 pub mod Plan

@@ -9,8 +9,10 @@ use Rattle.sloth_region.specs.declared.map.Map.{Map}
 use Rattle.sloth_region.specs.Region.{aligned}
 use Rattle.app_rules.specs.AppRange.{AppInRange}
 use Rattle.rv32_expand.specs.Sizes.{AreSizes}
+use Rattle.stack_bounds.specs.declared.stacks.Stacks.{Stacks}
+use Rattle.stack_bounds.specs.Bounds.{AreParts, HaveRoom, IsLength}
 use Rattle.mem_map.specs.Run.{starts, end_of, extents_of}
-use Rattle.mem_map.specs.Zones.{code_zone, data_zone, least_stack}
+use Rattle.mem_map.specs.Zones.{code_zone, data_zone}
 
 -- ---- bytes of each piece
 
@@ -22,9 +24,9 @@ boot_bytes tasks = 40 + 16 * tasks
 abbrev pub idle_bytes : ℕ
 idle_bytes = 4
 
--- a prologue: at most 128 instructions
+-- a prologue: at most 144 instructions
 abbrev pub prologue_bytes : ℕ
-prologue_bytes = 512
+prologue_bytes = 576
 
 -- the code of a service with its object: at most 256 instructions where it is wanted, and else none
 abbrev pub service_bytes : Bool → ℕ
@@ -112,16 +114,17 @@ data_extents map app = extents_of map.places.symbols (prelude.map symbol_bytes a
 
 -- ---- what must be, so that there is room
 
--- a stack has at most 32 KiB, whole words
-abbrev pub IsStackLength : ℕ → Type 0
-IsStackLength len = (len ≤ 0x8000) × (len % 4 ≡ 0)
+-- What the tasks need of the stacks: whole words for each, enough for all its calls and a context, and a part of the shared stack.
+pub record AreNeeds (config : Config) (app : App) (stacks : Stacks) : Type 0 where
+  pub count : length stacks.bounds.bytes ≡ length config.tasks
+  pub lengths : All IsLength stacks.bounds.bytes
+  pub room : HaveRoom config app stacks.bounds
+  pub parts : AreParts config app stacks
 
--- Task code in range with the sizes of its items, the services that are wanted (by service code * 40 + object), and the bytes of each task's stack.
-pub record MayPlan (config : Config) (app : App) (sizes : List ℕ) (services : List Bool) (stacks : List ℕ) : Type 0 where
+-- Task code in range with the sizes of its items, the services that are wanted (by service code * 40 + object), and what the tasks need of the stacks.
+pub record MayPlan (config : Config) (app : App) (sizes : List ℕ) (services : List Bool) (stacks : Stacks) : Type 0 where
   pub in_range : AppInRange config app
   pub are_sizes : AreSizes app sizes
   -- the object of a wanted service is a task, a resource or RES_SCHEDULER: at most 32
   pub objects : (number : ℕ) → get_or services number false ≡ true → number % 40 ≤ 32
-  pub a_stack_each : length stacks ≡ length config.tasks
-  pub lengths : All IsStackLength stacks
-  pub long : (task : ℕ) → task < length config.tasks → least_stack app task ≤ slice_index stacks task
+  pub needs : AreNeeds config app stacks

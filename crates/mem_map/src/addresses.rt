@@ -15,7 +15,7 @@ const ENTRY_LEN: u32 = 16;
 /// The bytes of the idle loop.
 const IDLE_LEN: u32 = 4;
 /// The bytes that a prologue may have.
-const PROLOGUE_LEN: u32 = 512;
+const PROLOGUE_LEN: u32 = 576;
 /// The bytes that the code of a service with its object may have.
 const SERVICE_LEN: u32 = 1024;
 

@@ -5,6 +5,7 @@ mod addresses;
 mod lengths;
 mod placing;
 mod planning;
+mod stacks;
 mod zones;
 
 pub use planning::plan;

@@ -4,10 +4,12 @@ ghost use Rattle.sloth_region.specs.Region.{FollowWithin};
 ghost use Rattle.rv32_expand.specs.Sizes.{AgreeWithSizes, Covers};
 ghost use Rattle.mem_map.specs.Run.{starts, end_of};
 ghost use Rattle.mem_map.specs.Zones.{HasZones};
+ghost use Rattle.mem_map.specs.Stacks.{HasStacks};
 ghost use Rattle.mem_map.specs.Plan.{MayPlan, HasAddresses, IsNear, services_at, items_at, code_end, data_end, service_bytes, item_bytes, symbol_bytes, code_extents, data_extents};
 
 use crate::addresses::{Pieces, handlers, idle_at, place_pieces, place_services, prologue_at};
 use crate::lengths::{item_counts, item_lengths, symbol_lengths};
+use crate::stacks::{stack_lengths, task_parts};
 use crate::zones::plan_zones;
 use sloth_base::app::App;
 use sloth_base::config::Config;
@@ -15,6 +17,7 @@ use sloth_base::list::List;
 use sloth_base::memory::NoMemory;
 use sloth_base::places::Places;
 use sloth_region::map::Map;
+use stack_bounds::stacks::Stacks;
 use std::alloc::{AllocError, Global};
 
 /// Where the code begins.
@@ -84,22 +87,30 @@ fn make_map(
     app: &App,
     sizes: &[u32],
     wanted: &[bool; 512],
-    stacks: &[u32],
+    stacks: &Stacks,
 ) -> Result<Map, NoMemory>
     requires { MayPlan config.now app.now sizes.now wanted.now stacks.now }
-    ensures zones { IfOk result (λ plan. HasZones plan config.now app.now) }
-    ensures stacks { IfOk result (λ plan. map (λ e. e.len) plan.stacks ≡ stacks.now) }
+    ensures zones { IfOk result (λ plan. HasZones plan config.now) }
+    ensures stacks { IfOk result (HasStacks config.now app.now stacks.now) }
     ensures addresses { IfOk result (HasAddresses config.now app.now sizes.now wanted.now) }
 {
-    let tasks = config.tasks.items().len() as u32;
+    let declared = config.tasks.items();
+    let tasks = declared.len() as u32;
     let code = plan_code(alloc, tasks, sizes, wanted)?;
     let first = plan_first(alloc, app)?;
     let symbols = plan_symbols(alloc, code.end, app)?;
+    let lengths = stack_lengths(alloc, declared, stacks)?;
     let zones = plan_zones(
         alloc,
         code.end - CODE,
         symbols.end + WORD - code.end,
-        stacks,
+        &lengths,
+    )?;
+    let parts = task_parts(
+        alloc,
+        declared,
+        zones.stacks.items(),
+        stacks.offsets.items(),
     )?;
     let blocks = code.services;
     let handlers = handlers(tasks);
@@ -111,7 +122,8 @@ fn make_map(
             symbols: symbols.starts,
             blocks,
         },
-        stacks: zones.stacks,
+        stacks: parts.stacks,
+        tops: parts.tops,
         words: zones.words,
         idle: idle_at(tasks),
         handlers,
@@ -119,7 +131,8 @@ fn make_map(
 }
 
 /// The map of an image: in this order the vector words, boot, the idle loop, a prologue for each task, the wanted services
-/// (by service code * 40 + object), all items (of so many instructions each), all symbols, a stack of so many bytes for each task.
+/// (by service code * 40 + object), all items (of so many instructions each), all symbols, the stack that all basic tasks share, and a
+/// stack for each extended task.
 /// There is room for all of them; only memory for the map itself may be missing.
 pub fn plan(
     alloc: Global,
@@ -127,11 +140,11 @@ pub fn plan(
     app: &App,
     sizes: &[u32],
     wanted: &[bool; 512],
-    stacks: &[u32],
+    stacks: &Stacks,
 ) -> Result<Map, NoMemory>
     requires { MayPlan config.now app.now sizes.now wanted.now stacks.now }
-    ensures zones { IfOk result (λ plan. HasZones plan config.now app.now) }
-    ensures stacks { IfOk result (λ plan. map (λ e. e.len) plan.stacks ≡ stacks.now) }
+    ensures zones { IfOk result (λ plan. HasZones plan config.now) }
+    ensures stacks { IfOk result (HasStacks config.now app.now stacks.now) }
     ensures addresses { IfOk result (HasAddresses config.now app.now sizes.now wanted.now) }
     ensures reach { IfOk result (λ plan. (line : ℕ) → line < 32 → IsNear (slice_index plan.handlers line)) }
     ensures near { IfOk result (λ plan. code_end (length config.now.tasks) wanted.now sizes.now < 0x80100400) }

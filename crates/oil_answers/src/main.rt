@@ -1,14 +1,16 @@
 //! Answers OIL texts: what each text's tokens, tree or configuration are, or how it is refused. A text ends before a line such as
-//! `=== config`, which asks.
+//! `=== config`, which asks. `=== sample 7 2` asks for the application that is generated from the seed 7 with 2 tasks.
 #![tactic(auto)]
 
 ghost use Rattle.std.specs.Prelude.{◌≤◌, IfOk, length};
 ghost use Rattle.sloth_base.specs.ConfigRange.{InRange};
 
 mod configuration;
+mod generated;
 mod syntax;
 
 use crate::configuration::list_config;
+use crate::generated::list_sample;
 use crate::syntax::{list_tokens, list_tree};
 use oil_lex::tokens;
 use oil_model::resolve;
@@ -53,7 +55,9 @@ fn answer(rt: &(impl Print + AllocGlobal), asked: &[u8], text: &[u8]) -> anyhow:
     requires { length text.now ≤ 10000 }
 {
     let alloc = rt.alloc();
-    if asked == b"tokens".as_slice() {
+    if let Some(numbers) = asked.strip_prefix(b"sample ") {
+        list_sample(rt, numbers)
+    } else if asked == b"tokens".as_slice() {
         match tokens(alloc, text) {
             Ok(tokens) => list_tokens(rt, tokens.as_slice()),
             Err(error) => list_error(rt, error),

@@ -18,17 +18,19 @@ use Rattle.sloth_base.specs.declared.service.Service.TheVariants as service
 use Rattle.osek_machine.specs.State.{opening}
 use Rattle.osek_machine.specs.Next.{system_after}
 
-abbrev full : (priority : ℕ) (autostart : Bool) (resources : List ℕ) (events : ℕ) → TaskDecl
+-- a task that is preemptable, of this priority
+abbrev pub full : (priority : ℕ) (autostart : Bool) (resources : List ℕ) (events : ℕ) → TaskDecl
 full priority autostart resources events = record { name = []; priority = priority; extended = false; non = false; autostart = autostart; resources = resources; events = events }
 
 abbrev non_preemptable : (priority : ℕ) (autostart : Bool) (resources : List ℕ) → TaskDecl
 non_preemptable priority autostart resources = record (full priority autostart resources 0) { non = true }
 
 -- two resources, and RES_SCHEDULER
-abbrev system : List TaskDecl → Config
+abbrev pub system : List TaskDecl → Config
 system tasks = record { tasks = tasks; resources = [] ∷ [] ∷ []; events = []; res_scheduler = true }
 
-abbrev body : (task : ℕ) (items : List Op) (labels : List ℕ) → Func
+-- the body of a task
+abbrev pub body : (task : ℕ) (items : List Op) (labels : List ℕ) → Func
 body task items labels = record {
   name = [];
   line = 0;
@@ -38,13 +40,16 @@ body task items labels = record {
   labels = map (λ i. record { name = []; line = 0; item = i; holds = [] }) labels;
 }
 
-abbrev code : List Func → List (List ℕ) → App
+-- task code of these functions, over symbols with these bytes
+abbrev pub code : List Func → List (List ℕ) → App
 code funcs symbols = record { funcs = funcs; symbols = map (λ b. record { name = []; bytes = b }) symbols }
 
-abbrev serve : Service → ℕ → ℕ → Op
+-- a call of a service
+abbrev pub serve : Service → ℕ → ℕ → Op
 serve s object mask = op.Serve (record { service = s; object = object; mask = mask })
 
-abbrev accepts : Config → App → List Event → Bool
+-- the events are a run, but for their counts
+abbrev pub accepts : Config → App → List Event → Bool
 accepts config app events = is_some (system_after config app events (opening config app))
 
 -- A task runs and ends.

@@ -1,3 +1,4 @@
 pub mod Tests
 pub mod Next
+pub mod Leading
 pub mod Examples

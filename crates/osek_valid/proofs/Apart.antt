@@ -15,10 +15,9 @@ use Rattle.osek_machine.specs.State.{Task, System, sleeping, task, with_task, op
 use Rattle.sloth_base.specs.Status.{E_OK, E_OS_LIMIT, E_OS_STATE}
 use Rattle.sloth_base.specs.Named.{declaration}
 use Rattle.osek_machine.specs.Priority.{is_in, is_active, rank, IsTop}
-use Rattle.osek_machine.specs.Services.{if_suspended, activated, answers, answers_with, answered, answered_with, ended, waits, woken, with_events, set_events, Outcome, GoesOn, Leaves, outcome, starts, entered, state_number}
+use Rattle.osek_machine.specs.Services.{if_suspended, activated, answers, answers_with, answered, answered_with, ended, waits, woken, with_events, set_events, Outcome, GoesOn, Leaves, outcome, starts, state_number}
 use Rattle.osek_machine.specs.Steps.{settled, autostarted, admitted, OsekStep, Executes, Serves}
-use Rattle.osek_valid.specs.Valid.{Valid}
-use Rattle.osek_valid.specs.Apart.{priority_of, static_priority, AreTwo, IsActive, IsOver, Apart}
+use Rattle.osek_valid.specs.Apart.{priority_of, static_priority, AreTwo, Apart}
 use Rattle.osek_valid.proofs.Serving.{by_suspended}
 use Rattle.osek_valid.proofs.Steps.{autostarted_at, asleep_at}
 
@@ -34,7 +33,7 @@ pub at_least_static : (config : Config) (t : ℕ) (k : Task) → static_priority
 at_least_static config t k = max_left (static_priority config t) _
 
 -- a fact on each task, where one record is written
-at_task : (s : System) (t u : ℕ) (new : Task) (P : Task → Type 0) → P (task s u) → (u ≡ t → P new) → P (task (with_task s t new) u)
+pub at_task : (s : System) (t u : ℕ) (new : Task) (P : Task → Type 0) → P (task s u) → (u ≡ t → P new) → P (task (with_task s t new) u)
 at_task s t u new P same here = by (cases_eq u t)
   where
     within : (u < length s.tasks) ⊎ (length s.tasks ≤ u) → u ≡ t → P (task (with_task s t new) u)
@@ -51,7 +50,7 @@ at_task s t u new P same here = by (cases_eq u t)
 
 module _ (config : Config) where
   -- a task that is Active now was so before, at the same priority
-  abbrev Same : ℕ → Task → Task → Type 0
+  abbrev pub Same : ℕ → Task → Task → Type 0
   Same t old new = new.state ≡ mode.Active → (old.state ≡ mode.Active) × (priority_of config t new ≡ priority_of config t old)
 
   abbrev pub Calm : ℕ → System → System → Type 0
@@ -127,10 +126,10 @@ module _ (config : Config) where
 
   -- ---- the order
 
-  rank_active : (s : System) (t : ℕ) → (task s t).state ≡ mode.Active → rank config s t ≡ 2 * priority_of config t (task s t) + 1
+  pub rank_active : (s : System) (t : ℕ) → (task s t).state ≡ mode.Active → rank config s t ≡ 2 * priority_of config t (task s t) + 1
   rank_active s t e = ap (λ m. cond (is_active m) (2 * priority_of config t (task s t) + 1) (2 * static_priority config t)) e
 
-  rank_ready : (s : System) (t : ℕ) → (task s t).state ≡ mode.Ready → rank config s t ≡ 2 * static_priority config t
+  pub rank_ready : (s : System) (t : ℕ) → (task s t).state ≡ mode.Ready → rank config s t ≡ 2 * static_priority config t
   rank_ready s t e = ap (λ m. cond (is_active m) (2 * priority_of config t (task s t) + 1) (2 * static_priority config t)) e
 
   -- every other Active task is below c
@@ -166,15 +165,20 @@ module _ (config : Config) where
   entered_above s c top ready u lt n other =
       omega (arith, ranked s [] c u top (λ t h. absurd (false≢true h)) lt other, rank_active s u other, rank_ready s c ready)
 
-  -- c alone changed, and all others that are Active are below it
-  pub apart_of : (s next : System) (c : ℕ) → Apart config s → Above c s → Calm c s next → next.fresh ≡ [] → Apart config next
-  apart_of s next c a above calm none = record {
-    fresh_ready = λ t h. absurd (false≢true (sym (ap (is_in t) none) ∙ h));
+  -- c alone changed, all others that are Active are below it, and nothing is fresh any more
+  pub record Acts (c : ℕ) (s next : System) : Type 0 where
+    pub above : Above c s
+    pub calm : Calm c s next
+    pub settles : next.fresh ≡ []
+
+  apart_of : (s next : System) (c : ℕ) → Apart config s → Acts c s next → Apart config next
+  apart_of s next c a acts = record {
+    fresh_ready = λ t h. absurd (false≢true (sym (ap (is_in t) acts.settles) ∙ h));
     apart = λ t u two at au. by t u two at au (cases_eq t c) (cases_eq u c);
   }
     where
       below : (t : ℕ) → t < length config.tasks → t ≢ c → (task next t).state ≡ mode.Active → priority_of config t (task next t) < static_priority config c
-      below t lt n at = let old = calm t n at in subst (λ p. p < static_priority config c) (sym old.1) (above t lt n old.0)
+      below t lt n at = let old = acts.calm t n at in subst (λ p. p < static_priority config c) (sym old.1) (acts.above t lt n old.0)
 
       both : (t u : ℕ) → (priority_of config t (task s t) < static_priority config u) ⊎ (priority_of config u (task s u) < static_priority config t)
           → priority_of config t (task next t) ≡ priority_of config t (task s t) → priority_of config u (task next u) ≡ priority_of config u (task s u)
@@ -189,12 +193,12 @@ module _ (config : Config) where
       by t u two at au (inl e) (inr f) = inr (subst (λ x. priority_of config u (task next u) < static_priority config x) (sym e) (below u two.second f au))
       by t u two at au (inr e) (inl f) = inl (subst (λ x. priority_of config t (task next t) < static_priority config x) (sym f) (below t two.first e at))
       by t u two at au (inr e) (inr f) =
-          let x = calm t e at in
-          let y = calm u f au in
+          let x = acts.calm t e at in
+          let y = acts.calm u f au in
           both t u (a.apart t u two x.0 y.0) x.1 y.1
 
   -- no task changed that is Active
-  pub apart_kept : (s next : System) → Apart config s → ((u : ℕ) → Same u (task s u) (task next u))
+  apart_kept : (s next : System) → Apart config s → ((u : ℕ) → Same u (task s u) (task next u))
       → ((t : ℕ) → is_in t next.fresh ≡ true → (task next t).state ≡ mode.Ready) → Apart config next
   apart_kept s next a calm fresh = record {
     fresh_ready = fresh;
@@ -219,16 +223,21 @@ module _ (config : Config) where
   answer_calm : (app : App) (t : ℕ) (served : Service) (s : System) (answer : Outcome) → Serves config app t served s answer → CalmAnswer t s answer
   answer_calm app t served s answer h = subst (CalmAnswer t s) h.is (outcome_calm served h.call.object h.call.mask t s)
 
-  after_boot : (app : App) (s : System) → Valid config app s → s.booted ≡ false → (u : ℕ) → Same u (task s u) (get_or (autostarted config.tasks s.tasks) u sleeping)
-  after_boot app s v off u = autostarted_at (Same u (task s u)) config.tasks s.tasks u (itself u (task s u)) (λ e. absurd cc)
+  pub boot_calm : (s : System) (u : ℕ) → Same u (task s u) (get_or (autostarted config.tasks s.tasks) u sleeping)
+  boot_calm s u = autostarted_at (Same u (task s u)) config.tasks s.tasks u (itself u (task s u)) (λ e. absurd cc)
 
-  admit_apart : (s : System) (t : ℕ) → Apart config s → t < length s.tasks → Apart config (admitted t s)
-  admit_apart s t a lt =
-      by_suspended (task s t).state (record (activated s t) { fresh = t ∷ s.fresh }) s (Apart config)
-      (λ asleep. apart_kept s (record (activated s t) { fresh = t ∷ s.fresh }) a
-      (λ u. at_task s t u (record (task s t) { state = mode.Ready }) (Same u (task s u)) (itself u (task s u)) (λ e h. absurd cc))
-      (λ u h. fresh u (cases_eq u t) (or_cases _ _ h)))
-      (λ _. a)
+  pub admit_calm : (s : System) (t u : ℕ) → Same u (task s u) (task (admitted t s) u)
+  admit_calm s t u =
+      by_suspended (task s t).state (record (activated s t) { fresh = t ∷ s.fresh }) s (λ (x : System). Same u (task s u) (task x u))
+      (λ _. at_task s t u (record (task s t) { state = mode.Ready }) (Same u (task s u)) (itself u (task s u)) (λ e h. absurd cc))
+      (λ _. itself u (task s u))
+
+  admit_fresh : (s : System) (t : ℕ) → Apart config s → t < length s.tasks → (u : ℕ) → is_in u (admitted t s).fresh ≡ true
+      → (task (admitted t s) u).state ≡ mode.Ready
+  admit_fresh s t a lt =
+      by_suspended (task s t).state (record (activated s t) { fresh = t ∷ s.fresh }) s
+      (λ (x : System). (u : ℕ) → is_in u x.fresh ≡ true → (task x u).state ≡ mode.Ready)
+      (λ _ u h. fresh u (cases_eq u t) (or_cases _ _ h)) (λ _. a.fresh_ready)
     where
       fresh : (u : ℕ) → (u ≡ t) ⊎ (u ≡ t → ⊥) → ((t == u) ≡ true) ⊎ (is_in u s.fresh ≡ true) → (task (activated s t) u).state ≡ mode.Ready
       fresh u (inl e) h =
@@ -238,31 +247,68 @@ module _ (config : Config) where
       fresh u (inr n) (inr e) =
           ap (λ k. k.state) (get_or-set_other s.tasks t u (record (task s t) { state = mode.Ready }) sleeping n) ∙ a.fresh_ready u e
 
-  pub step_apart : (app : App) (e : Event) (s next : System) → OsekStep config app e s next → Valid config app s → Apart config s → Apart config next
-  step_apart app event.Boot s next h v a =
-      subst (Apart config) (sym h.1) (apart_kept s (settled (record s { tasks = autostarted config.tasks s.tasks; booted = true })) a (after_boot app s v h.0) (λ u x. absurd (false≢true x)))
-  step_apart app (event.Admit t) s next h v a = subst (Apart config) (sym h.2) (admit_apart s t a (subst (λ n. t < n) (sym v.count) h.1))
-  step_apart app (event.Enter t) s next h v a =
-      subst (Apart config) (sym h.4)
-      (apart_of s (settled (entered config app t s)) t a (entered_above s t h.1 h.2)
-      (own t s (record (starts app t (task s t).frames (task s t)) { state = mode.Active; raised = (declaration config t).non })) refl)
-  step_apart app (event.Run t func item result) s next h v a =
-      apart_of s next t a (top_above s [] t h.1.top (λ u x. absurd (false≢true x)) a h.1.at.active) (run_calm app t func item result s next h.1)
-      (ap (λ x. x.fresh) h.1.is)
-  step_apart app (event.Call t served status) s next h v a =
-      subst (Apart config) (sym h.1.2)
-      (apart_of s (settled h.1.0) t a (top_above s s.fresh t h.1.1.top a.fresh_ready a h.1.1.at.active) (answer_calm app t served s (GoesOn status h.1.0) h.1.1) refl)
-  step_apart app (event.Left t served) s next h v a =
-      subst (Apart config) (sym h.1.2)
-      (apart_of s (settled h.1.0) t a (top_above s s.fresh t h.1.1.top a.fresh_ready a h.1.1.at.active) (answer_calm app t served s (Leaves h.1.0) h.1.1) refl)
-  step_apart app (event.Back t) s next h v a =
-      subst (Apart config) (sym h.4)
-      (apart_of s (settled (with_task s t (record (task s t) { owed = false; raised = (declaration config t).non }))) t a
-      (top_above s [] t h.1 (λ u x. absurd (false≢true x)) a h.2)
-      (own t s (record (task s t) { owed = false; raised = (declaration config t).non })) refl)
-  step_apart app event.Idle s next h v a =
+  -- ---- events of a task
+
+  pub enter_acts : (app : App) (t : ℕ) (s next : System) → OsekStep config app (event.Enter t) s next → Acts t s next
+  enter_acts app t s next h =
+      subst (Acts t s) (sym h.4)
+      (record {
+        above = entered_above s t h.1 h.2;
+        calm = own t s (record (starts app t (task s t).frames (task s t)) { state = mode.Active; raised = (declaration config t).non });
+        settles = refl;
+      })
+
+  pub run_acts : (app : App) (t func item result : ℕ) (s next : System) → OsekStep config app (event.Run t func item result) s next → Apart config s → Acts t s next
+  run_acts app t func item result s next h a = record {
+    above = top_above s [] t h.1.top (λ u x. absurd (false≢true x)) a h.1.at.active;
+    calm = run_calm app t func item result s next h.1;
+    settles = ap (λ x. x.fresh) h.1.is;
+  }
+
+  pub call_acts : (app : App) (t status : ℕ) (served : Service) (s next : System) → OsekStep config app (event.Call t served status) s next → Apart config s
+      → Acts t s next
+  call_acts app t status served s next h a =
+      subst (Acts t s) (sym h.1.2)
+      (record {
+        above = top_above s s.fresh t h.1.1.top a.fresh_ready a h.1.1.at.active;
+        calm = answer_calm app t served s (GoesOn status h.1.0) h.1.1;
+        settles = refl;
+      })
+
+  pub left_acts : (app : App) (t : ℕ) (served : Service) (s next : System) → OsekStep config app (event.Left t served) s next → Apart config s → Acts t s next
+  left_acts app t served s next h a =
+      subst (Acts t s) (sym h.1.2)
+      (record {
+        above = top_above s s.fresh t h.1.1.top a.fresh_ready a h.1.1.at.active;
+        calm = answer_calm app t served s (Leaves h.1.0) h.1.1;
+        settles = refl;
+      })
+
+  pub back_acts : (app : App) (t : ℕ) (s next : System) → OsekStep config app (event.Back t) s next → Apart config s → Acts t s next
+  back_acts app t s next h a =
+      subst (Acts t s) (sym h.4)
+      (record {
+        above = top_above s [] t h.1 (λ u x. absurd (false≢true x)) a h.2;
+        calm = own t s (record (task s t) { owed = false; raised = (declaration config t).non });
+        settles = refl;
+      })
+
+  pub step_apart : (app : App) (e : Event) (s next : System) → OsekStep config app e s next → length s.tasks ≡ length config.tasks → Apart config s
+      → Apart config next
+  step_apart app event.Boot s next h count a =
+      subst (Apart config) (sym h.1)
+      (apart_kept s (settled (record s { tasks = autostarted config.tasks s.tasks; booted = true })) a (boot_calm s) (λ u x. absurd (false≢true x)))
+  step_apart app (event.Admit t) s next h count a =
+      subst (Apart config) (sym h.2)
+      (apart_kept s (admitted t s) a (admit_calm s t) (admit_fresh s t a (subst (λ n. t < n) (sym count) h.1)))
+  step_apart app (event.Enter t) s next h count a = apart_of s next t a (enter_acts app t s next h)
+  step_apart app (event.Run t func item result) s next h count a = apart_of s next t a (run_acts app t func item result s next h a)
+  step_apart app (event.Call t served status) s next h count a = apart_of s next t a (call_acts app t status served s next h a)
+  step_apart app (event.Left t served) s next h count a = apart_of s next t a (left_acts app t served s next h a)
+  step_apart app (event.Back t) s next h count a = apart_of s next t a (back_acts app t s next h a)
+  step_apart app event.Idle s next h count a =
       subst (Apart config) (sym h.2) (apart_kept s (settled s) a (λ u. itself u (task s u)) (λ u x. absurd (false≢true x)))
-  step_apart app event.Stray s next h v a = absurd h
+  step_apart app event.Stray s next h count a = absurd h
 
   pub opening_apart : (app : App) → Apart config (opening config app)
   opening_apart app = record {

@@ -29,7 +29,7 @@ greatest_of f (x ∷ rs) r h = by (greatest_of f rs r) (or_cases _ _ h)
     by rest (inl e) = le_max_left (f x) _ _ (subst (λ y. f r ≤ f y) (sym (eqb-true x r e)) (omega arith))
     by rest (inr e) = le_max_right (f x) _ _ (rest e)
 
-among : (ds : List TaskDecl) (t : ℕ) → t < length ds → (get_or ds t undeclared).priority ≤ greatest (map (λ d. d.priority) ds)
+pub among : (ds : List TaskDecl) (t : ℕ) → t < length ds → (get_or ds t undeclared).priority ≤ greatest (map (λ d. d.priority) ds)
 among [] t lt = absurd (omega (arith, lt))
 among (d ∷ ds) zero lt = le_max_left d.priority _ _ (omega arith)
 among (d ∷ ds) (suc t) lt = le_max_right d.priority _ _ (among ds t (omega (arith, lt)))

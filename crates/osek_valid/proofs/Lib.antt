@@ -12,3 +12,5 @@ pub mod Progress
 pub mod Depth
 pub mod Tidy
 pub mod Reached
+pub mod Owing
+pub mod Together

@@ -22,7 +22,7 @@ module _ (config : Config) (app : App) (w : Facts config app) where
       let P : System → Type 0 = λ x. Valid config app x × Apart config x × Excludes config x in
       subst P (sym is) (v, a, excludes config app s v a)
   run_valid (e ∷ events) s end h v a =
-      run_valid events h.0 end h.2 (step_valid config app e.event s h.0 w h.1 v) (step_apart config app e.event s h.0 h.1 v a)
+      run_valid events h.0 end h.2 (step_valid config app e.event s h.0 w h.1 v) (step_apart config app e.event s h.0 h.1 v.count a)
 
 pub items_mean : ItemsMean
 items_mean config app s t w v declared active free =

@@ -50,7 +50,7 @@ opening_valid config app = record {
 
 -- ---- boot
 
-length-autostarted : (ds : List TaskDecl) (ts : List Task) → length (autostarted ds ts) ≡ length ts
+pub length-autostarted : (ds : List TaskDecl) (ts : List Task) → length (autostarted ds ts) ≡ length ts
 length-autostarted [] ts = refl
 length-autostarted (d ∷ ds) [] = refl
 length-autostarted (d ∷ ds) (t ∷ ts) = ap suc (length-autostarted ds ts)

@@ -27,10 +27,10 @@ abbrev pub StepsKeepValid : Type 0
 StepsKeepValid = (config : Config) (app : App) (event : Event) (s next : System)
     → WellFormed config app → OsekStep config app event s next → Valid config app s → Valid config app next
 
--- each event keeps the order of the tasks that were entered
+-- with a record for each task of the configuration each event keeps the order of the tasks that were entered
 abbrev pub StepsKeepApart : Type 0
 StepsKeepApart = (config : Config) (app : App) (event : Event) (s next : System)
-    → OsekStep config app event s next → Valid config app s → Apart config s → Apart config next
+    → OsekStep config app event s next → length s.tasks ≡ length config.tasks → Apart config s → Apart config next
 
 -- each state that events lead to is valid, and in it no two tasks hold one resource
 abbrev pub RunsAreValid : Type 0

@@ -1,4 +1,5 @@
 pub mod Valid
 pub mod Apart
 pub mod Tidy
+pub mod Together
 pub mod Laws

@@ -1,5 +1,5 @@
 -- What a prologue needs of the configuration, the task code and the map.
-use Rattle.std.specs.Prelude.{ℕ, ◌+◌, ◌-◌, ◌*◌, ◌≡◌, ◌<◌, ◌≤◌, false, if◌then◌else◌, Some, List, length, slice_index, slice_index_or}
+use Rattle.std.specs.Prelude.{ℕ, Bool, ◌+◌, ◌-◌, ◌*◌, ◌≡◌, ◌<◌, ◌≤◌, false, true, if◌then◌else◌, Some, List, length, slice_index, slice_index_or}
 use Rattle.std.specs.List.{slice_get}
 use Rattle.sloth_base.specs.declared.app.App.{App}
 use Rattle.sloth_base.specs.declared.app.Func.{Func}
@@ -7,11 +7,11 @@ use Rattle.sloth_base.specs.declared.config.Config.{Config}
 use Rattle.sloth_base.specs.declared.config.TaskDecl.{TaskDecl}
 use Rattle.sloth_base.specs.declared.places.Levels.{Levels}
 use Rattle.sloth_base.specs.declared.places.Places.{Places}
-use Rattle.sloth_region.specs.declared.extent.Extent.{Extent}
 use Rattle.sloth_region.specs.declared.map.Map.{Map}
 use Rattle.sloth_region.specs.Layout.{context_bytes}
 use Rattle.rv32_instr.specs.declared.InstrKind.{InstrKind}
 use Rattle.prologue_gen.specs.Fresh.{Enters}
+use Rattle.prologue_gen.specs.Resumed.{EntersOrResumes}
 
 -- the function at this place is the task's body
 abbrev pub IsBody : List Func → ℕ → ℕ → Type 0
@@ -29,15 +29,21 @@ start_level decl task levels = if decl.non then levels.top else slice_index leve
 abbrev pub first_item : Places → ℕ → ℕ
 first_item places body = slice_index places.items (slice_index places.first body)
 
--- the offset of the frame of so many words at the end of a stack
-abbrev pub frame_at : Extent → ℕ → ℕ
-frame_at stack words = stack.base + stack.len - 4 * words - 0x8000_0000
+-- the offset of the frame of so many words that ends at an address
+abbrev pub frame_at : ℕ → ℕ → ℕ
+frame_at top words = top - 4 * words - 0x8000_0000
 
--- a stack lies in RAM, and has room for a context
-abbrev pub IsStack : Extent → Type 0
-IsStack stack = (0x8000_0000 ≤ stack.base) × (stack.base + stack.len ≤ 0x8020_0000) × (context_bytes ≤ stack.len)
+-- a part of a stack ends here: in RAM, with room for a context
+abbrev pub IsTop : ℕ → Type 0
+IsTop top = (0x8000_0000 + context_bytes ≤ top) × (top ≤ 0x8020_0000)
 
--- The code enters the task: it begins at the first item of its body, with its frame at the end of its stack, at its level.
+-- what the code of a prologue does, of an extended task or of a basic one
+abbrev pub DoesEnter : Bool → ℕ → ℕ → ℕ → ℕ → ℕ → List InstrKind → Type 0
+DoesEnter false = Enters
+DoesEnter true = EntersOrResumes
+
+-- The code enters the task: it begins at the first item of its body, with its frame at the end of its part of its stack, at its level. That
+-- of an extended task goes on behind its wait where a context is kept for it.
 pub record EntersTask (task : ℕ) (config : Config) (app : App) (levels : Levels) (map : Map) (code : List InstrKind) : Type 0 where
   pub decl : TaskDecl
   pub is_decl : slice_get config.tasks task ≡ Some decl
@@ -45,6 +51,5 @@ pub record EntersTask (task : ℕ) (config : Config) (app : App) (levels : Level
   pub func : Func
   pub is_func : slice_get app.funcs body ≡ Some func
   pub is_body : func.task ≡ Some task
-  pub stack : Extent
-  pub is_stack : slice_get map.stacks task ≡ Some stack
-  pub enters : Enters task (start_level decl task levels) (first_item map.places body) (frame_at stack func.frame_words) func.frame_words code
+  pub enters : DoesEnter decl.extended task (start_level decl task levels) (first_item map.places body) (frame_at (slice_index map.tops task) func.frame_words)
+      func.frame_words code

@@ -1,10 +1,12 @@
 //! The block of a prologue.
 ghost use Rattle.std.specs.Prelude.{◌≡◌, ◌+◌, ◌-◌, ◌*◌, ◌<◌, ◌≤◌, ℕ, [], All, IfOk, slice_index, length};
 ghost use Rattle.prologue_gen.specs.Fresh.{Enters};
-ghost use Rattle.prologue_gen.specs.Places.{IsBody, IsBasic, IsStack, EntersTask, frame_at};
+ghost use Rattle.prologue_gen.specs.Resumed.{EntersOrResumes};
+ghost use Rattle.prologue_gen.specs.Places.{IsBody, IsTop, EntersTask, DoesEnter, frame_at};
 
 use crate::body::body_of;
 use crate::fresh::{mark_active, save_context, start_anew};
+use crate::resumed::{ask_kept, go_on};
 use rv32_instr::{Block, Instr};
 use sloth_base::app::App;
 use sloth_base::config::Config;
@@ -12,12 +14,11 @@ use sloth_base::list::List;
 use sloth_base::memory::NoMemory;
 use sloth_base::numbers::TaskId;
 use sloth_base::places::Levels;
-use sloth_region::extent::Extent;
 use sloth_region::map::Map;
 use std::alloc::{AllocError, Global};
 
-/// The prologue of a basic task, at the address of its line's handler in the map: 74 instructions, and one for each word
-/// of the frame of the task's body.
+/// The prologue of a task, at the address of its line's handler in the map: 74 instructions for a basic task, 109 for an extended
+/// one, and one for each word of the frame of the task's body.
 pub fn prologue(
     alloc: Global,
     task: TaskId,
@@ -27,34 +28,17 @@ pub fn prologue(
     map: &Map,
 ) -> Result<Block, NoMemory>
     requires exists { (task < length config.now.tasks) × (length config.now.tasks ≤ 30) }
-    requires basic { IsBasic config.now.tasks task }
     requires levels { (levels.now.top < 32) × ((t : ℕ) → slice_index levels.now.task t < 32) }
     requires body { (body : ℕ) × IsBody app.now.funcs task body }
     requires frames { All (λ func. func.frame_words ≤ 32) app.now.funcs }
-    requires stacks { (length map.now.stacks ≡ length config.now.tasks) × All IsStack map.now.stacks }
+    requires tops { (length map.now.tops ≡ length config.now.tasks) × All IsTop map.now.tops }
     requires items { (length app.now.funcs ≤ length map.now.places.first) × All (λ i. i < length map.now.places.items) map.now.places.first }
     ensures at { IfOk result (λ block. block.at ≡ slice_index map.now.handlers task) }
     ensures marks { IfOk result (λ block. block.marks ≡ []) }
     ensures size { IfOk result (λ block. length block.code ≤ 256) }
     ensures effect { IfOk result (λ block. EntersTask task config.now app.now levels.now map.now block.code) }
 {
-    let body = body_of(app.funcs.items(), task);
-    let words = app.funcs.items()[body].frame_words;
-    let stack = map.stacks.items()[task.0 as usize];
-    let first = map.places.items.items()[map.places.first.items()[body] as usize];
-    let level = if config.tasks.items()[task.0 as usize].non {
-        levels.top
-    } else {
-        levels.task[task.0 as usize]
-    };
-    let code = code(
-        alloc,
-        task.0,
-        level,
-        frame_address(stack, words),
-        words,
-        first,
-    )?;
+    let code = entry(alloc, task, config, app, levels, map)?;
     Ok(Block {
         at: map.handlers[task.0 as usize],
         code: List::from_vec(code),
@@ -62,15 +46,76 @@ pub fn prologue(
     })
 }
 
-/// The address of a frame of so many words at the end of a stack.
-fn frame_address(stack: Extent, words: u32) -> u32
-    requires { IsStack stack × (words ≤ 32) }
-    ensures { result ≡ 0x80000000 + frame_at stack words }
+/// The code of a prologue, by what the configuration, the task code and the map say of the task.
+fn entry(
+    alloc: Global,
+    task: TaskId,
+    config: &Config,
+    app: &App,
+    levels: &Levels,
+    map: &Map,
+) -> Result<Vec<Instr>, AllocError>
+    requires exists { (task < length config.now.tasks) × (length config.now.tasks ≤ 30) }
+    requires levels { (levels.now.top < 32) × ((t : ℕ) → slice_index levels.now.task t < 32) }
+    requires body { (body : ℕ) × IsBody app.now.funcs task body }
+    requires frames { All (λ func. func.frame_words ≤ 32) app.now.funcs }
+    requires tops { (length map.now.tops ≡ length config.now.tasks) × All IsTop map.now.tops }
+    requires items { (length app.now.funcs ≤ length map.now.places.first) × All (λ i. i < length map.now.places.items) map.now.places.first }
+    ensures size { IfOk result (λ code. length code.items ≤ 256) }
+    ensures enters { IfOk result (λ code. EntersTask task config.now app.now levels.now map.now code.items) }
 {
-    stack.base + stack.len - 4 * words
+    let body = body_of(app.funcs.items(), task);
+    let words = app.funcs.items()[body].frame_words;
+    let top = map.tops.items()[task.0 as usize];
+    let first = map.places.items.items()[map.places.first.items()[body] as usize];
+    let decl = &config.tasks.items()[task.0 as usize];
+    let level = if decl.non {
+        levels.top
+    } else {
+        levels.task[task.0 as usize]
+    };
+    code_of(
+        alloc,
+        decl.extended,
+        task.0,
+        level,
+        frame_address(top, words),
+        words,
+        first,
+    )
 }
 
-/// The code of a prologue.
+/// The address of a frame of so many words that ends at an address.
+fn frame_address(top: u32, words: u32) -> u32
+    requires { IsTop top × (words ≤ 32) }
+    ensures { result ≡ 0x80000000 + frame_at top words }
+{
+    top - 4 * words
+}
+
+/// The code of a prologue, which is that of an extended task or of a basic one.
+fn code_of(
+    alloc: Global,
+    extended: bool,
+    task: u32,
+    level: u8,
+    frame: u32,
+    words: u32,
+    first: u32,
+) -> Result<Vec<Instr>, AllocError>
+    requires small { (task < 30) × (level < 32) × (words ≤ 32) }
+    requires in_ram { 0x80000000 ≤ frame }
+    ensures size { IfOk result (λ code. length code.items ≤ 256) }
+    ensures enters { IfOk result (λ code. DoesEnter extended task level first (frame - 0x80000000) words code.items) }
+{
+    if extended {
+        extended_code(alloc, task, level, frame, words, first)
+    } else {
+        code(alloc, task, level, frame, words, first)
+    }
+}
+
+/// The code of the prologue of a basic task.
 fn code(
     alloc: Global,
     task: u32,
@@ -86,6 +131,28 @@ fn code(
     let mut code = Vec::new(alloc);
     save_context(&mut code)?;
     mark_active(&mut code, task, level)?;
+    start_anew(&mut code, frame, words, first)?;
+    Ok(code)
+}
+
+/// The code of the prologue of an extended task.
+fn extended_code(
+    alloc: Global,
+    task: u32,
+    level: u8,
+    frame: u32,
+    words: u32,
+    first: u32,
+) -> Result<Vec<Instr>, AllocError>
+    requires small { (task < 30) × (level < 32) × (words ≤ 32) }
+    requires in_ram { 0x80000000 ≤ frame }
+    ensures { IfOk result (λ code. EntersOrResumes task level first (frame - 0x80000000) words code.items) }
+{
+    let mut code = Vec::new(alloc);
+    save_context(&mut code)?;
+    mark_active(&mut code, task, level)?;
+    ask_kept(&mut code, task)?;
+    go_on(&mut code, task)?;
     start_anew(&mut code, frame, words, first)?;
     Ok(code)
 }

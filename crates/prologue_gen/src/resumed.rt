@@ -1,6 +1,5 @@
 //! The parts of an extended task's prologue: where a context is kept for the task, it goes on behind its wait.
-ghost use Rattle.std.specs.Prelude.{◌≡◌, ◌+◌, ◌*◌, ◌<◌, ◌++◌, pos, OnOk};
-ghost use Rattle.sloth_region.specs.Layout as layout;
+ghost use Rattle.std.specs.Prelude.{◌≡◌, ◌<◌, ◌++◌, OnOk};
 ghost use Rattle.prologue_gen.specs.Pieces.{takes_own, answers_wait, goes_on, asks_kept};
 
 use rv32_instr::Instr;
@@ -8,22 +7,11 @@ use rv32_instr::asm::{A0, X1, X2, X3, X4, ZERO, addi, beq, csrrw, lw, mret, sw};
 use rv32_instr::csr::MEPC;
 use rv32_routine::emit::{emit, past, restore};
 use sloth_base::service::E_OK;
-use sloth_region::layout::{CONTEXT_BYTES, CONTEXT_PC};
+use sloth_region::layout::{CONTEXT_BYTES, CONTEXT_PC, resume};
 use std::alloc::AllocError;
-
-/// Where the addresses of the tasks' own contexts begin, behind the service words.
-const RESUME_WORDS: i32 = 632;
 
 /// How many instructions take up a task's own context.
 const GOES_ON: u32 = 33;
-
-/// Where the address of a task's own context stands, behind the service words.
-fn resume(task: u32) -> i32
-    requires { task < 30 }
-    ensures { result ≡ pos (layout.resume task) }
-{
-    RESUME_WORDS + 4 * task as i32
-}
 
 /// x1 := the address of the task's own context; passes what takes it up where there is none. x4 holds 0x80000000.
 pub fn ask_kept(code: &mut Vec<Instr>, task: u32) -> Result<(), AllocError>

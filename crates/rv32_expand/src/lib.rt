@@ -2,7 +2,7 @@
 //! in an image, each behind its mark (`specs/InPlace`).
 #![tactic(auto)]
 
-mod addresses;
+pub mod addresses;
 mod all_sizes;
 mod draft;
 mod expanding;

@@ -1,7 +1,7 @@
 //! A configuration of one task, its levels and its task code, and the map of its kernel.
 ghost use Rattle.std.specs.Prelude.{◌≡◌, ◌<◌, ◌≤◌, ℕ, All, IfOk, length, slice_index};
 ghost use Rattle.sloth_base.specs.ConfigRange.{InRange};
-ghost use Rattle.prologue_gen.specs.Places.{IsBody, IsBasic, IsStack};
+ghost use Rattle.prologue_gen.specs.Places.{IsBody, IsBasic, IsTop};
 ghost use Rattle.vector_gen.specs.Vectors.{AreInReach};
 
 use sloth_base::app::{App, Func};
@@ -84,7 +84,7 @@ pub fn levels() -> Levels
 /// Where all stands: the task's prologue and stack, and the first item of its body.
 pub fn map(alloc: Global) -> Result<Map, NoMemory>
     ensures reach { IfOk result (λ map. AreInReach map.handlers) }
-    ensures stacks { IfOk result (λ map. (length map.stacks ≡ 1) × All IsStack map.stacks) }
+    ensures tops { IfOk result (λ map. (length map.tops ≡ 1) × All IsTop map.tops) }
     ensures items { IfOk result (λ map. (length map.places.first ≡ 1) × All (λ i. i < length map.places.items) map.places.first) }
 {
     let words = Extent {
@@ -95,6 +95,7 @@ pub fn map(alloc: Global) -> Result<Map, NoMemory>
         base: 0x8000_2200,
         len: 3072,
     };
+    let top = stack.base + stack.len;
     let mut handlers = [IDLE; 32];
     handlers[0] = 0x800f_fffc;
     Ok(Map {
@@ -106,6 +107,7 @@ pub fn map(alloc: Global) -> Result<Map, NoMemory>
             blocks: [0x8000_1000; 512],
         },
         stacks: List::from_vec(Vec::from_slice(alloc, &[stack])?),
+        tops: List::from_vec(Vec::from_slice(alloc, &[top])?),
         words,
         idle: IDLE,
         handlers,

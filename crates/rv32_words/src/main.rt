@@ -4,7 +4,7 @@
 
 ghost use Rattle.std.specs.Prelude.{ℕ, ◌≡◌, ◌<◌, ◌≤◌, All, length, slice_index};
 ghost use Rattle.event_gen.specs.Block.{HasBlock as HasEventBlock};
-ghost use Rattle.prologue_gen.specs.Places.{IsStack};
+ghost use Rattle.prologue_gen.specs.Places.{IsTop};
 ghost use Rattle.service_gen.specs.Block.{HasBlock};
 ghost use Rattle.vector_gen.specs.Vectors.{AreInReach};
 
@@ -57,7 +57,7 @@ fn list_prologue(
 ) -> anyhow::Result<()>
     requires frame { frame_words ≤ 32 }
     requires levels { (levels.now.top < 32) × ((t : ℕ) → slice_index levels.now.task t < 32) }
-    requires stacks { (length map.now.stacks ≡ 1) × All IsStack map.now.stacks }
+    requires tops { (length map.now.tops ≡ 1) × All IsTop map.now.tops }
     requires items { (length map.now.places.first ≡ 1) × All (λ i. i < length map.now.places.items) map.now.places.first }
 {
     let alloc = rt.alloc();
@@ -136,7 +136,7 @@ fn list_event_services(
 // Boot and the prologues in each form.
 fn list_entries(rt: &(impl Print + AllocGlobal), levels: &Levels, map: &Map) -> anyhow::Result<()>
     requires levels { (levels.now.top < 32) × ((t : ℕ) → slice_index levels.now.task t < 32) }
-    requires stacks { (length map.now.stacks ≡ 1) × All IsStack map.now.stacks }
+    requires tops { (length map.now.tops ≡ 1) × All IsTop map.now.tops }
     requires items { (length map.now.places.first ≡ 1) × All (λ i. i < length map.now.places.items) map.now.places.first }
 {
     list_boot(rt, true, levels, map)?;

@@ -9,3 +9,4 @@ pub mod Taking
 pub mod Serving
 pub mod Busy
 pub mod Stating
+pub mod Yielding

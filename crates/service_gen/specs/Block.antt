@@ -1,9 +1,9 @@
 -- Service blocks.
-use Rattle.std.specs.Prelude.{ℕ, ◌≡◌, ◌<◌, ◌≤◌, List, slice_index}
+use Rattle.std.specs.Prelude.{ℕ, ◌≡◌, ◌<◌, ◌≤◌, List, [], ◌∷◌, slice_index}
 use Rattle.sloth_base.specs.declared.image.Mark.{Mark}
 use Rattle.sloth_base.specs.declared.image.MarkKind.TheVariants as mark
 use Rattle.sloth_base.specs.declared.service.Service.{Service}
-use Rattle.sloth_base.specs.declared.service.Service.TheVariants.{ActivateTask, TerminateTask, ChainTask, GetTaskID, GetTaskState, GetResource, ReleaseResource}
+use Rattle.sloth_base.specs.declared.service.Service.TheVariants.{ActivateTask, TerminateTask, ChainTask, Schedule, GetTaskID, GetTaskState, GetResource, ReleaseResource}
 use Rattle.sloth_base.specs.declared.places.Levels.{Levels}
 use Rattle.rv32_instr.specs.declared.InstrKind.{InstrKind}
 use Rattle.service_gen.specs.ActivateTask.{Activates}
@@ -13,16 +13,28 @@ use Rattle.service_gen.specs.GetResource.{Takes}
 use Rattle.service_gen.specs.GetTaskID.{TellsTask}
 use Rattle.service_gen.specs.GetTaskState.{TellsState}
 use Rattle.service_gen.specs.ReleaseResource.{Releases}
+use Rattle.service_gen.specs.Schedule.{way_back, Yields}
+use Rattle.sloth_base.specs.Arithmetic.{sum32}
 
 -- the mark on the instruction with which a service of this code begins
 abbrev pub opening : ℕ → ℕ → Mark
 opening address code = record { address = address; kind = mark.Opening; a = code; b = 0; c = 0 }
+
+-- the mark on the instruction with which a task comes back from Schedule
+abbrev pub back_mark : ℕ → Mark
+back_mark address = record { address = address; kind = mark.Back; a = 0; b = 0; c = 0 }
+
+-- the marks behind the opening in a block at this address: Schedule's has the way back
+abbrev pub further_marks : Service → ℕ → List Mark
+further_marks Schedule at = back_mark (sum32 at way_back) ∷ []
+further_marks service at = []
 
 -- the services whose code is generated so far; the object is a task, a resource, or 0 where there is none
 abbrev pub HasBlock : Service → ℕ → Type 0
 HasBlock ActivateTask object = object < 30
 HasBlock TerminateTask object = object ≡ 0
 HasBlock ChainTask object = object < 30
+HasBlock Schedule object = object ≡ 0
 HasBlock GetTaskID object = object ≡ 0
 HasBlock GetTaskState object = object < 30
 HasBlock GetResource object = object ≤ 32
@@ -34,6 +46,7 @@ abbrev pub Serves : Service → ℕ → Levels → List InstrKind → Type 0
 Serves ActivateTask object levels code = Activates object code
 Serves TerminateTask object levels code = Terminates code
 Serves ChainTask object levels code = Chains object code
+Serves Schedule object levels code = Yields code
 Serves GetTaskID object levels code = TellsTask code
 Serves GetTaskState object levels code = TellsState object code
 Serves GetResource object levels code = Takes object (slice_index levels.ceiling object) code

@@ -8,3 +8,4 @@ pub mod GetTaskState
 pub mod ReleaseResource
 pub mod ChainTask
 pub mod GetResource
+pub mod Schedule

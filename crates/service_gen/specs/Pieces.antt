@@ -4,7 +4,7 @@ use Rattle.sloth_base.specs.Status.{E_OK, E_OS_LIMIT}
 use Rattle.sloth_region.specs.Layout.{cur, active, saved, words_high, controller_high, pending_byte, enabled_byte}
 use Rattle.rv32_instr.specs.declared.csr.TheConstants.{MEPC, ILEVEL, PLEVEL}
 use Rattle.rv32_instr.specs.declared.InstrKind.{InstrKind}
-use Rattle.rv32_instr.specs.declared.InstrKind.TheVariants.{Beq, Bgeu, Lui, Lw, Lbu, Sw, Sb, Add, Addi, Sub, Sltu, Or, Xori, Slli, Csrrs, Csrrw, Mret}
+use Rattle.rv32_instr.specs.declared.InstrKind.TheVariants.{Beq, Bgeu, Lui, Auipc, Lw, Lbu, Sw, Sb, Add, Addi, Sub, Sltu, Or, Xori, Slli, Csrrs, Csrrw, Mret}
 use Rattle.rv32_routine.specs.Kernel.{masking}
 use Rattle.rv32_routine.specs.Pieces.{past}
 
@@ -94,3 +94,20 @@ tells_resting task = Lbu 3 1 (pos (pending_byte task)) ∷ Addi 11 0 (pos 3) ∷
 abbrev pub asks_waiting : ℕ → List InstrKind
 asks_waiting task =
     Lui 1 controller_high ∷ Lbu 3 1 (pos (enabled_byte task)) ∷ Addi 11 0 (pos 1) ∷ Beq 3 0 (past (tells_resting task)) ∷ []
+
+-- the level byte of its line, from there behind the controller's address
+abbrev pub own_level : ℤ
+own_level = pos 63
+
+-- leaves the level that runs in x30, and that of the running task's line for `mret`; x4 holds 0x80000000
+abbrev pub lowers : List InstrKind
+lowers =
+    Csrrs 30 0 ILEVEL ∷ Lw 3 4 (pos cur) ∷ Lui 1 controller_high ∷ Add 1 1 3 ∷ Lbu 3 1 own_level ∷ Csrrw 0 3 PLEVEL ∷ []
+
+-- with the status E_OK to the way back, which stands behind it
+abbrev pub stops_at_back : List InstrKind
+stops_at_back = Auipc 3 0 ∷ Addi 3 3 (pos 20) ∷ Csrrw 0 3 MEPC ∷ Addi 10 0 (pos E_OK) ∷ Mret ∷ []
+
+-- the way back: to the level in x30, and to the address in x31
+abbrev pub comes_back : List InstrKind
+comes_back = masking ∷ Csrrw 0 30 PLEVEL ∷ Csrrw 0 31 MEPC ∷ Mret ∷ []

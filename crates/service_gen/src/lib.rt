@@ -3,7 +3,7 @@
 
 ghost use Rattle.std.specs.Prelude.{◌≡◌, ◌+◌, ◌*◌, ◌<◌, ◌≤◌, [], ◌∷◌, IfOk, length, slice_index};
 ghost use Rattle.sloth_base.specs.ServiceCodes.{code_of};
-ghost use Rattle.service_gen.specs.Block.{opening, HasBlock, Serves};
+ghost use Rattle.service_gen.specs.Block.{opening, back_mark, further_marks, HasBlock, Serves};
 
 mod activate_task;
 mod chain_task;
@@ -12,8 +12,10 @@ mod get_task_id;
 mod get_task_state;
 pub mod pieces;
 mod release_resource;
+mod schedule;
 mod terminate_task;
 
+use crate::schedule::WAY_BACK;
 use rv32_instr::{Block, Instr};
 use sloth_base::config::Config;
 use sloth_base::image::{Mark, MarkKind};
@@ -36,26 +38,44 @@ pub fn block(
 ) -> Result<Block, NoMemory>
     requires { HasBlock service object }
     ensures at { IfOk result (λ block. block.at ≡ slice_index map.now.places.blocks (code_of service * 40 + object)) }
-    ensures marks { IfOk result (λ block. block.marks ≡ opening block.at (code_of service) ∷ []) }
+    ensures marks { IfOk result (λ block. block.marks ≡ opening block.at (code_of service) ∷ further_marks service block.at) }
     ensures size { IfOk result (λ block. length block.code ≤ 256) }
     ensures effect { IfOk result (λ block. Serves service object levels.now block.code) }
 {
     let number = service.code();
     let at = map.places.blocks[number as usize * 40 + small(service, object) as usize];
     let code = code(alloc, service, small(service, object), levels)?;
-    let mark = Mark {
-        address: at,
-        kind: MarkKind::Opening,
-        a: number,
-        b: 0,
-        c: 0,
-    };
-    let marks = Vec::from_slice(alloc, &[mark])?;
+    let marks = marks(alloc, service, at)?;
     Ok(Block {
         at,
         code: List::from_vec(code),
         marks: List::from_vec(marks),
     })
+}
+
+/// The opening mark of a block at this address, and behind Schedule's the mark of the way back.
+fn marks(alloc: Global, service: Service, at: u32) -> Result<Vec<Mark>, AllocError>
+    ensures { IfOk result (λ marks. marks.items ≡ opening at (code_of service) ∷ further_marks service at) }
+{
+    let mut marks = Vec::new(alloc);
+    marks.push(plain_mark(at, MarkKind::Opening, service.code()))?;
+    if let Service::Schedule = service {
+        marks.push(plain_mark(at.wrapping_add(WAY_BACK), MarkKind::Back, 0))?;
+    }
+    Ok(marks)
+}
+
+/// A mark with one field.
+fn plain_mark(address: u32, kind: MarkKind, a: u8) -> Mark
+    ensures { result ≡ record { address = address; kind = kind; a = a; b = 0; c = 0 } }
+{
+    Mark {
+        address,
+        kind,
+        a,
+        b: 0,
+        c: 0,
+    }
 }
 
 /// The object's number, which is below 40.
@@ -68,6 +88,7 @@ fn small(service: Service, object: u32) -> u8
         Service::ActivateTask => object as u8,
         Service::TerminateTask => object as u8,
         Service::ChainTask => object as u8,
+        Service::Schedule => object as u8,
         Service::GetTaskID => object as u8,
         Service::GetTaskState => object as u8,
         Service::GetResource => object as u8,
@@ -90,6 +111,7 @@ fn code(
         Service::ActivateTask => activate_task::code(alloc, object),
         Service::TerminateTask => terminate_task::code(alloc),
         Service::ChainTask => chain_task::code(alloc, object),
+        Service::Schedule => schedule::code(alloc),
         Service::GetTaskID => get_task_id::code(alloc),
         Service::GetTaskState => get_task_state::code(alloc, object),
         Service::GetResource => {

@@ -1,17 +1,14 @@
 -- The law of the entry of a task that starts anew.
-use Rattle.std.proofs.Common.{◌≡◌, ℕ, ◌+◌, ◌-◌, ◌*◌, ◌%◌, ◌<◌, ◌≤◌, List, [], ◌∷◌, length, refl, sym, ap, ◌∙◌, subst, arith, ⊎_elim, inl, inr, Some}
-use Rattle.std.specs.Prelude.{◌⊎◌, slice_index, replicate}
+use Rattle.std.proofs.Common.{◌≡◌, ℕ, ◌+◌, ◌-◌, ◌*◌, ◌%◌, ◌<◌, ◌≤◌, [], ◌∷◌, length, refl, sym, ap, ◌∙◌, subst, arith, ⊎_elim, inl, inr, Some}
+use Rattle.std.specs.Prelude.{◌⊎◌, slice_index}
 use Rattle.std.proofs.lemmas.Bool.{cases_lt}
-use Rattle.std.proofs.lemmas.List.{length-replicate, get_or_past}
+use Rattle.std.proofs.lemmas.List.{get_or_past}
 use Rattle.sloth_base.specs.declared.app.App.{App}
 use Rattle.sloth_base.specs.declared.app.Func.{Func}
 use Rattle.sloth_base.specs.declared.event.Event.TheVariants as event
 use Rattle.sloth_base.specs.Machine.{State}
 use Rattle.sloth_base.specs.Choose.{choose}
-use Rattle.sloth_region.specs.Layout.{cur, below_word, resume}
-use Rattle.rv32_instr.specs.Ram.{word_at}
-use Rattle.rv32_routine.specs.Pieces.{registers_from}
-use Rattle.rv32_routine.proofs.Words.{word_below}
+use Rattle.sloth_region.specs.Layout.{resume}
 use Rattle.osek_machine.specs.declared.state.TaskState.TheVariants as mode
 use Rattle.osek_machine.specs.State.{Task, System, task, with_task, declaration, body_of, entry_frame, zero_registers}
 use Rattle.sloth_base.specs.Named.{function, missing}
@@ -22,21 +19,22 @@ use Rattle.sim_relation.specs.Build.{Build, Fits}
 use Rattle.sim_relation.specs.Position.{AreWords, thread_of}
 use Rattle.sim_relation.specs.Context.{Context}
 use Rattle.sim_relation.specs.Stands.{Stands}
-use Rattle.sim_relation.specs.Entry.{EntryRam, EntryMachine, TaskEntry}
+use Rattle.sim_relation.specs.Entry.{EntryRam, TaskEntry}
 use Rattle.sim_relation.proofs.AtItem.{position_first}
 use Rattle.sim_relation.proofs.Parts.{rests}
 use Rattle.sim_relation.proofs.Tops.{falling_active}
-use Rattle.sim_relation.proofs.Spot.{Spot, spot}
 use Rattle.sim_relation.proofs.Entering.{entry_stands}
 use Rattle.sim_relation.proofs.Choice.{taken_declared, taken_ready, taken_top}
 use Rattle.sim_relation.proofs.Room.{first_room}
 use Rattle.sim_entries.specs.Range.{Sane}
 use Rattle.sim_entries.specs.Entries.{EntersAnew, StandsAlone, first_words}
-use Rattle.sim_entries.proofs.Spot.{registers_at, registers_small, zeros_small, zero_at, context_words, words_small, stored_apart}
-use Rattle.sim_entries.proofs.EntryRam as ram
+use Rattle.sim_entries.proofs.EntryRam.{IsStored}
+use Rattle.sim_entries.proofs.Saving.{preempted, cleared, cleared_long, saved, is_saved, entry_ram, entry_machine}
+use Rattle.sim_entries.proofs.Spot.{zero_at, stored_apart}
+use Rattle.rv32_routine.specs.Pieces.{registers_from}
 
 -- a function that has items is there
-there : (app : App) (f : ℕ) → 0 < length (function app f).items → f < length app.funcs
+pub there : (app : App) (f : ℕ) → 0 < length (function app f).items → f < length app.funcs
 there app f h =
     ⊎_elim
     (λ (l : f < length app.funcs). l)
@@ -67,35 +65,17 @@ module _ (b : Build) (state end : State) (s : System) (t place : ℕ) (fits : Fi
   is_next : settled (with_task s t own) ≡ settled (entered b.config b.app t s)
   is_next = sym (ap (λ fs. settled (with_task s t (record (starts b.app t fs (task s t)) { state = mode.Active; raised = (declaration b.config t).non }))) fresh)
 
-  sp : Spot b s k.stack place
-  sp = spot b state s k.stack place fits k.apart k.active.falling x2 k.running
+  frame_room : (b.low t + 128 ≤ frame) × (frame + 4 * words ≡ b.top t) × (frame % 4 ≡ 0)
+  frame_room = let g = first_room b fits t declared in let z = fits.to t declared in (omega arith, omega arith, omega arith)
 
-  -- ---- the RAM
-  abbrev old : List ℕ
-  old = state.core.ram
+  from : b.low t ≤ frame
+  from = let g = frame_room in omega arith
 
-  abbrev four : List ℕ
-  four = context_words state.pc state.core.ilevel (word_at old cur) (word_at old below_word)
-
-  abbrev rest : List ℕ
-  rest = registers_from 27 5 state.core.registers
-
-  abbrev zeros : List ℕ
-  zeros = replicate words 0
-
-  zeros_long : length zeros ≡ words
-  zeros_long = length-replicate words 0
-
-  few30 : t < 30
-  few30 = let g = fits.few_tasks in let l = declared in omega arith
-
-  frame_room : (b.low t + 128 ≤ frame) × (frame + 4 * length zeros ≡ b.top t) × (b.top t ≤ 2097152) × (1024 ≤ frame) × (frame % 4 ≡ 0)
-  frame_room =
-      let g = first_room b fits t declared in let y = fits.from t declared in let z = fits.to t declared in let n = zeros_long in
-      (omega arith, omega arith, omega arith, omega arith, omega arith)
+  to : frame + 4 * words ≤ b.top t
+  to = let g = frame_room in omega arith
 
   -- the context is stored apart from the frame
-  apart_frame : (place + 128 ≤ frame) ⊎ (frame + 4 * length zeros ≤ place)
+  apart_frame : (place + 128 ≤ frame) ⊎ (frame + 4 * words ≤ place)
   apart_frame =
       let g = frame_room in
       ⊎_elim (λ (a : b.top t ≤ place). inr (omega arith)) (λ (a : place + 128 ≤ b.low t). inl (omega arith))
@@ -104,64 +84,18 @@ module _ (b : Build) (state end : State) (s : System) (t place : ℕ) (fits : Fi
       let c = falling_active b s k.stack k.active.falling v h in
       alone v c.declared (λ z. let r = ready in let d : (task s t).state ≡ mode.Active = subst (λ x. (task s x).state ≡ mode.Active) z c.active in cc) (inl c.active)))
 
-  small_four : (j : ℕ) → slice_index four j < 4294967296
-  small_four = words_small state.pc state.core.ilevel (word_at old cur) (word_at old below_word) sane.pc (let i = sane.level in omega arith) (word_below old cur sane.bytes) (word_below old below_word sane.bytes)
-
-  small_rest : (j : ℕ) → slice_index rest j < 4294967296
-  small_rest = registers_small 27 5 state.core.registers sane.registers
-
-  frame_inside : frame + 4 * length zeros ≤ 2097152
-  frame_inside = let g = frame_room in omega arith
-
-  abbrev new : List ℕ
-  new = ram.new old four rest zeros place t frame k.fixed.ram refl refl few30 sp.behind sp.aligned sp.inside frame_room.3 frame_inside apart_frame small_four small_rest (zeros_small words)
-
-  ram_is : end.core.ram ≡ new
+  ram_is : end.core.ram ≡ saved state t place frame words
   ram_is = effect.left.ram
 
-  word_is : (j : ℕ) → j < 4 → word_at new (place + 4 * j) ≡ slice_index four j
-  word_is = ram.word_is old four rest zeros place t frame k.fixed.ram refl refl few30 sp.behind sp.aligned sp.inside frame_room.3 frame_inside apart_frame small_four small_rest (zeros_small words)
+  is_stored : IsStored state.core.ram (preempted state) (registers_from 27 5 state.core.registers) (cleared words) place t frame (saved state t place frame words)
+  is_stored = is_saved b state s t place fits k sane e x2 frame words from to apart_frame
 
-  entry_ram : EntryRam b state new t place
-  entry_ram =
-      let g = frame_room in
-      let d = few30 in
-      record {
-        long = ram.long_new old four rest zeros place t frame k.fixed.ram refl refl few30 sp.behind sp.aligned sp.inside frame_room.3 frame_inside apart_frame small_four small_rest (zeros_small words);
-        outside = λ i h x y. ram.outside old four rest zeros place t frame k.fixed.ram refl refl few30 sp.behind sp.aligned sp.inside frame_room.3 frame_inside apart_frame small_four small_rest (zeros_small words) i h x
-            (⊎_elim (λ (z : i < b.low t). inl (omega arith)) (λ (z : b.top t ≤ i). inr (omega arith)) y);
-        pc_word = let p : place + 4 * 0 ≡ place = omega arith in ap (word_at new) (sym p) ∙ word_is 0 (omega arith);
-        level_word = word_is 1 (omega arith);
-        current_word = word_is 2 (omega arith);
-        link_word = word_is 3 (omega arith);
-        register_words = λ i x y.
-            let p : place + 20 + 4 * (i - 5) ≡ place + 4 * i = omega arith in
-            let v : 5 + (i - 5) ≡ i = omega arith in
-            ap (word_at new) (sym p)
-            ∙ ram.register_is old four rest zeros place t frame k.fixed.ram refl refl few30 sp.behind sp.aligned sp.inside frame_room.3 frame_inside apart_frame small_four small_rest (zeros_small words) (i - 5) (omega arith)
-            ∙ registers_at 27 5 (i - 5) state.core.registers (omega arith) ∙ ap (λ j. slice_index state.core.registers j) v;
-        named = λ p h a n0 n1 n2 n3. ram.named old four rest zeros place t frame k.fixed.ram refl refl few30 sp.behind sp.aligned sp.inside frame_room.3 frame_inside apart_frame small_four small_rest (zeros_small words) p h a n0 n1 n2;
-        current = ram.current_is old four rest zeros place t frame k.fixed.ram refl refl few30 sp.behind sp.aligned sp.inside frame_room.3 frame_inside apart_frame small_four small_rest (zeros_small words);
-        link = ram.link_is old four rest zeros place t frame k.fixed.ram refl refl few30 sp.behind sp.aligned sp.inside frame_room.3 frame_inside apart_frame small_four small_rest (zeros_small words);
-        activity = ram.activity_is old four rest zeros place t frame k.fixed.ram refl refl few30 sp.behind sp.aligned sp.inside frame_room.3 frame_inside apart_frame small_four small_rest (zeros_small words);
-        resumption =
-            ram.named old four rest zeros place t frame k.fixed.ram refl refl few30 sp.behind sp.aligned sp.inside frame_room.3 frame_inside apart_frame small_four small_rest (zeros_small words)
-            (resume t) (omega arith) (omega arith) (λ a. omega arith) (λ a. omega arith) (λ a. omega arith)
-            ∙ rests b old t (task s t) (is_active (task s t).state) (task s t).frames fresh (k.words t declared).resumption;
-      }
-
-  machine : EntryMachine b state end t
-  machine = record {
-    registers = effect.left.registers ∙ sym k.fixed.registers;
-    zero = effect.left.zero ∙ sym k.fixed.zero;
-    level = effect.left.running;
-    pending = effect.left.pending;
-    enabled = effect.left.enabled;
-    levels = effect.left.levels;
-    controller = effect.left.controller;
-    open_to_lines = effect.left.opened;
-    previous = effect.left.previous;
-  }
+  ram : EntryRam b state (saved state t place frame words) t place
+  ram = entry_ram b state s t place fits k sane e x2 frame words from to apart_frame (saved state t place frame words) refl (λ i h. refl) (λ p h n. refl)
+      (let d = declared in
+      let g = fits.few_tasks in
+      is_stored.named (resume t) (omega arith) (omega arith) (λ a. omega arith) (λ a. omega arith) (λ a. omega arith)
+      ∙ rests b state.core.ram t (task s t) (is_active (task s t).state) (task s t).frames fresh (k.words t declared).resumption)
 
   context : Context b end.core.ram t own (thread_of end) frame
   context = record {
@@ -170,15 +104,18 @@ module _ (b : Build) (state end : State) (s : System) (t place : ℕ) (fits : Fi
     position =
         position_first b end.core.ram t own (thread_of end) frame (entry_frame b.app (body_of b.app.funcs t)) [] refl
         ((k.tidy.each t declared).at_rest (ap is_active ready)).1 has_item effect.pc
-        (zeros_long, subst (λ x. AreWords x frame zeros) (sym ram_is) (ram.frame_words old four rest zeros place t frame k.fixed.ram refl refl few30 sp.behind sp.aligned sp.inside frame_room.3 frame_inside apart_frame small_four small_rest (zeros_small words)), frame_room.1);
+        (cleared_long words, subst (λ x. AreWords x frame (cleared words)) (sym ram_is) is_stored.frame_words, ends);
     room = frame_room.0;
-    aligned = frame_room.4;
+    aligned = frame_room.2;
   }
+    where
+      ends : frame + 4 * length (cleared words) ≡ b.top t
+      ends = let n = cleared_long words in let g = frame_room in omega arith
 
   entry : TaskEntry b state end s t own place
   entry = record {
-    ram = subst (λ x. EntryRam b state x t place) (sym ram_is) entry_ram;
-    machine = machine;
+    ram = subst (λ x. EntryRam b state x t place) (sym ram_is) ram;
+    machine = entry_machine b state s t place fits k sane e x2 end (saved state t place frame words) effect.left;
     state = refl;
     events = refl;
     held = refl;

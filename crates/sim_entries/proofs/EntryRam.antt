@@ -1,4 +1,4 @@
--- The RAM that the prologue of a task that starts anew leaves.
+-- The RAM that an entry leaves: a context, the words of the entry, and a frame.
 use Rattle.std.proofs.Common.{◌≡◌, ℕ, suc, ◌+◌, ◌*◌, ◌%◌, ◌<◌, ◌≤◌, List, [], ◌∷◌, length, ◌∙◌, arith, ⊎_elim, inl, inr}
 use Rattle.std.specs.Prelude.{◌⊎◌, ◌≢◌, slice_index}
 use Rattle.sloth_region.specs.Layout.{cur, below_word, active, idle_context, context_bytes}
@@ -16,28 +16,46 @@ written (word ∷ words) ram place h s =
       written words (with_word ram place word) (place + 4) (omega arith) (λ i. s (suc i)),
     )
 
--- `words` and `registers` stand in the context at `place`, and `zeros` in the frame
+-- `words` and `registers` are stored in the context at `place`, and `zeros` in the frame
+abbrev pub stored : (ram words registers zeros : List ℕ) (place t frame : ℕ) → List ℕ
+stored ram words registers zeros place t frame =
+    with_words
+    (with_word (with_word (with_word (with_words (with_words ram (place + 20) registers) place words) below_word (0x8000_0000 + place)) cur (t + 1)) (active t) 1)
+    frame zeros
+
+-- what the bytes are then
+pub record IsStored (ram words registers zeros : List ℕ) (place t frame : ℕ) (new : List ℕ) : Type 0 where
+  pub long : length new ≡ 2097152
+  pub outside : (i : ℕ) → idle_context ≤ i → (i < place) ⊎ (place + context_bytes ≤ i) → (i < frame) ⊎ (frame + 4 * length zeros ≤ i) → slice_index new i ≡ slice_index ram i
+  pub word_is : (j : ℕ) → j < 4 → word_at new (place + 4 * j) ≡ slice_index words j
+  pub register_is : (j : ℕ) → j < 27 → word_at new (place + 20 + 4 * j) ≡ slice_index registers j
+  pub frame_words : AreWords new frame zeros
+  pub named : (p : ℕ) → p + 4 ≤ idle_context → p % 4 ≡ 0 → p ≢ cur → p ≢ below_word → p ≢ active t → word_at new p ≡ word_at ram p
+  pub current : word_at new cur ≡ t + 1
+  pub link : word_at new below_word ≡ 0x8000_0000 + place
+  pub activity : word_at new (active t) ≡ 1
+
 module _ (ram words registers zeros : List ℕ) (place t frame : ℕ) (size : length ram ≡ 2097152) (four : length words ≡ 4) (rest : length registers ≡ 27)
     (declared : t < 30) (behind : idle_context ≤ place) (aligned : place % 4 ≡ 0) (inside : place + context_bytes ≤ 2097152) (frame_from : 1024 ≤ frame) (frame_inside : frame + 4 * length zeros ≤ 2097152)
     (apart : (place + context_bytes ≤ frame) ⊎ (frame + 4 * length zeros ≤ place))
     (small_words : (i : ℕ) → slice_index words i < 4294967296) (small_registers : (i : ℕ) → slice_index registers i < 4294967296) (small_zeros : (i : ℕ) → slice_index zeros i < 4294967296) where
-  abbrev pub ram1 : List ℕ
+  abbrev ram1 : List ℕ
   ram1 = with_words ram (place + 20) registers
 
-  abbrev pub ram2 : List ℕ
+  abbrev ram2 : List ℕ
   ram2 = with_words ram1 place words
 
-  abbrev pub ram3 : List ℕ
+  abbrev ram3 : List ℕ
   ram3 = with_word ram2 below_word (0x8000_0000 + place)
 
-  abbrev pub ram4 : List ℕ
+  abbrev ram4 : List ℕ
   ram4 = with_word ram3 cur (t + 1)
 
-  abbrev pub ram5 : List ℕ
+  abbrev ram5 : List ℕ
   ram5 = with_word ram4 (active t) 1
 
-  abbrev pub new : List ℕ
-  new = with_words ram5 frame zeros
+  abbrev new : List ℕ
+  new = stored ram words registers zeros place t frame
 
   long1 : length ram1 ≡ 2097152
   long1 = length-with_words registers ram (place + 20) ∙ size
@@ -48,7 +66,7 @@ module _ (ram words registers zeros : List ℕ) (place t frame : ℕ) (size : le
   long5 : length ram5 ≡ 2097152
   long5 = length-with_word ram4 (active t) 1 ∙ length-with_word ram3 cur (t + 1) ∙ length-with_word ram2 below_word (0x8000_0000 + place) ∙ long2
 
-  pub long_new : length new ≡ 2097152
+  long_new : length new ≡ 2097152
   long_new = length-with_words zeros ram5 frame ∙ long5
 
   -- bytes above the named words: outside the context and the frame they stay
@@ -56,7 +74,7 @@ module _ (ram words registers zeros : List ℕ) (place t frame : ℕ) (size : le
   high5 i h =
       get_or-with_word ram4 (active t) 1 i (inr (omega arith)) ∙ get_or-with_word ram3 cur (t + 1) i (inr (omega arith)) ∙ get_or-with_word ram2 below_word (0x8000_0000 + place) i (inr (omega arith))
 
-  pub outside : (i : ℕ) → idle_context ≤ i → (i < place) ⊎ (place + context_bytes ≤ i) → (i < frame) ⊎ (frame + 4 * length zeros ≤ i) → slice_index new i ≡ slice_index ram i
+  outside : (i : ℕ) → idle_context ≤ i → (i < place) ⊎ (place + context_bytes ≤ i) → (i < frame) ⊎ (frame + 4 * length zeros ≤ i) → slice_index new i ≡ slice_index ram i
   outside i h a b =
       get_or-with_words zeros ram5 frame i b ∙ high5 i h
       ∙ get_or-with_words words ram1 place i (⊎_elim (λ (x : i < place). inl (omega arith)) (λ (x : place + context_bytes ≤ i). inr (omega arith)) a)
@@ -70,20 +88,20 @@ module _ (ram words registers zeros : List ℕ) (place t frame : ℕ) (size : le
   context_word : (p : ℕ) → place ≤ p → p + 4 ≤ place + context_bytes → word_at new p ≡ word_at ram2 p
   context_word p x y = word_at-agree new ram2 p (λ i a b. in_context i (omega arith) (omega arith))
 
-  pub word_is : (j : ℕ) → j < 4 → word_at new (place + 4 * j) ≡ slice_index words j
+  word_is : (j : ℕ) → j < 4 → word_at new (place + 4 * j) ≡ slice_index words j
   word_is j h =
       let n = long1 in
       context_word (place + 4 * j) (omega arith) (omega arith)
       ∙ word_at-with_words words ram1 place j (omega arith) (omega arith) small_words
 
-  pub register_is : (j : ℕ) → j < 27 → word_at new (place + 20 + 4 * j) ≡ slice_index registers j
+  register_is : (j : ℕ) → j < 27 → word_at new (place + 20 + 4 * j) ≡ slice_index registers j
   register_is j h =
       context_word (place + 20 + 4 * j) (omega arith) (omega arith)
       ∙ word_at-others words ram1 place (place + 20 + 4 * j) (inr (omega arith))
       ∙ word_at-with_words registers ram (place + 20) j (omega arith) (omega arith) small_registers
 
   -- the frame
-  pub frame_words : AreWords new frame zeros
+  frame_words : AreWords new frame zeros
   frame_words = let n = long5 in written zeros ram5 frame (omega arith) small_zeros
 
   -- the named words
@@ -93,24 +111,37 @@ module _ (ram words registers zeros : List ℕ) (place t frame : ℕ) (size : le
   low_two : (p : ℕ) → p + 4 ≤ idle_context → word_at ram2 p ≡ word_at ram p
   low_two p h = word_at-others words ram1 place p (inl (omega arith)) ∙ word_at-others registers ram (place + 20) p (inl (omega arith))
 
-  pub named : (p : ℕ) → p + 4 ≤ idle_context → p % 4 ≡ 0 → p ≢ cur → p ≢ below_word → p ≢ active t → word_at new p ≡ word_at ram p
+  named : (p : ℕ) → p + 4 ≤ idle_context → p % 4 ≡ 0 → p ≢ cur → p ≢ below_word → p ≢ active t → word_at new p ≡ word_at ram p
   named p h a n0 n1 n2 =
       low_word p h ∙ word_other ram4 (active t) 1 p a (omega arith) n2 ∙ word_other ram3 cur (t + 1) p a (omega arith) n0 ∙ word_other ram2 below_word (0x8000_0000 + place) p a (omega arith) n1 ∙ low_two p h
 
-  pub current_is : word_at new cur ≡ t + 1
+  current_is : word_at new cur ≡ t + 1
   current_is =
       let n = length-with_word ram2 below_word (0x8000_0000 + place) in
       let l = long2 in
       low_word 0 (omega arith) ∙ word_other ram4 (active t) 1 0 (omega arith) (omega arith) (omega arith) ∙ word_at-same ram3 cur (t + 1) (omega arith) (omega arith)
 
-  pub link_is : word_at new below_word ≡ 0x8000_0000 + place
+  link_is : word_at new below_word ≡ 0x8000_0000 + place
   link_is =
       let l = long2 in
       low_word below_word (omega arith) ∙ word_other ram4 (active t) 1 below_word (omega arith) (omega arith) (λ e. omega arith) ∙ word_other ram3 cur (t + 1) below_word (omega arith) (omega arith) (omega arith) ∙ word_at-same ram2 below_word (0x8000_0000 + place) (omega arith) (omega arith)
 
-  pub activity_is : word_at new (active t) ≡ 1
+  activity_is : word_at new (active t) ≡ 1
   activity_is =
       let l = long2 in
       let n3 = length-with_word ram2 below_word (0x8000_0000 + place) in
       let n4 = length-with_word ram3 cur (t + 1) in
       low_word (active t) (omega arith) ∙ word_at-same ram4 (active t) 1 (omega arith) (omega arith)
+
+  pub is_stored : IsStored ram words registers zeros place t frame (stored ram words registers zeros place t frame)
+  is_stored = record {
+    long = long_new;
+    outside = outside;
+    word_is = word_is;
+    register_is = register_is;
+    frame_words = frame_words;
+    named = named;
+    current = current_is;
+    link = link_is;
+    activity = activity_is;
+  }

@@ -14,8 +14,7 @@ use Rattle.rv32_expand.specs.Expansion.{item_address}
 use Rattle.osek_machine.specs.State.{declaration, undeclared, body_of}
 use Rattle.sloth_base.specs.Named.{function, missing}
 use Rattle.osek_machine.specs.Priority.{greatest, highest}
-use Rattle.prologue_gen.specs.Fresh.{Enters}
-use Rattle.prologue_gen.specs.Places.{EntersTask, frame_at, first_item}
+use Rattle.prologue_gen.specs.Places.{EntersTask, DoesEnter, frame_at, first_item}
 use Rattle.prologue_gen.specs.Places as generator
 use Rattle.sloth_base.specs.PriorityLevels.{level_of}
 use Rattle.sim_relation.specs.Build.{Build, Fits, start_level}
@@ -65,16 +64,20 @@ module _ (b : Build) (levels : Levels) (map_of : Map) (t : ℕ) (code : List Ins
       let e : slice_index map_of.places.first enters.body ≡ slice_index map_of.places.first enters.body + 0 = omega arith in
       ap (λ i. slice_index map_of.places.items i) e ∙ ap (λ p. item_address p enters.body 0) (sym built.places) ∙ ap (λ f. item_address b.places f 0) body
 
-  frame : frame_at enters.stack enters.func.frame_words ≡ b.top t - 4 * first_words b t
+  frame : frame_at (slice_index map_of.tops t) enters.func.frame_words ≡ b.top t - 4 * first_words b t
   frame =
       let w = words in
-      let e = built.tops t enters.stack enters.is_stack in
+      let e = built.tops t declared in
       let r = first_room b fits t declared in
       omega arith
 
   pub enters_built : EntersBuilt b t code
   enters_built =
-      subst (λ x. Enters t (start_level b t) (item_address b.places (body_of b.app.funcs t) 0) (b.top t - 4 * first_words b t) x code) words
-      (subst (λ x. Enters t (start_level b t) (item_address b.places (body_of b.app.funcs t) 0) x enters.func.frame_words code) frame
-      (subst (λ x. Enters t (start_level b t) x (frame_at enters.stack enters.func.frame_words) enters.func.frame_words code) first
-      (subst (λ x. Enters t x (first_item map_of.places enters.body) (frame_at enters.stack enters.func.frame_words) enters.func.frame_words code) level enters.enters)))
+      let kind : Bool = (declaration b.config t).extended in
+      let at : ℕ = frame_at (slice_index map_of.tops t) enters.func.frame_words in
+      subst (λ x. DoesEnter kind t (start_level b t) (item_address b.places (body_of b.app.funcs t) 0) (b.top t - 4 * first_words b t) x code) words
+      (subst (λ x. DoesEnter kind t (start_level b t) (item_address b.places (body_of b.app.funcs t) 0) x enters.func.frame_words code) frame
+      (subst (λ x. DoesEnter kind t (start_level b t) x at enters.func.frame_words code) first
+      (subst (λ x. DoesEnter kind t x (first_item map_of.places enters.body) at enters.func.frame_words code) level
+      (subst (λ (d : TaskDecl). DoesEnter d.extended t (generator.start_level enters.decl t levels) (first_item map_of.places enters.body) at enters.func.frame_words code)
+      (sym decl) enters.enters))))

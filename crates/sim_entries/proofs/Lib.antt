@@ -1,8 +1,10 @@
 pub mod EntryRam
 pub mod Spot
+pub mod Saving
 pub mod Enter
+pub mod OwnContext
+pub mod Resume
 pub mod Boot
-pub mod Codes
 pub mod BootRoute
 pub mod EnterRoute
 pub mod Generated

@@ -20,7 +20,8 @@ pub record BootStands (b : Build) : Type 0 where
   pub boots : Boots b.config.tasks levels b.idle code
   pub placed : IsPlaced b 0x480 code
 
--- The prologue of a task, which starts it anew, and the jump to it at the vector of the task's line. Its body has an item.
+-- The prologue of a task, which starts it anew or goes on behind its wait, and the jump to it at the vector of the task's line. Its
+-- body has an item.
 pub record PrologueStands (b : Build) (t : ℕ) : Type 0 where
   pub offset : ℕ
   pub code : List InstrKind
@@ -29,5 +30,5 @@ pub record PrologueStands (b : Build) (t : ℕ) : Type 0 where
   pub jump : ℤ
   pub vector_word : IsPlaced b (vector t) (Jal 0 jump ∷ [])
   pub to_code : plus (0x8000_0000 + vector t) jump ≡ 0x8000_0000 + offset
-  pub few_words : first_words b t ≤ 85
+  pub few_words : first_words b t ≤ 32
   pub has_item : 0 < length (function b.app (body_of b.app.funcs t)).items

@@ -1,9 +1,8 @@
 -- What is built, by the levels and the map that the code is generated from.
-use Rattle.std.specs.Prelude.{ℕ, ◌+◌, ◌<◌, ◌≡◌, List, length, Some}
+use Rattle.std.specs.Prelude.{ℕ, ◌+◌, ◌<◌, ◌≡◌, List, length, slice_index, Some}
 use Rattle.std.specs.List.{slice_get}
 use Rattle.sloth_base.specs.declared.app.Func.{Func}
 use Rattle.sloth_base.specs.declared.places.Levels.{Levels}
-use Rattle.sloth_region.specs.declared.extent.Extent.{Extent}
 use Rattle.sloth_region.specs.declared.map.Map.{Map}
 use Rattle.rv32_instr.specs.declared.InstrKind.{InstrKind}
 use Rattle.osek_machine.specs.State.{body_of}
@@ -16,8 +15,8 @@ use Rattle.sim_entries.specs.Entries.{EntersBuilt}
 pub record IsBuiltFrom (b : Build) (levels : Levels) (map : Map) : Type 0 where
   pub places : b.places ≡ map.places
   pub idle : b.idle ≡ map.idle
-  -- each task's part of the stacks ends where its stack does
-  pub tops : (t : ℕ) (stack : Extent) → slice_get map.stacks t ≡ Some stack → 0x8000_0000 + b.top t ≡ stack.base + stack.len
+  -- each task's part of the stacks ends where the map says
+  pub tops : (t : ℕ) → t < length b.config.tasks → 0x8000_0000 + b.top t ≡ slice_index map.tops t
   pub ranks : AreLevelsOf b levels.task
   pub highest : levels.top ≡ length b.config.tasks
 

@@ -1,16 +1,17 @@
 -- The laws of boot and of entries, without arrivals and in a run.
-use Rattle.std.specs.Prelude.{ℕ, ◌+◌, ◌<◌, ◌≡◌, List, [], length, Some, slice_index}
+use Rattle.std.specs.Prelude.{ℕ, ◌+◌, ◌<◌, ◌≡◌, ◌≢◌, List, [], true, length, Some, slice_index}
 use Rattle.sloth_base.specs.declared.event.Arrival.{Arrival}
 use Rattle.sloth_base.specs.declared.image.Image.{Image}
 use Rattle.sloth_base.specs.declared.event.Event.TheVariants as event
 use Rattle.sloth_base.specs.Machine.{State}
 use Rattle.sloth_base.specs.Choose.{choose}
-use Rattle.sloth_region.specs.Layout.{context_bytes}
+use Rattle.sloth_region.specs.Layout.{resume, context_bytes}
+use Rattle.rv32_instr.specs.Ram.{word_at}
 use Rattle.rv32_machine.specs.Run.{arrived}
 use Rattle.rv32_machine.specs.Start.{start}
 use Rattle.rv32_routine.specs.Trace.{Trace}
 use Rattle.observe.specs.Observe.{View}
-use Rattle.osek_machine.specs.State.{System, task, body_of, opening}
+use Rattle.osek_machine.specs.State.{System, HasBody, task, declaration, body_of, opening}
 use Rattle.sloth_base.specs.Named.{function}
 use Rattle.osek_machine.specs.Services.{entered}
 use Rattle.osek_machine.specs.Steps.{OsekStep, settled}
@@ -22,7 +23,7 @@ use Rattle.sim_relation.specs.Stands.{Stands}
 use Rattle.sim_relation.specs.Start.{started}
 use Rattle.vector_gen.specs.Boot.{Booted}
 use Rattle.sim_entries.specs.Range.{Sane}
-use Rattle.sim_entries.specs.Entries.{EntersAnew, StandsAlone}
+use Rattle.sim_entries.specs.Entries.{EntersAnew, EntersBehindWait, StandsAlone}
 use Rattle.sim_entries.specs.Boot.{IsImage, AreLevelsOf}
 use Rattle.sim_entries.specs.Codes.{BootStands, PrologueStands}
 
@@ -31,6 +32,14 @@ abbrev pub EnterLaw : Type 0
 EnterLaw = (b : Build) (state end : State) (s : System) (t place : ℕ) → Fits b → Stands b state s → Sane state
     → choose state.core ≡ Some t → (task s t).frames ≡ [] → 0 < length (function b.app (body_of b.app.funcs t)).items → StandsAlone b s t
     → slice_index state.core.registers 2 ≡ 0x8000_0000 + (place + context_bytes) → EntersAnew b t place state end
+    → OsekStep b.config b.app (event.Enter t) s (settled (entered b.config b.app t s)) × Stands b end (settled (entered b.config b.app t s))
+
+-- Where a task's line is the one taken and a context is kept for the task, its prologue is the event Enter, whatever ran.
+abbrev pub ResumeLaw : Type 0
+ResumeLaw = (b : Build) (state end : State) (s : System) (t place own : ℕ) → Fits b → Stands b state s → Sane state
+    → choose state.core ≡ Some t → (task s t).frames ≢ [] → HasBody b.app t
+    → slice_index state.core.registers 2 ≡ 0x8000_0000 + (place + context_bytes) → word_at state.core.ram (resume t) ≡ 0x8000_0000 + own
+    → EntersBehindWait b t place own state end
     → OsekStep b.config b.app (event.Enter t) s (settled (entered b.config b.app t s)) × Stands b end (settled (entered b.config b.app t s))
 
 -- From the start of the machine, boot is the event Boot.
@@ -51,4 +60,11 @@ abbrev pub EnterStretch : Type 0
 EnterStretch = (b : Build) (view : View) (arrivals : List Arrival) (count t : ℕ) (state : State) (s : System) → IsSetting (setting_of b view arrivals)
     → Fits b → 0 < count → Stands b state s → Sane (arrived arrivals count state) → choose (arrived arrivals count state).core ≡ Some t
     → (task (with_admits (lines_at arrivals count) s) t).frames ≡ [] → StandsAlone b (with_admits (lines_at arrivals count) s) t → PrologueStands b t
+    → (next : State) × (trace : Trace) × (end : State) × StretchLaw (setting_of b view arrivals) (Stands b) count state s next trace end
+
+-- Where it is that of an extended task that is to go on behind its wait, so is its prologue.
+abbrev pub ResumeStretch : Type 0
+ResumeStretch = (b : Build) (view : View) (arrivals : List Arrival) (count t : ℕ) (state : State) (s : System) → IsSetting (setting_of b view arrivals)
+    → Fits b → 0 < count → Stands b state s → Sane (arrived arrivals count state) → choose (arrived arrivals count state).core ≡ Some t
+    → (task (with_admits (lines_at arrivals count) s) t).frames ≢ [] → (declaration b.config t).extended ≡ true → PrologueStands b t
     → (next : State) × (trace : Trace) × (end : State) × StretchLaw (setting_of b view arrivals) (Stands b) count state s next trace end

@@ -33,7 +33,7 @@ use Rattle.sim_relation.proofs.Framing.{frames_kept}
 use Rattle.sim_relation.proofs.Leaving.{leave_stands}
 use Rattle.sim_relation.proofs.Parts.{this_task}
 use Rattle.sim_relation.proofs.Placed.{first_by_word, active_by_word}
-use Rattle.sim_entries.proofs.Spot.{registers_at, registers_small}
+use Rattle.sim_relation.proofs.SavedRegisters.{registers_at, registers_small}
 use Rattle.sim_services.specs.Laws.{MayGoOn}
 use Rattle.sim_services.specs.Opening.{AtOpening}
 use Rattle.sim_services.specs.Served.{IsServed, Answers}

@@ -1,5 +1,5 @@
 -- What the zones of an image give.
-use Rattle.std.proofs.Common.{◌≡◌, ◌≢◌, ◌≤◌, ◌<◌, ◌+◌, ◌-◌, ◌%◌, ◌&&◌, ℕ, zero, suc, Bool, true, false, List, [], ◌∷◌, length, get_or, refl, ap, subst, inl, inr, ⊎_elim, arith}
+use Rattle.std.proofs.Common.{◌≡◌, ◌≢◌, ◌≤◌, ◌<◌, ◌+◌, ◌-◌, ◌%◌, ◌&&◌, ℕ, zero, suc, Bool, true, false, List, [], ◌∷◌, length, get_or, refl, sym, ap, subst, inl, inr, ⊎_elim, arith}
 use Rattle.std.specs.Prelude.{All, nat_le, nat_lt, slice_index_or}
 use Rattle.std.proofs.lemmas.Bool.{leb-true, ltb-true, le-leb, lt-ltb, cases_lt}
 use Rattle.sloth_base.specs.declared.app.App.{App}
@@ -15,7 +15,10 @@ use Rattle.sim_relation.specs.Build.{Build, Fits, IsElsewhere}
 use Rattle.sim_relation.specs.Placed.{IsPlaced}
 use Rattle.sim_relation.specs.Stands.{AreApart}
 use Rattle.sloth_link.specs.Linked.{BlockStands}
-use Rattle.mem_map.specs.Zones.{HasZones, code_zone, data_zone, stack_of, nowhere}
+use Rattle.mem_map.specs.Zones.{HasZones, code_zone, data_zone, all_stacks, nowhere}
+use Rattle.mem_map.specs.Stacks.{HasStacks, top_of}
+use Rattle.stack_bounds.specs.declared.stacks.Stacks.{Stacks}
+use Rattle.stack_bounds.specs.Bounds.{MayMeet, bytes_of}
 use Rattle.sim_image.specs.Symbols.{HasSymbols}
 use Rattle.sim_image.specs.Zones.{IsInCode, RoomForCalls, is_in, build_of, ZonesFit, StacksAreApart, BlocksArePlaced}
 use Rattle.sim_image.proofs.Data.{symbols_are_apart}
@@ -51,11 +54,11 @@ aligned_at [] (suc k) h = refl
 aligned_at (x ∷ xs) zero h = h 0 0 (omega arith)
 aligned_at (x ∷ xs) (suc k) h = aligned_at xs k (λ j d l. h (suc j) d (omega arith))
 
-module _ (config : Config) (app : App) (map : Map) (back : ℕ) (memory : List ℕ) (z : HasZones map config app) where
+module _ (config : Config) (app : App) (map : Map) (stacks : Stacks) (back : ℕ) (memory : List ℕ) (z : HasZones map config) where
   abbrev b : Build
-  b = build_of config app map back memory
+  b = build_of config app map stacks back memory
 
-  follow : FollowWithin 0x8000_0004 0x8020_0000 (map.words ∷ code_zone map ∷ data_zone map ∷ map.stacks)
+  follow : FollowWithin 0x8000_0004 0x8020_0000 (map.words ∷ code_zone map ∷ data_zone map ∷ all_stacks map)
   follow = subst (FollowWithin 0x8000_0004 0x8020_0000) z.extents (follow_from_apart 0x8000_0004 0x8020_0000 map.extents z.apart (omega arith))
 
   pub code_from : 0x8000_0400 ≤ (code_zone map).base
@@ -68,30 +71,36 @@ module _ (config : Config) (app : App) (map : Map) (back : ℕ) (memory : List �
   pub code_to : (code_zone map).base + (code_zone map).len ≤ (data_zone map).base
   code_to = follow.2.2.0
 
-  stacks_follow : FollowWithin ((data_zone map).base + (data_zone map).len) 0x8020_0000 map.stacks
+  stacks_follow : FollowWithin ((data_zone map).base + (data_zone map).len) 0x8020_0000 (all_stacks map)
   stacks_follow = follow.2.2.2
 
-  pub stack_inside : (t : ℕ) → t < length config.tasks → ((data_zone map).base + (data_zone map).len ≤ (stack_of map t).base) × ((stack_of map t).base + (stack_of map t).len ≤ 0x8020_0000)
-  stack_inside t l =
-      let n = z.stacks in
-      let h = (apart_within _ _ map.stacks stacks_follow).inside t nowhere (omega (arith, n, l)) in
-      (h.0, h.2)
+  -- a task's part lies behind the data
+  pub part_inside : HasStacks config app stacks map → (t : ℕ) → t < length config.tasks
+      → ((data_zone map).base + (data_zone map).len + bytes_of stacks t ≤ top_of map t) × (top_of map t ≤ 0x8020_0000)
+  part_inside s t l =
+      let among = s.among t l in
+      let h = (apart_within _ _ (all_stacks map) stacks_follow).inside among.0 nowhere among.1 in
+      let base = ap (λ (e : Extent). e.base) among.2 in
+      let len = ap (λ (e : Extent). e.len) among.2 in
+      let above = s.above t l in
+      let within = s.within t l in
+      (omega (arith, h.0, base, above), omega (arith, h.2, base, len, within))
 
   pub end_of_code : (code_zone map).base + (code_zone map).len ≤ 0x8020_0000
-  end_of_code = let s = ends _ _ map.stacks stacks_follow in let c = code_to in omega (arith, s, c)
+  end_of_code = let s = ends _ _ (all_stacks map) stacks_follow in let c = code_to in omega (arith, s, c)
 
   pub data_to : (data_zone map).base + (data_zone map).len ≤ 0x8020_0000
-  data_to = ends _ _ map.stacks stacks_follow
+  data_to = ends _ _ (all_stacks map) stacks_follow
 
   elsewhere : (i : ℕ) → IsElsewhere b i → (0x8000_0400 ≤ 0x8000_0000 + i) × (0x8000_0000 + i < (data_zone map).base + (data_zone map).len)
   elsewhere i (inl h) = let p = inside (code_zone map) i h in let f = code_from in let t = code_to in (omega (arith, p.0, f), omega (arith, p.1, t))
   elsewhere i (inr h) = let p = inside (data_zone map) i h in let f = code_from in let t = code_to in (omega (arith, p.0, f, t), p.1)
 
-  pub fits : RoomForCalls map config app → HasSymbols map app → back % 4 ≡ 0 → Fits b
-  fits calls has back_aligned = record {
+  pub fits : HasStacks config app stacks map → RoomForCalls stacks config app → HasSymbols map app → back % 4 ≡ 0 → Fits b
+  fits parts calls has back_aligned = record {
     few_tasks = z.few_tasks;
     elsewhere = λ i e. let h = (elsewhere i e).0 in omega (arith, h);
-    outside = λ t i l e. let h = elsewhere i e in let s = stack_inside t l in inl (omega (arith, h.1, s.0));
+    outside = λ t i l e. let h = elsewhere i e in let s = part_inside parts t l in inl (omega (arith, h.1, s.0));
     apart = λ i e. not_true (is_in (data_zone map) i) (λ d. let p = inside (code_zone map) i e in let q = inside (data_zone map) i d in let c = code_to in omega (arith, p.1, q.0, c));
     items = λ func index. aligned_at map.places.items (get_or map.places.first func 0 + index) z.items_aligned;
     blocks = λ func index call e. aligned_at map.places.blocks _ z.blocks_aligned;
@@ -100,19 +109,17 @@ module _ (config : Config) (app : App) (map : Map) (back : ℕ) (memory : List �
     symbols_apart = symbols_are_apart map app has;
     idle_address = z.idle_aligned;
     back_address = back_aligned;
-    from = λ t l. let s = stack_inside t l in let c = code_to in let f = code_from in omega (arith, s.0, c, f);
-    to = λ t l. let s = stack_inside t l in let n = z.stacks in let a = z.ends_aligned t nowhere (omega (arith, n, l)) in let c = code_to in let f = code_from in (omega (arith, s.1), omega (arith, a, s.0, c, f));
-    room = λ t l func outer called. let s = stack_inside t l in let enough = calls t l func outer called in let c = code_to in let f = code_from in omega (arith, enough, s.0, c, f);
+    from = λ t l. let s = part_inside parts t l in let c = code_to in let f = code_from in omega (arith, s.0, c, f);
+    to = λ t l. let s = part_inside parts t l in let a = parts.whole t l in let c = code_to in let f = code_from in (omega (arith, s.1), omega (arith, a, s.0, c, f));
+    room = λ t l func outer called. let s = part_inside parts t l in let enough = calls t l func outer called in let c = code_to in let f = code_from in omega (arith, enough, s.0, c, f);
   }
 
-  apart_in_order : (t u : ℕ) → t < u → u < length config.tasks → b.top t ≤ b.low u
-  apart_in_order t u l m =
-      let n = z.stacks in
-      let h = (apart_within _ _ map.stacks stacks_follow).apart t u nowhere l (omega (arith, n, m)) in
-      omega (arith, h)
-
-  pub stacks_apart : (t u : ℕ) → t < length config.tasks → u < length config.tasks → u ≢ t → AreApart b t u
-  stacks_apart t u l m ne = ⊎_elim (λ (x : t < u). inl (apart_in_order t u x m)) (λ (x : u ≤ t). inr (apart_in_order u t (omega (arith, ne, x)) l)) (cases_lt t u)
+  pub stacks_apart : HasStacks config app stacks map → (t u : ℕ) → t < length config.tasks → u < length config.tasks → u ≢ t → MayMeet config app t u → AreApart b t u
+  stacks_apart s t u l m ne may =
+      ⊎_elim
+      (λ (x : top_of map t + bytes_of stacks u ≤ top_of map u). inl (omega (arith, x)))
+      (λ (x : top_of map u + bytes_of stacks t ≤ top_of map t). inr (omega (arith, x)))
+      (s.apart t u l m (λ e. ne (sym e)) may)
 
   pub placed : (block : Block) → All InRange block.code → IsInCode map block → BlockStands memory block → IsPlaced b (block.at - 0x8000_0000) block.code
   placed block r c s =
@@ -129,10 +136,10 @@ module _ (config : Config) (app : App) (map : Map) (back : ℕ) (memory : List �
       }
 
 pub zones_fit : ZonesFit
-zones_fit config app map back memory z calls has = fits config app map back memory z calls has
+zones_fit config app map stacks back memory z parts calls has = fits config app map stacks back memory z parts calls has
 
 pub stacks_are_apart : StacksAreApart
-stacks_are_apart config app map back memory z = stacks_apart config app map back memory z
+stacks_are_apart config app map stacks back memory z s = stacks_apart config app map stacks back memory z s
 
 pub blocks_are_placed : BlocksArePlaced
-blocks_are_placed config app map back memory blocks z r c s = λ k d l. placed config app map back memory z (slice_index_or blocks k d) (r k d l) (c k d l) (s k d l)
+blocks_are_placed config app map stacks back memory blocks z r c s = λ k d l. placed config app map stacks back memory z (slice_index_or blocks k d) (r k d l) (c k d l) (s k d l)

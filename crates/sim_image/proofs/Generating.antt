@@ -8,7 +8,7 @@ use Rattle.std.proofs.lemmas.List.Sorted.{All-permutation, Contains-permutation}
 use Rattle.std.proofs.lemmas.Option.{get_or_from_slice_get}
 use Rattle.std.proofs.Math.ListN.{length-map}
 use Rattle.sloth_base.specs.Named.{function, missing, operation, body_of, IsBodyOf}
-use Rattle.sloth_base.specs.ServiceCodes.{code_of, service_of}
+use Rattle.sloth_base.specs.ServiceCodes.{code_of}
 use Rattle.sloth_base.specs.declared.app.App.{App}
 use Rattle.sloth_base.specs.declared.app.Call.{Call}
 use Rattle.sloth_base.specs.declared.app.Func.{Func}
@@ -25,36 +25,38 @@ use Rattle.sloth_region.specs.declared.extent.Extent.{Extent}
 use Rattle.sloth_region.specs.declared.map.Map.{Map}
 use Rattle.rv32_instr.specs.declared.block.Block.{Block}
 use Rattle.rv32_instr.specs.Range.{InRange}
-use Rattle.rv32_expand.specs.Expansion.{expansion, item_address, block_address, is_long, mask_of}
+use Rattle.rv32_expand.specs.Expansion.{expansion, item_address, block_address}
 use Rattle.rv32_expand.specs.InPlace.{IsItem, ItemsInPlace, item_mark, mark_kind}
-use Rattle.rv32_expand.proofs.Counts.{expanded_some}
 use Rattle.rv32_expand.proofs.InRangeOf.{frame_of}
 use Rattle.rv32_expand.proofs.Verified.{has_first}
 use Rattle.osek_valid.proofs.Stacks.{body_is}
 use Rattle.observe.specs.Observe.{mark_at, view_of_image}
 use Rattle.vector_gen.specs.Idle.{idle_mark}
-use Rattle.service_gen.specs.Block.{opening, Serves}
-use Rattle.service_gen.specs.TerminateTask.{Terminates}
+use Rattle.service_gen.specs.Block.{opening, back_mark, further_marks}
+use Rattle.event_gen.specs.Calls.{ServesCall}
+use Rattle.sloth_base.specs.Arithmetic.{sum32}
+use Rattle.service_gen.specs.Schedule.{way_back, Yields}
+use Rattle.sim_laws.specs.Kernel.{HasWayBack}
 use Rattle.sim_relation.specs.Build.{Build}
 use Rattle.sim_relation.specs.Placed.{IsPlaced}
 use Rattle.sim_entries.specs.Generated.{HasOneBody}
 use Rattle.sim_items.specs.Outside.{HasIdle}
 use Rattle.sim_laws.specs.Kernel.{CallsService, IsKnown}
 use Rattle.sim_laws.specs.Kernel.IsKnown.{serves as known_serves}
-use Rattle.sim_laws.specs.Lawful.{HasLaw}
 use Rattle.sim_laws.specs.Generated.{HasPrologue, IsGenerated}
 use Rattle.sim_laws.specs.Items.{HasItems}
-use Rattle.sim_laws.proofs.Items.{marks_found, item_stands, no_mask}
+use Rattle.sim_laws.proofs.Items.{marks_found, item_stands}
 use Rattle.sim_laws.proofs.Known.{item_known}
 use Rattle.sloth_link.specs.declared.datum.Datum.{Datum}
 use Rattle.sloth_link.specs.Linked.{marks_of, code_bytes, block_section, datum_section, IsInside}
 use Rattle.sloth_link.proofs.Written.{code_bytes_length, front_of}
-use Rattle.mem_map.specs.Zones.{code_zone, nowhere, stack_of}
+use Rattle.mem_map.specs.Zones.{code_zone}
+use Rattle.stack_bounds.specs.declared.stacks.Stacks.{Stacks}
 use Rattle.sim_image.specs.Zones.{build_of, IsInCode}
 use Rattle.sim_image.specs.Standing.{ItemsStand, item_block}
-use Rattle.sim_image.specs.Generated.{Has, IsCovered, IsBuiltBy, BuiltIsGenerated, BuiltIsInPlace}
+use Rattle.sim_image.specs.Generated.{Has, IsBuiltBy, BuiltIsGenerated, BuiltIsInPlace}
 use Rattle.sim_image.proofs.Apart.{blocks_apart}
-use Rattle.sim_image.proofs.Fitting.{here, zones_fit, stacks_are_apart, blocks_are_placed, code_from, stack_inside, code_to}
+use Rattle.sim_image.proofs.Fitting.{here, zones_fit, stacks_are_apart, blocks_are_placed, code_from, code_to, part_inside}
 use Rattle.sim_image.proofs.Images.{linked_is_image}
 use Rattle.sim_image.proofs.Items.{all_marks, mark_of_all, linked_items_stand}
 use Rattle.sim_image.proofs.Marks.{not_inside}
@@ -74,15 +76,15 @@ is_declared [] (suc func) item l = absurd (omega (arith, l))
 is_declared (f ∷ funcs) zero item l = omega arith
 is_declared (f ∷ funcs) (suc func) item l = let d = is_declared funcs func item l in omega (arith, d)
 
-module _ (config : Config) (app : App) (levels : Levels) (map : Map) (back size : ℕ) (blocks : List Block) (symbols : List Datum) (image : Image) (g : IsBuiltBy config app levels map back size blocks symbols image) where
+module _ (config : Config) (app : App) (levels : Levels) (map : Map) (stacks : Stacks) (back size : ℕ) (blocks : List Block) (symbols : List Datum) (image : Image) (g : IsBuiltBy config app levels map stacks back size blocks symbols image) where
   abbrev b : Build
-  b = build_of config app map back image.memory
+  b = build_of config app map stacks back image.memory
 
   -- every one of the blocks is above the service words, and placed
   above : (block : Block) → Contains blocks block → 0x8000_0400 ≤ block.at
   above block c =
       let i = (All-contains (IsInCode map) blocks block g.linked.in_code c).from in
-      let f = code_from config app map back image.memory g.linked.zones in
+      let f = code_from config app map stacks back image.memory g.linked.zones in
       omega (arith, i, f)
 
   placed : (block : Block) (offset : ℕ) → Contains blocks block → block.at ≡ 0x8000_0000 + offset → IsPlaced b offset block.code
@@ -90,7 +92,7 @@ module _ (config : Config) (app : App) (levels : Levels) (map : Map) (back size 
       let e : block.at - 0x8000_0000 ≡ offset = omega (arith, at) in
       let P : ℕ → Type 0 = λ o. IsPlaced b o block.code in
       subst P e (All-contains (λ (x : Block). IsPlaced b (x.at - 0x8000_0000) x.code) blocks block
-      (blocks_are_placed config app map back image.memory blocks g.linked.zones g.linked.in_range g.linked.in_code g.linked.code) c)
+      (blocks_are_placed config app map stacks back image.memory blocks g.linked.zones g.linked.in_range g.linked.in_code g.linked.code) c)
 
   idle : HasIdle b (view_of_image image)
   idle =
@@ -138,17 +140,12 @@ module _ (config : Config) (app : App) (levels : Levels) (map : Map) (back size 
         has_item = (has_first config app g.has_items.well_formed (body_of app.funcs t) body.0).inside;
       }
 
-  tops : (t : ℕ) (stack : Extent) → slice_get map.stacks t ≡ Some stack → 0x8000_0000 + b.top t ≡ stack.base + stack.len
-  tops t stack e =
-      let n = g.linked.zones.stacks in
-      let l = inside map.stacks t stack e in
-      let s = stack_inside config app map back image.memory g.linked.zones t (omega (arith, n, l)) in
-      let f = code_from config app map back image.memory g.linked.zones in
-      let c = code_to config app map back image.memory g.linked.zones in
-      let is : stack_of map t ≡ stack = get_or_from_slice_get map.stacks t stack nowhere e in
-      let base : (stack_of map t).base ≡ stack.base = ap (λ (x : Extent). x.base) is in
-      let len : (stack_of map t).len ≡ stack.len = ap (λ (x : Extent). x.len) is in
-      omega (arith, s.0, f, c, base, len)
+  tops : (t : ℕ) → t < length config.tasks → 0x8000_0000 + b.top t ≡ slice_index map.tops t
+  tops t l =
+      let s = (part_inside config app map stacks back image.memory g.linked.zones g.linked.has_stacks t l).0 in
+      let f = code_from config app map stacks back image.memory g.linked.zones in
+      let c = code_to config app map stacks back image.memory g.linked.zones in
+      omega (arith, s, f, c)
 
   item_of : (func item : ℕ) → item < length (function app func).items → IsItem app func item
   item_of func item l = record { declared = is_declared app.funcs func item l; inside = l }
@@ -190,8 +187,9 @@ module _ (config : Config) (app : App) (levels : Levels) (map : Map) (back size 
   }
 
   -- the block of a service that is called, apart from the call
-  module _ (func item : ℕ) (is : IsItem app func item) (call : Call) (e : operation app func item ≡ op.Serve call) (law : HasLaw call.service) where
-    h : Has blocks (block_address map.places call.service call.object) (opening (block_address map.places call.service call.object) (code_of call.service) ∷ []) (Serves call.service call.object levels)
+  module _ (func item : ℕ) (is : IsItem app func item) (call : Call) (e : operation app func item ≡ op.Serve call) where
+    h : Has blocks (block_address map.places call.service call.object) (opening (block_address map.places call.service call.object) (code_of call.service)
+        ∷ further_marks call.service (block_address map.places call.service call.object)) (ServesCall call.service call.object levels)
     h = g.has_code.services func item call is e
 
     abbrev address : ℕ
@@ -215,12 +213,13 @@ module _ (config : Config) (app : App) (levels : Levels) (map : Map) (back size 
 
     differ : h.block ≡ item_block app map.places func item → ⊥
     differ same =
-        let marks : opening address (code_of call.service) ∷ [] ≡ item_mark app map.places func item ∷ [] = sym h.marks_are ∙ ap (λ (x : Block). x.marks) same in
+        let marks : opening address (code_of call.service) ∷ further_marks call.service address ≡ item_mark app map.places func item ∷ [] = sym h.marks_are ∙ ap (λ (x : Block). x.marks) same in
         let jump : mark_kind (operation app func item) ≡ kind.Jump = ap mark_kind e in
         let both : kind.Opening ≡ mark_kind (operation app func item) = ap kind_of_first marks in
         absurd (let clash = both ∙ jump in cc)
 
-    stands_apart : (0x8000_0000 + offset < item_address map.places func item) ⊎ (item_address map.places func item + 4 ≤ 0x8000_0000 + offset)
+    stands_apart : (0x8000_0000 + offset < item_address map.places func item)
+        ⊎ (item_address map.places func item + 4 * length (expansion app map.places func item) ≤ 0x8000_0000 + offset)
     stands_apart =
         let a = blocks_apart blocks (prelude.map datum_section symbols) h.block (item_block app map.places func item) g.linked.room.apart differ h.among (g.has_items.items func item is) in
         let up = above (item_block app map.places func item) (g.has_items.items func item is) in
@@ -229,10 +228,9 @@ module _ (config : Config) (app : App) (levels : Levels) (map : Map) (back size 
         let n = code_bytes_length h.block.code in
         let m = code_bytes_length (expansion app map.places func item) in
         let one = some in
-        let more = expanded_some app map.places func (item_address map.places func item) (is_long map.places func item) (operation app func item) in
         ⊎_elim
         (λ (x : (h.block.at - 0x8000_0000) + length (code_bytes h.block.code) ≤ item_address map.places func item - 0x8000_0000). inl (omega (arith, x, at, there, n, one, up)))
-        (λ (x : (item_address map.places func item - 0x8000_0000) + length (code_bytes (expansion app map.places func item)) ≤ h.block.at - 0x8000_0000). inr (omega (arith, x, at, there, m, more, up)))
+        (λ (x : (item_address map.places func item - 0x8000_0000) + length (code_bytes (expansion app map.places func item)) ≤ h.block.at - 0x8000_0000). inr (omega (arith, x, at, there, m, up)))
         a
 
     there : IsPlaced b offset h.block.code
@@ -246,16 +244,10 @@ module _ (config : Config) (app : App) (levels : Levels) (map : Map) (back size 
         let found = marks_found image (opening address (code_of call.service)) g.ascending
         (Contains-permutation (marks_of blocks) image.marks (opening address (code_of call.service)) g.marks (mark_of_all blocks c.0 h.block (opening address (code_of call.service)) c.1 c.2 own)) in
         record {
-          jumps = record {
-            call = call;
-            is = e;
-            no_mask = no_mask call.service call.mask law;
-            block = offset;
-            block_is = address_is;
-            in_ram = omega (arith, inside_ram, one);
-            apart = stands_apart;
-          };
-          law = law;
+          call = call;
+          is = e;
+          in_ram = omega (arith, inside_ram, one);
+          apart = stands_apart;
           levels = levels;
           are_levels = g.are_levels;
           block = record {
@@ -271,21 +263,59 @@ module _ (config : Config) (app : App) (levels : Levels) (map : Map) (back size 
           };
         }
 
-  operations : (func item : ℕ) → IsItem app func item → IsCovered app func item → IsKnown b (view_of_image image) func item
-  operations func item is covered =
+    -- the way back, where the service is Schedule
+    module _ (s : call.service ≡ service.Schedule) where
+      abbrev back_at : Mark
+      back_at = back_mark (sum32 address way_back)
+
+      marks_are : h.block.marks ≡ opening address (code_of call.service) ∷ back_at ∷ []
+      marks_are = h.marks_are ∙ ap (λ v. opening address (code_of call.service) ∷ further_marks v address) s
+
+      own_back : Contains h.block.marks back_at
+      own_back = subst (λ (l : List Mark). Contains l back_at) (sym marks_are) (1, omega arith, refl)
+
+      yields : Yields h.block.code
+      yields = subst (λ v. ServesCall v call.object levels h.block.code) s h.does
+
+      back_is : back ≡ 0x8000_0000 + (offset + way_back)
+      back_is = let i = g.back_is func item call is e s in let a = address_is in omega (arith, i, a)
+
+      has_way_back : HasWayBack b (view_of_image image) call.object
+      has_way_back =
+          let c = h.among in
+          let inside_ram = there.inside in
+          let one = some in
+          let i = back_is in
+          let a = address_is in
+          let here : sum32 address way_back ≡ back = omega (arith, inside_ram, one, i, a) in
+          record {
+            code = h.block.code;
+            yields = yields;
+            offset = offset;
+            block_is = ap (λ v. block_address map.places v call.object) (sym s) ∙ address_is;
+            placed = there;
+            is = back_is;
+            mark = back_at;
+            marked = subst (λ n. mark_at (view_of_image image) n ≡ Some back_at) here (marks_found image back_at g.ascending
+                (Contains-permutation (marks_of blocks) image.marks back_at g.marks (mark_of_all blocks c.0 h.block back_at c.1 c.2 own_back)));
+            is_back = refl;
+          }
+
+  operations : (func item : ℕ) → IsItem app func item → IsKnown b (view_of_image image) func item
+  operations func item is =
       item_known b (view_of_image image) func item g.has_items.well_formed is.declared is.inside
-      (λ call e. known_serves (item_serves func item is call e (covered call e)))
+      (λ call e. known_serves (item_serves func item is call e))
 
   pub generated : IsGenerated b image levels map
   generated = record {
-    fits = zones_fit config app map back image.memory g.linked.zones g.linked.calls_fit g.linked.has_symbols g.back_aligned;
+    fits = zones_fit config app map stacks back image.memory g.linked.zones g.linked.has_stacks g.linked.calls_fit g.linked.has_symbols g.back_aligned;
     well_formed = g.has_items.well_formed;
     are_levels = g.are_levels;
     places = refl;
     idle_is = refl;
     tops = tops;
     tasks = ap length g.names.tasks ∙ length-map config.tasks (λ (d : TaskDecl). d.name);
-    is_image = linked_is_image map config app size blocks symbols image back g.linked;
+    is_image = linked_is_image map config app stacks size blocks symbols image back g.linked;
     bytes = g.bytes;
     vectors = g.has_code.vectors.block.code;
     jumps = g.has_code.vectors.does;
@@ -295,13 +325,14 @@ module _ (config : Config) (app : App) (levels : Levels) (map : Map) (back size 
     boot_placed = placed g.has_code.boot.block 0x480 g.has_code.boot.among g.has_code.boot.at;
     idle = idle;
     prologues = prologue;
-    stacks = stacks_are_apart config app map back image.memory g.linked.zones;
+    stacks = stacks_are_apart config app map stacks back image.memory g.linked.zones g.linked.has_stacks;
     items = λ func item l. item_stands b image func item has_items (item_of func item l) (range func item (item_of func item l));
-    operations = λ func item l. operations func item (item_of func item l) (g.covered func item (item_of func item l));
+    operations = λ func item l. operations func item (item_of func item l);
+    way_back = λ func item call l e s. has_way_back func item (item_of func item l) call e s;
   }
 
 pub built_is_generated : BuiltIsGenerated
-built_is_generated config app levels map back size blocks symbols image g = generated config app levels map back size blocks symbols image g
+built_is_generated config app levels map stacks back size blocks symbols image g = generated config app levels map stacks back size blocks symbols image g
 
 pub built_is_in_place : BuiltIsInPlace
-built_is_in_place config app levels map back size blocks symbols image g = in_place config app levels map back size blocks symbols image g
+built_is_in_place config app levels map stacks back size blocks symbols image g = in_place config app levels map stacks back size blocks symbols image g

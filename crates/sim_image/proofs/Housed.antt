@@ -11,7 +11,7 @@ use Rattle.mem_map.specs.Zones.{code_zone}
 use Rattle.sloth_link.specs.Linked.{addresses, marks_of}
 use Rattle.sloth_link.proofs.Written.{code_bytes_length}
 use Rattle.sim_image.specs.Zones.{IsInCode}
-use Rattle.sim_image.specs.Rooms.{FitRooms, BlocksAreIn, BlocksAreInCode, MarksDiffer}
+use Rattle.sim_image.specs.Rooms.{FitRooms, MarksRise, BlocksAreIn, BlocksAreInCode, MarksDiffer}
 use Rattle.sim_image.proofs.Following.{ends}
 
 pub blocks_are_in : BlocksAreIn
@@ -56,13 +56,18 @@ from_less : (from bound : ℕ) (numbers : List ℕ) → from ≤ bound → Rises
 from_less from bound [] le r = tt
 from_less from bound (n ∷ numbers) le r = let a = r.0 in (omega (arith, le, a), r.1)
 
-joined : (from base end : ℕ) (marks more : List Mark) → from ≤ base → base ≤ end → length marks ≤ 1
+joined : (from base end : ℕ) (marks more : List Mark) → from ≤ base → base ≤ end → length marks ≤ 2 → MarksRise marks
     → All (λ (mark : Mark). (base ≤ mark.address) × (mark.address < end)) marks → Rises end (addresses more) → Rises from (addresses (marks ++ more))
-joined from base end [] more a b few h r = from_less from end (addresses more) (omega (arith, a, b)) r
-joined from base end (m ∷ []) more a b few h r =
+joined from base end [] more a b few rise h r = from_less from end (addresses more) (omega (arith, a, b)) r
+joined from base end (m ∷ []) more a b few rise h r =
     let i = h 0 m (omega arith) in
     (omega (arith, a, i.0), from_less (m.address + 1) end (addresses more) (omega (arith, i.1)) r)
-joined from base end (m ∷ n ∷ marks) more a b few h r = absurd (omega (arith, few))
+joined from base end (m ∷ n ∷ []) more a b few rise h r =
+    let i = h 0 m (omega arith) in
+    let j = h 1 m (omega arith) in
+    let up = rise.0 in
+    (omega (arith, a, i.0), (omega (arith, up), from_less (n.address + 1) end (addresses more) (omega (arith, j.1)) r))
+joined from base end (m ∷ n ∷ o ∷ marks) more a b few rise h r = absurd (omega (arith, few))
 
 marks_rise : (from end : ℕ) (rooms : List Extent) (blocks : List Block) → FollowWithin from end rooms → FitRooms rooms blocks → Rises from (addresses (marks_of blocks))
 marks_rise from end [] [] f h = tt
@@ -71,7 +76,7 @@ marks_rise from end (r ∷ rooms) [] f h = absurd h
 marks_rise from end (r ∷ rooms) (b ∷ blocks) f h =
     let at = h.0.at in
     let short = h.0.short in
-    joined from r.base (r.base + r.len) b.marks (marks_of blocks) f.0 (omega arith) h.0.few
+    joined from r.base (r.base + r.len) b.marks (marks_of blocks) f.0 (omega arith) h.0.few h.0.rising
     (λ k d l. let m = h.0.marks k d l in (omega (arith, at, m.0), omega (arith, at, short, m.1)))
     (marks_rise (r.base + r.len) end rooms blocks f.2 h.1)
 

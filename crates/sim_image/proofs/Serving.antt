@@ -5,7 +5,7 @@ use Rattle.sloth_base.specs.declared.places.Levels.{Levels}
 use Rattle.sloth_base.specs.declared.service.Service.{Service}
 use Rattle.sloth_base.specs.declared.service.Service.TheVariants as service
 use Rattle.rv32_instr.specs.declared.InstrKind.{InstrKind}
-use Rattle.service_gen.specs.Block.{Serves}
+use Rattle.event_gen.specs.Calls.{ServesCall}
 
 -- a service has its code
 pub of_code : (s : Service) → service_of (code_of s) ≡ Some s
@@ -23,16 +23,16 @@ of_code service.GetEvent = refl
 of_code service.WaitEvent = refl
 
 -- the code of a service has an instruction
-pub some_code : (s : Service) (object : ℕ) (levels : Levels) (code : List InstrKind) → Serves s object levels code → 0 < length code
+pub some_code : (s : Service) (object : ℕ) (levels : Levels) (code : List InstrKind) → ServesCall s object levels code → 0 < length code
 some_code service.ActivateTask object levels code h = let n = ap length h.masks.1 in omega (arith, n)
 some_code service.TerminateTask object levels code h = let n = ap length h.masks.1 in omega (arith, n)
 some_code service.ChainTask object levels code h = let n = ap length h.masks.1 in omega (arith, n)
 some_code service.GetTaskID object levels code h = let n = ap length h.masks.1 in omega (arith, n)
 some_code service.GetResource object levels code h = let n = ap length h.masks.1 in omega (arith, n)
 some_code service.ReleaseResource object levels code h = let n = ap length h.masks.1 in omega (arith, n)
-some_code service.Schedule object levels code h = absurd h
+some_code service.Schedule object levels code h = let n = ap length h.masks.1 in omega (arith, n)
 some_code service.GetTaskState object levels code h = let n = ap length h.masks.1 in omega (arith, n)
-some_code service.SetEvent object levels code h = absurd h
-some_code service.ClearEvent object levels code h = absurd h
-some_code service.GetEvent object levels code h = absurd h
-some_code service.WaitEvent object levels code h = absurd h
+some_code service.SetEvent object levels code h = let n = ap length h.masks.1 in omega (arith, n)
+some_code service.ClearEvent object levels code h = let n = ap length h.masks.1 in omega (arith, n)
+some_code service.GetEvent object levels code h = let n = ap length h.masks.1 in omega (arith, n)
+some_code service.WaitEvent object levels code h = let n = ap length h.masks.1 in omega (arith, n)

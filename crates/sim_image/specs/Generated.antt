@@ -1,7 +1,7 @@
 -- Every piece of generated code is one of the blocks that were linked; so what is built is generated.
 use Rattle.std.specs.Prelude.{ℕ, ◌+◌, ◌%◌, ◌<◌, ◌≡◌, List, [], ◌∷◌, length, All, Contains, slice_index}
 use Rattle.std.specs.List.Sorted.{IsPermutation, IsStrictlyIncreasing}
-use Rattle.sloth_base.specs.Named.{function, operation}
+use Rattle.sloth_base.specs.Named.{operation}
 use Rattle.sloth_base.specs.ServiceCodes.{code_of}
 use Rattle.sloth_base.specs.declared.app.App.{App}
 use Rattle.sloth_base.specs.declared.app.Call.{Call}
@@ -14,6 +14,7 @@ use Rattle.sloth_base.specs.declared.places.Places.{Places}
 use Rattle.sloth_base.specs.declared.service.Service.TheVariants as service
 use Rattle.sloth_region.specs.declared.map.Map.{Map}
 use Rattle.app_rules.specs.WellFormed.{WellFormed}
+use Rattle.stack_bounds.specs.declared.stacks.Stacks.{Stacks}
 use Rattle.rv32_instr.specs.declared.InstrKind.{InstrKind}
 use Rattle.rv32_instr.specs.declared.block.Block.{Block}
 use Rattle.rv32_expand.specs.Expansion.{block_address}
@@ -24,9 +25,10 @@ use Rattle.vector_gen.specs.Boot.{Boots}
 use Rattle.vector_gen.specs.Idle.{Idles, idle_mark}
 use Rattle.vector_gen.specs.Vectors.{AreJumps}
 use Rattle.prologue_gen.specs.Places.{EntersTask}
-use Rattle.service_gen.specs.Block.{opening, Serves}
+use Rattle.service_gen.specs.Block.{opening, further_marks}
+use Rattle.service_gen.specs.Schedule.{way_back}
+use Rattle.event_gen.specs.Calls.{ServesCall}
 use Rattle.sim_relation.specs.Bounds.{AreBelow}
-use Rattle.sim_laws.specs.Lawful.{HasLaw}
 use Rattle.sim_laws.specs.Generated.{IsGenerated}
 use Rattle.sloth_link.specs.declared.datum.Datum.{Datum}
 use Rattle.sloth_link.specs.Linked.{marks_of, addresses}
@@ -51,7 +53,8 @@ pub record HasCode (config : Config) (app : App) (levels : Levels) (map : Map) (
   -- the code of each service that an item calls
   pub services : (func item : ℕ) (call : Call) → IsItem app func item → operation app func item ≡ op.Serve call
       → Has blocks (block_address map.places call.service call.object)
-      (opening (block_address map.places call.service call.object) (code_of call.service) ∷ []) (Serves call.service call.object levels)
+      (opening (block_address map.places call.service call.object) (code_of call.service)
+      ∷ further_marks call.service (block_address map.places call.service call.object)) (ServesCall call.service call.object levels)
 
 -- each item of the task code is a block of its own, at addresses that agree with the lengths, and no other block has its mark
 pub record HasItemBlocks (config : Config) (app : App) (places : Places) (blocks : List Block) : Type 0 where
@@ -60,15 +63,11 @@ pub record HasItemBlocks (config : Config) (app : App) (places : Places) (blocks
   pub items : HaveItems app places blocks
   pub own : All (MarksAreOfItems app places) blocks
 
--- an item that is covered by the laws so far: if it calls a service, that service has a law
-abbrev pub IsCovered : App → (func item : ℕ) → Type 0
-IsCovered app func item = (call : Call) → operation app func item ≡ op.Serve call → HasLaw call.service
-
 -- An image is built by the levels and the map: of blocks with the code of the generators and of the items, which were linked.
-pub record IsBuiltBy (config : Config) (app : App) (levels : Levels) (map : Map) (back size : ℕ) (blocks : List Block) (symbols : List Datum)
+pub record IsBuiltBy (config : Config) (app : App) (levels : Levels) (map : Map) (stacks : Stacks) (back size : ℕ) (blocks : List Block) (symbols : List Datum)
     (image : Image) : Type 0 where
   pub are_levels : AreLevels config levels
-  pub linked : IsLinkedIn map config app size blocks symbols image.memory
+  pub linked : IsLinkedIn map config app stacks size blocks symbols image.memory
   pub has_code : HasCode config app levels map blocks
   pub has_items : HasItemBlocks config app map.places blocks
   pub own_marks : All HasOwnMarks blocks
@@ -77,14 +76,17 @@ pub record IsBuiltBy (config : Config) (app : App) (levels : Levels) (map : Map)
   pub names : HasNames image config app
   pub bytes : AreBelow 256 image.memory
   pub back_aligned : back % 4 ≡ 0
-  pub covered : (func item : ℕ) → IsItem app func item → IsCovered app func item
+  -- the way back from Schedule stands in its block
+  pub back_is : (func item : ℕ) (call : Call) → IsItem app func item → operation app func item ≡ op.Serve call → call.service ≡ service.Schedule
+      → back ≡ block_address map.places call.service call.object + way_back
 
 -- so it is generated
 abbrev pub BuiltIsGenerated : Type 0
-BuiltIsGenerated = (config : Config) (app : App) (levels : Levels) (map : Map) (back size : ℕ) (blocks : List Block) (symbols : List Datum) (image : Image)
-    → IsBuiltBy config app levels map back size blocks symbols image → IsGenerated (build_of config app map back image.memory) image levels map
+BuiltIsGenerated = (config : Config) (app : App) (levels : Levels) (map : Map) (stacks : Stacks) (back size : ℕ) (blocks : List Block) (symbols : List Datum)
+    (image : Image) → IsBuiltBy config app levels map stacks back size blocks symbols image
+    → IsGenerated (build_of config app map stacks back image.memory) image levels map
 
 -- and its items are in place
 abbrev pub BuiltIsInPlace : Type 0
-BuiltIsInPlace = (config : Config) (app : App) (levels : Levels) (map : Map) (back size : ℕ) (blocks : List Block) (symbols : List Datum) (image : Image)
-    → IsBuiltBy config app levels map back size blocks symbols image → ItemsInPlace image config app
+BuiltIsInPlace = (config : Config) (app : App) (levels : Levels) (map : Map) (stacks : Stacks) (back size : ℕ) (blocks : List Block) (symbols : List Datum)
+    (image : Image) → IsBuiltBy config app levels map stacks back size blocks symbols image → ItemsInPlace image config app

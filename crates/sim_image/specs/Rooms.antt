@@ -1,7 +1,8 @@
 -- Blocks in extents that follow one another: each in its own, with its mark.
-use Rattle.std.specs.Prelude.{ℕ, ◌+◌, ◌*◌, ◌%◌, ◌<◌, ◌≤◌, ◌≡◌, List, length, All}
+use Rattle.std.specs.Prelude.{ℕ, ◌+◌, ◌*◌, ◌%◌, ◌<◌, ◌≤◌, ◌≡◌, List, [], ◌∷◌, length, All}
 use Rattle.std.specs.Prelude as prelude
 use Rattle.std.specs.List.{AllZip}
+use Rattle.sloth_base.specs.declared.image.Mark.{Mark}
 use Rattle.sloth_region.specs.declared.extent.Extent.{Extent}
 use Rattle.sloth_region.specs.declared.map.Map.{Map}
 use Rattle.sloth_region.specs.Region.{FollowWithin}
@@ -15,13 +16,20 @@ use Rattle.sim_image.specs.Zones.{IsInCode}
 abbrev pub HasOwnMarks : Block → Type 0
 HasOwnMarks block = All (λ mark. (block.at ≤ mark.address) × (mark.address < block.at + 4 * length block.code)) block.marks
 
--- a block begins where its extent does and isn't longer, and has at most one mark
+-- each mark stands behind the one before it
+abbrev pub MarksRise : List Mark → Type 0
+MarksRise [] = Unit {0}
+MarksRise (mark ∷ []) = Unit {0}
+MarksRise (mark ∷ next ∷ marks) = (mark.address < next.address) × MarksRise (next ∷ marks)
+
+-- a block begins where its extent does and isn't longer, and has at most two marks
 pub record FitsRoom (room : Extent) (block : Block) : Type 0 where
   pub at : block.at ≡ room.base
   pub above : 0x8000_0000 ≤ room.base
   pub aligned : room.base % 4 ≡ 0
   pub short : 4 * length block.code ≤ room.len
-  pub few : length block.marks ≤ 1
+  pub few : length block.marks ≤ 2
+  pub rising : MarksRise block.marks
   pub marks : HasOwnMarks block
 
 -- each block in its own extent

@@ -19,13 +19,16 @@ use Rattle.sim_entries.specs.Boot.{IsImage}
 use Rattle.sloth_link.specs.declared.datum.Datum.{Datum}
 use Rattle.sloth_link.specs.Linked.{BlockStands, AreLinked, sections_of, marks_of, block_section, IsInside, HaveRoom}
 use Rattle.mem_map.specs.Zones.{HasZones}
+use Rattle.mem_map.specs.Stacks.{HasStacks}
+use Rattle.stack_bounds.specs.declared.stacks.Stacks.{Stacks}
 use Rattle.sim_image.specs.Symbols.{HasSymbols, data_of}
 use Rattle.sim_image.specs.Zones.{IsInCode, RoomForCalls, build_of}
 
 -- blocks and symbols that lie in their zones were linked
-pub record IsLinkedIn (map : Map) (config : Config) (app : App) (size : ℕ) (blocks : List Block) (symbols : List Datum) (memory : List ℕ) : Type 0 where
-  pub zones : HasZones map config app
-  pub calls_fit : RoomForCalls map config app
+pub record IsLinkedIn (map : Map) (config : Config) (app : App) (stacks : Stacks) (size : ℕ) (blocks : List Block) (symbols : List Datum) (memory : List ℕ) : Type 0 where
+  pub zones : HasZones map config
+  pub has_stacks : HasStacks config app stacks map
+  pub calls_fit : RoomForCalls stacks config app
   pub small : size ≤ 0x20_0000
   pub in_code : All (IsInCode map) blocks
   pub in_range : All (λ b. All InRange b.code) blocks
@@ -37,8 +40,8 @@ pub record IsLinkedIn (map : Map) (config : Config) (app : App) (size : ℕ) (bl
 
 -- it is an image of what is built
 abbrev pub LinkedIsImage : Type 0
-LinkedIsImage = (map : Map) (config : Config) (app : App) (size : ℕ) (blocks : List Block) (symbols : List Datum) (image : Image) (back : ℕ)
-    → IsLinkedIn map config app size blocks symbols image.memory → IsImage (build_of config app map back image.memory) image
+LinkedIsImage = (map : Map) (config : Config) (app : App) (stacks : Stacks) (size : ℕ) (blocks : List Block) (symbols : List Datum) (image : Image) (back : ℕ)
+    → IsLinkedIn map config app stacks size blocks symbols image.memory → IsImage (build_of config app map stacks back image.memory) image
 
 -- ---- items
 

@@ -12,7 +12,7 @@ pub fn zones_fit()
     ensures { ZonesFit }
 {}
 
-/// The stacks of two tasks are apart.
+/// The parts of two tasks are apart where both may have something there at once.
 pub fn stacks_are_apart()
     ensures { StacksAreApart }
 {}

@@ -11,15 +11,8 @@ use Rattle.osek_machine.specs.State.{System, task}
 use Rattle.osek_machine.specs.Services.{if_suspended, activated}
 use Rattle.osek_machine.specs.Steps.{admitted}
 use Rattle.osek_machine.specs.Runs.{Leads, Follows}
+pub use Rattle.osek_machine.proofs.Leading.{leads-append, follows_leads}
 use Rattle.sim_induction.specs.Admits.{with_admits, AllBelow, admit_event}
-
-pub leads-append : (c : Config) (app : App) (a b : List Stamped) (s x z : System) → Leads c app a s x → Leads c app b x z → Leads c app (a ++ b) s z
-leads-append c app [] b s x z h k = subst (λ v. Leads c app b v z) h k
-leads-append c app (e ∷ a) b s x z h k = (h.0, h.1, leads-append c app a b h.0 x z h.2 k)
-
-pub follows_leads : (c : Config) (app : App) (past : List Stamped) (s : System) (es : List Stamped) (z : System) → Follows c app past s es z → Leads c app es s z
-follows_leads c app past s [] z h = h
-follows_leads c app past s (e ∷ es) z h = (h.0, h.1, follows_leads c app (past ++ e ∷ []) h.0 es z h.3)
 
 pub follows-append : (c : Config) (app : App) (past : List Stamped) (s x z : System) (a b : List Stamped) → Follows c app past s a x → Follows c app (past ++ a) x b z → Follows c app past s (a ++ b) z
 follows-append c app past s x z [] b h k =

@@ -27,7 +27,8 @@ use Rattle.observe.specs.Observe.{View}
 use Rattle.osek_machine.specs.State.{Frame, System, task, entry_frame}
 use Rattle.osek_machine.specs.Meaning.{Meant, meaning, if_true}
 use Rattle.osek_valid.specs.Valid.{AreCalls, IsCalledFrom}
-use Rattle.sim_relation.specs.Build.{Build, IsCalledBy}
+use Rattle.app_rules.specs.Code.{IsCalledBy}
+use Rattle.sim_relation.specs.Build.{Build}
 use Rattle.sim_relation.specs.Position.{Position, Calling, AreWords, OuterAt, FramesAt, HasScratch, return_address, called_words, thread_of}
 use Rattle.sim_relation.specs.Stands.{Stands, IsActive}
 use Rattle.sim_relation.proofs.Framing.{frames_kept, frames_below}

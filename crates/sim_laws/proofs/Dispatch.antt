@@ -14,7 +14,7 @@ use Rattle.sloth_base.specs.Named.{operation, function}
 use Rattle.observe.specs.Observe.{View, view_of_image}
 use Rattle.osek_machine.specs.declared.state.TaskState.TheVariants as mode
 use Rattle.osek_machine.specs.State.{Frame, System, task}
-use Rattle.osek_machine.specs.Priority.{is_in, is_active}
+use Rattle.osek_machine.specs.Priority.{is_in}
 use Rattle.sim_induction.specs.Admits.{IsSetting, lines_at, with_admits}
 use Rattle.sim_induction.specs.Advances.{Advances}
 use Rattle.sim_induction.specs.Laws.{StretchLaw}
@@ -23,7 +23,7 @@ use Rattle.sim_induction.proofs.OutsidePiece.{outside_advances}
 use Rattle.sim_induction.proofs.Schedule.{below_moments}
 use Rattle.sim_induction.proofs.StretchPiece.{stretch_advances}
 use Rattle.sim_relation.specs.Build.{Build}
-use Rattle.sim_relation.specs.Position.{Position, Standing, InExpansion, AtBlock, Calling, Returning, thread_of}
+use Rattle.sim_relation.specs.Position.{Position, Standing, Owing, InExpansion, AtBlock, Calling, Returning, thread_of}
 use Rattle.sim_relation.specs.Context.{Running, RunsIdle, RunsTask}
 use Rattle.sim_relation.specs.Stands.{Stands, AreActive, IsActive}
 use Rattle.sim_relation.proofs.Arrive.{stands_arrived}
@@ -33,7 +33,7 @@ use Rattle.sim_relation.proofs.Tops.{falling_head}
 use Rattle.sim_entries.specs.Range.{Sane}
 use Rattle.sim_entries.proofs.EnterRoute.{enter_advances}
 use Rattle.sim_items.specs.Place.{AtItem, HasNumbers, IsStraight, IsFlow, IsCall, IsReturn}
-use Rattle.sim_items.specs.Outside.{setting_of, At, GoesOutside}
+use Rattle.sim_items.specs.Outside.{setting_of, At, GoesOutside, JumpsToService, JumpsWithMask}
 use Rattle.sim_items.specs.Progress.{progress_in}
 use Rattle.sim_items.proofs.Call.{call_begins, call_goes_on}
 use Rattle.sim_items.proofs.Return.{return_begins, return_goes_on}
@@ -41,34 +41,44 @@ use Rattle.sim_items.proofs.FlowRoute.{flow_outside}
 use Rattle.sim_items.proofs.Outside.{item_outside, idle_outside}
 use Rattle.sim_items.proofs.Inner.{inner_outside}
 use Rattle.sim_items.proofs.Jump.{jump_outside}
+use Rattle.sim_items.proofs.MaskedJump.{masked_outside}
 use Rattle.sim_services.specs.Opening.{HasBlock, IsFollowed, OpensService}
 use Rattle.sim_services.specs.Stretch.{OpensGoingOn}
 use Rattle.sim_services.proofs.GoingOnStretch.{activates_stretches, chain_stretches, releases_stretches, states_stretches, takes_stretches, tells_stretches}
+use Rattle.sim_services.proofs.ScheduleStretch.{back_stretches, yields_stretches}
 use Rattle.sim_services.proofs.TerminateStretch.{terminate_stretches}
+use Rattle.sim_events.proofs.Stretches as on_events
+use Rattle.sim_events.proofs.WaitStretch.{wait_stretches}
 use Rattle.sim_laws.specs.Bounded.{IsBounded}
-use Rattle.sim_laws.specs.Kernel.{Kernel, Computes, Invokes, IsKnown}
+use Rattle.sim_laws.specs.Kernel.{Kernel, CallsService, Computes, Invokes, IsKnown}
 use Rattle.sim_laws.specs.Kernel.IsKnown.{computes, flows, invokes, returns, serves}
-use Rattle.sim_laws.specs.Lawful.{HasLaw}
-use Rattle.sim_laws.specs.Plain.{IsPlain}
-use Rattle.sim_laws.proofs.Plain.{valid_sizes, ends_free}
-use Rattle.osek_valid.specs.Valid.{AreCalls}
+use Rattle.sim_laws.specs.Steady.{IsSteady}
+use Rattle.sim_laws.proofs.Masks.{call_jumps, is_word}
+use Rattle.sim_laws.proofs.Meeting.{meets}
+use Rattle.sim_laws.proofs.Steady.{basic_anew, ends_free, has_internal, pauses_free, valid_sizes}
+use Rattle.osek_valid.specs.Valid.{AreCalls, InState}
 use Rattle.osek_valid.proofs.Facts.{Facts, facts}
 use Rattle.osek_valid.proofs.Held.{falls_inside}
 use Rattle.osek_valid.proofs.Going.{running}
 use Rattle.osek_valid.proofs.Meaning.{there}
 use Rattle.osek_valid.proofs.Stacks.{has_body}
-use Rattle.app_rules.specs.Code.{ends_for_good, Ends as EndsTask}
+use Rattle.app_rules.specs.Code.{Pauses, ends_for_good, Ends as EndsTask}
 use Rattle.osek_machine.specs.Services.{is_there}
 use Rattle.osek_machine.specs.Steps.{IsAt}
 use Rattle.prio_levels.specs.Levels.{AreLevels}
 use Rattle.rv32_instr.specs.declared.InstrKind.{InstrKind}
-use Rattle.service_gen.specs.Block.{Serves}
+use Rattle.event_gen.specs.Calls.{ServesCall}
+use Rattle.event_gen.specs.ClearEvent.{ClearsEvents}
+use Rattle.event_gen.specs.GetEvent.{TellsEvents}
+use Rattle.event_gen.specs.SetEvent.{SetsEvents}
+use Rattle.event_gen.specs.WaitEvent.{Waits}
 use Rattle.service_gen.specs.ActivateTask.{Activates}
 use Rattle.service_gen.specs.ChainTask.{Chains}
 use Rattle.service_gen.specs.GetResource.{Takes}
 use Rattle.service_gen.specs.GetTaskID.{TellsTask}
 use Rattle.service_gen.specs.GetTaskState.{TellsState}
 use Rattle.service_gen.specs.ReleaseResource.{Releases}
+use Rattle.service_gen.specs.Schedule.{way_back, Yields}
 use Rattle.sim_laws.proofs.Ceilings.{may_have}
 use Rattle.std.specs.Prelude.{slice_index}
 use Rattle.service_gen.specs.TerminateTask.{Terminates}
@@ -134,7 +144,7 @@ module _ (b : Build) (image : Image) (kernel : Kernel b image) where
   view = view_of_image image
 
   module _ (arrivals : List Arrival) (setting : IsSetting (setting_of b view arrivals)) (count : ℕ) (after_boot : 0 < count) (state : State) (s : System)
-      (stands : Stands b state s) (bounded : IsBounded (arrived arrivals count state)) (plain : IsPlain b.config b.app (with_admits (lines_at arrivals count) s)) where
+      (stands : Stands b state s) (bounded : IsBounded (arrived arrivals count state)) (steady : IsSteady b.config b.app (with_admits (lines_at arrivals count) s)) where
     abbrev n : State
     n = arrived arrivals count state
 
@@ -179,10 +189,10 @@ module _ (b : Build) (image : Image) (kernel : Kernel b image) where
           where
             by : (x : Bool) → is_in t s1.fresh ≡ x → x ≡ false
             by false e = refl
-            by true e = let r : (task s1 t).state ≡ mode.Ready = plain.apart.fresh_ready t e in let a = active.active in cc
+            by true e = let r : (task s1 t).state ≡ mode.Ready = steady.apart.fresh_ready t e in let a = active.active in cc
 
         chain : AreCalls b.app t (p.frame ∷ p.outer)
-        chain = subst (AreCalls b.app t) p.frames (plain.valid.each t active.declared).calls
+        chain = subst (AreCalls b.app t) p.frames (steady.valid.each t active.declared).calls
 
         known : IsKnown b view p.frame.func p.frame.item
         known = kernel.operations p.frame.func p.frame.item p.inside
@@ -207,7 +217,7 @@ module _ (b : Build) (image : Image) (kernel : Kernel b image) where
           size = length (expansion b.app b.places p.frame.func p.frame.item)
 
           numbers : HasNumbers b n s1
-          numbers = record { words = bounded.core.registers; sizes = valid_sizes b.config b.app s1 plain.valid }
+          numbers = record { words = bounded.core.registers; sizes = valid_sizes b.config b.app s1 steady.valid }
 
           -- the last one, or one before it
           item_goes : (e : InExpansion b (task s1 t) p.frame (thread_of n)) → Computes b p.frame.func p.frame.item → Goes
@@ -232,12 +242,25 @@ module _ (b : Build) (image : Image) (kernel : Kernel b image) where
               let c = has_caller b image kernel t active.declared p.frame p.outer chain p.inside is in
               outside (return_begins b view arrivals count state s here t c.caller c.rest (at_item e) c.called_by c.back)
 
+          -- the mask of a call here is a word
+          mask_small : (call : Call) → operation b.app p.frame.func p.frame.item ≡ op.Serve call → call.mask < 4294967296
+          mask_small call is = is_word b (rules b image kernel t) p.frame.func p.frame.item call (record { known = chain.0.known; inside = p.inside; is = is })
+
+          -- the call of a service, with a mask of events or without
+          serve_goes : InExpansion b (task s1 t) p.frame (thread_of n) → CallsService b view p.frame.func p.frame.item → Goes
+          serve_goes e h =
+              let placed = kernel.items p.frame.func p.frame.item p.inside in
+              ⊎_elim
+              (λ (j : JumpsToService b p.frame.func p.frame.item). outside (jump_outside b view arrivals count state s here t (at_item e) placed j))
+              (λ (j : JumpsWithMask b p.frame.func p.frame.item). outside (masked_outside b view arrivals count state s here t (at_item e) placed j))
+              (call_jumps b view p.frame.func p.frame.item h (mask_small h.call h.is))
+
           in_item : InExpansion b (task s1 t) p.frame (thread_of n) → IsKnown b view p.frame.func p.frame.item → Goes
           in_item e (computes h) = item_goes e h
           in_item e (flows h) = outside (flow_outside b view arrivals count state s here t (at_item e) h.flow (kernel.items p.frame.func))
           in_item e (invokes h) = call_goes e h
           in_item e (returns h) = return_goes e h.is
-          in_item e (serves h) = outside (jump_outside b view arrivals count state s here t (at_item e) (kernel.items p.frame.func p.frame.item p.inside) h.jumps)
+          in_item e (serves h) = serve_goes e h
 
           -- a service begins
           module _ (a : AtBlock b p.frame (thread_of n)) where
@@ -275,13 +298,16 @@ module _ (b : Build) (image : Image) (kernel : Kernel b image) where
             }
 
             holds_nothing : EndsTask a.call.service → (task s1 t).held ≡ []
-            holds_nothing ends = ends_free b.config b.app (rules b image kernel t) s1 t a.call plain.valid active.declared is_at ends
+            holds_nothing ends = ends_free b.config b.app (rules b image kernel t) s1 t a.call steady.valid active.declared is_at ends
+
+            pauses_holding_nothing : Pauses a.call.service → (task s1 t).held ≡ []
+            pauses_holding_nothing pauses = pauses_free b.config b.app (rules b image kernel t) s1 t a.call steady.valid active.declared is_at pauses
 
             names : (served : Service) → a.call.service ≡ served → is_there b.config (task s1 t).held served object ≡ true
             names served is =
                 subst (λ v. is_there b.config (task s1 t).held v object ≡ true) is
-                (there b.config b.app (rules b image kernel t) t (task s1 t) p.frame p.outer s1.symbols plain.valid.sizes a.call.service object a.call.mask
-                (running b.config b.app s1 t (op.Serve a.call) plain.valid active.declared is_at))
+                (there b.config b.app (rules b image kernel t) t (task s1 t) p.frame p.outer s1.symbols steady.valid.sizes a.call.service object a.call.mask
+                (running b.config b.app s1 t (op.Serve a.call) steady.valid active.declared is_at))
 
             followed : ends_for_good a.call.service ≡ false → IsFollowed b p.frame.func p.frame.item
             followed goes =
@@ -297,37 +323,63 @@ module _ (b : Build) (image : Image) (kernel : Kernel b image) where
               names = names served is;
             }
 
-            served : (levels : Levels) → AreLevels b.config levels → (called : Service) → a.call.service ≡ called → HasLaw called
-                → HasBlock b view called object (Serves called object levels) → Goes
-            served levels are service.TerminateTask is law block =
+            served : (levels : Levels) → AreLevels b.config levels → (called : Service) → a.call.service ≡ called
+                → HasBlock b view called object (ServesCall called object levels) → Goes
+            served levels are service.TerminateTask is block =
                 stretch (terminate_stretches b view arrivals count state s t kernel.fits setting after_boot stands (record {
                   opens = opens service.TerminateTask (λ o. Terminates) is block;
                   holds_nothing = holds_nothing (inl is);
                 }))
-            served levels are service.GetTaskID is law block =
+            served levels are service.GetTaskID is block =
                 stretch (tells_stretches b view arrivals count state s t kernel.fits setting after_boot stands (opens_on service.GetTaskID (λ o. TellsTask) is refl block))
-            served levels are service.ActivateTask is law block =
+            served levels are service.ActivateTask is block =
                 stretch (activates_stretches b view arrivals count state s t kernel.fits setting after_boot stands (opens_on service.ActivateTask Activates is refl block))
-            served levels are service.ChainTask is law block =
+            served levels are service.ChainTask is block =
                 stretch (chain_stretches b view arrivals count state s t kernel.fits setting after_boot stands (record {
                   goes_on = opens_on service.ChainTask Chains is refl block;
                   holds_nothing = holds_nothing (inr is);
                 }))
-            served levels are service.Schedule is law block = absurd law
-            served levels are service.GetTaskState is law block =
+            served levels are service.Schedule is block =
+                stretch (yields_stretches b view arrivals count state s t kernel.fits setting after_boot stands (record {
+                  goes_on = opens_on service.Schedule (λ o. Yields) is refl block;
+                  may = record {
+                    holds_nothing = pauses_holding_nothing (inr is);
+                    raised = has_internal b.config b.app s1 t a.call steady.valid active.declared is_at;
+                    back =
+                        (let way = kernel.way_back p.frame.func p.frame.item a.call p.inside a.is is in
+                        let same : 0x8000_0000 + way.offset ≡ 0x8000_0000 + block.offset = sym way.block_is ∙ block.is in
+                        let there : way.offset ≡ block.offset = omega arith in
+                        way.is ∙ ap (λ o. 0x8000_0000 + (o + way_back)) there);
+                  };
+                }))
+            served levels are service.GetTaskState is block =
                 stretch (states_stretches b view arrivals count state s t kernel.fits setting after_boot stands (opens_on service.GetTaskState TellsState is refl block))
-            served levels are service.GetResource is law block =
+            served levels are service.GetResource is block =
                 let level = slice_index levels.ceiling object in
                 stretch (takes_stretches b view arrivals count state s t level kernel.fits setting after_boot stands (record {
                   goes_on = opens_on service.GetResource (λ o. Takes o level) is refl block;
-                  may = may_have b (rules b image kernel t) levels are s1 t a.call plain.valid active.declared is_at is;
+                  may = may_have b (rules b image kernel t) levels are s1 t a.call steady.valid active.declared is_at is;
                 }))
-            served levels are service.ReleaseResource is law block =
+            served levels are service.ReleaseResource is block =
                 stretch (releases_stretches b view arrivals count state s t kernel.fits setting after_boot stands (opens_on service.ReleaseResource Releases is refl block))
-            served levels are service.SetEvent is law block = absurd law
-            served levels are service.ClearEvent is law block = absurd law
-            served levels are service.GetEvent is law block = absurd law
-            served levels are service.WaitEvent is law block = absurd law
+            served levels are service.SetEvent is block =
+                stretch (on_events.sets_stretches b view arrivals count state s t kernel.fits setting after_boot stands (record {
+                  goes_on = opens_on service.SetEvent SetsEvents is refl block;
+                  is_word = mask_small a.call a.is;
+                }))
+            served levels are service.ClearEvent is block =
+                stretch (on_events.clears_stretches b view arrivals count state s t kernel.fits setting after_boot stands (record {
+                  goes_on = opens_on service.ClearEvent (λ o. ClearsEvents) is refl block;
+                  is_word = mask_small a.call a.is;
+                }))
+            served levels are service.GetEvent is block =
+                stretch (on_events.tells_stretches b view arrivals count state s t kernel.fits setting after_boot stands (opens_on service.GetEvent TellsEvents is refl block))
+            served levels are service.WaitEvent is block =
+                stretch (wait_stretches b view arrivals count state s t kernel.fits setting after_boot stands (record {
+                  goes_on = opens_on service.WaitEvent (λ o. Waits) is refl block;
+                  holds_nothing = pauses_holding_nothing (inl is);
+                  words = bounded.core.registers;
+                }))
 
           at_block : AtBlock b p.frame (thread_of n) → IsKnown b view p.frame.func p.frame.item → Goes
           at_block a (computes h) = absurd (subst (IsStraight b.app p.frame.func) a.is h.straight)
@@ -335,13 +387,27 @@ module _ (b : Build) (image : Image) (kernel : Kernel b image) where
           at_block a (invokes h) = let e : op.Invoke h.callee ≡ op.Serve a.call = sym h.is ∙ a.is in cc
           at_block a (returns h) = let e : op.Return ≡ op.Serve a.call = sym h.is ∙ a.is in cc
           at_block a (serves h) =
-              let same : op.Serve h.jumps.call ≡ op.Serve a.call = sym h.jumps.is ∙ a.is in
-              let call : h.jumps.call ≡ a.call = cc in
-              served a h.levels h.are_levels a.call.service refl (subst (λ (c : Call). HasLaw c.service) call h.law)
-              (subst (λ (c : Call). HasBlock b view c.service c.object (Serves c.service c.object h.levels)) call h.block)
+              let same : op.Serve h.call ≡ op.Serve a.call = sym h.is ∙ a.is in
+              let call : h.call ≡ a.call = cc in
+              served a h.levels h.are_levels a.call.service refl
+              (subst (λ (c : Call). HasBlock b view c.service c.object (ServesCall c.service c.object h.levels)) call h.block)
 
           standing : Goes
           standing = ⊎_elim (λ (e : InExpansion b (task s1 t) p.frame (thread_of n)). in_item e known) (λ (a : AtBlock b p.frame (thread_of n)). at_block a known) q.here
+
+        -- behind Schedule
+        owing : Owing b n.core.ram t (task s1 t) p.frame p.outer (thread_of n) run.place → Goes
+        owing w =
+            let calls = steady.owing t w.owes in
+            let state_is = subst (InState b.config t (task s1 t)) active.active (steady.valid.each t active.declared).in_state in
+            stretch (back_stretches b view arrivals count state s t kernel.fits setting after_boot stands (record {
+              none = none;
+              current = run.current;
+              owes = w.owes;
+              holds_nothing = state_is.2 w.owes;
+              object = calls.2;
+              way = kernel.way_back calls.0 calls.1 (record { service = service.Schedule; object = calls.2; mask = calls.3 }) calls.5.inside calls.5.is refl;
+            }))
 
         -- inside a call, and inside a return
         calling : Calling b n.core.ram (b.top t) (task s1 t) p.frame p.outer (thread_of n) run.place → Goes
@@ -373,7 +439,7 @@ module _ (b : Build) (image : Image) (kernel : Kernel b image) where
         task_goes : Goes
         task_goes =
             position_elim b n.core.ram t (task s1 t) p.frame p.outer (thread_of n) run.place Goes
-            standing (λ w. clash (sym w.owes ∙ (plain.each t).free)) calling returning p.here
+            standing owing calling returning p.here
 
       by_stack : (stack : List ℕ) → k.stack ≡ stack → Goes
       by_stack [] e =
@@ -384,13 +450,13 @@ module _ (b : Build) (image : Image) (kernel : Kernel b image) where
     sane : Sane n
     sane = record { pc = bounded.pc; registers = bounded.core.registers; bytes = bounded.core.bytes; level = bounded.core.level }
 
-    -- a line is taken: its task starts anew
+    -- a line is taken: its task starts anew, or goes on behind its wait
     enters : (t : ℕ) → choose n.core ≡ Some t → Goes
     enters t chosen =
         let l = taken_declared b n s1 k few t chosen in
         let r = taken_ready b n s1 k few t chosen in
-        enter_advances b view arrivals setting kernel.fits count after_boot state s stands sane t chosen ((plain.each t).anew (ap is_active r))
-        (λ u h ne alive. kernel.stacks t u l h ne) (kernel.prologues t l) (progress_in b)
+        enter_advances b view arrivals setting kernel.fits count after_boot state s stands sane t chosen (basic_anew b.config b.app s1 t steady.valid l r)
+        (λ fresh u h ne alive. kernel.stacks t u l h ne (meets b n s1 k few steady.valid steady.owing t chosen u h alive)) (kernel.prologues t l) (progress_in b)
 
     pub advance : Advances (setting_of b view arrivals) (Stands b) (progress_in b) count state s
     advance = by (choose n.core) refl

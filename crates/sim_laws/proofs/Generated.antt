@@ -92,4 +92,5 @@ module _ (b : Build) (image : Image) (levels : Levels) (map : Map) (g : IsGenera
     stacks = g.stacks;
     items = g.items;
     operations = g.operations;
+    way_back = g.way_back;
   }

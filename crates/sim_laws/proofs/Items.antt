@@ -4,27 +4,20 @@ use Rattle.std.specs.Prelude.{◌≢◌, cond, map, All, find, eqb, slice_index_
 use Rattle.std.proofs.lemmas.Bool.{ne_eqb}
 use Rattle.std.proofs.lemmas.Bool.Decides.{nat_tests}
 use Rattle.std.proofs.lemmas.List.Kept.{AllPairs-from_increasing}
-use Rattle.std.proofs.lemmas.List.Elements.{All-cons, All-nil}
 use Rattle.std.proofs.Math.ListN.{get_or-map, length-map}
-use Rattle.sloth_base.specs.declared.service.Service.{Service}
-use Rattle.sloth_base.specs.declared.service.Service.TheVariants as service
 use Rattle.sloth_base.specs.declared.image.Image.{Image}
 use Rattle.sloth_base.specs.declared.image.Mark.{Mark}
 use Rattle.sloth_base.specs.declared.places.Places.{Places}
 use Rattle.rv32_instr.specs.declared.InstrKind.{InstrKind}
-use Rattle.rv32_instr.specs.declared.InstrKind.TheVariants.{Jal}
 use Rattle.rv32_instr.specs.Ram.{word_at}
 use Rattle.rv32_instr.specs.Range.{InRange}
-use Rattle.rv32_expand.specs.Expansion.{item_address, block_address, distance, mask_of, expansion}
+use Rattle.rv32_expand.specs.Expansion.{item_address, expansion}
 use Rattle.rv32_expand.specs.InPlace.{IsItem, CodeAt, item_mark, last_address}
 use Rattle.observe.specs.Observe.{mark_at, view_of_image}
 use Rattle.sloth_base.specs.ImageRange.{AreAscending}
 use Rattle.sim_relation.specs.Build.{Build}
 use Rattle.sim_items.specs.Place.{HasInstructions, ItemStands}
-use Rattle.sim_items.proofs.Jump.{call_expands}
-use Rattle.sim_laws.specs.Kernel.{CallsService}
-use Rattle.sim_laws.specs.Lawful.{HasLaw}
-use Rattle.sim_laws.specs.Items.{HasItems, ReachesService}
+use Rattle.sim_laws.specs.Items.{HasItems}
 
 -- ---- marks
 
@@ -106,43 +99,3 @@ item_stands b image func item h is range =
       unmarked = λ i l. none_found image.marks (item_address b.places func item + 4 * i) (h.unmarked func item i is l);
       adjacent = λ more. found.adjacent (record { declared = is.declared; inside = more });
     }
-
--- ---- the call of a service
-
-pub no_mask : (s : Service) (mask : ℕ) → HasLaw s → mask_of s mask ≡ []
-no_mask service.ActivateTask mask h = refl
-no_mask service.TerminateTask mask h = refl
-no_mask service.ChainTask mask h = refl
-no_mask service.Schedule mask h = absurd h
-no_mask service.GetTaskID mask h = refl
-no_mask service.GetTaskState mask h = refl
-no_mask service.GetResource mask h = refl
-no_mask service.ReleaseResource mask h = refl
-no_mask service.SetEvent mask h = absurd h
-no_mask service.ClearEvent mask h = absurd h
-no_mask service.GetEvent mask h = absurd h
-no_mask service.WaitEvent mask h = absurd h
-
-pub item_serves : (b : Build) (image : Image) (func item : ℕ) → HasItems b image → IsItem b.app func item → ReachesService b image func item
-    → ItemStands b (view_of_image image) func item × CallsService b (view_of_image image) func item
-item_serves b image func item h is c =
-    let plain = no_mask c.call.service c.call.mask c.law in
-    let jump : InstrKind = Jal 31 (distance (item_address b.places func item) (block_address b.places c.call.service c.call.object)) in
-    let fits : All InRange (jump ∷ []) = All-cons InRange jump [] (omega arith, c.reach) (All-nil InRange) in (
-      item_stands b image func item h is (subst (λ (code : List InstrKind). All InRange code) (sym (call_expands b func item c.call c.is plain)) fits),
-      record {
-        jumps = record {
-          call = c.call;
-          is = c.is;
-          no_mask = plain;
-          block = c.block.offset;
-          block_is = c.block.is;
-          in_ram = c.in_ram;
-          apart = c.apart;
-        };
-        law = c.law;
-        levels = c.levels;
-        are_levels = c.are_levels;
-        block = c.block;
-      },
-    )

@@ -1,6 +1,8 @@
 pub mod Results
 pub mod Bounded
-pub mod Plain
+pub mod Steady
+pub mod Masks
+pub mod Meeting
 pub mod Dispatch
 pub mod Whole
 pub mod Generated

@@ -4,9 +4,6 @@ use Rattle.std.specs.Prelude.{◌&&◌, map, replicate, nat_le, nat_lt, if◌the
 use Rattle.std.proofs.lemmas.Bool.{cases_lt, le-ltb}
 use Rattle.sloth_base.specs.declared.event.Arrival.{Arrival}
 use Rattle.sloth_base.specs.declared.image.Image.{Image}
-use Rattle.sloth_base.specs.declared.app.Call.{Call}
-use Rattle.sim_items.specs.Place.{IsStraight, IsFlow}
-use Rattle.sloth_base.specs.declared.app.Op.TheVariants as op
 use Rattle.sloth_base.specs.Arrivals.{moments}
 use Rattle.sloth_base.specs.Machine.{State}
 use Rattle.sloth_region.specs.Layout.{cur}
@@ -38,12 +35,10 @@ use Rattle.sim_entries.proofs.Spot.{zero_at}
 use Rattle.sim_items.specs.Outside.{setting_of}
 use Rattle.sim_items.specs.Progress.{passed_at, passed_in, progress_in}
 use Rattle.sim_laws.specs.Bounded.{IsBounded}
-use Rattle.sim_laws.specs.Kernel.{Kernel, IsKnown}
-use Rattle.sim_laws.specs.Kernel.IsKnown.{computes, flows, invokes, returns, serves}
-use Rattle.sim_laws.specs.Lawful.{HasLaw}
-use Rattle.sim_laws.specs.Plain.{OnlyLawfulCalls, IsPlain}
+use Rattle.sim_laws.specs.Kernel.{Kernel}
+use Rattle.sim_laws.specs.Steady.{IsSteady}
 use Rattle.sim_laws.proofs.Bounded.{arrive_fits, bounds_stay}
-use Rattle.sim_laws.proofs.Plain.{plain_stays, opening_plain}
+use Rattle.sim_laws.proofs.Steady.{steady_stays, opening_steady}
 use Rattle.sim_laws.proofs.Dispatch.{advance}
 
 -- ---- the measure is at most 40
@@ -91,19 +86,6 @@ module _ (b : Build) (image : Image) (kernel : Kernel b image) where
   few : length b.config.tasks ≤ 32
   few = let f = kernel.fits.few_tasks in omega arith
 
-  only : OnlyLawfulCalls b.app
-  only = record { services = λ func item call l is. by func item call is (kernel.operations func item l) }
-    where
-      by : (func item : ℕ) (call : Call) → operation b.app func item ≡ op.Serve call → IsKnown b view func item → HasLaw call.service
-      by func item call is (computes h) = absurd (subst (IsStraight b.app func) is h.straight)
-      by func item call is (flows h) = absurd (subst (IsFlow b.app func item) is h.flow)
-      by func item call is (invokes h) = let e : op.Invoke h.callee ≡ op.Serve call = sym h.is ∙ is in cc
-      by func item call is (returns h) = let e : op.Return ≡ op.Serve call = sym h.is ∙ is in cc
-      by func item call is (serves h) =
-          let same : op.Serve h.jumps.call ≡ op.Serve call = sym h.jumps.is ∙ is in
-          let e : h.jumps.call ≡ call = cc in
-          subst (λ (c : Call). HasLaw c.service) e h.law
-
   few_instructions : (func item : ℕ) → length (expansion b.app b.places func item) ≤ 40
   few_instructions func item =
       let long = is_long b.places func item in
@@ -118,19 +100,19 @@ module _ (b : Build) (image : Image) (kernel : Kernel b image) where
       passed_small (item_address b.places frame.func frame.item) (length (expansion b.app b.places frame.func frame.item)) pc (few_instructions frame.func frame.item)
 
   abbrev R : State → System → Type 0
-  R = With (Stands b) IsBounded (IsPlain b.config b.app)
+  R = With (Stands b) IsBounded (IsSteady b.config b.app)
 
   module _ (arrivals : List Arrival) (setting : IsSetting (setting_of b view arrivals)) where
-    plain_found : (count : ℕ) (s : System) → s.booted ≡ true → IsPlain b.config b.app s → IsPlain b.config b.app (with_admits (lines_at arrivals count) s)
-    plain_found count s booted h =
-        along_events b.config b.app (IsPlain b.config b.app) (plain_stays b.config b.app kernel.well_formed only) (map admit_event (moments count (count + 1) arrivals)) s (with_admits (lines_at arrivals count) s)
+    steady_found : (count : ℕ) (s : System) → s.booted ≡ true → IsSteady b.config b.app s → IsSteady b.config b.app (with_admits (lines_at arrivals count) s)
+    steady_found count s booted h =
+        along_events b.config b.app (IsSteady b.config b.app) (steady_stays b.config b.app kernel.well_formed) (map admit_event (moments count (count + 1) arrivals)) s (with_admits (lines_at arrivals count) s)
         (leads_admits b.config b.app (moments count (count + 1) arrivals) s booted (below_moments (length b.config.tasks) count (count + 1) arrivals setting.lines)) h
 
     simulation : IsSimulation (setting_of b view arrivals) R (progress_in b)
     simulation =
-        simulation_with (setting_of b view arrivals) setting (Stands b) IsBounded (IsPlain b.config b.app) (progress_in b) (bounds_stay arrivals) (plain_stays b.config b.app kernel.well_formed only)
+        simulation_with (setting_of b view arrivals) setting (Stands b) IsBounded (IsSteady b.config b.app) (progress_in b) (bounds_stay arrivals) (steady_stays b.config b.app kernel.well_formed)
         (λ count state s positive w.
-        advance b image kernel arrivals setting count positive state s w.base (arrive_fits (lines_at arrivals count) state w.machine) (plain_found count s w.base.tidy.booted w.system))
+        advance b image kernel arrivals setting count positive state s w.base (arrive_fits (lines_at arrivals count) state w.machine) (steady_found count s w.base.tidy.booted w.system))
         (λ count state s w. stands_arrived b (lines_at arrivals count) state s few (below_moments (length b.config.tasks) count (count + 1) arrivals setting.lines) w.base)
         (λ count state h. arrive_fits (lines_at arrivals count) state h)
         (λ state s w. w.base.tidy.booted)
@@ -140,9 +122,9 @@ module _ (b : Build) (image : Image) (kernel : Kernel b image) where
     booting : BootLaw (setting_of b view arrivals) R (start image)
     booting =
         let law = boot_stretch b view arrivals setting image kernel.fits kernel.is_image kernel.boot in
-        boot_with (setting_of b view arrivals) setting (Stands b) IsBounded (IsPlain b.config b.app) (progress_in b) (bounds_stay arrivals) (plain_stays b.config b.app kernel.well_formed only)
+        boot_with (setting_of b view arrivals) setting (Stands b) IsBounded (IsSteady b.config b.app) (progress_in b) (bounds_stay arrivals) (steady_stays b.config b.app kernel.well_formed)
         (start image) law (sym (booted_admits (late law.trace) law.after) ∙ law.related.tidy.booted)
-        (start_bounded image kernel.bytes) (opening_plain b.config b.app)
+        (start_bounded image kernel.bytes) (opening_steady b.config b.app kernel.well_formed)
 
   pub sound_kernel : Sound b.config b.app image
   sound_kernel =

@@ -2,11 +2,11 @@
 use Rattle.std.specs.Prelude.{ℕ, ◌+◌, ◌<◌, ◌≤◌, ◌≡◌, ◌≢◌, List, length, slice_index}
 use Rattle.sloth_base.specs.declared.image.Image.{Image}
 use Rattle.sloth_base.specs.declared.places.Levels.{Levels}
-use Rattle.sloth_region.specs.declared.extent.Extent.{Extent}
 use Rattle.sloth_region.specs.declared.map.Map.{Map}
 use Rattle.rv32_instr.specs.declared.InstrKind.{InstrKind}
 use Rattle.observe.specs.Observe.{view_of_image}
 use Rattle.app_rules.specs.WellFormed.{WellFormed}
+use Rattle.stack_bounds.specs.Bounds.{MayMeet}
 use Rattle.osek_machine.specs.State.{body_of}
 use Rattle.sloth_base.specs.Named.{function}
 use Rattle.prio_levels.specs.Levels.{AreLevels}
@@ -24,7 +24,7 @@ use Rattle.sim_entries.specs.Entries.{first_words}
 use Rattle.sim_entries.specs.Generated.{HasOneBody}
 use Rattle.sim_items.specs.Place.{ItemStands}
 use Rattle.sim_items.specs.Outside.{HasIdle}
-use Rattle.sim_laws.specs.Kernel.{Kernel, IsKnown}
+use Rattle.sim_laws.specs.Kernel.{Kernel, IsKnown, WayBackStands}
 
 -- the prologue of a task stands where the map has the handler of its line
 pub record HasPrologue (b : Build) (levels : Levels) (map : Map) (t : ℕ) : Type 0 where
@@ -34,7 +34,7 @@ pub record HasPrologue (b : Build) (levels : Levels) (map : Map) (t : ℕ) : Typ
   pub is : slice_index map.handlers t ≡ 0x8000_0000 + offset
   pub placed : IsPlaced b offset code
   pub one_body : HasOneBody b t
-  pub few_words : first_words b t ≤ 85
+  pub few_words : first_words b t ≤ 32
   pub has_item : 0 < length (function b.app (body_of b.app.funcs t)).items
 
 -- By the levels and the map: the vector words, boot, the idle loop, a prologue for each task, and the items with their services.
@@ -44,7 +44,7 @@ pub record IsGenerated (b : Build) (image : Image) (levels : Levels) (map : Map)
   pub are_levels : AreLevels b.config levels
   pub places : b.places ≡ map.places
   pub idle_is : b.idle ≡ map.idle
-  pub tops : (t : ℕ) (stack : Extent) → slice_get map.stacks t ≡ Some stack → 0x8000_0000 + b.top t ≡ stack.base + stack.len
+  pub tops : (t : ℕ) → t < length b.config.tasks → 0x8000_0000 + b.top t ≡ slice_index map.tops t
   pub tasks : length image.tasks ≡ length b.config.tasks
   pub is_image : IsImage b image
   pub bytes : AreBelow 256 image.memory
@@ -56,9 +56,10 @@ pub record IsGenerated (b : Build) (image : Image) (levels : Levels) (map : Map)
   pub boot_placed : IsPlaced b 0x480 boot
   pub idle : HasIdle b (view_of_image image)
   pub prologues : (t : ℕ) → t < length b.config.tasks → HasPrologue b levels map t
-  pub stacks : (t u : ℕ) → t < length b.config.tasks → u < length b.config.tasks → u ≢ t → AreApart b t u
+  pub stacks : (t u : ℕ) → t < length b.config.tasks → u < length b.config.tasks → u ≢ t → MayMeet b.config b.app t u → AreApart b t u
   pub items : (func item : ℕ) → item < length (function b.app func).items → ItemStands b (view_of_image image) func item
   pub operations : (func item : ℕ) → item < length (function b.app func).items → IsKnown b (view_of_image image) func item
+  pub way_back : WayBackStands b (view_of_image image)
 
 -- What is generated so is a kernel in place.
 abbrev pub GeneratedIsKernel : Type 0

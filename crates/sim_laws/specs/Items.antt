@@ -1,14 +1,11 @@
 -- From the items of task code in an image to those of a kernel in place.
-use Rattle.std.specs.Prelude.{ℕ, ◌+◌, ◌*◌, ◌<◌, ◌≤◌, ◌≡◌, ◌≢◌, ◌⊎◌, true, length, Some, All, Contains}
+use Rattle.std.specs.Prelude.{ℕ, ◌+◌, ◌*◌, ◌<◌, ◌≤◌, ◌≡◌, ◌≢◌, true, length, Some, All, Contains}
 use Rattle.sloth_base.specs.declared.image.Image.{Image}
 use Rattle.sloth_base.specs.declared.image.Mark.{Mark}
 use Rattle.sloth_base.specs.declared.app.Call.{Call}
 use Rattle.sloth_base.specs.declared.app.Op.TheVariants as op
-use Rattle.sloth_base.specs.declared.places.Levels.{Levels}
-use Rattle.prio_levels.specs.Levels.{AreLevels}
-use Rattle.service_gen.specs.Block.{Serves}
-use Rattle.rv32_instr.specs.Range.{Even, InRange}
-use Rattle.rv32_expand.specs.Expansion.{item_address, block_address, distance, expansion}
+use Rattle.rv32_instr.specs.Range.{InRange}
+use Rattle.rv32_expand.specs.Expansion.{item_address, expansion}
 use Rattle.sloth_base.specs.Named.{operation}
 use Rattle.rv32_expand.specs.InPlace.{IsItem, ItemsInPlace}
 use Rattle.app_rules.specs.WellFormed.{WellFormed}
@@ -16,9 +13,7 @@ use Rattle.observe.specs.Observe.{View, mark_at, view_of_image}
 use Rattle.sloth_base.specs.ImageRange.{AreAscending}
 use Rattle.sim_relation.specs.Build.{Build}
 use Rattle.sim_items.specs.Place.{ItemStands}
-use Rattle.sim_services.specs.Opening.{HasBlock}
-use Rattle.sim_laws.specs.Kernel.{CallsService, IsKnown}
-use Rattle.sim_laws.specs.Lawful.{HasLaw}
+use Rattle.sim_laws.specs.Kernel.{IsKnown}
 
 -- The items of the task code stand in the image, among the code of what is built. The marks rise, and none stands inside an
 -- expansion but at its last instruction.
@@ -42,24 +37,7 @@ abbrev pub ItemsStand : Type 0
 ItemsStand = (b : Build) (image : Image) (func item : ℕ) → HasItems b image → IsItem b.app func item → All InRange (expansion b.app b.places func item)
     → ItemStands b (view_of_image image) func item
 
--- The call of a service that has a law: its block stands in the image, apart from the jump, and within the jump's reach.
-pub record ReachesService (b : Build) (image : Image) (func item : ℕ) : Type 0 where
-  pub call : Call
-  pub is : operation b.app func item ≡ op.Serve call
-  pub law : HasLaw call.service
-  pub levels : Levels
-  pub are_levels : AreLevels b.config levels
-  pub block : HasBlock b (view_of_image image) call.service call.object (Serves call.service call.object levels)
-  pub in_ram : block.offset < 0x20_0000
-  pub apart : (0x8000_0000 + block.offset < item_address b.places func item) ⊎ (item_address b.places func item + 4 ≤ 0x8000_0000 + block.offset)
-  pub reach : Even 21 (distance (item_address b.places func item) (block_address b.places call.service call.object))
-
--- such an item stands in the image, and calls the service there
-abbrev pub ServingItemsStand : Type 0
-ServingItemsStand = (b : Build) (image : Image) (func item : ℕ) → HasItems b image → IsItem b.app func item → ReachesService b image func item
-    → ItemStands b (view_of_image image) func item × CallsService b (view_of_image image) func item
-
--- With well-formed task code each item is of one of the kinds that have laws, if the services are.
+-- With well-formed task code each item is of one of the known kinds, if the services are.
 abbrev pub ItemsAreKnown : Type 0
 ItemsAreKnown = (b : Build) (view : View) (func item : ℕ) → WellFormed b.config b.app → IsItem b.app func item
     → ((call : Call) → operation b.app func item ≡ op.Serve call → IsKnown b view func item) → IsKnown b view func item

@@ -1,12 +1,16 @@
 -- A kernel in place: what the builder says of an image.
-use Rattle.std.specs.Prelude.{ℕ, ◌+◌, ◌<◌, ◌≡◌, ◌≢◌, length}
+use Rattle.std.specs.Prelude.{ℕ, ◌+◌, ◌*◌, ◌<◌, ◌≤◌, ◌≡◌, ◌≢◌, ◌⊎◌, length}
 use Rattle.sloth_base.specs.declared.image.Image.{Image}
+use Rattle.sloth_base.specs.declared.app.Call.{Call}
 use Rattle.sloth_base.specs.declared.app.Op.TheVariants as op
+use Rattle.sloth_base.specs.declared.service.Service.TheVariants as service
 use Rattle.sloth_base.specs.declared.places.Levels.{Levels}
 use Rattle.sloth_base.specs.Named.{operation, function}
 use Rattle.app_rules.specs.WellFormed.{WellFormed}
+use Rattle.stack_bounds.specs.Bounds.{MayMeet}
 use Rattle.prio_levels.specs.Levels.{AreLevels}
-use Rattle.service_gen.specs.Block.{Serves}
+use Rattle.rv32_expand.specs.Expansion.{item_address, expansion}
+use Rattle.event_gen.specs.Calls.{ServesCall}
 use Rattle.observe.specs.Observe.{View, view_of_image}
 use Rattle.sim_induction.specs.Sound.{Sound}
 use Rattle.sim_relation.specs.Bounds.{AreBelow}
@@ -15,9 +19,9 @@ use Rattle.sim_relation.specs.Stands.{AreApart}
 use Rattle.sim_entries.specs.Boot.{IsImage}
 use Rattle.sim_entries.specs.Codes.{BootStands, PrologueStands}
 use Rattle.sim_items.specs.Place.{ItemStands, IsStraight, IsFlow}
-use Rattle.sim_items.specs.Outside.{JumpsToService, HasIdle}
+use Rattle.sim_items.specs.Outside.{HasIdle}
 use Rattle.sim_services.specs.Opening.{HasBlock}
-use Rattle.sim_laws.specs.Lawful.{HasLaw}
+pub use Rattle.sim_services.specs.Stretch.{HasWayBack}
 
 -- an item computes on registers, frame words and data, and isn't the last one of its function
 pub record Computes (b : Build) (func item : ℕ) : Type 0 where
@@ -37,13 +41,16 @@ pub record Invokes (b : Build) (func item : ℕ) : Type 0 where
 pub record Returns (b : Build) (func item : ℕ) : Type 0 where
   pub is : operation b.app func item ≡ op.Return
 
--- an item calls a service that has a law, whose block for its object stands in the image, as the generator says
+-- an item calls a service, whose block for its object stands in the image, apart from the item, as the generator says
 pub record CallsService (b : Build) (view : View) (func item : ℕ) : Type 0 where
-  pub jumps : JumpsToService b func item
-  pub law : HasLaw jumps.call.service
+  pub call : Call
+  pub is : operation b.app func item ≡ op.Serve call
   pub levels : Levels
   pub are_levels : AreLevels b.config levels
-  pub block : HasBlock b view jumps.call.service jumps.call.object (Serves jumps.call.service jumps.call.object levels)
+  pub block : HasBlock b view call.service call.object (ServesCall call.service call.object levels)
+  pub in_ram : block.offset < 0x20_0000
+  pub apart : (0x8000_0000 + block.offset < item_address b.places func item)
+      ⊎ (item_address b.places func item + 4 * length (expansion b.app b.places func item) ≤ 0x8000_0000 + block.offset)
 
 -- an item is of one of these kinds
 pub data IsKnown (b : Build) (view : View) (func item : ℕ) : Type 0 where
@@ -53,8 +60,13 @@ pub data IsKnown (b : Build) (view : View) (func item : ℕ) : Type 0 where
   returns : Returns b func item → IsKnown b view func item
   serves : CallsService b view func item → IsKnown b view func item
 
--- Basic tasks, whose code has only such items, and whose parts of the stacks are apart: the code of boot, of the prologues, of
--- the idle loop and of the items stands in the image.
+-- where an item calls Schedule, the way back stands in the block for its object
+abbrev pub WayBackStands : Build → View → Type 0
+WayBackStands b view = (func item : ℕ) (call : Call) → item < length (function b.app func).items → operation b.app func item ≡ op.Serve call
+    → call.service ≡ service.Schedule → HasWayBack b view call.object
+
+-- Tasks whose code has only such items, and whose parts of the stacks are apart where they may be in use at once: the code of boot, of the
+-- prologues, of the idle loop and of the items stands in the image.
 pub record Kernel (b : Build) (image : Image) : Type 0 where
   pub fits : Fits b
   pub well_formed : WellFormed b.config b.app
@@ -64,9 +76,11 @@ pub record Kernel (b : Build) (image : Image) : Type 0 where
   pub boot : BootStands b
   pub idle : HasIdle b (view_of_image image)
   pub prologues : (t : ℕ) → t < length b.config.tasks → PrologueStands b t
-  pub stacks : (t u : ℕ) → t < length b.config.tasks → u < length b.config.tasks → u ≢ t → AreApart b t u
+  -- the parts of tasks that may have something there at once
+  pub stacks : (t u : ℕ) → t < length b.config.tasks → u < length b.config.tasks → u ≢ t → MayMeet b.config b.app t u → AreApart b t u
   pub items : (func item : ℕ) → item < length (function b.app func).items → ItemStands b (view_of_image image) func item
   pub operations : (func item : ℕ) → item < length (function b.app func).items → IsKnown b (view_of_image image) func item
+  pub way_back : WayBackStands b (view_of_image image)
 
 -- Every run of such an image, whatever lines arrive, is one of the abstract scheduler.
 abbrev pub KernelIsSound : Type 0

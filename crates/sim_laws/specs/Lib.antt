@@ -1,6 +1,5 @@
 pub mod Bounded
-pub mod Plain
+pub mod Steady
 pub mod Kernel
 pub mod Generated
 pub mod Items
-pub mod Lawful

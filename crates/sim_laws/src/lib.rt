@@ -3,19 +3,19 @@
 #![tactic(auto)]
 
 ghost use Rattle.sim_laws.specs.Bounded.{BoundsStay};
-ghost use Rattle.sim_laws.specs.Plain.{PlainStays};
+ghost use Rattle.sim_laws.specs.Steady.{SteadyStays};
 ghost use Rattle.sim_laws.specs.Kernel.{KernelIsSound};
 ghost use Rattle.sim_laws.specs.Generated.{GeneratedIsKernel};
-ghost use Rattle.sim_laws.specs.Items.{ItemsAreKnown, ItemsStand, MarksAreFound, ServingItemsStand};
+ghost use Rattle.sim_laws.specs.Items.{ItemsAreKnown, ItemsStand, MarksAreFound};
 
 /// Each instruction of a run leaves numbers that have room in the machine's registers and bytes.
 pub fn bounds_stay()
     ensures { BoundsStay }
 {}
 
-/// Where well-formed task code calls only services that have laws, each step keeps a system valid, and leaves no task that waits.
-pub fn plain_stays()
-    ensures { PlainStays }
+/// With well-formed task code each step keeps a system valid, and a task owes the way back only where some item calls Schedule.
+pub fn steady_stays()
+    ensures { SteadyStays }
 {}
 
 /// Every run of an image with such a kernel in place, whatever lines arrive, is one of the abstract scheduler.
@@ -38,12 +38,7 @@ pub fn items_stand()
     ensures { ItemsStand }
 {}
 
-/// Calls of services that have laws, in place in an image, are such items of a kernel.
-pub fn serving_items_stand()
-    ensures { ServingItemsStand }
-{}
-
-/// Each item of well-formed task code that is no service is one of those that have laws.
+/// Each item of well-formed task code that is no service is one of the known ones.
 pub fn items_are_known()
     ensures { ItemsAreKnown }
 {}

@@ -21,4 +21,6 @@ pub mod First
 pub mod Starting
 pub mod Changing
 pub mod AtItem
+pub mod Codes
+pub mod SavedRegisters
 pub mod Placed

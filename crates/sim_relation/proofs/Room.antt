@@ -1,22 +1,17 @@
 -- How much of its part of the stacks a task takes.
-use Rattle.std.proofs.Common.{◌≡◌, ℕ, ◌+◌, ◌*◌, ◌<◌, ◌≤◌, List, [], ◌∷◌, length, refl, subst, sym, arith}
+use Rattle.std.proofs.Common.{◌≡◌, ℕ, ◌+◌, ◌*◌, ◌<◌, ◌≤◌, List, [], ◌∷◌, length, refl, arith}
 use Rattle.std.specs.Prelude.{map}
 use Rattle.sloth_base.specs.Named.{function}
 use Rattle.sloth_region.specs.Layout.{context_bytes}
-use Rattle.app_rules.specs.Code.{Calls}
+use Rattle.app_rules.specs.Code.{Calls, IsCalledBy}
 use Rattle.osek_machine.specs.State.{Frame, body_of}
-use Rattle.sim_relation.specs.Build.{Build, Fits, IsCalledBy, outer_bytes, frame_bytes, HasRoom}
+use Rattle.sim_relation.specs.Build.{Build, Fits, outer_bytes, frame_bytes}
 use Rattle.sim_relation.specs.Position.{OuterAt, FramesAt}
 
 -- for its first frame
 pub first_room : (b : Build) → Fits b → (t : ℕ) → t < length b.config.tasks
     → b.low t + context_bytes + 4 * (function b.app (body_of b.app.funcs t)).frame_words ≤ b.top t
 first_room b fits t h = let r = fits.room t h (body_of b.app.funcs t) [] refl in omega arith
-
-pub room_without_calls : (b : Build) (t : ℕ) → ((f g : ℕ) → ¬ (Calls b.app f g))
-    → b.low t + context_bytes + 4 * (function b.app (body_of b.app.funcs t)).frame_words ≤ b.top t → HasRoom b t
-room_without_calls b t none l f [] called = let r = subst (λ g. b.low t + context_bytes + 4 * (function b.app g).frame_words ≤ b.top t) (sym called) l in omega arith
-room_without_calls b t none l f (caller ∷ outer) called = absurd (none caller f called.0)
 
 -- ---- frames that stand
 

@@ -6,10 +6,10 @@ use Rattle.sloth_base.specs.declared.places.Places.{Places}
 use Rattle.sloth_base.specs.declared.app.Call.{Call}
 use Rattle.sloth_base.specs.declared.app.Op.TheVariants as op
 use Rattle.sloth_region.specs.Layout.{context_bytes}
-use Rattle.app_rules.specs.Code.{Calls}
+use Rattle.app_rules.specs.Code.{IsCalledBy}
 use Rattle.rv32_expand.specs.Expansion.{item_address, symbol_address, block_address}
 use Rattle.sloth_base.specs.Named.{operation, function, symbol_size}
-use Rattle.osek_machine.specs.State.{declaration, body_of}
+use Rattle.osek_machine.specs.State.{declaration}
 use Rattle.osek_machine.specs.Priority.{highest}
 use Rattle.sloth_base.specs.PriorityLevels.{level_of}
 
@@ -40,11 +40,6 @@ abbrev pub IsElsewhere : Build → ℕ → Type 0
 IsElsewhere b i = (b.is_code i ≡ true) ⊎ (b.is_data i ≡ true)
 
 -- ---- stacks
-
--- Function f was called by the first of these functions, that one by the next, and so on. Without a caller f is the body of task t.
-abbrev pub IsCalledBy : App → (t f : ℕ) → List ℕ → Type 0
-IsCalledBy app t f [] = f ≡ body_of app.funcs t
-IsCalledBy app t f (caller ∷ outer) = Calls app caller f × IsCalledBy app t caller outer
 
 -- the bytes of the frames of functions that called others: each a return address and its words
 abbrev pub outer_bytes : App → List ℕ → ℕ

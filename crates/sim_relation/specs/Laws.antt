@@ -1,20 +1,17 @@
 -- The laws of the relation.
-use Rattle.std.specs.Prelude.{ℕ, ◌+◌, ◌*◌, ◌<◌, ◌≤◌, ◌≡◌, List, [], length, Some, None}
+use Rattle.std.specs.Prelude.{ℕ, ◌<◌, ◌≤◌, ◌≡◌, List, [], length, Some, None}
 use Rattle.sloth_base.specs.Machine.{State}
 use Rattle.sloth_base.specs.Arrive.{state_arrive}
 use Rattle.sloth_base.specs.Choose.{choose}
 use Rattle.osek_machine.specs.declared.state.TaskState.{TaskState}
 use Rattle.osek_machine.specs.declared.state.TaskState.TheVariants as mode
 use Rattle.rv32_routine.specs.Kernel.{IsBelow}
-use Rattle.osek_machine.specs.State.{Task, System, task, with_task, body_of}
-use Rattle.sloth_base.specs.Named.{function}
-use Rattle.sloth_region.specs.Layout.{context_bytes}
-use Rattle.app_rules.specs.Code.{Calls}
+use Rattle.osek_machine.specs.State.{Task, System, task, with_task}
 use Rattle.osek_machine.specs.Priority.{IsTop, IsDue}
 use Rattle.osek_machine.specs.Steps.{settled}
 use Rattle.sim_induction.specs.Admits.{with_admits, AllBelow}
 use Rattle.sim_induction.specs.Mirror.{Mirror, Runs}
-use Rattle.sim_relation.specs.Build.{Build, Fits, HasRoom}
+use Rattle.sim_relation.specs.Build.{Build, Fits}
 use Rattle.sim_relation.specs.Stands.{Stands}
 use Rattle.sim_relation.specs.Moves.{moved_to, TaskStep, TaskMove, TaskLeave}
 use Rattle.sim_relation.specs.Changes.{changed_to, TaskChange}
@@ -79,10 +76,3 @@ BelowIsFound = (b : Build) (state : State) (s : System) (t : ℕ) → Fits b →
 -- it stands where boot has started the system
 abbrev pub StartsStand : Type 0
 StartsStand = (b : Build) (state : State) → Fits b → Starts b state → Stands b state (started b)
-
--- ---- stacks
-
--- where no function calls another, a task's part has room if its first frame and a context have
-abbrev pub RoomWithoutCalls : Type 0
-RoomWithoutCalls = (b : Build) (t : ℕ) → ((f g : ℕ) → ¬ (Calls b.app f g))
-    → b.low t + context_bytes + 4 * (function b.app (body_of b.app.funcs t)).frame_words ≤ b.top t → HasRoom b t

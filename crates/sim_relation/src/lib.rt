@@ -2,7 +2,7 @@
 //! keeps it. It stands on the offsets of `sloth_region` (`specs/Layout`) and on no generator.
 #![tactic(auto)]
 
-ghost use Rattle.sim_relation.specs.Laws.{MirrorOfStands, ArrivalsAreAdmits, TakenIsTop, NoneTaken, StepsKeep, MovesKeep, LeavesKeep, ChangesKeep, EntriesKeep, BelowIsFound, StartsStand, RoomWithoutCalls};
+ghost use Rattle.sim_relation.specs.Laws.{MirrorOfStands, ArrivalsAreAdmits, TakenIsTop, NoneTaken, StepsKeep, MovesKeep, LeavesKeep, ChangesKeep, EntriesKeep, BelowIsFound, StartsStand};
 
 /// Where the relation stands, the interrupt controller mirrors the abstract scheduler.
 pub fn mirror_of_stands()
@@ -57,9 +57,4 @@ pub fn below_is_found()
 /// The relation stands where boot has started the system.
 pub fn starts_stand()
     ensures { StartsStand }
-{}
-
-/// Where no function calls another, a task's part of the stacks has room for all its calls if it has for its first frame.
-pub fn room_without_calls()
-    ensures { RoomWithoutCalls }
 {}

@@ -14,3 +14,6 @@ pub mod GoesOnHolding
 pub mod HeldLevels
 pub mod Holding
 pub mod StateTold
+pub mod GivingWay
+pub mod ComingBack
+pub mod ScheduleStretch

@@ -3,7 +3,8 @@ use Rattle.std.specs.Prelude.{ℕ, ◌+◌, ◌<◌, ◌≤◌, ◌≡◌, List,
 use Rattle.sloth_base.specs.declared.service.Service.{Service}
 use Rattle.sloth_base.specs.declared.service.Service.TheVariants as service
 use Rattle.sloth_base.specs.Machine.{State}
-use Rattle.sloth_region.specs.Layout.{below_word}
+use Rattle.sloth_base.specs.declared.event.Event.TheVariants as event
+use Rattle.sloth_region.specs.Layout.{below_word, cur}
 use Rattle.rv32_instr.specs.Ram.{word_at}
 use Rattle.service_gen.specs.ActivateTask.{Activated}
 use Rattle.service_gen.specs.ChainTask.{Chained}
@@ -11,12 +12,15 @@ use Rattle.service_gen.specs.GetResource.{Taken}
 use Rattle.service_gen.specs.GetTaskID.{Told}
 use Rattle.service_gen.specs.GetTaskState.{StateTold}
 use Rattle.service_gen.specs.ReleaseResource.{Released}
+use Rattle.service_gen.specs.Schedule.{CameBack, way_back, Yielded}
 use Rattle.service_gen.specs.TerminateTask.{Terminated}
-use Rattle.osek_machine.specs.State.{Task, System, declaration}
-use Rattle.osek_machine.specs.Priority.{is_in, ceiling}
+use Rattle.osek_machine.specs.State.{Task, System, declaration, task}
+use Rattle.osek_machine.specs.Priority.{is_in, ceiling, IsTop}
+use Rattle.osek_machine.specs.Steps.{OsekStep}
 use Rattle.sloth_base.specs.PriorityLevels.{level_of}
 use Rattle.osek_machine.specs.Services.{is_there}
 use Rattle.sim_relation.specs.Build.{Build, Fits}
+use Rattle.sim_relation.specs.Stands.{Stands}
 use Rattle.sim_services.specs.Opening.{IsFollowed}
 use Rattle.sim_services.specs.Served.{IsServed, Answers}
 
@@ -87,3 +91,35 @@ GetResourceGoesOn = (b : Build) (state : State) (s : System) (t : ℕ) (own : Ta
 abbrev pub ReleaseResourceGoesOn : Type 0
 ReleaseResourceGoesOn = (b : Build) (state : State) (s : System) (t : ℕ) (own : Task) (object : ℕ) (touched : List ℕ) (end : State) → Fits b
     → MayGoOn b state s t own service.ReleaseResource object → Released object touched state end → Answers b s t service.ReleaseResource touched end
+
+-- what holds where Schedule's block begins at this offset: the running task holds nothing and has its internal resource where its
+-- scheduling is NON, and the way back stands in the block
+pub record MayGiveWay (b : Build) (t : ℕ) (own : Task) (offset : ℕ) : Type 0 where
+  pub holds_nothing : own.held ≡ []
+  pub raised : own.raised ≡ (declaration b.config t).non
+  pub back : b.back ≡ 0x8000_0000 + (offset + way_back)
+
+-- Schedule gives the internal resource back, and the task owes the way back.
+abbrev pub ScheduleGivesWay : Type 0
+ScheduleGivesWay = (b : Build) (state : State) (s : System) (t : ℕ) (own : Task) (object offset : ℕ) (touched : List ℕ) (end : State) → Fits b
+    → MayGoOn b state s t own service.Schedule object → MayGiveWay b t own offset → Yielded offset t touched state end
+    → Answers b s t service.Schedule touched end
+
+-- what holds where a task is to come back from Schedule: it runs, owes this, holds nothing, and is the top task
+pub record MayReturn (b : Build) (state : State) (s : System) (t : ℕ) : Type 0 where
+  pub stands : Stands b state s
+  pub current : word_at state.core.ram cur ≡ t + 1
+  pub owes : (task s t).owed ≡ true
+  pub holds_nothing : (task s t).held ≡ []
+  pub top : IsTop b.config s [] t
+
+-- the event is a step of the abstract scheduler, and the states at its end are related
+pub record Returns (b : Build) (s : System) (t : ℕ) (end : State) : Type 0 where
+  pub after : System
+  pub step_is : OsekStep b.config b.app (event.Back t) s after
+  pub stands : Stands b end after
+
+-- The way back takes the internal resource again, and the task goes on behind Schedule.
+abbrev pub ScheduleReturns : Type 0
+ScheduleReturns = (b : Build) (state : State) (s : System) (t : ℕ) (touched : List ℕ) (end : State) → Fits b
+    → MayReturn b state s t → CameBack touched state end → Returns b s t end

@@ -1,12 +1,18 @@
 -- The services as stretches of a run, whatever lines arrive.
-use Rattle.std.specs.Prelude.{ℕ, ◌<◌, ◌≡◌, List, [], true}
+use Rattle.std.specs.Prelude.{ℕ, ◌+◌, ◌<◌, ◌≡◌, List, [], true, Some, None}
+use Rattle.sloth_base.specs.declared.image.Mark.{Mark}
+use Rattle.sloth_base.specs.declared.image.MarkKind.TheVariants as kind
+use Rattle.sloth_base.specs.Choose.{choose}
+use Rattle.sloth_region.specs.Layout.{cur}
+use Rattle.rv32_instr.specs.Ram.{word_at}
 use Rattle.sloth_base.specs.declared.event.Arrival.{Arrival}
 use Rattle.sloth_base.specs.declared.service.Service.{Service}
 use Rattle.sloth_base.specs.declared.service.Service.TheVariants as service
 use Rattle.sloth_base.specs.Machine.{State}
 use Rattle.rv32_machine.specs.Run.{arrived}
 use Rattle.rv32_routine.specs.Trace.{Trace}
-use Rattle.observe.specs.Observe.{View}
+use Rattle.rv32_expand.specs.Expansion.{block_address}
+use Rattle.observe.specs.Observe.{View, mark_at}
 use Rattle.rv32_instr.specs.declared.InstrKind.{InstrKind}
 use Rattle.service_gen.specs.ActivateTask.{Activates}
 use Rattle.service_gen.specs.ChainTask.{Chains}
@@ -14,6 +20,7 @@ use Rattle.service_gen.specs.GetResource.{Takes}
 use Rattle.service_gen.specs.GetTaskID.{TellsTask}
 use Rattle.service_gen.specs.GetTaskState.{TellsState}
 use Rattle.service_gen.specs.ReleaseResource.{Releases}
+use Rattle.service_gen.specs.Schedule.{way_back, Yields}
 use Rattle.service_gen.specs.TerminateTask.{Terminates}
 use Rattle.osek_machine.specs.State.{System, task}
 use Rattle.osek_machine.specs.Services.{is_there}
@@ -21,8 +28,8 @@ use Rattle.sim_induction.specs.Admits.{IsSetting, lines_at, with_admits}
 use Rattle.sim_induction.specs.Laws.{StretchLaw}
 use Rattle.sim_relation.specs.Build.{Build, Fits}
 use Rattle.sim_relation.specs.Stands.{Stands}
-use Rattle.sim_relation.specs.Placed.{setting_of}
-use Rattle.sim_services.specs.Laws.{MayHaveResource}
+use Rattle.sim_relation.specs.Placed.{IsPlaced, setting_of}
+use Rattle.sim_services.specs.Laws.{MayGiveWay, MayHaveResource}
 use Rattle.sim_services.specs.Opening.{IsFollowed, OpensService}
 
 -- a stretch begins at the count
@@ -95,3 +102,43 @@ GetResourceStretches = (b : Build) (view : View) (arrivals : List Arrival) (coun
 -- The stretch that begins at the opening mark of ReleaseResource is its event Call.
 abbrev pub ReleaseResourceStretches : Type 0
 ReleaseResourceStretches = GoingOnStretches service.ReleaseResource Releases
+
+-- what holds at the opening mark of Schedule: the running task holds nothing, and has its internal resource where its scheduling is NON
+pub record OpensSchedule (b : Build) (view : View) (state : State) (s : System) (t : ℕ) : Type 0 where
+  pub goes_on : OpensGoingOn b view state s t service.Schedule (λ object. Yields)
+  pub may : MayGiveWay b t (task s t) goes_on.opens.block.offset
+
+-- The stretch that begins there is the event Call of Schedule.
+abbrev pub ScheduleStretches : Type 0
+ScheduleStretches = (b : Build) (view : View) (arrivals : List Arrival) (count : ℕ) (state : State) (s : System) (t : ℕ)
+    → Fits b → IsSetting (setting_of b view arrivals) → 0 < count → Stands b state s
+    → OpensSchedule b view (arrived arrivals count state) (with_admits (lines_at arrivals count) s) t
+    → Stretches b view arrivals count state s
+
+-- the way back stands in the block of Schedule with this object, with its mark
+pub record HasWayBack (b : Build) (view : View) (object : ℕ) : Type 0 where
+  pub code : List InstrKind
+  pub yields : Yields code
+  pub offset : ℕ
+  pub block_is : block_address b.places service.Schedule object ≡ 0x8000_0000 + offset
+  pub placed : IsPlaced b offset code
+  pub is : b.back ≡ 0x8000_0000 + (offset + way_back)
+  pub mark : Mark
+  pub marked : mark_at view b.back ≡ Some mark
+  pub is_back : mark.kind ≡ kind.Back
+
+-- what holds where no line is taken and the running task owes the way back, with the arrivals of the count
+pub record OpensWayBack (b : Build) (view : View) (state : State) (s : System) (t : ℕ) : Type 0 where
+  pub none : choose state.core ≡ None
+  pub current : word_at state.core.ram cur ≡ t + 1
+  pub owes : (task s t).owed ≡ true
+  pub holds_nothing : (task s t).held ≡ []
+  pub object : ℕ
+  pub way : HasWayBack b view object
+
+-- The stretch that begins there is the event Back.
+abbrev pub WayBackStretches : Type 0
+WayBackStretches = (b : Build) (view : View) (arrivals : List Arrival) (count : ℕ) (state : State) (s : System) (t : ℕ)
+    → Fits b → IsSetting (setting_of b view arrivals) → 0 < count → Stands b state s
+    → OpensWayBack b view (arrived arrivals count state) (with_admits (lines_at arrivals count) s) t
+    → Stretches b view arrivals count state s

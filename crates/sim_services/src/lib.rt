@@ -3,9 +3,10 @@
 #![tactic(auto)]
 
 ghost use Rattle.sim_services.specs.Laws.{ActivateTaskGoesOn, ChainTaskAnswers, GetResourceGoesOn, GetTaskIDGoesOn, GetTaskStateGoesOn};
-ghost use Rattle.sim_services.specs.Laws.{ReleaseResourceGoesOn, TerminateTaskEnds};
+ghost use Rattle.sim_services.specs.Laws.{ReleaseResourceGoesOn, ScheduleGivesWay, ScheduleReturns, TerminateTaskEnds};
 ghost use Rattle.sim_services.specs.Stretch.{ActivateTaskStretches, ChainTaskStretches, GetResourceStretches, GetTaskIDStretches};
-ghost use Rattle.sim_services.specs.Stretch.{GetTaskStateStretches, ReleaseResourceStretches, TerminateTaskStretches};
+ghost use Rattle.sim_services.specs.Stretch.{GetTaskStateStretches, ReleaseResourceStretches, ScheduleStretches, TerminateTaskStretches};
+ghost use Rattle.sim_services.specs.Stretch.{WayBackStretches};
 
 /// TerminateTask ends the running task, and what runs below it goes on.
 pub fn terminate_task_ends()
@@ -75,4 +76,24 @@ pub fn release_resource_goes_on()
 /// From its opening mark on, whatever lines arrive, the stretch of ReleaseResource is its event.
 pub fn release_resource_stretches()
     ensures { ReleaseResourceStretches }
+{}
+
+/// Schedule gives the internal resource back, and the task owes the way back.
+pub fn schedule_gives_way()
+    ensures { ScheduleGivesWay }
+{}
+
+/// The way back takes the internal resource again, and the task goes on behind Schedule.
+pub fn schedule_returns()
+    ensures { ScheduleReturns }
+{}
+
+/// From its opening mark on, whatever lines arrive, the stretch of Schedule is its event.
+pub fn schedule_stretches()
+    ensures { ScheduleStretches }
+{}
+
+/// From its mark on, whatever lines arrive, the stretch of the way back is its event.
+pub fn way_back_stretches()
+    ensures { WayBackStretches }
 {}

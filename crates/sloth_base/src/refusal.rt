@@ -13,7 +13,6 @@ pub enum Part {
 }
 
 /// The rule that is broken. The letter names the stage: O the configuration, A the task code, V the verifier, T the arrivals.
-/// N1 is a form that is not built yet.
 #[derive(Clone, Copy, Debug, PartialEq, Eq)]
 pub enum Code {
     O1,
@@ -54,7 +53,6 @@ pub enum Code {
     T2,
     T3,
     T4,
-    N1,
 }
 
 /// A refusal: the text, the line in it, counted from 1, and the rule.

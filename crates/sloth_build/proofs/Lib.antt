@@ -1,3 +1,1 @@
-mod Forms
-pub mod Unique
-mod Covered
+mod Ready

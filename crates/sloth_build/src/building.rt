@@ -1,15 +1,11 @@
 //! The builder.
-ghost use Rattle.std.specs.Prelude.{◌≡◌, ◌<◌, All, IfOk, IfErr, length, map};
+ghost use Rattle.std.specs.Prelude.{◌≡◌, ◌<◌, IfOk, IfErr, length, map};
 ghost use Rattle.sloth_base.specs.ImageRange.{InFormat};
 ghost use Rattle.app_rules.specs.AppRange.{AppInRange};
-ghost use Rattle.app_rules.specs.WellFormed.{WellFormed};
 ghost use Rattle.rv32_expand.specs.InPlace.{ItemsInPlace};
 ghost use Rattle.sim_induction.specs.Sound.{Sound};
-ghost use Rattle.stack_bounds.specs.Bounds.{AreBounds, HaveRoom, IsLength};
-ghost use Rattle.sloth_source.specs.SourceText.{BodiesAreNamed};
-ghost use Rattle.sloth_build.specs.Form.{IsBuilt, Accepted, ErrorIs};
+ghost use Rattle.sloth_source.specs.Texts.{Accepted, ErrorIs};
 
-use crate::form::not_built;
 use image_gen::image::image;
 use sloth_base::app::App;
 use sloth_base::config::Config;
@@ -24,26 +20,6 @@ pub struct Built {
     pub config: Config,
     pub app: App,
     pub image: Image,
-}
-
-// What the texts mean, where it is of the built form.
-fn read_built(alloc: Global, oil: &[u8], src: &[u8]) -> Result<Source, BuildError>
-    requires oil { length oil.now < 4294967295 }
-    requires src { length src.now < 4294967295 }
-    ensures accepted { IfOk result (λ source. Accepted oil.now src.now source.config source.app) }
-    ensures well_formed { IfOk result (λ source. WellFormed source.config source.app) }
-    ensures built { IfOk result (λ source. IsBuilt source.config source.app) }
-    ensures named { IfOk result (λ source. BodiesAreNamed source.config source.app) }
-    ensures bounds { IfOk result (λ source. AreBounds source.config source.app source.bounds) }
-    ensures room { IfOk result (λ source. HaveRoom source.config source.app source.bounds) }
-    ensures lengths { IfOk result (λ source. All IsLength source.bounds.bytes) }
-    ensures refused { IfErr result (ErrorIs oil.now src.now) }
-{
-    let source = read(alloc, oil, src)?;
-    match not_built(&source.config, &source.app) {
-        Some(refusal) => Err(BuildError::Refused(refusal)),
-        None => Ok(source),
-    }
 }
 
 /// Builds the image of a configuration and its task source, each a text of at most 4,294,967,294 bytes.
@@ -62,8 +38,8 @@ pub fn build(alloc: Global, oil: &[u8], src: &[u8]) -> Result<Built, BuildError>
     let Source {
         config,
         app,
-        bounds,
-    } = read_built(alloc, oil, src)?;
-    let image = image(alloc, &config, &app, bounds.bytes.items())?;
+        stacks,
+    } = read(alloc, oil, src)?;
+    let image = image(alloc, &config, &app, &stacks)?;
     Ok(Built { config, app, image })
 }

@@ -10,16 +10,18 @@ use Rattle.sloth_io.specs.Counts.{Rose}
 use Rattle.sloth_io.specs.Sink.{Output}
 use Rattle.sloth_io.specs.Store.{Files, KeepsFiles, fits}
 use Rattle.image_file.specs.ImageText.{image_bytes}
-use Rattle.sloth_build.specs.Form.{Accepted}
-use Rattle.sloth_cli.specs.Command.{Command, IsCommand}
-use Rattle.sloth_cli.specs.LastLine.{refusal_line}
+use Rattle.sloth_source.specs.Texts.{Accepted}
+use Rattle.sloth_cli.specs.Command.{Command, Building, Builds, IsCommand, IsInLimit}
+use Rattle.sloth_cli.specs.Inputs.{AreRead}
+use Rattle.sloth_cli.specs.LastLine.{refusal_line, no_image_line}
 use Rattle.sloth_cli.specs.declared.top.Status.{Status}
 use Rattle.sloth_cli.specs.declared.top.Status.TheVariants as status
-use Rattle.sloth_cli.specs.declared.top.Failure.{Failure}
-use Rattle.sloth_cli.specs.declared.top.Failure.TheVariants as failure
-use Rattle.sloth_cli.specs.Top.{World, world, inputs_of, AreInputs, FilesStay, AreRead, IsAccepted, IsImageOf}
-use Rattle.sloth_cli.specs.Top.{IsWritten, IsDone, Puts, BrokeOff, Answers, done_text}
-use Rattle.sloth_cli.specs.Failures.{ReadFailed, JudgeFailed, PerformFailed, CommandFailed, IsPerformed, Finished}
+use Rattle.sloth_cli.specs.declared.failure.Failure.{Failure}
+use Rattle.sloth_cli.specs.declared.failure.Failure.TheVariants as failure
+use Rattle.sloth_cli.specs.Top.{World, world, inputs_of, names_of, AreInputs, FilesStay, IsAccepted, IsImageOf}
+use Rattle.sloth_cli.specs.Top.{IsWritten, IsDone, Requires, Puts, BrokeOff, Answers, done_text}
+use Rattle.sloth_cli.specs.Failures.{ReadFailed, JudgeFailed, PerformFailed, Ends, CommandFailed, IsPerformed, Finished}
+use Rattle.sloth_cli.proofs.Ceilings.{shown-keep}
 
 -- ---- a command
 
@@ -31,9 +33,10 @@ read-ends failure.NoMemory old new sink c h stay = (stay, refl)
 read-ends (failure.Refused r) old new sink c h stay = absurd h
 read-ends failure.WriteFile old new sink c h stay = absurd h
 read-ends failure.Put old new sink c h stay = absurd h
+read-ends (failure.NotAnImage fault) old new sink c h stay = absurd h
 
-pub judge-ends : (f : Failure) (old new : Files) (sink : Output) (c : Command) (oil src arr : List ℕ)
-    → AreInputs old c oil src arr → JudgeFailed f oil src arr → FilesStay old new → CommandFailed f (world old sink) (world new sink) c
+pub judge-ends : (f : Failure) (old new : Files) (sink : Output) (c : Building) (oil src arr : List ℕ)
+    → AreInputs old c oil src arr → JudgeFailed f oil src arr → FilesStay old new → CommandFailed f (world old sink) (world new sink) (Builds c)
 judge-ends (failure.Refused r) old new sink c oil src arr inputs h stay =
     (record { oil = oil; src = src; arr = arr; inputs = inputs; is = h }, stay, refl)
 judge-ends failure.NoMemory old new sink c oil src arr inputs h stay = (stay, refl)
@@ -41,27 +44,30 @@ judge-ends failure.ReadFault old new sink c oil src arr inputs h stay = absurd h
 judge-ends failure.TooLong old new sink c oil src arr inputs h stay = absurd h
 judge-ends failure.WriteFile old new sink c oil src arr inputs h stay = absurd h
 judge-ends failure.Put old new sink c oil src arr inputs h stay = absurd h
+judge-ends (failure.NotAnImage fault) old new sink c oil src arr inputs h stay = absurd h
 
 -- an image was built of the inputs, the arrivals are read, and nothing is written yet
-pub record IsBuilt (old mid : Files) (c : Command) (image : Image) (arrivals : List Arrival) : Type 0 where
+pub record IsBuilt (old mid : Files) (c : Building) (image : Image) (arrivals : List Arrival) : Type 0 where
   pub config : Config
   pub app : App
   pub accepted : IsAccepted old c config app arrivals
   pub is_image : IsImageOf config app image
+  pub in_limit : IsInLimit c.run
   pub kept : KeepsFiles old mid
 
-pub built-of : (old mid : Files) (c : Command) (config : Config) (app : App) (image : Image) (arrivals : List Arrival) (oil src arr : List ℕ)
-    → AreInputs old c oil src arr → Accepted oil src config app → AreRead config arr arrivals → AreArrivals (length config.tasks) arrivals
-    → IsImageOf config app image → KeepsFiles old mid → IsBuilt old mid c image arrivals
-built-of old mid c config app image arrivals oil src arr inputs accepted read in_range is_image kept = record {
+pub built-of : (old mid : Files) (c : Building) (config : Config) (app : App) (image : Image) (arrivals : List Arrival) (oil src arr : List ℕ)
+    → AreInputs old c oil src arr → Accepted oil src config app → AreRead (names_of config) arr arrivals → AreArrivals (length config.tasks) arrivals
+    → IsImageOf config app image → IsInLimit c.run → KeepsFiles old mid → IsBuilt old mid c image arrivals
+built-of old mid c config app image arrivals oil src arr inputs accepted read in_range is_image in_limit kept = record {
   config = config;
   app = app;
   accepted = record { oil = oil; src = src; arr = arr; inputs = inputs; accepted = accepted; read = read; in_range = in_range };
   is_image = is_image;
+  in_limit = in_limit;
   kept = kept;
 }
 
-pub done : (old mid new : Files) (c : Command) (image : Image) (arrivals : List Arrival) → IsBuilt old mid c image arrivals
+pub done : (old mid new : Files) (c : Building) (image : Image) (arrivals : List Arrival) → IsBuilt old mid c image arrivals
     → IsWritten mid new c.img (image_bytes image) → IsDone old new c (done_text image arrivals c.run)
 done old mid new c image arrivals b w = record {
   config = b.config;
@@ -72,11 +78,12 @@ done old mid new c image arrivals b w = record {
   is_image = b.is_image;
   written = (w.0, λ name other. w.1 name other ∙ b.kept.holds name);
   text_is = refl;
+  protocol = shown-keep b.config b.app image arrivals c.run b.is_image.protocol b.accepted.in_range b.in_limit;
 }
 
-pub perform-ends : (f : Failure) (old mid : Files) (sink : Output) (new : World) (c : Command) (image : Image) (arrivals : List Arrival)
+pub perform-ends : (f : Failure) (old mid : Files) (sink : Output) (new : World) (c : Building) (image : Image) (arrivals : List Arrival)
     → IsBuilt old mid c image arrivals → PerformFailed f (world mid sink) new c.img (image_bytes image) (done_text image arrivals c.run)
-    → CommandFailed f (world old sink) new c
+    → CommandFailed f (world old sink) new (Builds c)
 perform-ends failure.NoMemory old mid sink new c image arrivals is h = (λ name. h.0 name ∙ is.kept.holds name, h.1)
 perform-ends failure.WriteFile old mid sink new c image arrivals is h = (
   record {
@@ -94,10 +101,11 @@ perform-ends failure.WriteFile old mid sink new c image arrivals is h = (
   },
   h.2,
 )
-perform-ends failure.Put old mid sink new c image arrivals is h = (done_text image arrivals c.run, done old mid new.files c image arrivals is h.0, h.1)
+perform-ends failure.Put old mid sink new c image arrivals is h = (status.Done, done_text image arrivals c.run, done old mid new.files c image arrivals is h.0, h.1)
 perform-ends (failure.Refused r) old mid sink new c image arrivals is h = absurd h
 perform-ends failure.ReadFault old mid sink new c image arrivals is h = absurd h
 perform-ends failure.TooLong old mid sink new c image arrivals is h = absurd h
+perform-ends (failure.NotAnImage fault) old mid sink new c image arrivals is h = absurd h
 
 -- two facts of a call that succeeds
 pub both-ok : {T E : Type 0} (r : Result T E) (P Q R : Type 0) → (P → Q → R) → OnOk r P → OnOk r Q → OnOk r R
@@ -109,6 +117,19 @@ both-ok (Err e) P Q R f p q = tt
 -- a line that is put behind a command that put nothing
 puts-behind : (wanted answer : Status) (old mid new : Output) (line : List ℕ) → mid ≡ old → Puts wanted answer mid new line → Puts wanted answer old new line
 puts-behind wanted answer old mid new line same p = subst (λ (x : Output). Puts wanted answer x new line) same p
+
+-- how a command ended is what its status requires
+required : (s : Status) (words : List (List ℕ)) (c : Command) (old new : Files) (text : List ℕ) → IsCommand words c → Ends s old new c text
+    → Requires s words old new text
+required status.Done words c old new text is h = (c, is, h)
+required status.Stopped words c old new text is h = (c, is, h)
+required status.Usage words c old new text is h = absurd h
+required status.Refused words c old new text is h = absurd h
+required status.ReadFault words c old new text is h = absurd h
+required status.WriteFault words c old new text is h = absurd h
+required status.NoMemory words c old new text is h = absurd h
+required status.TooLong words c old new text is h = absurd h
+required status.NotAnImage words c old new text is h = absurd h
 
 pub finished : (f : Failure) (words : List (List ℕ)) (c : Command) (old : World) (files : Files) (mid new : Output) (answer : Status)
     → IsCommand words c → CommandFailed f old (world files mid) c → Finished f answer mid new → Answers words old (world files new) answer
@@ -130,6 +151,12 @@ finished failure.TooLong words c old files mid new answer is h d = record {
   required = (c, is, h.0, refl, h.1);
   puts = puts-behind status.TooLong answer old.sink mid new (codes "too long\n") h.2 d;
 }
+finished (failure.NotAnImage fault) words c old files mid new answer is h d = record {
+  wanted = status.NotAnImage;
+  text = no_image_line fault;
+  required = (c, is, fault, h.0, refl, h.1);
+  puts = puts-behind status.NotAnImage answer old.sink mid new (no_image_line fault) h.2 d;
+}
 finished failure.NoMemory words c old files mid new answer is h d = record {
   wanted = status.NoMemory;
   text = codes "no memory\n";
@@ -143,16 +170,16 @@ finished failure.WriteFile words c old files mid new answer is h d = record {
   puts = puts-behind status.WriteFault answer old.sink mid new (codes "write fault\n") h.1 d;
 }
 finished failure.Put words c old files mid new answer is h d = record {
-  wanted = status.Done;
-  text = h.0;
-  required = (c, is, h.1);
-  puts = inr (d.0, subst (λ (x : Output). BrokeOff old.sink x h.0) (sym d.1) h.2);
+  wanted = h.0;
+  text = h.1;
+  required = required h.0 words c old.files files h.1 is h.2;
+  puts = inr (d.0, subst (λ (x : Output). BrokeOff old.sink x h.1) (sym d.1) h.3);
 }
 
-pub answered : (words : List (List ℕ)) (c : Command) (old new : World) → IsCommand words c → IsPerformed old new c → Answers words old new status.Done
-answered words c old new is h = record {
-  wanted = status.Done;
+pub answered : (words : List (List ℕ)) (c : Command) (old new : World) (s : Status) → IsCommand words c → IsPerformed s old new c → Answers words old new s
+answered words c old new s is h = record {
+  wanted = s;
   text = h.0;
-  required = (c, is, h.1);
+  required = required s words c old.files new.files h.0 is h.1;
   puts = inl (refl, h.2);
 }

@@ -15,25 +15,28 @@ use Rattle.sloth_io.specs.Counts.{Rose, Stays}
 use Rattle.sloth_io.specs.Sink.{Output, HasNoSpace}
 use Rattle.sloth_io.specs.Store.{Files, Holds, IsMissing, IsTooLong, IsUnwritten}
 use Rattle.image_file.specs.ImageText.{image_bytes}
-use Rattle.sloth_build.specs.Form.{Accepted}
-use Rattle.sloth_build.proofs.Unique.{one_meaning, never_both, one_refusal}
+use Rattle.sloth_source.specs.Texts.{Accepted}
+use Rattle.sloth_source.proofs.Refusals.{one_refusal}
+use Rattle.sloth_source.proofs.Unique.{one_meaning, never_both}
 use Rattle.sloth_cli.specs.LastLine.{refusal_line}
-use Rattle.sloth_cli.specs.Command.{Command, Run, IsCommand, NoCommand}
+use Rattle.sloth_cli.specs.Command.{Building, Run, Builds, IsCommand, NoCommand}
+use Rattle.sloth_cli.specs.Inputs.{input_limit, AreRead}
+use Rattle.sloth_cli.specs.ImageFiles.{IsNoImage}
 use Rattle.sloth_cli.specs.declared.top.Status.{Status}
 use Rattle.sloth_cli.specs.declared.top.Status.TheVariants as status
-use Rattle.sloth_cli.specs.Top.{World, input_limit, arrivals_named, inputs_of, FirstUnread, AreInputs, HoldsArrivals, AreThere, IsFailedRead, IsLongRead}
-use Rattle.sloth_cli.specs.Top.{names_of, AreRead, done_text, IsRefusal, IsRefused, IsAccepted, IsImageOf, IsDone, IsFailedWrite, Requires, Puts, Took, BrokeOff, EndsAs, Answers}
+use Rattle.sloth_cli.specs.Top.{World, arrivals_named, inputs_of, FirstUnread, AreInputs, HoldsArrivals, AreThere, IsFailedRead, IsLongRead}
+use Rattle.sloth_cli.specs.Top.{CommandDone, CommandRefused, CommandUnwritten, CommandStopped, names_of, done_text, IsRefusal, IsRefused, IsAccepted, IsImageOf, Requires, Puts, Took, BrokeOff, EndsAs, Answers}
 use Rattle.sloth_cli.specs.Top.{AnswersUsage, AnswersRefused, ReadsWork, WritesWork, HasSpace, PutsWork, CallsWork, TellsUsage, TellsRefused, IsComplete}
 use Rattle.sloth_cli.proofs.Commands.{one-command}
 
-stays : (a b : ℕ) → Stays a b → Rose a b → ⊥
+pub stays : (a b : ℕ) → Stays a b → Rose a b → ⊥
 stays a b s r =
     let whole : min (a + 1) 18446744073709551615 ≡ a + 1 = min-eq_left (let l = s.1 in omega (arith, l)) in
     let same = s.0 in omega (arith, whole, same, r)
 
 -- ---- the inputs that are told
 
-told : (files : Files) (name one other : List ℕ) → IsTrue files.tells → Holds files name one → Holds files name other → one ≡ other
+pub told : (files : Files) (name one other : List ℕ) → IsTrue files.tells → Holds files name one → Holds files name other → one ≡ other
 told files name one other tells h i = let a = h tells in let b = i tells in cc
 
 told-arrivals : (files : Files) (run : Option Run) (one other : List ℕ) → IsTrue files.tells → HoldsArrivals files run one → HoldsArrivals files run other → one ≡ other
@@ -47,8 +50,8 @@ no-arrivals P old None arr holds short f h = h
 no-arrivals P old (Some run) arr holds short f (inl h) = f run.arr arr holds short h
 no-arrivals P old (Some run) arr holds short f (inr h) = h.1
 
-none-unread : (P : List ℕ → Type 0) (old : Files) (c : Command) (oil src arr : List ℕ) → AreInputs old c oil src arr
-    → ((name bytes : List ℕ) → Holds old name bytes → length bytes ≤ input_limit → P name → ⊥) → FirstUnread old P (inputs_of c) → ⊥
+none-unread : (P : List ℕ → Type 0) (old : Files) (c : Building) (oil src arr : List ℕ) → AreInputs old c oil src arr
+    → ((name bytes : List ℕ) → Holds old name bytes → length bytes ≤ input_limit → P name → ⊥) → FirstUnread old P (inputs_of (Builds c)) → ⊥
 none-unread P old c oil src arr i f (inl h) = f c.oil oil i.oil_read i.oil_short h
 none-unread P old c oil src arr i f (inr h) = behind h.1
   where
@@ -57,13 +60,13 @@ none-unread P old c oil src arr i f (inr h) = behind h.1
     behind (inr h) = no-arrivals P old c.run arr i.arr_read i.arr_short f h.1
 
 -- a file that is there is not missing, where reads work
-not-missing : (old new : Files) (name bytes : List ℕ) → IsTrue old.tells → ReadsWork old new → Holds old name bytes → IsMissing old new name → ⊥
+pub not-missing : (old new : Files) (name bytes : List ℕ) → IsTrue old.tells → ReadsWork old new → Holds old name bytes → IsMissing old new name → ⊥
 not-missing old new name bytes tells (inl stay) holds (inl h) = stays old.failed_reads new.failed_reads stay h.0
 not-missing old new name bytes tells (inr sure) holds (inl h) = let a : IsTrue old.sure = sure in let b = h.1 in cc
 not-missing old new name bytes tells works holds (inr h) = let a = holds tells in let b = h.1 in cc
 
 -- and not too long, where it is short enough
-not-long : (old new : Files) (name bytes : List ℕ) → IsTrue old.tells → Holds old name bytes → length bytes ≤ input_limit
+pub not-long : (old new : Files) (name bytes : List ℕ) → IsTrue old.tells → Holds old name bytes → length bytes ≤ input_limit
     → IsTooLong old new name input_limit → ⊥
 not-long old new name bytes tells holds short h =
     let long = h.1 tells in
@@ -71,11 +74,11 @@ not-long old new name bytes tells holds short h =
     let m : length bytes ≤ 4194304 = short in
     let k : 4194304 < length bytes = subst (λ x. 4194304 < length x) (sym same) long.2 in omega (arith, m, k)
 
-no-failed-read : (old new : Files) (c : Command) (oil src arr : List ℕ) → AreThere old c oil src arr → ReadsWork old new → IsFailedRead old new c → ⊥
+no-failed-read : (old new : Files) (c : Building) (oil src arr : List ℕ) → AreThere old c oil src arr → ReadsWork old new → IsFailedRead old new (Builds c) → ⊥
 no-failed-read old new c oil src arr there works =
     none-unread (IsMissing old new) old c oil src arr there.inputs (λ name bytes holds short. not-missing old new name bytes there.tells works holds)
 
-no-long-read : (old new : Files) (c : Command) (oil src arr : List ℕ) → AreThere old c oil src arr → IsLongRead old new c → ⊥
+no-long-read : (old new : Files) (c : Building) (oil src arr : List ℕ) → AreThere old c oil src arr → IsLongRead old new (Builds c) → ⊥
 no-long-read old new c oil src arr there =
     none-unread (λ name. IsTooLong old new name input_limit) old c oil src arr there.inputs
     (λ name bytes holds short. not-long old new name bytes there.tells holds short)
@@ -88,7 +91,7 @@ not-refused oil src arr config app r h none (inr other) =
     let same = one_meaning oil src other.config config other.app app other.accepted h in
     none r (subst (λ (c : Config). ArrivalsFault (names_of c) arr r) same.0 other.least.is_fault)
 
-one-verdict : (old : Files) (c : Command) (config : Config) (app : App) (arrivals : List Arrival) (oil src arr : List ℕ) (r : Refusal)
+one-verdict : (old : Files) (c : Building) (config : Config) (app : App) (arrivals : List Arrival) (oil src arr : List ℕ) (r : Refusal)
     → AreThere old c oil src arr → IsAccepted old c config app arrivals → IsRefusal oil src arr r → ⊥
 one-verdict old c config app arrivals oil src arr r there h refusal =
     let i = h.inputs in
@@ -106,7 +109,7 @@ part-is tasks before n line r (inr (inl f)) = ap (λ (x : Refusal). x.part) f.1
 part-is tasks before n line r (inr (inr (inl f))) = ap (λ (x : Refusal). x.part) f.1
 part-is tasks before n line r (inr (inr (inr f))) = ap (λ (x : Refusal). x.part) f.1
 
-of-arrivals : (tasks : List (List ℕ)) (text : List ℕ) (r : Refusal) → ArrivalsFault tasks text r → r.part ≡ Arr
+pub of-arrivals : (tasks : List (List ℕ)) (text : List ℕ) (r : Refusal) → ArrivalsFault tasks text r → r.part ≡ Arr
 of-arrivals tasks text r h =
     of_some Arr (FaultAt tasks) (λ front line s f. part-is tasks (arrivals_of tasks front) (length front + 1) line s f) [] _ r h
 
@@ -120,7 +123,7 @@ one-way oil src arr r s (inr a) (inr b) =
     one_least Arr (ArrivalsFault (names_of b.config) arr) (of-arrivals (names_of b.config) arr) r s
     (subst (λ (c : Config). IsLeast (ArrivalsFault (names_of c) arr) r) same.0 a.least) b.least
 
-told-refusal : (old : Files) (c : Command) (oil src arr : List ℕ) (r s : Refusal) → AreThere old c oil src arr → IsRefused old c r → IsRefusal oil src arr s → r ≡ s
+told-refusal : (old : Files) (c : Building) (oil src arr : List ℕ) (r s : Refusal) → AreThere old c oil src arr → IsRefused old c r → IsRefusal oil src arr s → r ≡ s
 told-refusal old c oil src arr r s there refused refusal =
     let i = refused.inputs in
     let oil_is : oil ≡ refused.oil = told old c.oil oil refused.oil there.tells there.inputs.oil_read i.oil_read in
@@ -130,7 +133,7 @@ told-refusal old c oil src arr r s there refused refusal =
     let by_src : IsRefusal oil refused.src refused.arr s = subst (λ x. IsRefusal oil x refused.arr s) src_is by_arr in
     one-way refused.oil refused.src refused.arr r s refused.is (subst (λ x. IsRefusal x refused.src refused.arr s) oil_is by_src)
 
-refused-verdict : (old : Files) (c : Command) (config : Config) (app : App) (oil src arr : List ℕ) (r : Refusal)
+refused-verdict : (old : Files) (c : Building) (config : Config) (app : App) (oil src arr : List ℕ) (r : Refusal)
     → AreThere old c oil src arr → Accepted oil src config app → NoFault (ArrivalsFault (names_of config) arr) → IsRefused old c r → ⊥
 refused-verdict old c config app oil src arr r there h none refused =
     let i = refused.inputs in
@@ -144,7 +147,7 @@ refused-verdict old c config app oil src arr r there h none refused =
 -- ---- puts and writes
 
 -- a put that broke off is counted
-counted-put : (old new : Output) (text : List ℕ) → BrokeOff old new text → Rose old.faults new.faults
+pub counted-put : (old new : Output) (text : List ℕ) → BrokeOff old new text → Rose old.faults new.faults
 counted-put old new text h = let rose : new.faults ≡ min (old.faults + 1) 18446744073709551615 = ap (λ (o : Output). o.faults) h.3 in omega (arith, rose)
 
 full : (taken : Option (List ℕ)) (space : Option ℕ) (text : List ℕ) → HasSpace taken space text → HasNoSpace taken space text → ⊥
@@ -153,7 +156,7 @@ full None (Some space) text h n = h
 full (Some taken) (Some space) text h n =
     let room : length taken + length text ≤ space = h in let over : space < length taken + length text = n in omega (arith, room, over)
 
-no-broken-put : (old new : Output) (text : List ℕ) → PutsWork old new text → BrokeOff old new text → ⊥
+pub no-broken-put : (old new : Output) (text : List ℕ) → PutsWork old new text → BrokeOff old new text → ⊥
 no-broken-put old new text (inl stay) h = stays old.faults new.faults stay (counted-put old new text h)
 no-broken-put old new text (inr room) h = full old.taken old.space text room h.4
 
@@ -173,39 +176,41 @@ usage-by status.ReadFault answer words old new text r p none = absurd (none r.0 
 usage-by status.WriteFault answer words old new text r p none = absurd (none r.0 r.1)
 usage-by status.NoMemory answer words old new text r p none = absurd (none r.0 r.1)
 usage-by status.TooLong answer words old new text r p none = absurd (none r.0 r.1)
-usage-by status.Stopped answer words old new text r p none = absurd r
-usage-by status.NotAnImage answer words old new text r p none = absurd r
+usage-by status.Stopped answer words old new text r p none = absurd (none r.0 r.1)
+usage-by status.NotAnImage answer words old new text r p none = absurd (none r.0 r.1)
 
 pub tells-usage : (words : List (List ℕ)) (old new : World) (answer : Status) → Answers words old new answer → TellsUsage words old new answer
 tells-usage words old new answer h none = usage-by h.wanted answer words old new h.text h.required h.puts none
 
 -- ---- Refused
 
-refused-by : (wanted answer : Status) (words : List (List ℕ)) (old new : World) (text : List ℕ) (c : Command) (oil src arr : List ℕ) (r : Refusal)
+refused-by : (wanted answer : Status) (words : List (List ℕ)) (old new : World) (text : List ℕ) (c : Building) (oil src arr : List ℕ) (r : Refusal)
     → Requires wanted words old.files new.files text → Puts wanted answer old.sink new.sink text
-    → IsCommand words c → AreThere old.files c oil src arr → ReadsWork old.files new.files → IsRefusal oil src arr r → AnswersRefused old new r answer
+    → IsCommand words (Builds c) → AreThere old.files c oil src arr → ReadsWork old.files new.files → IsRefusal oil src arr r → AnswersRefused old new r answer
 refused-by status.Refused answer words old new text c oil src arr r q (inl p) is there works refusal =
     let same : q.2 ≡ r =
-    told-refusal old.files c oil src arr q.2 r there (subst (λ x. IsRefused old.files x q.2) (one-command words q.0 c q.1 is) q.3) refusal in
+    told-refusal old.files c oil src arr q.2 r there (subst (λ x. CommandRefused old.files x q.2) (one-command words q.0 (Builds c) q.1 is) q.3) refusal in
     inl (p.0, subst (λ x. Took old.sink new.sink x) (q.4 ∙ ap refusal_line same) p.1)
 refused-by status.Refused answer words old new text c oil src arr r q (inr p) is there works refusal =
     inr (inr (p.0, counted-put old.sink new.sink text p.1))
 refused-by status.NoMemory answer words old new text c oil src arr r q (inl p) is there works refusal = inr (inl p.0)
 refused-by status.NoMemory answer words old new text c oil src arr r q (inr p) is there works refusal =
     inr (inr (p.0, counted-put old.sink new.sink text p.1))
-refused-by status.Usage answer words old new text c oil src arr r q p is there works refusal = absurd (q.0 c is)
+refused-by status.Usage answer words old new text c oil src arr r q p is there works refusal = absurd (q.0 (Builds c) is)
 refused-by status.Done answer words old new text c oil src arr r q p is there works refusal =
-    let d = subst (λ x. IsDone old.files new.files x text) (one-command words q.0 c q.1 is) q.2 in
+    let d = subst (λ x. CommandDone old.files new.files x text) (one-command words q.0 (Builds c) q.1 is) q.2 in
     absurd (one-verdict old.files c d.config d.app d.arrivals oil src arr r there d.accepted refusal)
 refused-by status.ReadFault answer words old new text c oil src arr r q p is there works refusal =
-    absurd (no-failed-read old.files new.files c oil src arr there works (subst (IsFailedRead old.files new.files) (one-command words q.0 c q.1 is) q.2))
+    absurd (no-failed-read old.files new.files c oil src arr there works (subst (IsFailedRead old.files new.files) (one-command words q.0 (Builds c) q.1 is) q.2))
 refused-by status.WriteFault answer words old new text c oil src arr r q p is there works refusal =
-    let d = subst (IsFailedWrite old.files new.files) (one-command words q.0 c q.1 is) q.2 in
+    let d = subst (CommandUnwritten old.files new.files) (one-command words q.0 (Builds c) q.1 is) q.2 in
     absurd (one-verdict old.files c d.config d.app d.arrivals oil src arr r there d.accepted refusal)
 refused-by status.TooLong answer words old new text c oil src arr r q p is there works refusal =
-    absurd (no-long-read old.files new.files c oil src arr there (subst (IsLongRead old.files new.files) (one-command words q.0 c q.1 is) q.2))
-refused-by status.Stopped answer words old new text c oil src arr r q p is there works refusal = absurd q
-refused-by status.NotAnImage answer words old new text c oil src arr r q p is there works refusal = absurd q
+    absurd (no-long-read old.files new.files c oil src arr there (subst (IsLongRead old.files new.files) (one-command words q.0 (Builds c) q.1 is) q.2))
+refused-by status.Stopped answer words old new text c oil src arr r q p is there works refusal =
+    absurd (subst (λ x. CommandStopped old.files new.files x text) (one-command words q.0 (Builds c) q.1 is) q.2)
+refused-by status.NotAnImage answer words old new text c oil src arr r q p is there works refusal =
+    absurd (subst (λ x. IsNoImage old.files x q.2) (one-command words q.0 (Builds c) q.1 is) q.3).inputs
 
 pub tells-refused : (words : List (List ℕ)) (old new : World) (answer : Status) → Answers words old new answer → TellsRefused words old new answer
 tells-refused words old new answer h c is oil src arr there works r refusal =
@@ -214,14 +219,14 @@ tells-refused words old new answer h c is oil src arr there works r refusal =
 -- ---- Done
 
 -- no put failed, so the answer is the one that was wanted
-stands : (wanted answer : Status) (words : List (List ℕ)) (old new : World) (text : List ℕ) → PutsWork old.sink new.sink text
+pub stands : (wanted answer : Status) (words : List (List ℕ)) (old new : World) (text : List ℕ) → PutsWork old.sink new.sink text
     → Requires wanted words old.files new.files text → Puts wanted answer old.sink new.sink text → EndsAs wanted words old new answer
 stands wanted answer words old new text w q (inl p) = (p.0, (text, q, p.1))
 stands wanted answer words old new text w q (inr p) = absurd (no-broken-put old.sink new.sink text w p.1)
 
 -- the inputs have one meaning
-one-app : (old : Files) (c : Command) (oil src arr : List ℕ) (config other : Config) (app another : App) (arrivals others : List Arrival)
-    → AreThere old c oil src arr → Accepted oil src config app → AreRead config arr arrivals → IsAccepted old c other another others
+one-app : (old : Files) (c : Building) (oil src arr : List ℕ) (config other : Config) (app another : App) (arrivals others : List Arrival)
+    → AreThere old c oil src arr → Accepted oil src config app → AreRead (names_of config) arr arrivals → IsAccepted old c other another others
     → (other ≡ config) × (another ≡ app) × (others ≡ arrivals)
 one-app old c oil src arr config other app another arrivals others there h read g =
     let i = g.inputs in
@@ -240,35 +245,37 @@ image-of : (config other : Config) (app another : App) (image : Image) → (othe
 image-of config other app another image same h =
     subst (λ x. IsImageOf config x image) same.1 (subst (λ x. IsImageOf x another image) same.0 h)
 
-module _ (old new : World) (c : Command) (oil src arr : List ℕ) (config : Config) (app : App) (arrivals : List Arrival)
-    (there : AreThere old.files c oil src arr) (h : Accepted oil src config app) (read : AreRead config arr arrivals)
+module _ (old new : World) (c : Building) (oil src arr : List ℕ) (config : Config) (app : App) (arrivals : List Arrival)
+    (there : AreThere old.files c oil src arr) (h : Accepted oil src config app) (read : AreRead (names_of config) arr arrivals)
     (works : CallsWork c config app arrivals old new) where
   complete-by : (wanted answer : Status) (words : List (List ℕ)) (text : List ℕ) → Requires wanted words old.files new.files text
-      → Puts wanted answer old.sink new.sink text → IsCommand words c
+      → Puts wanted answer old.sink new.sink text → IsCommand words (Builds c)
       → EndsAs status.Done words old new answer ⊎ EndsAs status.NoMemory words old new answer
   complete-by status.Done answer words text q p is =
-      let d = subst (λ x. IsDone old.files new.files x text) (one-command words q.0 c q.1 is) q.2 in
+      let d = subst (λ x. CommandDone old.files new.files x text) (one-command words q.0 (Builds c) q.1 is) q.2 in
       let same = one-app old.files c oil src arr config d.config app d.app arrivals d.arrivals there h read d.accepted in
       let lines = works.lines d.image (image-of config d.config app d.app d.image (same.0, same.1) d.is_image) in
       let text_is : text ≡ done_text d.image arrivals c.run = d.text_is ∙ ap (λ (xs : List Arrival). done_text d.image xs c.run) same.2 in
       inl (stands status.Done answer words old new text (subst (λ x. PutsWork old.sink new.sink x) (sym text_is) lines) q p)
   complete-by status.NoMemory answer words text q p is =
       inr (stands status.NoMemory answer words old new text (subst (λ x. PutsWork old.sink new.sink x) (sym q.2) works.last_line) q p)
-  complete-by status.Usage answer words text q p is = absurd (q.0 c is)
+  complete-by status.Usage answer words text q p is = absurd (q.0 (Builds c) is)
   complete-by status.Refused answer words text q p is =
       absurd (refused-verdict old.files c config app oil src arr q.2 there h read.no_fault
-      (subst (λ x. IsRefused old.files x q.2) (one-command words q.0 c q.1 is) q.3))
+      (subst (λ x. CommandRefused old.files x q.2) (one-command words q.0 (Builds c) q.1 is) q.3))
   complete-by status.ReadFault answer words text q p is =
-      absurd (no-failed-read old.files new.files c oil src arr there works.reads (subst (IsFailedRead old.files new.files) (one-command words q.0 c q.1 is) q.2))
+      absurd (no-failed-read old.files new.files c oil src arr there works.reads (subst (IsFailedRead old.files new.files) (one-command words q.0 (Builds c) q.1 is) q.2))
   complete-by status.WriteFault answer words text q p is =
-      let d = subst (IsFailedWrite old.files new.files) (one-command words q.0 c q.1 is) q.2 in
+      let d = subst (CommandUnwritten old.files new.files) (one-command words q.0 (Builds c) q.1 is) q.2 in
       let same = one-app old.files c oil src arr config d.config app d.app arrivals d.arrivals there h read d.accepted in
       let image = image-of config d.config app d.app d.image (same.0, same.1) d.is_image in
       absurd (no-failed-write old.files new.files c.img (length (image_bytes d.image)) (works.write d.image image) d.failed)
   complete-by status.TooLong answer words text q p is =
-      absurd (no-long-read old.files new.files c oil src arr there (subst (IsLongRead old.files new.files) (one-command words q.0 c q.1 is) q.2))
-  complete-by status.Stopped answer words text q p is = absurd q
-  complete-by status.NotAnImage answer words text q p is = absurd q
+      absurd (no-long-read old.files new.files c oil src arr there (subst (IsLongRead old.files new.files) (one-command words q.0 (Builds c) q.1 is) q.2))
+  complete-by status.Stopped answer words text q p is =
+      absurd (subst (λ x. CommandStopped old.files new.files x text) (one-command words q.0 (Builds c) q.1 is) q.2)
+  complete-by status.NotAnImage answer words text q p is =
+      absurd (subst (λ x. IsNoImage old.files x q.2) (one-command words q.0 (Builds c) q.1 is) q.3).inputs
 
 pub is-complete : (words : List (List ℕ)) (old new : World) (answer : Status) → Answers words old new answer → IsComplete words old new answer
 is-complete words old new answer a c is oil src arr there config app accepted arrivals read works =

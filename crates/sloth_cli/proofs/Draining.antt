@@ -11,7 +11,29 @@ use Rattle.trace_text.specs.declared.print.Form.TheVariants as form
 use Rattle.trace_text.proofs.Appends.{text_after-append}
 use Rattle.observe.specs.declared.observer.Observer.{Observer}
 use Rattle.observe.specs.Progress.{Fed, remaining, view_of, arrivals_of, expected_of}
-use Rattle.sloth_cli.specs.Runner.{Draining}
+use Rattle.sloth_cli.specs.Runner.{HandsOut, HandingOut, Draining}
+
+pub handing-init : (o : Observer) → HandingOut o o
+handing-init o = record { view = refl; arrivals = refl; expected = refl; fed = λ steps events f. (events, f, refl) }
+
+-- one event more was handed out
+pub handing-more : (o0 o p : Observer) (e : Stamped) → HandingOut o0 o → remaining o ≡ e ∷ remaining p → view_of p ≡ view_of o → arrivals_of p ≡ arrivals_of o
+    → expected_of p ≡ expected_of o → ((steps : List Step) (events : List Stamped) → Fed o steps events → Fed p steps (events ++ e ∷ [])) → HandingOut o0 p
+handing-more o0 o p e h head view arrivals expected fed = record {
+  view = view ∙ h.view;
+  arrivals = arrivals ∙ h.arrivals;
+  expected = expected ∙ h.expected;
+  fed = λ steps events f. let q = h.fed steps events f in
+      (q.0 ++ e ∷ [], fed steps q.0 q.1, append_assoc q.0 (e ∷ []) (remaining p) ∙ ap (λ es. q.0 ++ es) (sym head) ∙ q.2);
+}
+
+-- all were handed out
+pub handed-out : (o0 o : Observer) → HandingOut o0 o → remaining o ≡ [] → HandsOut o0 o
+handed-out o0 o h none steps events f =
+    let q = h.fed steps events f in
+    let same : q.0 ≡ events ++ remaining o0 = sym (append-nil q.0) ∙ ap (λ es. q.0 ++ es) (sym none) ∙ q.2 in
+    let P : List Stamped → Type 0 = λ es. Fed o steps es in
+    subst P same q.1
 
 pub draining-init : (image : Image) (form : Form) (idle : Bool) (o : Observer) (t : Output) → Draining image form idle o idle o t t
 draining-init image form idle o t = record {
@@ -19,10 +41,7 @@ draining-init image form idle o t = record {
   taken = sym (gains-nil t);
   text = refl;
   ends = refl;
-  view = refl;
-  arrivals = refl;
-  expected = refl;
-  fed = λ steps events f. (events, f, refl);
+  hands = handing-init o;
 }
 
 -- one more line was put, where its event needs one
@@ -40,11 +59,7 @@ draining-more image form idle o0 last o p t0 t u e d head view arrivals expected
       taken = put ∙ ap (λ x. gains x line) d.taken ∙ gains-gains t0 d.done line;
       text = d.text ∙ ap (λ x. d.done ++ x) split ∙ sym (append_assoc d.done line (text_after image form (is_idle e.event) (remaining p)));
       ends = d.ends ∙ ap (ends_idle last) head;
-      view = view ∙ d.view;
-      arrivals = arrivals ∙ d.arrivals;
-      expected = expected ∙ d.expected;
-      fed = λ steps events f. let q = d.fed steps events f in
-          (q.0 ++ e ∷ [], fed steps q.0 q.1, append_assoc q.0 (e ∷ []) (remaining p) ∙ ap (λ es. q.0 ++ es) (sym head) ∙ q.2);
+      hands = handing-more o0 o p e d.hands head view arrivals expected fed;
     }
 
 -- the front of what was due, where a line was put in part
@@ -71,14 +86,6 @@ draining-done image form idle o0 last o t0 t d none =
 pub draining-ends : (image : Image) (form : Form) (idle : Bool) (o0 : Observer) (last : Bool) (o : Observer) (t0 t : Output) → Draining image form idle o0 last o t0 t → remaining o ≡ []
     → last ≡ ends_idle idle (remaining o0)
 draining-ends image form idle o0 last o t0 t d none = sym (d.ends ∙ ap (ends_idle last) none)
-
-pub draining-fed : (image : Image) (form : Form) (idle : Bool) (o0 : Observer) (last : Bool) (o : Observer) (t0 t : Output) → Draining image form idle o0 last o t0 t → remaining o ≡ []
-    → (steps : List Step) (events : List Stamped) → Fed o0 steps events → Fed o steps (events ++ remaining o0)
-draining-fed image form idle o0 last o t0 t d none steps events f =
-    let q = d.fed steps events f in
-    let same : q.0 ≡ events ++ remaining o0 = sym (append-nil q.0) ∙ ap (λ es. q.0 ++ es) (sym none) ∙ q.2 in
-    let P : List Stamped → Type 0 = λ es. Fed o steps es in
-    subst P same q.1
 
 -- one more line was put by a printer of the same image and form
 pub draining-put : (image i : Image) (form f : Form) (idle : Bool) (o0 : Observer) (last next : Bool) (o p : Observer) (t0 t u : Output) (e : Stamped)

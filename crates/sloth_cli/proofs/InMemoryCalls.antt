@@ -8,7 +8,7 @@ use Rattle.sloth_io.specs.MemStore.{is_sure, shown as store_shown}
 use Rattle.sloth_io.specs.MemSink.{taken_by, told_space, shown as sink_shown}
 use Rattle.sloth_io.specs.declared.mem_store.MemStore.{MemStore}
 use Rattle.sloth_io.specs.declared.mem_sink.MemSink.{MemSink}
-use Rattle.sloth_cli.specs.Command.{Command}
+use Rattle.sloth_cli.specs.Command.{Building}
 use Rattle.sloth_cli.specs.Top.{World, world, HasSpace, CallsWork, done_text}
 use Rattle.sloth_cli.specs.InMemory.{AreEnough}
 
@@ -17,7 +17,7 @@ room : (sink : MemSink) (text : List ℕ) → sink.fails.items ≡ [] → length
     → HasSpace (Some (taken_by sink)) (told_space sink.buffer.space sink.fails.items) text
 room sink text none enough = subst (λ (f : List (ℕ × ℕ)). HasSpace (Some (taken_by sink)) (told_space sink.buffer.space f) text) (sym none) enough
 
-pub calls-work : (store : MemStore) (sink : MemSink) (c : Command) (config : Config) (app : App) (arrivals : List Arrival) (new : World)
+pub calls-work : (store : MemStore) (sink : MemSink) (c : Building) (config : Config) (app : App) (arrivals : List Arrival) (new : World)
     → AreEnough store sink c config app arrivals → CallsWork c config app arrivals (world (store_shown store) (sink_shown sink)) new
 calls-work store sink c config app arrivals new enough =
     let sure : IsTrue (is_sure store.fails.items) = subst (λ (f : List ℕ). IsTrue (is_sure f)) (sym enough.store_calls) refl in

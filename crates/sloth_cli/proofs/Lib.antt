@@ -1,7 +1,13 @@
+mod Ceilings
+mod Bounded
 mod Draining
 mod Turning
 mod Running
+mod Tallying
 mod Causes
 mod Commands
 mod Complete
+mod ImageCauses
+mod ImageComplete
 mod InMemoryCalls
+mod Listed

@@ -17,12 +17,12 @@ use Rattle.rv32_machine.specs.Advance.{Halts}
 use Rattle.rv32_machine.specs.Run.{Moment, moment, arrived, run, run_from, steps_of, state_after}
 use Rattle.rv32_machine.proofs.Runs.{run_halts, stop_halts, stop_none, run_front}
 use Rattle.sim_induction.specs.Sound.{events_of}
-use Rattle.sloth_cli.specs.Runner.{Running, IsFresh, Went, Broke, Halted, Adds, image_of, given, count_of, sloth_state, run_steps, run_text, run_end, end_of}
+use Rattle.sloth_cli.specs.Runner.{Ran, Running, IsFresh, IsRunning, Went, Broke, Halted, Adds, image_of, given, count_of, sloth_state, run_steps, run_text, run_end, end_of}
 use Rattle.sloth_cli.specs.declared.runner.Runner.{Runner}
 use Rattle.sloth_cli.specs.declared.runner.Printer.{Printer}
 use Rattle.sloth_cli.specs.declared.runner.RunEnd.{RunEnd}
 
-nothing-yet : (image : Image) (A : List Arrival) → events_of image A 0 ≡ []
+pub nothing-yet : (image : Image) (A : List Arrival) → events_of image A 0 ≡ []
 unfolding run_from
 nothing-yet image A = observe-nothing (view_of_image image) A
 
@@ -35,18 +35,20 @@ pub running-init : (r : Runner) (form : Form) (printer : Printer) (t : Output) �
 running-init r form printer t f idle form_is printed =
     let P : ℕ → Type 0 = λ k. Running r r form printer t t k in
     subst P (sym f.1) (record {
-      running = f.0;
-      count = f.1;
-      image = refl;
-      arrivals = refl;
+      ran = record { running = f.0; count = f.1; image = refl; arrivals = refl };
       taken = sym (gains-nil t) ∙ ap (gains t) (sym (ap (text_in (image_of r) form) (nothing-yet (image_of r) (given r)) ∙ no-text (image_of r) form));
       idle = idle ∙ sym (ap (ends_idle false) (nothing-yet (image_of r) (given r)));
       form_is = form_is;
       printed = printed;
     })
 
+-- behind one instruction more
+pub ran-more : (r0 r q : Runner) (k : ℕ) → Ran r0 r k → IsRunning q → count_of q ≡ count_of r + 1 → image_of q ≡ image_of r → given q ≡ given r → Ran r0 q (k + 1)
+ran-more r0 r q k ran running count image arrivals =
+    record { running = running; count = count ∙ ap (λ n. n + 1) ran.count; image = image ∙ ran.image; arrivals = arrivals ∙ ran.arrivals }
+
 -- the same events at equal things
-adds-at : (i j : Image) (A B : List Arrival) (k n : ℕ) (es : List Stamped) → i ≡ j → A ≡ B → k ≡ n → Adds i A k es → Adds j B n es
+pub adds-at : (i j : Image) (A B : List Arrival) (k n : ℕ) (es : List Stamped) → i ≡ j → A ≡ B → k ≡ n → Adds i A k es → Adds j B n es
 adds-at i j A B k n es p q e h =
     let P : Image → Type 0 = λ x. Adds x A k es in
     let Q : List Arrival → Type 0 = λ x. Adds j x k es in
@@ -71,13 +73,10 @@ running-more : (r0 r q : Runner) (form : Form) (before after : Printer) (t0 t u 
 running-more r0 r q form before after t0 t u k run w image arrivals form_is printed =
     let i0 : Image = image_of r0 in
     let A : List Arrival = given r0 in
-    let adds = adds-at (image_of r) i0 (given r) A (count_of r) k w.events run.image run.arrivals run.count w.adds in
-    let piece = piece-at (image_of r) i0 before.form form before.after_idle (ends_idle false (events_of i0 A k)) w.events run.image run.form_is run.idle in
+    let adds = adds-at (image_of r) i0 (given r) A (count_of r) k w.events run.ran.image run.ran.arrivals run.ran.count w.adds in
+    let piece = piece-at (image_of r) i0 before.form form before.after_idle (ends_idle false (events_of i0 A k)) w.events run.ran.image run.form_is run.idle in
     record {
-      running = w.running;
-      count = w.count ∙ ap (λ n. n + 1) run.count;
-      image = image ∙ run.image;
-      arrivals = arrivals ∙ run.arrivals;
+      ran = ran-more r0 r q k run.ran w.running w.count image arrivals;
       taken = w.taken ∙ ap (gains t) piece ∙ ap (λ x. gains x (text_after i0 form (ends_idle false (events_of i0 A k)) w.events)) run.taken
           ∙ gains-gains t0 (run_text i0 A form k) (text_after i0 form (ends_idle false (events_of i0 A k)) w.events) ∙ ap (gains t0) (sym (text-more i0 A form k w.events adds));
       idle = w.idle ∙ ap (λ b. ends_idle b w.events) run.idle ∙ sym (ends-append false (events_of i0 A k) w.events) ∙ ap (ends_idle false) (sym adds);
@@ -94,30 +93,35 @@ running-on r0 r q form before after t0 t u run w image arrivals form_is printed 
     subst P (sym w.count) (running-more r0 r q form before after t0 t u (count_of r) run w image arrivals form_is printed)
 
 -- the state after the instructions that were done
-after-is : (r0 r : Runner) (form : Form) (p : Printer) (t0 t : Output) (k : ℕ) → Running r0 r form p t0 t k → state_after k (given r0) (start (image_of r0)) ≡ Some (sloth_state r.machine)
-after-is r0 r form p t0 t k run =
-    ap (λ n. state_after n (given r0) (start (image_of r0))) (sym run.count)
-    ∙ ap (λ A. state_after (count_of r) A (start (image_of r0))) (sym run.arrivals)
-    ∙ ap (λ (i : Image). state_after (count_of r) (given r) (start i)) (sym run.image) ∙ run.running.after
+after-is : (r0 r : Runner) (k : ℕ) → Ran r0 r k → state_after k (given r0) (start (image_of r0)) ≡ Some (sloth_state r.machine)
+after-is r0 r k ran =
+    ap (λ n. state_after n (given r0) (start (image_of r0))) (sym ran.count)
+    ∙ ap (λ A. state_after (count_of r) A (start (image_of r0))) (sym ran.arrivals)
+    ∙ ap (λ (i : Image). state_after (count_of r) (given r) (start i)) (sym ran.image) ∙ ran.running.after
 
-halted-is : (r0 r : Runner) (form : Form) (p : Printer) (t0 t : Output) (k : ℕ) (e : RunEnd) → Running r0 r form p t0 t k → (h : Halted r e) → moment (given r0) k (sloth_state r.machine) ≡ Halts h.0
-halted-is r0 r form p t0 t k e run h =
-    ap (λ A. moment A k (sloth_state r.machine)) (sym run.arrivals) ∙ ap (λ n. moment (given r) n (sloth_state r.machine)) (sym run.count) ∙ h.1
+halted-is : (r0 r : Runner) (k : ℕ) (e : RunEnd) → Ran r0 r k → (h : Halted r e) → moment (given r0) k (sloth_state r.machine) ≡ Halts h.0
+halted-is r0 r k e ran h =
+    ap (λ A. moment A k (sloth_state r.machine)) (sym ran.arrivals) ∙ ap (λ n. moment (given r) n (sloth_state r.machine)) (sym ran.count) ∙ h.1
+
+-- a run that stops shows no more
+pub stopped-events : (r0 r : Runner) (k n : ℕ) (e : RunEnd) → Ran r0 r k → Halted r e → k < n → events_of (image_of r0) (given r0) k ≡ events_of (image_of r0) (given r0) n
+stopped-events r0 r k n e ran h lt =
+    let i0 : Image = image_of r0 in
+    ap (λ ms. observe (view_of_image i0) (given r0) (steps_of ms))
+    (sym (run_halts n k (given r0) (start i0) (sloth_state r.machine) h.0 lt (after-is r0 r k ran) (halted-is r0 r k e ran h)))
 
 pub stopped-text : (r0 r : Runner) (form : Form) (p : Printer) (t0 t u : Output) (k n : ℕ) (e : RunEnd) → Running r0 r form p t0 t k → Halted r e → k < n → u ≡ t → u ≡ gains t0 (run_text (image_of r0) (given r0) form n)
 stopped-text r0 r form p t0 t u k n e run h lt same =
-    let i0 : Image = image_of r0 in
-    same ∙ run.taken ∙ ap (λ ms. gains t0 (text_in i0 form (observe (view_of_image i0) (given r0) (steps_of ms))))
-    (sym (run_halts n k (given r0) (start i0) (sloth_state r.machine) h.0 lt (after-is r0 r form p t0 t k run) (halted-is r0 r form p t0 t k e run h)))
+    same ∙ run.taken ∙ ap (λ es. gains t0 (text_in (image_of r0) form es)) (stopped-events r0 r k n e run.ran h lt)
 
-pub stopped-end : (r0 r : Runner) (form : Form) (p : Printer) (t0 t : Output) (k n : ℕ) (e : RunEnd) → Running r0 r form p t0 t k → Halted r e → k < n → e ≡ run_end (image_of r0) (given r0) n
-stopped-end r0 r form p t0 t k n e run h lt =
-    h.2 ∙ ap (λ A. end_of (Some (record { pc = (entered (arrived A (count_of r) (sloth_state r.machine))).pc; stop = h.0 }))) run.arrivals
-    ∙ ap (λ c. end_of (Some (record { pc = (entered (arrived (given r0) c (sloth_state r.machine))).pc; stop = h.0 }))) run.count
-    ∙ ap end_of (sym (stop_halts n k (given r0) (start (image_of r0)) (sloth_state r.machine) h.0 lt (after-is r0 r form p t0 t k run) (halted-is r0 r form p t0 t k e run h)))
+pub stopped-end : (r0 r : Runner) (k n : ℕ) (e : RunEnd) → Ran r0 r k → Halted r e → k < n → e ≡ run_end (image_of r0) (given r0) n
+stopped-end r0 r k n e ran h lt =
+    h.2 ∙ ap (λ A. end_of (Some (record { pc = (entered (arrived A (count_of r) (sloth_state r.machine))).pc; stop = h.0 }))) ran.arrivals
+    ∙ ap (λ c. end_of (Some (record { pc = (entered (arrived (given r0) c (sloth_state r.machine))).pc; stop = h.0 }))) ran.count
+    ∙ ap end_of (sym (stop_halts n k (given r0) (start (image_of r0)) (sloth_state r.machine) h.0 lt (after-is r0 r k ran) (halted-is r0 r k e ran h)))
 
-pub whole-end : (r0 r : Runner) (form : Form) (p : Printer) (t0 t : Output) (k : ℕ) → Running r0 r form p t0 t k → end_of None ≡ run_end (image_of r0) (given r0) k
-whole-end r0 r form p t0 t k run = ap end_of (sym (stop_none k (given r0) 0 (start (image_of r0)) (sloth_state r.machine) (after-is r0 r form p t0 t k run)))
+pub whole-end : (r0 r : Runner) (k : ℕ) → Ran r0 r k → end_of None ≡ run_end (image_of r0) (given r0) k
+whole-end r0 r k ran = ap end_of (sym (stop_none k (given r0) 0 (start (image_of r0)) (sloth_state r.machine) (after-is r0 r k ran)))
 
 steps-append : (ms ns : List Moment) → steps_of (ms ++ ns) ≡ steps_of ms ++ steps_of ns
 steps-append [] ns = refl
@@ -128,9 +132,9 @@ pub broken-text : (r0 r : Runner) (form : Form) (p : Printer) (t0 t u : Output) 
 broken-text r0 r form p t0 t u k n run b lt =
     let i0 : Image = image_of r0 in
     let A : List Arrival = given r0 in
-    let adds = adds-at (image_of r) i0 (given r) A (count_of r) k b.events run.image run.arrivals run.count b.adds in
+    let adds = adds-at (image_of r) i0 (given r) A (count_of r) k b.events run.ran.image run.ran.arrivals run.ran.count b.adds in
     let last : Bool = ends_idle false (events_of i0 A k) in
-    let piece = piece-at (image_of r) i0 p.form form p.after_idle last b.events run.image run.form_is run.idle in
+    let piece = piece-at (image_of r) i0 p.form form p.after_idle last b.events run.ran.image run.form_is run.idle in
     let P : List ℕ → Type 0 = λ x. GainsPart t u x in
     let front = run_front n (k + 1) A 0 (start i0) (omega arith) in
     let more = observe-front (view_of_image i0) A (run_steps i0 A (k + 1)) (steps_of front.0) in

@@ -17,7 +17,7 @@ use Rattle.rv32_machine.specs.Start.{start}
 use Rattle.rv32_machine.specs.Advance.{Outcome, Goes, advance}
 use Rattle.rv32_machine.specs.Run.{Moment, moment, moment_of, arrived, run, run_from, steps_of, state_after}
 use Rattle.sim_induction.specs.Sound.{events_of}
-use Rattle.sloth_cli.specs.Runner.{AreLines, HasDone, Adds, IsRunning, given, sloth_state, run_steps}
+use Rattle.sloth_cli.specs.Runner.{AreLines, HasDone, HandsOut, Advanced, Adds, IsRunning, image_of, given, count_of, sloth_state, run_steps}
 use Rattle.sloth_cli.specs.declared.runner.Runner.{Runner}
 use Rattle.rv32_machine.proofs.Runs.{after_more, run_more}
 use Rattle.std.proofs.lemmas.List.Elements.{All-take, All-drop}
@@ -99,6 +99,21 @@ stands-more r q image k s o st g fed view arrivals expected fed2 view2 arrivals2
 
 pub running-at : (q : Runner) (k : ℕ) → HasDone q q.image.now k → IsRunning q
 running-at q k st = let P : ℕ → Type 0 = λ n. HasDone q q.image.now n in subst P (sym st.count) st
+
+-- the events of an instruction that was done
+pub advanced-adds : (r p : Runner) → IsRunning r → (a : Advanced r p) → given p ≡ given r → Adds (image_of r) (given r) (count_of r) (remaining p.observer)
+advanced-adds r p st a arrivals = adds-is r (image_of r) (count_of r) a.step (sloth_state p.machine) p.observer st a.goes a.fed a.view arrivals
+
+-- the runner behind it, once they were handed out
+pub running-behind : (r p q : Runner) → IsRunning r → Advanced r p → image_of q ≡ image_of r → given p ≡ given r → HandsOut p.observer q.observer
+    → view_of q.observer ≡ view_of p.observer → arrivals_of q.observer ≡ arrivals_of p.observer → expected_of q.observer ≡ expected_of p.observer → remaining q.observer ≡ []
+    → sloth_state q.machine ≡ sloth_state p.machine → q.coming.now ≡ p.coming.now → q.count ≡ p.count → q.machine.count ≡ p.machine.count → IsRunning q
+running-behind r p q st a image arrivals hands view same expected none machine coming count executed =
+    let P : Image → Type 0 = λ i. HasDone q i (count_of r + 1) in
+    let L : List Arrival → Type 0 = AreLines in
+    running-at q (count_of r + 1) (subst P (sym image)
+    (stands-more r q (image_of r) (count_of r) a.step p.observer st (a.goes ∙ ap (Goes a.step) (sym machine)) a.fed a.view arrivals a.expected
+    hands view same expected none (coming ∙ a.coming) (count ∙ a.count) (executed ∙ a.executed) (subst L (sym coming) a.lines)))
 
 -- lines of a front and of a back
 pub lines-take : (n : ℕ) (A : List Arrival) → AreLines A → AreLines (take n A)

@@ -10,12 +10,24 @@ pub record Run : Type 0 where
   pub arr : List ℕ
   pub n : ℕ
 
--- a command: the configuration, the task code, where the image goes, and how it is run, if it is
-pub record Command : Type 0 where
+-- what is built: the configuration, the task code, where the image goes, and how it is run, if it is
+pub record Building : Type 0 where
   pub oil : List ℕ
   pub src : List ℕ
   pub img : List ℕ
   pub run : Option Run
+
+-- a run of an image file: the file, the arrivals, and how many instructions
+pub record Execution : Type 0 where
+  pub img : List ℕ
+  pub arr : List ℕ
+  pub n : ℕ
+
+-- a command: one that builds an image, one that runs an image file, or one that lists an image file
+pub data Command : Type 0 where
+  Builds : Building → Command
+  Executes : Execution → Command
+  Lists : List ℕ → Command
 
 -- `run` prints the events with their counts, `order` without them
 abbrev pub word_of : Form → List ℕ
@@ -27,14 +39,26 @@ abbrev pub words_by : List ℕ → List ℕ → List ℕ → Option Run → List
 words_by oil src img None = codes "build" ∷ oil ∷ src ∷ img ∷ []
 words_by oil src img (Some run) = word_of run.form ∷ oil ∷ src ∷ run.arr ∷ img ∷ decimal run.n ∷ []
 
+-- those, `exec IMG ARR N` and `list IMG`
+abbrev pub spelled : Command → List (List ℕ)
+spelled (Builds b) = words_by b.oil b.src b.img b.run
+spelled (Executes e) = codes "exec" ∷ e.img ∷ e.arr ∷ decimal e.n ∷ []
+spelled (Lists img) = codes "list" ∷ img ∷ []
+
 -- at most so many instructions are run
 abbrev pub IsInLimit : Option Run → Type 0
 IsInLimit None = Unit {0}
 IsInLimit (Some run) = run.n ≤ 1000000
 
+-- the same of a command
+abbrev pub KeepsLimit : Command → Type 0
+KeepsLimit (Builds b) = IsInLimit b.run
+KeepsLimit (Executes e) = e.n ≤ 1000000
+KeepsLimit (Lists img) = Unit {0}
+
 -- the words are those of this command
 abbrev pub IsCommand : List (List ℕ) → Command → Type 0
-IsCommand words c = (words ≡ words_by c.oil c.src c.img c.run) × IsInLimit c.run
+IsCommand words c = (words ≡ spelled c) × KeepsLimit c
 
 -- the words are those of no command
 abbrev pub NoCommand : List (List ℕ) → Type 0

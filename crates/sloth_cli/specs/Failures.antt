@@ -6,14 +6,23 @@ use Rattle.sloth_io.specs.Sink.{Output}
 use Rattle.sloth_io.specs.Store.{Files, KeepsOthers, IsMissing, IsTooLong, IsUnwritten}
 use Rattle.sloth_io.specs.declared.store.StoreFault.{StoreFault}
 use Rattle.sloth_io.specs.declared.store.StoreFault.TheVariants as fault
+use Rattle.sloth_base.specs.declared.image.Image.{Image}
+use Rattle.sloth_refusal.specs.Order.{IsLeast}
+use Rattle.trace_text.specs.ArrivalsText.{ArrivalsFault}
+use Rattle.image_file.specs.ImageText.{ImageText}
+use Rattle.image_file.specs.Faults.{Faulty}
+use Rattle.image_file.specs.declared.fault.ImageError.{ImageError}
+use Rattle.image_file.specs.declared.fault.ImageError.TheVariants as image_error
 use Rattle.sloth_cli.specs.Command.{Command}
-use Rattle.sloth_cli.specs.LastLine.{refusal_line}
-use Rattle.sloth_cli.specs.Top.{World, input_limit, FirstUnread, IsFailedRead, IsLongRead, IsRefusal, FilesStay, IsWritten, IsDone}
-use Rattle.sloth_cli.specs.Top.{IsRefused, IsFailedWrite, Took, BrokeOff, Puts}
+use Rattle.sloth_cli.specs.Inputs.{input_limit}
+use Rattle.sloth_cli.specs.ImageFiles.{IsNoImage}
+use Rattle.sloth_cli.specs.LastLine.{refusal_line, no_image_line}
+use Rattle.sloth_cli.specs.Top.{World, FirstUnread, IsFailedRead, IsLongRead, IsRefusal, FilesStay, IsWritten, Took, BrokeOff, Puts}
+use Rattle.sloth_cli.specs.Top.{CommandDone, CommandRefused, CommandUnwritten, CommandStopped}
 use Rattle.sloth_cli.specs.declared.top.Status.{Status}
 use Rattle.sloth_cli.specs.declared.top.Status.TheVariants as status
-use Rattle.sloth_cli.specs.declared.top.Failure.{Failure}
-use Rattle.sloth_cli.specs.declared.top.Failure.TheVariants as failure
+use Rattle.sloth_cli.specs.declared.failure.Failure.{Failure}
+use Rattle.sloth_cli.specs.declared.failure.Failure.TheVariants as failure
 
 -- the failure of a read that was refused so
 abbrev pub read_failure : StoreFault → Failure
@@ -25,6 +34,11 @@ read_failure fault.Memory = failure.NoMemory
 abbrev pub judge_failure : BuildError → Failure
 judge_failure (error.Refused refusal) = failure.Refused refusal
 judge_failure error.Memory = failure.NoMemory
+
+-- the failure of reading an image that ended so
+abbrev pub image_failure : ImageError → Failure
+image_failure (image_error.Fault fault) = failure.NotAnImage fault
+image_failure image_error.Memory = failure.NoMemory
 
 -- the file of this name was not read for this reason
 abbrev pub FetchFailed : Failure → Files → Files → List ℕ → Type 0
@@ -46,6 +60,19 @@ JudgeFailed (failure.Refused refusal) oil src arr = IsRefusal oil src arr refusa
 JudgeFailed failure.NoMemory oil src arr = Unit {0}
 JudgeFailed _ oil src arr = ⊥
 
+-- no image and no arrivals were read of these files for this reason
+abbrev pub LoadFailed : Failure → List ℕ → List ℕ → Type 0
+LoadFailed (failure.NotAnImage fault) file arr = Faulty fault file
+LoadFailed (failure.Refused refusal) file arr = (image : Image) × ImageText file image × IsLeast (ArrivalsFault image.tasks arr) refusal
+LoadFailed failure.NoMemory file arr = Unit {0}
+LoadFailed _ file arr = ⊥
+
+-- the lines of an image that is not written were not all put for this reason
+abbrev pub LinesFailed : Failure → Output → Output → List ℕ → Type 0
+LinesFailed failure.NoMemory old new text = new ≡ old
+LinesFailed failure.Put old new text = BrokeOff old new text
+LinesFailed _ old new text = ⊥
+
 -- The image was not run, or its lines were not put, for this reason. The image's file was to hold these bytes, and the sink to take this text.
 abbrev pub PerformFailed : Failure → World → World → List ℕ → List ℕ → List ℕ → Type 0
 PerformFailed failure.NoMemory old new img bytes text = FilesStay old.files new.files × (new.sink ≡ old.sink)
@@ -54,24 +81,33 @@ PerformFailed failure.WriteFile old new img bytes text =
 PerformFailed failure.Put old new img bytes text = IsWritten old.files new.files img bytes × BrokeOff old.sink new.sink text
 PerformFailed _ old new img bytes text = ⊥
 
+-- a command that ended with this status had this text: it was done, or its run stopped
+abbrev pub Ends : Status → Files → Files → Command → List ℕ → Type 0
+Ends status.Done old new c text = CommandDone old new c text
+Ends status.Stopped old new c text = CommandStopped old new c text
+Ends _ old new c text = ⊥
+
 -- The command was not done for this reason; no last line is put yet.
 abbrev pub CommandFailed : Failure → World → World → Command → Type 0
-CommandFailed (failure.Refused refusal) old new c = IsRefused old.files c refusal × FilesStay old.files new.files × (new.sink ≡ old.sink)
+CommandFailed (failure.Refused refusal) old new c = CommandRefused old.files c refusal × FilesStay old.files new.files × (new.sink ≡ old.sink)
 CommandFailed failure.ReadFault old new c = IsFailedRead old.files new.files c × FilesStay old.files new.files × (new.sink ≡ old.sink)
 CommandFailed failure.TooLong old new c = IsLongRead old.files new.files c × FilesStay old.files new.files × (new.sink ≡ old.sink)
+CommandFailed (failure.NotAnImage fault) old new c = IsNoImage old.files c fault × FilesStay old.files new.files × (new.sink ≡ old.sink)
 CommandFailed failure.NoMemory old new c = FilesStay old.files new.files × (new.sink ≡ old.sink)
-CommandFailed failure.WriteFile old new c = IsFailedWrite old.files new.files c × (new.sink ≡ old.sink)
-CommandFailed failure.Put old new c = (text : List ℕ) × IsDone old.files new.files c text × BrokeOff old.sink new.sink text
+CommandFailed failure.WriteFile old new c = CommandUnwritten old.files new.files c × (new.sink ≡ old.sink)
+CommandFailed failure.Put old new c =
+    (status : Status) × (text : List ℕ) × Ends status old.files new.files c text × BrokeOff old.sink new.sink text
 
--- the command was done
-abbrev pub IsPerformed : World → World → Command → Type 0
-IsPerformed old new c = (text : List ℕ) × IsDone old.files new.files c text × Took old.sink new.sink text
+-- the command ended with this status
+abbrev pub IsPerformed : Status → World → World → Command → Type 0
+IsPerformed status old new c = (text : List ℕ) × Ends status old.files new.files c text × Took old.sink new.sink text
 
 -- the failure's last line was put, or broke off; where a put failed before, there is none
 abbrev pub Finished : Failure → Status → Output → Output → Type 0
 Finished (failure.Refused refusal) answer old new = Puts status.Refused answer old new (refusal_line refusal)
 Finished failure.ReadFault answer old new = Puts status.ReadFault answer old new (codes "read fault\n")
 Finished failure.TooLong answer old new = Puts status.TooLong answer old new (codes "too long\n")
+Finished (failure.NotAnImage fault) answer old new = Puts status.NotAnImage answer old new (no_image_line fault)
 Finished failure.NoMemory answer old new = Puts status.NoMemory answer old new (codes "no memory\n")
 Finished failure.WriteFile answer old new = Puts status.WriteFault answer old new (codes "write fault\n")
 Finished failure.Put answer old new = (answer ≡ status.WriteFault) × (new ≡ old)

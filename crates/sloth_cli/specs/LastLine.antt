@@ -5,6 +5,11 @@ use Rattle.sloth_base.specs.declared.refusal.Part.TheVariants as part
 use Rattle.sloth_base.specs.declared.refusal.Code.{Code}
 use Rattle.sloth_base.specs.declared.refusal.Code.TheVariants as code
 use Rattle.sloth_base.specs.declared.refusal.Refusal.{Refusal}
+use Rattle.image_file.specs.declared.fault.ImageFault.{ImageFault}
+use Rattle.image_file.specs.declared.fault.ImageFault.TheVariants as fault
+use Rattle.rv32_instr.specs.declared.stop.Stop.{Stop}
+use Rattle.rv32_instr.specs.declared.stop.Stop.TheVariants as stop
+use Rattle.trace_text.specs.Listing.{word_text}
 
 -- the name of a text in a refusal
 abbrev pub part_text : Part → List ℕ
@@ -52,7 +57,6 @@ code_text code.T1 = codes "T1"
 code_text code.T2 = codes "T2"
 code_text code.T3 = codes "T3"
 code_text code.T4 = codes "T4"
-code_text code.N1 = codes "N1"
 
 -- `refused`, the text that is at fault, the line and the rule
 abbrev pub refusal_line : Refusal → List ℕ
@@ -61,3 +65,27 @@ refusal_line refusal = codes "refused " ++ part_text refusal.part ++ codes " " +
 -- `built` and the length of the image's file, in bytes
 abbrev pub built_line : ℕ → List ℕ
 built_line length = codes "built " ++ decimal length ++ codes "\n"
+
+-- the letters of a fault of an image file
+abbrev pub fault_text : ImageFault → List ℕ
+fault_text fault.I1 = codes "I1"
+fault_text fault.I2 = codes "I2"
+fault_text fault.I3 = codes "I3"
+fault_text fault.I4 = codes "I4"
+fault_text fault.I5 = codes "I5"
+
+-- `not an image`, and the file's first fault
+abbrev pub no_image_line : ImageFault → List ℕ
+no_image_line fault = codes "not an image " ++ fault_text fault ++ codes "\n"
+
+-- why the machine stopped
+abbrev pub cause_text : Stop → List ℕ
+cause_text (stop.Fetch pc) = codes "fetch"
+cause_text (stop.Illegal word) = codes "illegal " ++ word_text word
+cause_text (stop.Access address) = codes "access " ++ word_text address
+cause_text (stop.Misaligned address) = codes "misaligned " ++ word_text address
+cause_text stop.Environment = codes "environment"
+
+-- `stopped`, the address of the instruction and the cause
+abbrev pub stopped_line : ℕ → Stop → List ℕ
+stopped_line pc stop = codes "stopped " ++ word_text pc ++ codes " " ++ cause_text stop ++ codes "\n"

@@ -1,7 +1,11 @@
 pub mod Runner
+pub mod Tally
 pub mod Command
 pub mod Words
+pub mod Inputs
 pub mod LastLine
+pub mod ImageFiles
 pub mod Top
+pub mod ImageAnswers
 pub mod Failures
 pub mod InMemory

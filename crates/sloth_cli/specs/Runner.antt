@@ -1,5 +1,5 @@
 -- A runner, between two instructions of its run.
-use Rattle.std.specs.Prelude.{ℕ, ◌≡◌, ◌+◌, ◌<◌, List, All, [], ◌++◌, Option, Some, None, Bool, false}
+use Rattle.std.specs.Prelude.{ℕ, ◌≡◌, ◌+◌, ◌<◌, List, All, [], ◌∷◌, ◌++◌, Option, Some, None, Bool, false}
 use Rattle.sloth_base.specs.Machine.{State}
 use Rattle.sloth_base.specs.ImageRange.{InFormat}
 use Rattle.sloth_base.specs.declared.image.Image.{Image}
@@ -10,11 +10,11 @@ use Rattle.sloth_io.specs.Sink.{Output, gains, GainsPart}
 use Rattle.trace_text.specs.Texts.{text_after, text_in, ends_idle}
 use Rattle.trace_text.specs.declared.print.Form.{Form}
 use Rattle.observe.specs.Observe.{view_of_image}
-use Rattle.observe.specs.Progress.{Fed, remaining, view_of, arrivals_of, expected_of, from}
+use Rattle.observe.specs.Progress.{Fed, remaining, view_of, arrivals_of, expected_of, from, behind}
 use Rattle.observe.specs.declared.observer.Observer.{Observer}
 use Rattle.sim_induction.specs.Sound.{events_of}
 use Rattle.rv32_machine.specs.Start.{start}
-use Rattle.rv32_machine.specs.Advance.{Halts}
+use Rattle.rv32_machine.specs.Advance.{Goes, Halts}
 use Rattle.rv32_machine.specs.State.{state}
 use Rattle.rv32_machine.specs.declared.machine.Machine.{Machine}
 use Rattle.rv32_machine.specs.declared.sloth.SlothBus.{SlothBus}
@@ -55,17 +55,21 @@ lines_of printer events = text_after printer.image.now printer.form printer.afte
 abbrev pub HandsOut : Observer → Observer → Type 0
 HandsOut old new = (steps : List Step) (events : List Stamped) → Fed old steps events → Fed new steps (events ++ remaining old)
 
--- on the way from one observer and printer to others, the lines of some finished events were put
-pub record Draining (image : Image) (form : Form) (idle : Bool) (o0 : Observer) (last : Bool) (o : Observer) (t0 t : Output) : Type 0 where
-  pub done : List ℕ
-  pub taken : t ≡ gains t0 done
-  pub text : text_after image form idle (remaining o0) ≡ done ++ text_after image form last (remaining o)
-  pub ends : ends_idle idle (remaining o0) ≡ ends_idle last (remaining o)
+-- on the way from one observer to another some of them were handed out
+pub record HandingOut (o0 o : Observer) : Type 0 where
   pub view : view_of o ≡ view_of o0
   pub arrivals : arrivals_of o ≡ arrivals_of o0
   pub expected : expected_of o ≡ expected_of o0
   pub fed : (steps : List Step) (events : List Stamped) → Fed o0 steps events
       → (front : List Stamped) × Fed o steps front × (front ++ remaining o ≡ events ++ remaining o0)
+
+-- and their lines were put
+pub record Draining (image : Image) (form : Form) (idle : Bool) (o0 : Observer) (last : Bool) (o : Observer) (t0 t : Output) : Type 0 where
+  pub done : List ℕ
+  pub taken : t ≡ gains t0 done
+  pub text : text_after image form idle (remaining o0) ≡ done ++ text_after image form last (remaining o)
+  pub ends : ends_idle idle (remaining o0) ≡ ends_idle last (remaining o)
+  pub hands : HandingOut o0 o
 
 -- ---- a runner
 
@@ -114,6 +118,18 @@ IsFresh runner = IsRunning runner × (runner.count ≡ 0)
 abbrev pub Adds : Image → List Arrival → ℕ → List Stamped → Type 0
 Adds image arrivals k events = events_of image arrivals (k + 1) ≡ events_of image arrivals k ++ events
 
+-- an instruction was done, and its step fed to the observer, which has its events
+pub record Advanced (old new : Runner) : Type 0 where
+  pub step : Step
+  pub goes : moment (given old) (count_of old) (sloth_state old.machine) ≡ Goes step (sloth_state new.machine)
+  pub fed : (steps : List Step) (events : List Stamped) → Fed old.observer steps events → Fed new.observer (steps ++ step ∷ []) events
+  pub view : view_of new.observer ≡ view_of old.observer
+  pub expected : expected_of new.observer ≡ expected_of old.observer + 1
+  pub coming : new.coming.now ≡ behind old.count old.coming.now
+  pub lines : AreLines new.coming.now
+  pub count : count_of new ≡ count_of old + 1
+  pub executed : new.machine.count ≡ old.machine.count + 1
+
 -- an instruction was done, and its events' lines were put
 pub record Went (old new : Runner) (before after : Printer) (t u : Output) : Type 0 where
   pub running : IsRunning new
@@ -134,12 +150,16 @@ abbrev pub Halted : Runner → RunEnd → Type 0
 Halted old end = (stop : Stop) × (moment (given old) (count_of old) (sloth_state old.machine) ≡ Halts stop)
     × (end ≡ ends.Stopped (entered (arrived (given old) (count_of old) (sloth_state old.machine))).pc stop)
 
--- k instructions were done since the runner was fresh, and the lines of their events were put
-pub record Running (r0 r : Runner) (form : Form) (printer : Printer) (t0 t : Output) (k : ℕ) : Type 0 where
+-- k instructions were done since the runner was fresh
+pub record Ran (r0 r : Runner) (k : ℕ) : Type 0 where
   pub running : IsRunning r
   pub count : count_of r ≡ k
   pub image : image_of r ≡ image_of r0
   pub arrivals : given r ≡ given r0
+
+-- and the lines of their events were put
+pub record Running (r0 r : Runner) (form : Form) (printer : Printer) (t0 t : Output) (k : ℕ) : Type 0 where
+  pub ran : Ran r0 r k
   pub taken : t ≡ gains t0 (run_text (image_of r0) (given r0) form k)
   pub idle : printer.after_idle ≡ ends_idle false (events_of (image_of r0) (given r0) k)
   pub form_is : printer.form ≡ form

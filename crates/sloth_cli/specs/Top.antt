@@ -8,18 +8,24 @@ use Rattle.sloth_base.specs.declared.image.Image.{Image}
 use Rattle.sloth_base.specs.declared.refusal.Refusal.{Refusal}
 use Rattle.sloth_base.specs.Arrivals.{AreArrivals}
 use Rattle.sloth_base.specs.ImageRange.{InFormat}
-use Rattle.sloth_refusal.specs.Order.{IsLeast, NoFault}
+use Rattle.sloth_refusal.specs.Order.{IsLeast}
 use Rattle.rv32_expand.specs.InPlace.{ItemsInPlace}
-use Rattle.sim_induction.specs.Sound.{Sound}
+use Rattle.osek_blocking.specs.Protocol.{KeepsCeilingProtocol}
+use Rattle.sim_induction.specs.Sound.{Sound, events_of}
 use Rattle.sloth_io.specs.Counts.{Rose, Stays}
 use Rattle.sloth_io.specs.Sink.{Output, gains, GainsPart}
 use Rattle.sloth_io.specs.Store.{Files, Holds, KeepsOthers, IsMissing, IsTooLong, IsUnwritten, fits}
 use Rattle.image_file.specs.ImageText.{image_bytes}
-use Rattle.sloth_build.specs.Form.{Accepted, FirstRefusal}
-use Rattle.trace_text.specs.ArrivalsText.{ArrivalsFault, arrivals_in}
-use Rattle.sloth_cli.specs.Command.{Command, Run, IsCommand, NoCommand}
-use Rattle.sloth_cli.specs.LastLine.{refusal_line, built_line}
+use Rattle.image_file.specs.declared.fault.ImageFault.{ImageFault}
+use Rattle.rv32_instr.specs.declared.stop.Stop.{Stop}
+use Rattle.sloth_source.specs.Texts.{Accepted, FirstRefusal}
+use Rattle.trace_text.specs.ArrivalsText.{ArrivalsFault}
+use Rattle.sloth_cli.specs.Command.{Command, Building, Run, Builds, Executes, Lists, IsCommand, NoCommand}
+use Rattle.sloth_cli.specs.Inputs.{input_limit, AreRead}
+use Rattle.sloth_cli.specs.ImageFiles.{IsExecuted, IsExecRefused, IsListed, IsNoImage}
+use Rattle.sloth_cli.specs.LastLine.{refusal_line, built_line, no_image_line}
 use Rattle.sloth_cli.specs.Runner.{run_text}
+use Rattle.sloth_cli.specs.declared.runner.RunEnd.TheVariants as ends
 use Rattle.sloth_cli.specs.declared.top.Status.{Status}
 use Rattle.sloth_cli.specs.declared.top.Status.TheVariants as status
 
@@ -34,10 +40,6 @@ world files sink = record { files = files; sink = sink }
 
 -- ---- the inputs
 
--- the greatest number of bytes of an input: 4 MiB
-abbrev pub input_limit : ℕ
-input_limit = 4194304
-
 -- the file that a run reads its arrivals from
 abbrev pub arrivals_named : Option Run → List (List ℕ)
 arrivals_named None = []
@@ -45,7 +47,9 @@ arrivals_named (Some run) = run.arr ∷ []
 
 -- the files that a command reads, in the order of its words
 abbrev pub inputs_of : Command → List (List ℕ)
-inputs_of c = c.oil ∷ c.src ∷ arrivals_named c.run
+inputs_of (Builds b) = b.oil ∷ b.src ∷ arrivals_named b.run
+inputs_of (Executes e) = e.img ∷ e.arr ∷ []
+inputs_of (Lists img) = img ∷ []
 
 -- the arrivals are read from this text; a command that runs nothing has none
 abbrev pub HoldsArrivals : Files → Option Run → List ℕ → Type 0
@@ -53,7 +57,7 @@ HoldsArrivals files None arr = arr ≡ []
 HoldsArrivals files (Some run) arr = Holds files run.arr arr
 
 -- these are the files that the words name, where the store tells its files, each of at most 4 MiB
-pub record AreInputs (files : Files) (c : Command) (oil src arr : List ℕ) : Type 0 where
+pub record AreInputs (files : Files) (c : Building) (oil src arr : List ℕ) : Type 0 where
   pub oil_read : Holds files c.oil oil
   pub src_read : Holds files c.src src
   pub arr_read : HoldsArrivals files c.run arr
@@ -84,11 +88,6 @@ IsLongRead old new c = FirstUnread old (λ name. IsTooLong old new name input_li
 abbrev pub names_of : Config → List (List ℕ)
 names_of config = map (λ (t : TaskDecl). t.name) config.tasks
 
--- the arrivals are read without a fault, and these are they
-pub record AreRead (config : Config) (arr : List ℕ) (arrivals : List Arrival) : Type 0 where
-  pub no_fault : NoFault (ArrivalsFault (names_of config) arr)
-  pub arrivals_are : arrivals ≡ arrivals_in (names_of config) arr
-
 -- the configuration and the task code are accepted, and this is the least fault of the arrivals
 pub record IsArrivalsRefusal (oil src arr : List ℕ) (refusal : Refusal) : Type 0 where
   pub config : Config
@@ -116,20 +115,28 @@ done_text image arrivals None = built_line (length (image_bytes image))
 done_text image arrivals (Some run) = run_text image arrivals run.form run.n
 
 -- the inputs are accepted, with this meaning
-pub record IsAccepted (old : Files) (c : Command) (config : Config) (app : App) (arrivals : List Arrival) : Type 0 where
+pub record IsAccepted (old : Files) (c : Building) (config : Config) (app : App) (arrivals : List Arrival) : Type 0 where
   pub oil : List ℕ
   pub src : List ℕ
   pub arr : List ℕ
   pub inputs : AreInputs old c oil src arr
   pub accepted : Accepted oil src config app
-  pub read : AreRead config arr arrivals
+  pub read : AreRead (names_of config) arr arrivals
   -- so they are among those of which an image is sound
   pub in_range : AreArrivals (length config.tasks) arrivals
+
+-- in every run of an image, whatever lines arrive, the observed events keep the priority ceiling protocol
+abbrev pub RunsKeepProtocol : Config → App → Image → Type 0
+RunsKeepProtocol config app image =
+    (arrivals : List Arrival) (n : ℕ) → AreArrivals (length config.tasks) arrivals → n ≤ 1000000
+    → KeepsCeilingProtocol config app (events_of image arrivals n)
 
 -- an image of a configuration and its task code
 pub record IsImageOf (config : Config) (app : App) (image : Image) : Type 0 where
   -- every run of the image, whatever lines arrive, is one of the abstract scheduler
   pub sound : Sound config app image
+  -- so a Ready task is blocked by one lower task at most, and resources are held by one task at a time
+  pub protocol : RunsKeepProtocol config app image
   -- the items of the task code stand in the image, each behind its mark
   pub items : ItemsInPlace image config app
   -- its numbers and names are those of an image file
@@ -137,8 +144,13 @@ pub record IsImageOf (config : Config) (app : App) (image : Image) : Type 0 wher
   -- its tasks have the names of the configuration
   pub names : image.tasks ≡ names_of config
 
--- The inputs are of the form, IMG holds the image's file, and this is the text of the image's run with the arrivals, or of its file's length.
-pub record IsDone (old new : Files) (c : Command) (text : List ℕ) : Type 0 where
+-- the events that a run of the image shows keep the priority ceiling protocol; a command that runs nothing shows none
+abbrev pub ShownKeepProtocol : Config → App → Image → List Arrival → Option Run → Type 0
+ShownKeepProtocol config app image arrivals None = Unit {0}
+ShownKeepProtocol config app image arrivals (Some run) = KeepsCeilingProtocol config app (events_of image arrivals run.n)
+
+-- The inputs are accepted, IMG holds the image's file, and this is the text of the image's run with the arrivals, or of its file's length.
+pub record IsDone (old new : Files) (c : Building) (text : List ℕ) : Type 0 where
   pub config : Config
   pub app : App
   pub arrivals : List Arrival
@@ -147,9 +159,11 @@ pub record IsDone (old new : Files) (c : Command) (text : List ℕ) : Type 0 whe
   pub is_image : IsImageOf config app image
   pub written : IsWritten old new c.img (image_bytes image)
   pub text_is : text ≡ done_text image arrivals c.run
+  -- and the events of this text keep the priority ceiling protocol
+  pub protocol : ShownKeepProtocol config app image arrivals c.run
 
 -- the inputs are refused so
-pub record IsRefused (old : Files) (c : Command) (refusal : Refusal) : Type 0 where
+pub record IsRefused (old : Files) (c : Building) (refusal : Refusal) : Type 0 where
   pub oil : List ℕ
   pub src : List ℕ
   pub arr : List ℕ
@@ -157,7 +171,7 @@ pub record IsRefused (old : Files) (c : Command) (refusal : Refusal) : Type 0 wh
   pub is : IsRefusal oil src arr refusal
 
 -- the inputs are accepted, the write of the image's file failed, and no other file has changed
-pub record IsFailedWrite (old new : Files) (c : Command) : Type 0 where
+pub record IsFailedWrite (old new : Files) (c : Building) : Type 0 where
   pub config : Config
   pub app : App
   pub arrivals : List Arrival
@@ -166,6 +180,30 @@ pub record IsFailedWrite (old new : Files) (c : Command) : Type 0 where
   pub is_image : IsImageOf config app image
   pub failed : IsUnwritten old new c.img (length (image_bytes image))
   pub others : KeepsOthers old new c.img
+
+-- the command was done, and this is its text; a command on an image file changes no file
+abbrev pub CommandDone : Files → Files → Command → List ℕ → Type 0
+CommandDone old new (Builds b) text = IsDone old new b text
+CommandDone old new (Executes e) text = IsExecuted old e ends.Whole text × FilesStay old new
+CommandDone old new (Lists img) text = IsListed old img text × FilesStay old new
+
+-- its inputs are refused so; of one that lists an image there are none to be refused
+abbrev pub CommandRefused : Files → Command → Refusal → Type 0
+CommandRefused old (Builds b) refusal = IsRefused old b refusal
+CommandRefused old (Executes e) refusal = IsExecRefused old e refusal
+CommandRefused old (Lists img) refusal = ⊥
+
+-- its file was to be written, and the write failed
+abbrev pub CommandUnwritten : Files → Files → Command → Type 0
+CommandUnwritten old new (Builds b) = IsFailedWrite old new b
+CommandUnwritten old new (Executes e) = ⊥
+CommandUnwritten old new (Lists img) = ⊥
+
+-- the machine stopped before the last instruction that was to be run; an image that was built never does
+abbrev pub CommandStopped : Files → Files → Command → List ℕ → Type 0
+CommandStopped old new (Builds b) text = ⊥
+CommandStopped old new (Executes e) text = (pc : ℕ) × (stop : Stop) × IsExecuted old e (ends.Stopped pc stop) text × FilesStay old new
+CommandStopped old new (Lists img) text = ⊥
 
 -- the sink took the text, and no put failed
 abbrev pub Took : Output → Output → List ℕ → Type 0
@@ -179,21 +217,22 @@ BrokeOff old new text = GainsPart old new text
 abbrev pub Puts : Status → Status → Output → Output → List ℕ → Type 0
 Puts wanted answer old new text = ((answer ≡ wanted) × Took old new text) ⊎ ((answer ≡ status.WriteFault) × BrokeOff old new text)
 
--- What an answer requires: its cause, this text, and what the files hold. No command that is built answers Stopped or NotAnImage.
+-- What an answer requires: its cause, this text, and what the files hold.
 abbrev pub Requires : Status → List (List ℕ) → Files → Files → List ℕ → Type 0
-Requires status.Done words old new text = (c : Command) × IsCommand words c × IsDone old new c text
+Requires status.Done words old new text = (c : Command) × IsCommand words c × CommandDone old new c text
 Requires status.Usage words old new text = NoCommand words × (text ≡ codes "usage\n") × FilesStay old new
 Requires status.Refused words old new text =
-    (c : Command) × IsCommand words c × (refusal : Refusal) × IsRefused old c refusal × (text ≡ refusal_line refusal) × FilesStay old new
+    (c : Command) × IsCommand words c × (refusal : Refusal) × CommandRefused old c refusal × (text ≡ refusal_line refusal) × FilesStay old new
 Requires status.ReadFault words old new text =
     (c : Command) × IsCommand words c × IsFailedRead old new c × (text ≡ codes "read fault\n") × FilesStay old new
 Requires status.WriteFault words old new text =
-    (c : Command) × IsCommand words c × IsFailedWrite old new c × (text ≡ codes "write fault\n")
+    (c : Command) × IsCommand words c × CommandUnwritten old new c × (text ≡ codes "write fault\n")
 Requires status.NoMemory words old new text = (c : Command) × IsCommand words c × (text ≡ codes "no memory\n") × FilesStay old new
 Requires status.TooLong words old new text =
     (c : Command) × IsCommand words c × IsLongRead old new c × (text ≡ codes "too long\n") × FilesStay old new
-Requires status.Stopped words old new text = ⊥
-Requires status.NotAnImage words old new text = ⊥
+Requires status.Stopped words old new text = (c : Command) × IsCommand words c × CommandStopped old new c text
+Requires status.NotAnImage words old new text =
+    (c : Command) × IsCommand words c × (fault : ImageFault) × IsNoImage old c fault × (text ≡ no_image_line fault) × FilesStay old new
 
 -- The sink took the text that the answer requires, and the files hold what it requires; or a put failed, the answer is WriteFault, and
 -- this holds of another answer and a part of its text.
@@ -211,7 +250,7 @@ EndsAs wanted words old new answer =
 -- ---- which answer comes
 
 -- the store tells its files, and these are the inputs
-pub record AreThere (old : Files) (c : Command) (oil src arr : List ℕ) : Type 0 where
+pub record AreThere (old : Files) (c : Building) (oil src arr : List ℕ) : Type 0 where
   pub tells : IsTrue old.tells
   pub inputs : AreInputs old c oil src arr
 
@@ -247,7 +286,7 @@ abbrev pub PutsWork : Output → Output → List ℕ → Type 0
 PutsWork old new text = Stays old.faults new.faults ⊎ HasSpace old.taken old.space text
 
 -- No call of the store or of the sink failed: their counts stay, or they tell before that what they are asked for will be done.
-pub record CallsWork (c : Command) (config : Config) (app : App) (arrivals : List Arrival) (old new : World) : Type 0 where
+pub record CallsWork (c : Building) (config : Config) (app : App) (arrivals : List Arrival) (old new : World) : Type 0 where
   pub reads : ReadsWork old.files new.files
   pub write : (image : Image) → IsImageOf config app image → WritesWork old.files new.files c.img (length (image_bytes image))
   pub lines : (image : Image) → IsImageOf config app image → PutsWork old.sink new.sink (done_text image arrivals c.run)
@@ -260,12 +299,12 @@ TellsUsage words old new answer = NoCommand words → AnswersUsage old new answe
 -- The inputs are there and are refused so: Refused, with the line that says it.
 abbrev pub TellsRefused : List (List ℕ) → World → World → Status → Type 0
 TellsRefused words old new answer =
-    (c : Command) → IsCommand words c → (oil src arr : List ℕ) → AreThere old.files c oil src arr → ReadsWork old.files new.files
+    (c : Building) → IsCommand words (Builds c) → (oil src arr : List ℕ) → AreThere old.files c oil src arr → ReadsWork old.files new.files
     → (refusal : Refusal) → IsRefusal oil src arr refusal → AnswersRefused old new refusal answer
 
 -- The inputs are there and accepted, and no read, write or put failed: all was done, or memory was wanting, with all that this requires.
 abbrev pub IsComplete : List (List ℕ) → World → World → Status → Type 0
 IsComplete words old new answer =
-    (c : Command) → IsCommand words c → (oil src arr : List ℕ) → AreThere old.files c oil src arr
-    → (config : Config) (app : App) → Accepted oil src config app → (arrivals : List Arrival) → AreRead config arr arrivals
+    (c : Building) → IsCommand words (Builds c) → (oil src arr : List ℕ) → AreThere old.files c oil src arr
+    → (config : Config) (app : App) → Accepted oil src config app → (arrivals : List Arrival) → AreRead (names_of config) arr arrivals
     → CallsWork c config app arrivals old new → EndsAs status.Done words old new answer ⊎ EndsAs status.NoMemory words old new answer

@@ -1,8 +1,8 @@
 //! The words of a command.
 ghost use Rattle.std.specs.Prelude.{◌≡◌, ◌≤◌, ℕ, List, IfSome, IfNone, decimal, length, codes, true};
 ghost use Rattle.trace_text.specs.declared.print.Form.{Form as AnyForm};
-ghost use Rattle.sloth_cli.specs.Command.{Command, IsCommand, NoCommand, word_of, words_of};
-ghost use Rattle.sloth_cli.specs.Words.{command_of};
+ghost use Rattle.sloth_cli.specs.Command.{Command, Execution, Executes, IsCommand, NoCommand, word_of, words_of};
+ghost use Rattle.sloth_cli.specs.Words.{command_of, execution_of};
 
 use itoa::Buffer;
 use trace_text::print::Form;
@@ -19,12 +19,30 @@ pub struct RunWords<'a> {
 
 /// The words `build OIL SRC IMG`, `run OIL SRC ARR IMG N`, or `order OIL SRC ARR IMG N`.
 #[derive(Clone, Copy)]
-pub struct CommandWords<'a> {
+pub struct BuildWords<'a> {
     pub oil: &'a str,
     pub src: &'a str,
     pub img: &'a str,
     /// How the image is run, if it is.
     pub run: Option<RunWords<'a>>,
+}
+
+/// The words `exec IMG ARR N`.
+#[derive(Clone, Copy)]
+pub struct ExecWords<'a> {
+    pub img: &'a str,
+    pub arr: &'a str,
+    /// The number of instructions, 0 to 1,000,000.
+    pub n: u32,
+}
+
+/// The words of a command.
+#[derive(Clone, Copy)]
+pub enum CommandWords<'a> {
+    Build(BuildWords<'a>),
+    Exec(ExecWords<'a>),
+    /// `list IMG`: the image file.
+    List(&'a str),
 }
 
 // A number of instructions, without sign and without a leading zero.
@@ -67,21 +85,71 @@ fn is_build(word: &str) -> bool
     word == "build"
 }
 
-// The command of four words.
-fn build_command(words: &[String]) -> Option<CommandWords<'_>>
+// Whether it asks for a run of an image file.
+fn is_exec(word: &str) -> bool
+    ensures yes { result ≡ true → word.now ≡ codes "exec" }
+    ensures no { word.now ≡ codes "exec" → result ≡ true }
+{
+    word == "exec"
+}
+
+// Whether it asks for the listing of an image file.
+fn is_list(word: &str) -> bool
+    ensures yes { result ≡ true → word.now ≡ codes "list" }
+    ensures no { word.now ≡ codes "list" → result ≡ true }
+{
+    word == "list"
+}
+
+// The command of two words.
+fn list_command(words: &[String]) -> Option<CommandWords<'_>>
+    requires { length words.now ≡ 2 }
+    ensures some { IfSome result (λ c. IsCommand (words_of words.now) (command_of c)) }
+    ensures none { IfNone result (NoCommand (words_of words.now)) }
+{
+    if !is_list(words[0].as_str()) {
+        return None;
+    }
+    Some(CommandWords::List(words[1].as_str()))
+}
+
+// The run of an image file that four words ask for.
+fn exec_words(words: &[String]) -> Option<ExecWords<'_>>
+    requires { length words.now ≡ 4 }
+    ensures some { IfSome result (λ e. IsCommand (words_of words.now) (Executes (execution_of e))) }
+    ensures none { IfNone result ((e : Execution) → IsCommand (words_of words.now) (Executes e) → ⊥) }
+{
+    if !is_exec(words[0].as_str()) {
+        return None;
+    }
+    match instructions(words[3].as_str()) {
+        None => None,
+        Some(n) => Some(ExecWords {
+            img: words[1].as_str(),
+            arr: words[2].as_str(),
+            n,
+        }),
+    }
+}
+
+// The command of four words: `build` or `exec`.
+fn image_command(words: &[String]) -> Option<CommandWords<'_>>
     requires { length words.now ≡ 4 }
     ensures some { IfSome result (λ c. IsCommand (words_of words.now) (command_of c)) }
     ensures none { IfNone result (NoCommand (words_of words.now)) }
 {
-    if !is_build(words[0].as_str()) {
-        return None;
+    if is_build(words[0].as_str()) {
+        return Some(CommandWords::Build(BuildWords {
+            oil: words[1].as_str(),
+            src: words[2].as_str(),
+            img: words[3].as_str(),
+            run: None,
+        }));
     }
-    Some(CommandWords {
-        oil: words[1].as_str(),
-        src: words[2].as_str(),
-        img: words[3].as_str(),
-        run: None,
-    })
+    match exec_words(words) {
+        None => None,
+        Some(e) => Some(CommandWords::Exec(e)),
+    }
 }
 
 // The command of six words.
@@ -95,7 +163,7 @@ fn run_command(words: &[String]) -> Option<CommandWords<'_>>
     };
     match instructions(words[5].as_str()) {
         None => None,
-        Some(n) => Some(CommandWords {
+        Some(n) => Some(CommandWords::Build(BuildWords {
             oil: words[1].as_str(),
             src: words[2].as_str(),
             img: words[4].as_str(),
@@ -104,7 +172,7 @@ fn run_command(words: &[String]) -> Option<CommandWords<'_>>
                 arr: words[3].as_str(),
                 n,
             }),
-        }),
+        })),
     }
 }
 
@@ -114,7 +182,8 @@ pub fn command(words: &[String]) -> Option<CommandWords<'_>>
     ensures none { IfNone result (NoCommand (words_of words.now)) }
 {
     match words.len() {
-        4 => build_command(words),
+        2 => list_command(words),
+        4 => image_command(words),
         6 => run_command(words),
         _ => None,
     }

@@ -1,8 +1,11 @@
 //! The lines that are printed of a command as a whole.
-ghost use Rattle.std.specs.Prelude.{◌≡◌, ◌≤◌, length};
-ghost use Rattle.sloth_cli.specs.LastLine.{part_text, code_text, refusal_line, built_line};
+ghost use Rattle.std.specs.Prelude.{◌≡◌, ◌+◌, ◌≤◌, ◌++◌, length};
+ghost use Rattle.trace_text.specs.Listing.{word_text};
+ghost use Rattle.sloth_cli.specs.LastLine.{part_text, code_text, refusal_line, built_line, fault_text, no_image_line, cause_text, stopped_line};
 
+use image_file::fault::ImageFault;
 use itoa::Buffer;
+use rv32_machine::Stop;
 use sloth_base::refusal::{Code, Part, Refusal};
 use trace_text::line_text::LineText;
 
@@ -61,7 +64,6 @@ fn code_text(code: Code) -> &'static [u8]
         Code::T2 => b"T2",
         Code::T3 => b"T3",
         Code::T4 => b"T4",
-        Code::N1 => b"N1",
     }
 }
 
@@ -88,6 +90,69 @@ pub fn built_line(length: usize) -> LineText
     let mut line = LineText::new();
     line.push(b"built ");
     line.push(buffer.format(length).as_bytes());
+    line.push(b"\n");
+    line
+}
+
+fn fault_text(fault: ImageFault) -> &'static [u8]
+    ensures is { result.now ≡ fault_text fault }
+    ensures short { length result.now ≤ 2 }
+{
+    match fault {
+        ImageFault::I1 => b"I1",
+        ImageFault::I2 => b"I2",
+        ImageFault::I3 => b"I3",
+        ImageFault::I4 => b"I4",
+        ImageFault::I5 => b"I5",
+    }
+}
+
+/// The line of a file that is no image's: its first fault.
+pub fn no_image_line(fault: ImageFault) -> LineText
+    ensures { result ≡ no_image_line fault }
+{
+    let mut line = LineText::new();
+    line.push(b"not an image ");
+    line.push(fault_text(fault));
+    line.push(b"\n");
+    line
+}
+
+// Appends a cause that has a number.
+fn push_numbered(line: &mut LineText, cause: &[u8], number: u32)
+    requires room { length line.old ≤ 100 }
+    requires short { length cause.now ≤ 11 }
+    ensures cause { line.new ≡ line.old ++ (cause.now ++ word_text number) }
+    ensures length { length line.new ≤ length line.old + 19 }
+{
+    line.push(cause);
+    line.push_word(number);
+}
+
+// Appends why the machine stopped.
+fn push_cause(line: &mut LineText, stop: Stop)
+    requires { length line.old ≤ 100 }
+    ensures cause { line.new ≡ line.old ++ cause_text stop }
+    ensures short { length line.new ≤ length line.old + 19 }
+{
+    match stop {
+        Stop::Fetch(_) => line.push(b"fetch"),
+        Stop::Illegal(word) => push_numbered(line, b"illegal ", word),
+        Stop::Environment => line.push(b"environment"),
+        Stop::Misaligned(address) => push_numbered(line, b"misaligned ", address),
+        Stop::Access(address) => push_numbered(line, b"access ", address),
+    }
+}
+
+/// The line of a run that stopped: the address of the instruction that was not executed, and why.
+pub fn stopped_line(pc: u32, stop: Stop) -> LineText
+    ensures { result ≡ stopped_line pc stop }
+{
+    let mut line = LineText::new();
+    line.push(b"stopped ");
+    line.push_word(pc);
+    line.push(b" ");
+    push_cause(&mut line, stop);
     line.push(b"\n");
     line
 }

@@ -2,9 +2,14 @@
 #![tactic(auto)]
 
 pub mod command;
+pub mod failure;
+pub mod image_commands;
+pub mod inputs;
 pub mod last_line;
 pub mod laws;
+pub mod listing;
 pub mod runner;
+pub mod tally;
 pub mod top;
 
 pub use top::{Status, sloth_top};

@@ -106,14 +106,14 @@ fn arrive(machine: &mut Machine<SlothBus>, arrivals: &[Arrival])
 pub struct Runner<'a> {
     image: &'a Image,
     machine: Machine<SlothBus>,
-    observer: Observer<'a>,
+    pub(crate) observer: Observer<'a>,
     // The arrivals of the next moment and of later ones.
     coming: &'a [Arrival],
-    count: u32,
+    pub(crate) count: u32,
 }
 
 impl<'a> Runner<'a> {
-    ghost use Rattle.sloth_cli.specs.Runner.{IsFresh, IsRunning, Went, Broke, Halted, image_of, count_of, given, run_text, run_end};
+    ghost use Rattle.sloth_cli.specs.Runner.{IsFresh, IsRunning, Advanced, Went, Broke, Halted, image_of, count_of, given, run_text, run_end};
 
     /// A runner that has run nothing, with all memory of a run.
     pub fn new(
@@ -138,6 +138,28 @@ impl<'a> Runner<'a> {
         })
     }
 
+    // One instruction, unless the machine stops at it. Its finished events are left with the observer.
+    pub(crate) fn advance(&mut self) -> Option<RunEnd>
+        requires few { count_of self.old < 1000000 }
+        requires running { IsRunning self.old }
+        ensures went { IfNone result (Advanced self.old self.new) }
+        ensures halted { IfSome result (Halted self.old) }
+        ensures image { image_of self.new ≡ image_of self.old }
+        ensures arrivals { given self.new ≡ given self.old }
+    {
+        let (here, behind) = self.coming.split_at(passing(self.coming, self.count));
+        self.coming = behind;
+        arrive(&mut self.machine, here);
+        let pc = self.machine.next_pc();
+        let step = match self.machine.step() {
+            Err(stop) => return Some(RunEnd::Stopped { pc, stop }),
+            Ok(step) => step,
+        };
+        self.count += 1;
+        self.observer.feed(&step);
+        None
+    }
+
     // One instruction: the machine stops, or its events' lines are put.
     fn turn<S: Sink>(
         &mut self,
@@ -157,16 +179,9 @@ impl<'a> Runner<'a> {
         ensures form { printer.new.form ≡ printer.old.form }
         ensures printed { printer.new.image.now ≡ printer.old.image.now }
     {
-        let (here, behind) = self.coming.split_at(passing(self.coming, self.count));
-        self.coming = behind;
-        arrive(&mut self.machine, here);
-        let pc = self.machine.next_pc();
-        let step = match self.machine.step() {
-            Err(stop) => return Ok(Some(RunEnd::Stopped { pc, stop })),
-            Ok(step) => step,
-        };
-        self.count += 1;
-        self.observer.feed(&step);
+        if let Some(end) = self.advance() {
+            return Ok(Some(end));
+        }
         printer.drain(&mut self.observer, out)?;
         Ok(None)
     }

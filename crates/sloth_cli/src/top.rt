@@ -2,37 +2,36 @@
 ghost use Rattle.std.specs.Prelude.{◌≡◌, ◌≤◌, IfOk, IfErr, OnOk, length};
 ghost use Rattle.sloth_base.specs.Arrivals.{AreArrivals};
 ghost use Rattle.sloth_base.specs.ImageRange.{InFormat};
-ghost use Rattle.sloth_io.specs.Store.{KeepsFiles, Holds};
+ghost use Rattle.sloth_io.specs.Store.{KeepsFiles};
 ghost use Rattle.image_file.specs.ImageText.{image_bytes};
-ghost use Rattle.sloth_build.specs.Form.{Accepted};
-ghost use Rattle.sloth_cli.specs.Command.{words_of, IsInLimit};
-ghost use Rattle.sloth_cli.specs.Words.{command_of, run_of};
+ghost use Rattle.sloth_source.specs.Texts.{Accepted};
+ghost use Rattle.sloth_cli.specs.Command.{words_of, Builds, IsInLimit, KeepsLimit};
+ghost use Rattle.sloth_cli.specs.Words.{building_of, command_of, run_of};
+ghost use Rattle.sloth_cli.specs.Inputs.{input_limit, AreRead};
 ghost use Rattle.sloth_cli.specs.LastLine.{built_line};
 ghost use Rattle.sloth_cli.specs.Runner.{run_text};
-ghost use Rattle.sloth_cli.specs.Top.{world, input_limit, arrivals_named, inputs_of, AreInputs, HoldsArrivals, AreRead, IsImageOf, IsWritten, done_text};
+ghost use Rattle.sloth_cli.specs.Top.{world, arrivals_named, inputs_of, names_of, AreInputs, HoldsArrivals, IsImageOf, IsWritten, done_text};
 ghost use Rattle.sloth_cli.specs.Top.{Took, Puts, Answers, TellsUsage, TellsRefused, IsComplete};
-ghost use Rattle.sloth_cli.specs.Failures.{read_failure, judge_failure, FetchFailed, ReadFailed, JudgeFailed, PerformFailed};
-ghost use Rattle.sloth_cli.specs.Failures.{CommandFailed, Finished, IsPerformed};
-ghost use Rattle.sloth_cli.specs.declared.top.Failure.TheVariants.{NoMemory as OutOfMemory, Put as PutFailed};
+ghost use Rattle.sloth_cli.specs.ImageAnswers.{TellsFault, TellsNoImage, TellsExecRefused, TellsExecuted, TellsListed};
+ghost use Rattle.sloth_cli.specs.Failures.{ReadFailed, JudgeFailed, PerformFailed, CommandFailed, Finished, IsPerformed};
+ghost use Rattle.sloth_cli.specs.declared.top.Status.TheVariants.{Done as IsDone};
 
-use crate::command::{CommandWords, RunWords, command};
-use crate::last_line::{built_line, refusal_line};
+use crate::command::{BuildWords, CommandWords, RunWords, command};
+use crate::failure::Failure;
+use crate::image_commands::{execute, list};
+use crate::inputs::fetch;
+use crate::last_line::{built_line, no_image_line, refusal_line};
 use crate::runner::Runner;
 use image_file::write::write_image;
 use sloth_base::app::App;
 use sloth_base::config::Config;
 use sloth_base::event::Arrival;
 use sloth_base::image::Image;
-use sloth_base::memory::NoMemory;
-use sloth_base::refusal::{BuildError, Refusal};
 use sloth_build::{Built, build};
-use sloth_io::sink::{Sink, SinkFault};
-use sloth_io::store::{Store, StoreFault};
+use sloth_io::sink::Sink;
+use sloth_io::store::Store;
 use std::alloc::Global;
 use trace_text::read_arrivals;
-
-/// The greatest number of bytes of an input.
-const LIMIT: usize = 4_194_304;
 
 /// How a command ended.
 #[derive(Clone, Copy, Debug, PartialEq, Eq)]
@@ -48,75 +47,12 @@ pub enum Status {
     NotAnImage,
 }
 
-// Why a command was not done.
-#[derive(Clone, Copy, Debug, PartialEq, Eq)]
-pub enum Failure {
-    Refused(Refusal),
-    ReadFault,
-    TooLong,
-    NoMemory,
-    WriteFile,
-    Put,
-}
-
-impl From<NoMemory> for Failure {
-    ghost from_gives = { λ _ failure. failure ≡ OutOfMemory };
-
-    fn from(_: NoMemory) -> Failure {
-        Failure::NoMemory
-    }
-}
-
-// Of a fault that a read ends with.
-impl From<StoreFault> for Failure {
-    ghost from_gives = { λ fault failure. failure ≡ read_failure fault };
-
-    fn from(fault: StoreFault) -> Failure {
-        match fault {
-            StoreFault::Failed => Failure::ReadFault,
-            StoreFault::TooLong => Failure::TooLong,
-            StoreFault::Memory => Failure::NoMemory,
-        }
-    }
-}
-
-impl From<BuildError> for Failure {
-    ghost from_gives = { λ error failure. failure ≡ judge_failure error };
-
-    fn from(error: BuildError) -> Failure {
-        match error {
-            BuildError::Refused(refusal) => Failure::Refused(refusal),
-            BuildError::Memory => Failure::NoMemory,
-        }
-    }
-}
-
-impl From<SinkFault> for Failure {
-    ghost from_gives = { λ _ failure. failure ≡ PutFailed };
-
-    fn from(_: SinkFault) -> Failure {
-        Failure::Put
-    }
-}
-
 // The texts that are built from, and the arrivals.
 #[derive(Drop)]
 struct Inputs {
     oil: Vec<u8>,
     src: Vec<u8>,
     arr: Vec<u8>,
-}
-
-// The bytes of a file.
-fn fetch<F: Store>(alloc: Global, files: &mut F, name: &str) -> Result<Vec<u8>, Failure>
-    ensures ok { IfOk result (λ bytes. Holds (F.seen files.old) name.now bytes.items) }
-    ensures short { IfOk result (λ bytes. length bytes.items ≤ input_limit) }
-    ensures err { IfErr result (λ failure. FetchFailed failure (F.seen files.old) (F.seen files.new) name.now) }
-    ensures keeps { KeepsFiles (F.seen files.old) (F.seen files.new) }
-{
-    let mut bytes = Vec::new(alloc);
-    files.read(name, LIMIT, &mut bytes)?;
-    Ok(bytes)
 }
 
 // The arrivals of a run; a command that runs nothing has none.
@@ -138,9 +74,9 @@ fn fetch_arrivals<F: Store>(
 }
 
 // Reads the inputs, in the order of the words.
-fn read_inputs<F: Store>(alloc: Global, files: &mut F, c: &CommandWords) -> Result<Inputs, Failure>
-    ensures ok { IfOk result (λ i. AreInputs (F.seen files.old) (command_of c.now) i.oil.items i.src.items i.arr.items) }
-    ensures err { IfErr result (λ failure. ReadFailed failure (F.seen files.old) (F.seen files.new) (inputs_of (command_of c.now))) }
+fn read_inputs<F: Store>(alloc: Global, files: &mut F, c: &BuildWords) -> Result<Inputs, Failure>
+    ensures ok { IfOk result (λ i. AreInputs (F.seen files.old) (building_of c.now) i.oil.items i.src.items i.arr.items) }
+    ensures err { IfErr result (λ failure. ReadFailed failure (F.seen files.old) (F.seen files.new) (inputs_of (Builds (building_of c.now)))) }
     ensures keeps { KeepsFiles (F.seen files.old) (F.seen files.new) }
 {
     Ok(Inputs {
@@ -166,7 +102,7 @@ fn judge(alloc: Global, inputs: &Inputs) -> Result<Judged, Failure>
     requires arr { length inputs.now.arr.items ≤ input_limit }
     ensures accepted { IfOk result (λ judged. Accepted inputs.now.oil.items inputs.now.src.items judged.config judged.app) }
     ensures image { IfOk result (λ judged. IsImageOf judged.config judged.app judged.image) }
-    ensures read { IfOk result (λ judged. AreRead judged.config inputs.now.arr.items judged.arrivals.items) }
+    ensures read { IfOk result (λ judged. AreRead (names_of judged.config) inputs.now.arr.items judged.arrivals.items) }
     ensures in_range { IfOk result (λ judged. AreArrivals (length judged.config.tasks) judged.arrivals.items) }
     ensures err { IfErr result (λ failure. JudgeFailed failure inputs.now.oil.items inputs.now.src.items inputs.now.arr.items) }
 {
@@ -229,7 +165,7 @@ fn perform<F: Store, S: Sink>(
     alloc: Global,
     files: &mut F,
     out: &mut S,
-    c: &CommandWords,
+    c: &BuildWords,
     image: &Image,
     arrivals: &[Arrival],
 ) -> Result<(), Failure>
@@ -258,18 +194,18 @@ fn perform<F: Store, S: Sink>(
     }
 }
 
-// Does what the command says, but for the last line of a failure.
+// Builds, and runs what is built where the words say so, but for the last line of a failure.
 fn attempt<F: Store, S: Sink>(
     alloc: Global,
     files: &mut F,
     out: &mut S,
-    c: &CommandWords,
+    c: &BuildWords,
 ) -> Result<(), Failure>
     requires { IsInLimit (run_of c.now.run) }
-    ensures done { OnOk result
-        (IsPerformed (world (F.seen files.old) (S.seen out.old)) (world (F.seen files.new) (S.seen out.new)) (command_of c.now)) }
-    ensures err { IfErr result (λ failure.
-        CommandFailed failure (world (F.seen files.old) (S.seen out.old)) (world (F.seen files.new) (S.seen out.new)) (command_of c.now)) }
+    ensures done { OnOk result (IsPerformed IsDone
+        (world (F.seen files.old) (S.seen out.old)) (world (F.seen files.new) (S.seen out.new)) (Builds (building_of c.now))) }
+    ensures err { IfErr result (λ failure. CommandFailed failure
+        (world (F.seen files.old) (S.seen out.old)) (world (F.seen files.new) (S.seen out.new)) (Builds (building_of c.now))) }
 {
     let inputs = read_inputs(alloc, files, c)?;
     let judged = judge(alloc, &inputs)?;
@@ -281,6 +217,29 @@ fn attempt<F: Store, S: Sink>(
         &judged.image,
         judged.arrivals.as_slice(),
     )
+}
+
+// Does what the command says, but for the last line of a failure.
+fn obey<F: Store, S: Sink>(
+    alloc: Global,
+    files: &mut F,
+    out: &mut S,
+    c: &CommandWords,
+) -> Result<Status, Failure>
+    requires { KeepsLimit (command_of c.now) }
+    ensures done { IfOk result (λ status. IsPerformed status
+        (world (F.seen files.old) (S.seen out.old)) (world (F.seen files.new) (S.seen out.new)) (command_of c.now)) }
+    ensures err { IfErr result (λ failure. CommandFailed failure
+        (world (F.seen files.old) (S.seen out.old)) (world (F.seen files.new) (S.seen out.new)) (command_of c.now)) }
+{
+    match c {
+        CommandWords::Build(c) => {
+            attempt(alloc, files, out, c)?;
+            Ok(Status::Done)
+        }
+        CommandWords::Exec(e) => execute(alloc, files, out, e),
+        CommandWords::List(img) => list(alloc, files, out, img),
+    }
 }
 
 // Puts a last line. Where it can't be put, the status is WriteFault.
@@ -301,6 +260,7 @@ fn finish<S: Sink>(out: &mut S, failure: Failure) -> Status
         Failure::Refused(refusal) => say(out, refusal_line(refusal).bytes(), Status::Refused),
         Failure::ReadFault => say(out, b"read fault\n", Status::ReadFault),
         Failure::TooLong => say(out, b"too long\n", Status::TooLong),
+        Failure::NotAnImage(fault) => say(out, no_image_line(fault).bytes(), Status::NotAnImage),
         Failure::NoMemory => say(out, b"no memory\n", Status::NoMemory),
         Failure::WriteFile => say(out, b"write fault\n", Status::WriteFault),
         Failure::Put => Status::WriteFault,
@@ -314,9 +274,9 @@ fn answer<F: Store, S: Sink>(alloc: Global, words: &[String], files: &mut F, out
     let Some(c) = command(words) else {
         return say(out, b"usage\n", Status::Usage);
     };
-    match attempt(alloc, files, out, &c) {
+    match obey(alloc, files, out, &c) {
         Err(failure) => finish(out, failure),
-        Ok(()) => Status::Done,
+        Ok(status) => status,
     }
 }
 
@@ -331,6 +291,12 @@ pub fn sloth_top<F: Store, S: Sink>(
     ensures usage { TellsUsage (words_of words.now) (world (F.seen files.old) (S.seen out.old)) (world (F.seen files.new) (S.seen out.new)) result }
     ensures refused { TellsRefused (words_of words.now) (world (F.seen files.old) (S.seen out.old)) (world (F.seen files.new) (S.seen out.new)) result }
     ensures complete { IsComplete (words_of words.now) (world (F.seen files.old) (S.seen out.old)) (world (F.seen files.new) (S.seen out.new)) result }
+    ensures fault { TellsFault (words_of words.now) (world (F.seen files.old) (S.seen out.old)) (world (F.seen files.new) (S.seen out.new)) result }
+    ensures no_image { TellsNoImage (words_of words.now) (world (F.seen files.old) (S.seen out.old)) (world (F.seen files.new) (S.seen out.new)) result }
+    ensures exec_refused { TellsExecRefused (words_of words.now)
+        (world (F.seen files.old) (S.seen out.old)) (world (F.seen files.new) (S.seen out.new)) result }
+    ensures executed { TellsExecuted (words_of words.now) (world (F.seen files.old) (S.seen out.old)) (world (F.seen files.new) (S.seen out.new)) result }
+    ensures listed { TellsListed (words_of words.now) (world (F.seen files.old) (S.seen out.old)) (world (F.seen files.new) (S.seen out.new)) result }
 {
     answer(alloc, words, files, out)
 }

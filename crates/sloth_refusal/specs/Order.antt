@@ -46,7 +46,6 @@ number code.T1 = 34
 number code.T2 = 35
 number code.T3 = 36
 number code.T4 = 37
-number code.N1 = 38
 
 -- r stands no later than s: on an earlier line, or on the same line with no greater number
 abbrev pub Precedes : Refusal → Refusal → Type 0

@@ -1,6 +1,6 @@
 //! The offsets of `specs/Layout.antt` as numbers for instructions: service words, contexts, and the controller's bytes.
 ghost use Rattle.std.specs.Prelude.{◌≡◌, ◌<◌, ◌≤◌, pos};
-ghost use Rattle.sloth_region.specs.Layout.{active, saved, pending_byte, enabled_byte, level_byte};
+ghost use Rattle.sloth_region.specs.Layout.{active, events, wait, resume, saved, pending_byte, enabled_byte, level_byte};
 
 /// Bits 31 to 12 of the address of the service words.
 pub const WORDS_HIGH: u32 = 0x8_0000;
@@ -10,6 +10,9 @@ pub const CUR: i32 = 0;
 
 /// The address of the context of what runs below.
 pub const BELOW_WORD: i32 = 628;
+
+/// Where the addresses of the tasks' own contexts begin.
+pub const RESUME_WORDS: i32 = 632;
 
 /// The context of the idle loop.
 pub const IDLE_CONTEXT: i32 = 884;
@@ -37,6 +40,30 @@ pub fn active(task: u8) -> i32
     ensures { result ≡ pos (active task) }
 {
     4 + 12 * task as i32
+}
+
+/// A task's events.
+pub fn events(task: u8) -> i32
+    requires { task < 30 }
+    ensures { result ≡ pos (events task) }
+{
+    8 + 12 * task as i32
+}
+
+/// The events that a task waits for.
+pub fn wait(task: u8) -> i32
+    requires { task < 30 }
+    ensures { result ≡ pos (wait task) }
+{
+    12 + 12 * task as i32
+}
+
+/// Where the address of a task's own context stands.
+pub fn resume(task: u32) -> i32
+    requires { task < 30 }
+    ensures { result ≡ pos (resume task) }
+{
+    RESUME_WORDS + 4 * task as i32
 }
 
 /// The level at which a held resource was taken.

@@ -11,8 +11,10 @@ pub struct Map {
     pub extents: List<Extent>,
     /// The addresses of items, symbols and service blocks.
     pub places: Places,
-    /// The stack of each task, in the order of the tasks.
+    /// The stack of each task, in the order of the tasks: one for all basic tasks, and one for each extended task.
     pub stacks: List<Extent>,
+    /// The address behind the part of its stack that each task has, in the order of the tasks.
+    pub tops: List<u32>,
     /// The service words, but for the first word of RAM, which names the running task.
     pub words: Extent,
     /// The address of the idle loop.

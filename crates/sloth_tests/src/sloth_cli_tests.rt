@@ -33,8 +33,9 @@ const TWO_TASKS: &[u8] =
 const ONE_PRIORITY: &[u8] =
     b"TASK Main { PRIORITY = 1; SCHEDULE = FULL; ACTIVATION = 1; AUTOSTART = FALSE; };\nTASK High { PRIORITY = 1; SCHEDULE = FULL; ACTIVATION = 1; AUTOSTART = FALSE; };\n";
 
+// An extended task above a basic one.
 const EXTENDED: &[u8] =
-    b"EVENT E { MASK = AUTO; };\nTASK Main { PRIORITY = 1; SCHEDULE = FULL; ACTIVATION = 1; AUTOSTART = FALSE; EVENT = E; };\n";
+    b"EVENT E { MASK = AUTO; };\nTASK High { PRIORITY = 2; SCHEDULE = FULL; ACTIVATION = 1; AUTOSTART = TRUE { APPMODE = OSDEFAULTAPPMODE; }; EVENT = E; };\nTASK Main { PRIORITY = 1; SCHEDULE = FULL; ACTIVATION = 1; AUTOSTART = TRUE { APPMODE = OSDEFAULTAPPMODE; }; };\n";
 
 const END: &[u8] = b"};\n";
 
@@ -44,8 +45,9 @@ const SRC: &[u8] = b"task Main\naddi t0, x0, 5\nTerminateTask\nend\n";
 const ACCESSES: &[u8] =
     b"data n, 4, 01020304\ntask Main, 2\nlhu t0, n+2\nsw t0, frame[1]\nlw t1, frame[1]\nsb t1, n\nlw t2, n\nTerminateTask\nend\n";
 
-// A service that is not built yet, in the body of a second task.
-const YIELDING: &[u8] = b"task Main\nTerminateTask\nend\ntask High\nSchedule\nTerminateTask\nend\n";
+// One task waits for an event, which the other one sets.
+const WAITING: &[u8] =
+    b"task High\nWaitEvent E\nClearEvent E\nTerminateTask\nend\ntask Main\nSetEvent High, E\nTerminateTask\nend\n";
 
 // Boot, the task's entry, its item, its end, and the idle loop.
 const LINES: &[u8] =
@@ -55,6 +57,9 @@ const BARE_LINES: &[u8] = b"boot\nenter Main\nrun Main Main 0 5\nleft Main Termi
 
 const ACCESS_LINES: &[u8] =
     b"boot\nenter Main\nrun Main Main 0 1027\nrun Main Main 1 1027\nrun Main Main 2 1027\nrun Main Main 3 1027\nrun Main Main 4 67305987\nleft Main TerminateTask\nidle\n";
+
+const WAITING_LINES: &[u8] =
+    b"boot\nenter High\nleft High WaitEvent\nenter Main\ncall Main SetEvent 0\nenter High\ncall High ClearEvent 0\nleft High TerminateTask\nleft Main TerminateTask\nidle\n";
 
 const ADMITTED_IN_BOOT: &[u8] =
     b"boot\nadmit Main\nadmit Main\nenter Main\nrun Main Main 0 5\nleft Main TerminateTask\nidle\n";
@@ -200,7 +205,7 @@ fn runs_and_refusals(rt: HostRuntime) -> Result<(), Fail> {
             b"5 Main\n".as_slice(),
             "9",
             Status::Done,
-            b"built 2842\n".as_slice(),
+            b"built 2906\n".as_slice(),
         ),
         (
             "run",
@@ -230,22 +235,13 @@ fn runs_and_refusals(rt: HostRuntime) -> Result<(), Fail> {
             b"refused src 1 A7\n".as_slice(),
         ),
         (
-            "run",
-            TWO_TASKS,
-            YIELDING,
-            none,
-            "9",
-            Status::Refused,
-            b"refused src 5 N1\n".as_slice(),
-        ),
-        (
-            "run",
+            "order",
             EXTENDED,
-            SRC,
+            WAITING,
             none,
-            "9",
-            Status::Refused,
-            b"refused oil 1 N1\n".as_slice(),
+            "5000",
+            Status::Done,
+            WAITING_LINES,
         ),
         (
             "order",

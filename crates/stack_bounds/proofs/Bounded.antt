@@ -75,7 +75,7 @@ module _ (config : Config) (app : App) (ranks : Ranks) (table : List ℕ) (yield
       (with_more (CallsInTurn app body) (total (call_bytes app)) (in_table table body) (frame_bytes app body) context_bytes
       (greatest_calls body (has_body config app h.verified.in_range t declared).0))
 
-  length_is : (t : ℕ) → t < length config.tasks → IsLength (get_or bytes t 0)
+  pub length_is : (t : ℕ) → t < length config.tasks → IsLength (get_or bytes t 0)
   length_is t declared =
       let body = body_of app.funcs t in
       let known = (has_body config app h.verified.in_range t declared).0 in
@@ -107,26 +107,26 @@ module _ (config : Config) (app : App) (ranks : Ranks) (table : List ℕ) (yield
 
   -- ---- the stack of all basic tasks
 
-  abbrev priority : ℕ → ℕ
+  abbrev pub priority : ℕ → ℕ
   priority t = (declaration config t).priority
 
-  abbrev size : ℕ → ℕ
+  abbrev pub size : ℕ → ℕ
   size t = get_or bytes t 0
 
-  abbrev counted : ℕ → ℕ → ℕ
+  abbrev pub counted : ℕ → ℕ → ℕ
   counted = bytes_under config.tasks yielding bytes
 
   abbrev test : ℕ → ℕ → Bool
   test below t = get_or yielding t false && nat_lt (priority t) below
 
-  abbrev IsUnder : ℕ → ℕ → Type 0
+  abbrev pub IsUnder : ℕ → ℕ → Type 0
   IsUnder below t = IsBasic config t × MayBePreempted config app t × (priority t < below)
 
   decides : (t : ℕ) → t < length config.tasks → Decides (get_or yielding t false) (IsBasic config t × MayBePreempted config app t)
   decides t declared =
       subst (λ b. Decides b (IsBasic config t × MayBePreempted config app t)) (sym (h.yielding_are t declared)) (Decides-gives_way config app h.verified ranks h.belong t declared)
 
-  counts : (below t : ℕ) → t < length config.tasks → (IsUnder below t × (counted below t ≡ size t)) ⊎ (counted below t ≡ 0)
+  pub counts : (below t : ℕ) → t < length config.tasks → (IsUnder below t × (counted below t ≡ size t)) ⊎ (counted below t ≡ 0)
   counts below t declared = ⊎_elim
       (λ yes.
       let parts = and_parts (get_or yielding t false) (nat_lt (priority t) below) yes in
@@ -135,14 +135,14 @@ module _ (config : Config) (app : App) (ranks : Ranks) (table : List ℕ) (yield
       (λ no. inr (ap (λ b. cond b (size t) 0) no))
       (cases_Bool (test below t))
 
-  under : (below t : ℕ) → IsUnder below t → counted below t ≡ size t
+  pub under : (below t : ℕ) → IsUnder below t → counted below t ≡ size t
   under below t is =
       ap (λ b. cond b (size t) 0) (and_from _ _ ((decides t is.0.0).1 (is.0, is.1)) (lt-ltb (priority t) below is.2))
 
-  above : (below t : ℕ) → below ≤ priority t → counted below t ≡ 0
+  pub above : (below t : ℕ) → below ≤ priority t → counted below t ≡ 0
   above below t l = ap (λ b. cond b (size t) 0) (and_right (get_or yielding t false) _ (le-ltb (priority t) below l))
 
-  more : (below other t : ℕ) → below ≤ other → counted below t ≤ counted other t
+  pub more : (below other t : ℕ) → below ≤ other → counted below t ≤ counted other t
   more below other t l = ⊎_elim
       (λ yes.
       let parts = and_parts (get_or yielding t false) (nat_lt (priority t) below) yes in
@@ -153,10 +153,10 @@ module _ (config : Config) (app : App) (ranks : Ranks) (table : List ℕ) (yield
       (λ no. let one : counted below t ≡ 0 = ap (λ b. cond b (size t) 0) no in omega (arith, one))
       (cases_Bool (test below t))
 
-  abbrev best : ℕ → ℕ
+  abbrev pub best : ℕ → ℕ
   best = bytes_with_lower config.tasks yielding bytes
 
-  bests : (t : ℕ) → t < length config.tasks
+  pub bests : (t : ℕ) → t < length config.tasks
       → (IsBasic config t × (best t ≡ sum_below (length config.tasks) (counted (priority t)) + size t)) ⊎ ((IsBasic config t → ⊥) × (best t ≡ 0))
   bests t declared = ⊎_elim
       (λ extended. inr (λ basic. true≢false (sym extended ∙ basic.1), cond-true (declaration config t).extended 0 (sum_below (length config.tasks) (counted (priority t)) + size t) extended))

@@ -6,10 +6,10 @@ use Rattle.sloth_base.specs.declared.app.App.{App}
 use Rattle.sloth_base.specs.declared.app.Op.{Op}
 use Rattle.sloth_base.specs.declared.app.Op.TheVariants as op
 use Rattle.sloth_base.specs.Named.{function, operation, body_of}
-use Rattle.app_rules.specs.Code.{Calls}
+use Rattle.app_rules.specs.Code.{Calls, IsCalledBy}
 use Rattle.call_graph.specs.declared.ranking.Ranks.{Ranks}
 use Rattle.call_graph.specs.Ranks.{RanksOf}
-use Rattle.stack_bounds.specs.Bounds.{total, frame_bytes, call_bytes, CallsInTurn, IsCalledBy, IsGreatest}
+use Rattle.stack_bounds.specs.Bounds.{total, frame_bytes, call_bytes, CallsInTurn, IsGreatest}
 use Rattle.stack_bounds.specs.Tables.{sum_below, bytes_called, calls_to_depth, IsKnown, AreCallable}
 use Rattle.stack_bounds.proofs.Below.{max_below-at, max_below-some, sum_below-gain, sum_below-le}
 

@@ -5,3 +5,4 @@ pub mod Chains
 pub mod Stacked
 pub mod Yielding
 pub mod Bounded
+pub mod Parts

@@ -16,10 +16,10 @@ module _ (n : ℕ) (priority size : ℕ → ℕ) (Wanted Lower : ℕ → Type 0)
   -- ---- lists that rise, of numbers below k which may stand below a priority
 
   module _ (below : ℕ) where
-    abbrev IsUnder : ℕ → Type 0
+    abbrev pub IsUnder : ℕ → Type 0
     IsUnder t = Wanted t × Lower t × (priority t < below)
 
-    abbrev RiseFrom : (k low : ℕ) → List ℕ → Type 0
+    abbrev pub RiseFrom : (k low : ℕ) → List ℕ → Type 0
     RiseFrom k low [] = Unit {0}
     RiseFrom k low (t ∷ rest) = (t < k) × IsUnder t × (low ≤ priority t) × RiseFrom k (priority t + 1) rest
 
@@ -45,10 +45,10 @@ module _ (n : ℕ) (priority size : ℕ → ℕ) (Wanted Lower : ℕ → Type 0)
         (cases_lt (priority k) (priority t))
 
     -- a size that counts where the number may stand below the priority, and else is 0
-    abbrev Counts : (ℕ → ℕ) → ℕ → Type 0
+    abbrev pub Counts : (ℕ → ℕ) → ℕ → Type 0
     Counts counted t = (IsUnder t × (counted t ≡ size t)) ⊎ (counted t ≡ 0)
 
-    sorted : (counted : ℕ → ℕ) (k : ℕ) → ((t : ℕ) → t < k → Counts counted t) → ((t u : ℕ) → t < u → u < k → priority t ≡ priority u → ⊥)
+    pub sorted : (counted : ℕ → ℕ) (k : ℕ) → ((t : ℕ) → t < k → Counts counted t) → ((t u : ℕ) → t < u → u < k → priority t ≡ priority u → ⊥)
         → (list : List ℕ) × RiseFrom k 0 list × (total size list ≡ sum_below k counted)
     sorted counted zero counts differ = ([], tt, refl)
     sorted counted (suc k) counts differ =

@@ -1,11 +1,12 @@
 -- The bytes of stack that tasks may need: each for itself, and the basic tasks together on one stack.
-use Rattle.std.specs.Prelude.{ℕ, ◌+◌, ◌*◌, ◌%◌, ◌<◌, ◌≤◌, ◌≡◌, ◌⊎◌, false, List, [], ◌∷◌, length, get_or}
+use Rattle.std.specs.Prelude.{ℕ, ◌+◌, ◌*◌, ◌%◌, ◌<◌, ◌≤◌, ◌≡◌, ◌⊎◌, true, false, List, [], ◌∷◌, length, get_or}
 use Rattle.sloth_base.specs.declared.config.Config.{Config}
 use Rattle.sloth_base.specs.declared.app.App.{App}
 use Rattle.sloth_base.specs.declared.places.Bounds.{Bounds}
 use Rattle.sloth_base.specs.declared.service.Service.TheVariants as service
+use Rattle.stack_bounds.specs.declared.stacks.Stacks.{Stacks}
 use Rattle.sloth_base.specs.Named.{declaration, function, body_of, IsBodyOf}
-use Rattle.app_rules.specs.Code.{IsItem, serve, Calls, TaskReaches}
+use Rattle.app_rules.specs.Code.{IsItem, serve, Calls, IsCalledBy, TaskReaches}
 
 -- a size summed over a list
 abbrev pub total : (ℕ → ℕ) → List ℕ → ℕ
@@ -62,6 +63,14 @@ AreStacked config app (t ∷ u ∷ tasks) =
     IsBasic config t × MayBePreempted config app t × ((declaration config t).priority < (declaration config u).priority)
     × AreStacked config app (u ∷ tasks)
 
+-- Two tasks may have something on their stacks at once: an extended one with any other, and a basic one with another of lower priority
+-- that may be preempted.
+pub data MayMeet (config : Config) (app : App) (t u : ℕ) : Type 0 where
+  waits : (declaration config t).extended ≡ true → MayMeet config app t u
+  meets_waiting : (declaration config u).extended ≡ true → MayMeet config app t u
+  is_over : MayBePreempted config app u → (declaration config u).priority < (declaration config t).priority → MayMeet config app t u
+  is_under : MayBePreempted config app t → (declaration config t).priority < (declaration config u).priority → MayMeet config app t u
+
 -- the bytes of these tasks together
 abbrev pub stacked_bytes : Bounds → List ℕ → ℕ
 stacked_bytes bounds tasks = total (λ t. get_or bounds.bytes t 0) tasks
@@ -74,10 +83,23 @@ pub record AreBounds (config : Config) (app : App) (bounds : Bounds) : Type 0 wh
   pub bytes : (t body : ℕ) → IsBodyOf app t body → IsGreatest (CallsInTurn app body) (used_bytes app body) (get_or bounds.bytes t 0)
   pub shared : IsGreatest (AreStacked config app) (stacked_bytes bounds) bounds.shared
 
--- Function f was called by the first of these functions, that one by the next, and so on. Without a caller f is the body of task t.
-abbrev pub IsCalledBy : App → (t f : ℕ) → (callers : List ℕ) → Type 0
-IsCalledBy app t f [] = f ≡ body_of app.funcs t
-IsCalledBy app t f (caller ∷ outer) = Calls app caller f × IsCalledBy app t caller outer
+-- the bytes of a task
+abbrev pub bytes_of : Stacks → ℕ → ℕ
+bytes_of stacks t = get_or stacks.bounds.bytes t 0
+
+-- the bytes from the end of a task's part to the end of its stack
+abbrev pub offset_of : Stacks → ℕ → ℕ
+offset_of stacks t = get_or stacks.offsets t 0
+
+-- Each basic task has a part of the shared stack, in whole words. It lies below those of the basic tasks of lower priority that may be preempted.
+pub record AreParts (config : Config) (app : App) (stacks : Stacks) : Type 0 where
+  pub count : length stacks.offsets ≡ length config.tasks
+  pub own : (t : ℕ) → (declaration config t).extended ≡ true → offset_of stacks t ≡ 0
+  pub inside : (t : ℕ) → IsBasic config t → offset_of stacks t + bytes_of stacks t ≤ stacks.bounds.shared
+  pub below : (t u : ℕ) → IsBasic config t → IsBasic config u → MayBePreempted config app u
+      → (declaration config u).priority < (declaration config t).priority → offset_of stacks u + bytes_of stacks u ≤ offset_of stacks t
+  pub words : (t : ℕ) → offset_of stacks t % 4 ≡ 0
+  pub small : stacks.bounds.shared ≤ 269824
 
 -- no task needs more than its bytes: the frame of the function that it is in, a return address and a frame for each caller, and a context
 abbrev pub HaveRoom : Config → App → Bounds → Type 0

@@ -85,6 +85,11 @@ abbrev pub bytes_under : List TaskDecl → List Bool → List ℕ → (priority 
 bytes_under tasks yielding bytes priority t =
     cond (get_or yielding t false && nat_lt (task_of tasks t).priority priority) (get_or bytes t 0) 0
 
+-- the bytes of all that may stand below a basic task, and 0 for an extended one
+abbrev pub bytes_lower : List TaskDecl → List Bool → List ℕ → ℕ → ℕ
+bytes_lower tasks yielding bytes t =
+    cond (task_of tasks t).extended 0 (sum_below (length tasks) (bytes_under tasks yielding bytes (task_of tasks t).priority))
+
 -- the bytes of a basic task with all that may stand below it
 abbrev pub bytes_with_lower : List TaskDecl → List Bool → List ℕ → ℕ → ℕ
 bytes_with_lower tasks yielding bytes t =
@@ -94,6 +99,11 @@ bytes_with_lower tasks yielding bytes t =
 -- the most bytes of a basic task with all that may stand below it
 abbrev pub most_stacked : List TaskDecl → List Bool → List ℕ → ℕ
 most_stacked tasks yielding bytes = max_below (length tasks) (bytes_with_lower tasks yielding bytes)
+
+-- an entry for each task: the bytes of all that may stand below it
+pub record AreOffsets (tasks : List TaskDecl) (yielding : List Bool) (bytes offsets : List ℕ) : Type 0 where
+  pub count : length offsets ≡ length tasks
+  pub each : (t : ℕ) → t < length tasks → get_or offsets t 0 ≡ bytes_lower tasks yielding bytes t
 
 -- an entry for each of a few tasks, with bytes that have room in 32 bits together
 pub record AreStacks (tasks : List TaskDecl) (yielding : List Bool) (bytes : List ℕ) : Type 0 where

@@ -1,5 +1,6 @@
 pub mod Lists
 pub mod Paths
+pub mod Searches
 pub mod Tests
 pub mod Labelled
 pub mod Parts

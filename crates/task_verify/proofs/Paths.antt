@@ -1,51 +1,14 @@
--- Marks along the ways of a body.
-use Rattle.std.proofs.Common.{◌≡◌, ℕ, ◌+◌, ◌<◌, ◌≤◌, Bool, true, false, ◌||◌, ◌⊎◌, inl, inr, List, [], ◌∷◌, ◌++◌, length, get_or, set, cond, not, ◌↔◌, Option, Some, None, refl, ap, sym, ◌∙◌, subst, arith, ⊎_elim}
+-- What is reached along the ways of a body is what its paths lead to.
+use Rattle.std.proofs.Common.{◌≡◌, ℕ, ◌+◌, ◌<◌, ◌≤◌, Bool, true, false, ◌⊎◌, inl, inr, List, [], ◌∷◌, ◌++◌, length, get_or, cond, not, ◌↔◌, Option, Some, None, refl, ap, sym, ◌∙◌, subst, ⊎_elim}
 use Rattle.std.specs.Prelude.{nat_lt}
-use Rattle.std.proofs.lemmas.Bool.{cases_eq, cases_lt, lt-ltb, true≢false, false≢true, false_from_ne_true}
-use Rattle.std.proofs.lemmas.List.{get_or-set_other, get_or_past}
+use Rattle.std.proofs.lemmas.Bool.{cases_lt, lt-ltb, true≢false, false≢true, false_from_ne_true}
+use Rattle.std.proofs.lemmas.List.{get_or_past}
 use Rattle.sloth_base.specs.declared.app.Func.{Func}
 use Rattle.sloth_base.specs.Named.{item_of, label_of, no_item}
 use Rattle.std.specs.Bool.{Decides}
 use Rattle.app_rules.specs.Code.{falls, way, GoesOn, Path}
 use Rattle.app_rules.specs.WellFormed.{IsUnreached}
-use Rattle.task_verify.specs.Ways.{inside_or, next_of, label_place, jump_of, Reached, first, by_next, by_jump, Marked, unmarked, Visited}
-
--- the loop's invariant over the items below n
-pub record Passed (f : Func) (old new : List Bool) (fresh : Bool) (n : ℕ) : Type 0 where
-  pub keeps : (i : ℕ) → Marked old i → Marked new i
-  pub sound : ((i : ℕ) → Marked old i → Reached f i) → (i : ℕ) → Marked new i → Reached f i
-  pub same : fresh ≡ false → (new ≡ old) × ((k : ℕ) → k < n → Marked old k → Marked old (next_of f k) × Marked old (jump_of f k))
-  pub less : fresh ≡ true → unmarked new < unmarked old
-
-neither : (a b : Bool) → (a || b) ≡ false → (a ≡ false) × (b ≡ false)
-neither true b h = absurd (true≢false h)
-neither false b h = (refl, h)
-
-pub passed_more : (f : Func) (old mid new : List Bool) (fresh more both : Bool) (n : ℕ) → n < length f.items → both ≡ (fresh || more)
-    → Passed f old mid fresh n → Visited mid new n (next_of f n) (jump_of f n) more → Passed f old new both (n + 1)
-passed_more f old mid new fresh more both n l q p v = record {
-  keeps = λ i m. v.keeps i (p.keeps i m);
-  sound = λ h i m. ⊎_elim (p.sound h i)
-      (λ b. ⊎_elim (λ e. by_next n i l (p.sound h n b.0) (sym e)) (λ e. by_jump n i l (p.sound h n b.0) (sym e)) b.1) (v.only i m);
-  same = λ e.
-      let z = neither fresh more (sym q ∙ e) in
-      let a = p.same z.0 in
-      let b = v.same z.1 in (
-        b.0 ∙ a.0,
-        λ k h m. ⊎_elim
-            (λ g. subst (λ (x : ℕ). Marked old x → Marked old (next_of f x) × Marked old (jump_of f x)) (sym g)
-            (subst (λ (x : List Bool). Marked x n → Marked x (next_of f n) × Marked x (jump_of f n)) a.0 b.1) m)
-            (λ g. a.1 k (omega (arith, h, g)) m)
-            (cases_eq k n),
-      );
-  less = λ e. fewer fresh more refl refl (sym q ∙ e);
-}
-  where
-    fewer : (x y : Bool) → fresh ≡ x → more ≡ y → (fresh || more) ≡ true → unmarked new < unmarked old
-    fewer true true e g h = let a = p.less e in let b = v.less g in omega (arith, a, b)
-    fewer true false e g h = let a = p.less e in let b = v.at_most g in omega (arith, a, b)
-    fewer false true e g h = let a = ap unmarked (p.same e).0 in let b = v.less g in omega (arith, a, b)
-    fewer false false e g h = absurd (true≢false (sym h ∙ (ap (λ u. u || more) e ∙ g)))
+use Rattle.task_verify.specs.Ways.{inside_or, next_of, label_place, jump_of, Reached, first, by_next, by_jump, Marked}
 
 -- a closed set of marks has all that is reached
 pub closed_all : {f : Func} {i : ℕ} → Reached f i → (marks : List Bool) → Marked marks 0
@@ -53,18 +16,6 @@ pub closed_all : {f : Func} {i : ℕ} → Reached f i → (marks : List Bool) �
 closed_all first marks s c = s
 closed_all (by_next k j l r e) marks s c = subst (Marked marks) e (c k l (closed_all r marks s c)).0
 closed_all (by_jump k j l r e) marks s c = subst (Marked marks) e (c k l (closed_all r marks s c)).1
-
-pub first_mark : (f : Func) (marks : List Bool) → 0 < length marks → ((i : ℕ) → i < length marks → get_or marks i false ≡ false)
-    → (i : ℕ) → Marked (set marks 0 true) i → Reached f i
-first_mark f marks l c i m = ⊎_elim
-    (λ e. subst (Reached f) (sym e) first)
-    (λ n. absurd (false≢true (sym (clear i) ∙ (sym (get_or-set_other marks 0 i true false n) ∙ m))))
-    (cases_eq i 0)
-  where
-    clear : (i : ℕ) → get_or marks i false ≡ false
-    clear i = ⊎_elim (λ h. c i h) (λ h. get_or_past marks i false h) (cases_lt i (length marks))
-
--- ---- what is reached is what paths lead to
 
 pub path_joins : (f : Func) (i j k : ℕ) (between more : List ℕ) → Path f i between j → Path f j more k → Path f i (between ++ more) k
 path_joins f i j k [] more a b = subst (λ (x : ℕ). Path f x more k) (sym a) b

@@ -1,9 +1,9 @@
 -- The ways between the items of a body.
-use Rattle.std.specs.Prelude.{ℕ, ◌+◌, ◌<◌, ◌≡◌, ◌⊎◌, nat_lt, not, Bool, true, false, cond, List, length, Option, Some, None, get_or, count_by}
+use Rattle.std.specs.Prelude.{ℕ, ◌+◌, ◌<◌, ◌≡◌, ◌⊎◌, nat_lt, not, Bool, true, false, cond, List, [], ◌∷◌, ◌++◌, length, Option, Some, None, get_or, set, count_by, MatchBool}
 use Rattle.sloth_base.specs.declared.app.Func.{Func}
 use Rattle.sloth_base.specs.declared.app.Op.{Op}
 use Rattle.sloth_base.specs.Named.{item_of, label_of}
-use Rattle.app_rules.specs.Code.{falls, way}
+use Rattle.app_rules.specs.Code.{falls, way, is_in}
 
 -- the label of a branch or jump is one of the body
 abbrev pub LeadsToLabels : Func → Op → Type 0
@@ -42,17 +42,16 @@ Marked marks i = get_or marks i false ≡ true
 abbrev pub unmarked : List Bool → ℕ
 unmarked marks = count_by not marks
 
--- the marks after a visit of an item that goes on to these two; `fresh` says whether there are more
-pub record Visited (old new : List Bool) (from next jump : ℕ) (fresh : Bool) : Type 0 where
-  pub keeps : (i : ℕ) → Marked old i → Marked new i
-  pub only : (i : ℕ) → Marked new i → Marked old i ⊎ (Marked old from × ((i ≡ next) ⊎ (i ≡ jump)))
-  pub same : fresh ≡ false → (new ≡ old) × (Marked old from → Marked old next × Marked old jump)
-  pub less : fresh ≡ true → unmarked new < unmarked old
-  pub at_most : fresh ≡ false → unmarked new ≡ unmarked old
+-- a visit marks an item and keeps it, where it is not marked yet
+abbrev pub Visited : (old new : List Bool) → (pending kept : List ℕ) → (at : ℕ) → Type 0
+Visited old new pending kept at = MatchBool (get_or old at false)
+    ((new ≡ old) × (kept ≡ pending))
+    ((new ≡ set old at true) × (kept ≡ pending ++ at ∷ []))
 
--- one pass over the items
-pub record Spread (f : Func) (old new : List Bool) (fresh : Bool) : Type 0 where
-  pub keeps : (i : ℕ) → Marked old i → Marked new i
-  pub sound : ((i : ℕ) → Marked old i → Reached f i) → (i : ℕ) → Marked new i → Reached f i
-  pub closed : fresh ≡ false → (i : ℕ) → i < length f.items → Marked new i → Marked new (next_of f i) × Marked new (jump_of f i)
-  pub less : fresh ≡ true → unmarked new < unmarked old
+-- what is marked is reached; of each marked item that is not kept both ways are marked
+pub record Searching (f : Func) (marks : List Bool) (pending : List ℕ) : Type 0 where
+  pub count : length marks ≡ length f.items
+  pub start : Marked marks 0
+  pub sound : (i : ℕ) → Marked marks i → Reached f i
+  pub kept : (i : ℕ) → is_in i pending ≡ true → (i < length f.items) × Marked marks i
+  pub closed : (i : ℕ) → Marked marks i → (is_in i pending ≡ true) ⊎ (Marked marks (next_of f i) × Marked marks (jump_of f i))

@@ -1,70 +1,59 @@
 //! V6: which items the paths from the first one reach.
-ghost use Rattle.std.specs.Prelude.{◌≡◌, ℕ, ◌<◌, ◌↔◌, ◌||◌, true, false, not, length, slice_set, get_or, IfOk};
+ghost use Rattle.std.specs.Prelude.{◌≡◌, ℕ, ◌+◌, ◌*◌, ◌<◌, ◌≤◌, ◌↔◌, false, length, get_or, [], IfOk, OnOk};
 ghost use Rattle.sloth_base.specs.Named.{item_of};
-ghost use Rattle.task_verify.specs.Ways.{LeadsToLabels, Marked, Reached, Visited, Spread};
+ghost use Rattle.task_verify.specs.Ways.{LeadsToLabels, Marked, Reached, unmarked, Visited, Searching};
 
 use crate::ways::{jump_of, next_of};
 use sloth_base::app::Func;
 use sloth_base::memory::NoMemory;
 use std::alloc::Global;
 
-fn mark(marks: &mut [bool], at: usize) -> bool
+/// Marks an item and keeps it to go on from, where it is not marked yet.
+fn visit(marks: &mut [bool], pending: &mut Vec<usize>, at: usize) -> Result<(), NoMemory>
     requires { at < length marks.old }
-    ensures after { marks.new ≡ slice_set marks.old at true }
-    ensures fresh { result ≡ not (get_or marks.old at false) }
+    ensures visited { OnOk result (Visited marks.old marks.new pending.old.items pending.new.items at) }
+    ensures cost { OnOk result (2 * unmarked marks.new + length pending.new.items ≤ 2 * unmarked marks.old + length pending.old.items) }
 {
-    let fresh = !marks[at];
-    marks[at] = true;
-    fresh
-}
-
-fn visit(marks: &mut [bool], from: usize, next: usize, jump: usize) -> bool
-    requires from_in { from < length marks.old }
-    requires next_in { next < length marks.old }
-    requires jump_in { jump < length marks.old }
-    ensures { Visited marks.old marks.new from next jump result }
-{
-    if !marks[from] {
-        return false;
+    if marks[at] {
+        return Ok(());
     }
-    let next_fresh = mark(marks, next);
-    let jump_fresh = mark(marks, jump);
-    next_fresh || jump_fresh
+    match pending.push(at) {
+        Ok(()) => {
+            marks[at] = true;
+            Ok(())
+        }
+        Err(_) => Err(NoMemory),
+    }
 }
 
-fn either(one: bool, other: bool) -> bool
-    ensures { result ≡ (one || other) }
-{
-    one || other
-}
-
-fn spread(func: &Func, marks: &mut [bool]) -> bool
-    requires count { length marks.old ≡ length func.now.items }
+/// Marks what the items that are kept lead to.
+fn spread(func: &Func, marks: &mut [bool], pending: &mut Vec<usize>) -> Result<(), NoMemory>
     requires labels { (i : ℕ) → i < length func.now.items → LeadsToLabels func.now (item_of func.now i).op }
-    ensures { Spread func.now marks.old marks.new result }
+    requires searching { Searching func.now marks.old pending.old.items }
+    ensures { OnOk result ((i : ℕ) → Marked marks.new i ↔ Reached func.now i) }
 {
-    let mut fresh = false;
-    for from in 0..func.items.items().len() {
-        let more = visit(marks, from, next_of(func, from), jump_of(func, from));
-        fresh = either(fresh, more);
+    loop {
+        match pending.pop() {
+            None => return Ok(()),
+            Some(from) => {
+                visit(marks, pending, next_of(func, from))?;
+                visit(marks, pending, jump_of(func, from))?;
+            }
+        }
     }
-    fresh
 }
 
 /// Marks the items that paths from the first one reach, and no others.
-fn mark_reached(func: &Func, marks: &mut [bool])
+fn mark_reached(func: &Func, marks: &mut [bool], pending: &mut Vec<usize>) -> Result<(), NoMemory>
     requires some { 0 < length marks.old }
     requires clear { (i : ℕ) → i < length marks.old → get_or marks.old i false ≡ false }
     requires count { length marks.old ≡ length func.now.items }
+    requires none { pending.old.items ≡ [] }
     requires labels { (i : ℕ) → i < length func.now.items → LeadsToLabels func.now (item_of func.now i).op }
-    ensures { (i : ℕ) → Marked marks.new i ↔ Reached func.now i }
+    ensures { OnOk result ((i : ℕ) → Marked marks.new i ↔ Reached func.now i) }
 {
-    marks[0] = true;
-    loop {
-        if !spread(func, marks) {
-            return;
-        }
-    }
+    visit(marks, pending, 0)?;
+    spread(func, marks, pending)
 }
 
 fn no_marks(alloc: Global, count: usize) -> Result<Vec<bool>, NoMemory>
@@ -89,6 +78,7 @@ pub fn reached(alloc: Global, func: &Func) -> Result<Vec<bool>, NoMemory>
     ensures exact { IfOk result (λ marks. (i : ℕ) → Marked marks.items i ↔ Reached func.now i) }
 {
     let mut marks = no_marks(alloc, func.items.items().len())?;
-    mark_reached(func, &mut marks);
+    let mut pending = Vec::new(alloc);
+    mark_reached(func, &mut marks, &mut pending)?;
     Ok(marks)
 }

@@ -1,10 +1,11 @@
-//! One command on files in memory.
+//! Commands on files in memory.
 ghost use Rattle.std.specs.Prelude.{◌≡◌, ◌≤◌, IfOk, length};
 
+use crate::texts::Texts;
 use sloth_base::list::List;
 use sloth_base::memory::NoMemory;
 use sloth_base::name::Name;
-use sloth_cli::{Status, sloth_top};
+use sloth_cli::sloth_top;
 use sloth_io::mem_sink::MemSink;
 use sloth_io::mem_store::{MemFile, MemStore};
 use std::alloc::Global;
@@ -12,8 +13,11 @@ use std::alloc::Global;
 /// The bytes that an image file may have, and those that a command may print.
 const SPACE: u32 = 2_200_000;
 
-// A file with space for its own bytes, or for an image where those are fewer.
-fn file(alloc: Global, name: &[u8], bytes: &[u8]) -> Result<MemFile, NoMemory>
+/// The same where a command is run many times, and prints little.
+const LITTLE: u32 = 10_000;
+
+// A file with this space, or with that for its own bytes where they are more.
+fn file(alloc: Global, name: &[u8], bytes: &[u8], space: u32) -> Result<MemFile, NoMemory>
     requires { length bytes.now ≤ 16000000 }
     ensures name { IfOk result (λ file. file.name ≡ name.now) }
     ensures within { IfOk result (λ file. length file.bytes ≤ file.space) }
@@ -22,20 +26,21 @@ fn file(alloc: Global, name: &[u8], bytes: &[u8]) -> Result<MemFile, NoMemory>
     Ok(MemFile {
         name: Name::new(alloc, name)?,
         bytes: List::from_vec(Vec::from_slice(alloc, bytes)?),
-        space: size.max(SPACE),
+        space: size.max(space),
     })
 }
 
-// The three texts, and an image that is not written yet.
-fn store(alloc: Global, oil: &[u8], src: &[u8], arr: &[u8]) -> Result<MemStore, NoMemory>
-    requires oil { length oil.now ≤ 16000000 }
-    requires src { length src.now ≤ 16000000 }
-    requires arr { length arr.now ≤ 16000000 }
+// The three texts, and an image file with this space.
+fn store(alloc: Global, texts: &Texts, img: &[u8], space: u32) -> Result<MemStore, NoMemory>
+    requires oil { length texts.now.oil.items ≤ 16000000 }
+    requires src { length texts.now.src.items ≤ 16000000 }
+    requires arr { length texts.now.arr.items ≤ 16000000 }
+    requires img { length img.now ≤ 16000000 }
 {
-    let oil = file(alloc, b"oil", oil)?;
-    let src = file(alloc, b"src", src)?;
-    let arr = file(alloc, b"arr", arr)?;
-    let img = file(alloc, b"img", b"")?;
+    let oil = file(alloc, b"oil", &texts.oil, 0)?;
+    let src = file(alloc, b"src", &texts.src, 0)?;
+    let arr = file(alloc, b"arr", &texts.arr, 0)?;
+    let img = file(alloc, b"img", img, space)?;
     MemStore::new(alloc, &[arr, img, oil, src], &[])
 }
 
@@ -48,24 +53,86 @@ fn words(alloc: Global, line: &str) -> anyhow::Result<Vec<String>> {
     Ok(words)
 }
 
-/// Runs the command of a line on these texts, of at most 16,000,000 bytes each, and prints what it prints and its status.
-pub fn answer(
-    rt: &(impl Print + AllocGlobal),
-    line: &[u8],
-    oil: &[u8],
-    src: &[u8],
-    arr: &[u8],
-) -> anyhow::Result<()>
-    requires oil { length oil.now ≤ 16000000 }
-    requires src { length src.now ≤ 16000000 }
-    requires arr { length arr.now ≤ 16000000 }
+// What a command prints and how it ends, and the image file behind it.
+#[derive(Drop)]
+struct Outcome {
+    text: String,
+    img: Vec<u8>,
+}
+
+// Runs the command of a line on these files, of at most 16,000,000 bytes each.
+fn answer(
+    alloc: Global,
+    line: &str,
+    texts: &Texts,
+    img: &[u8],
+    space: u32,
+) -> anyhow::Result<Outcome>
+    requires oil { length texts.now.oil.items ≤ 16000000 }
+    requires src { length texts.now.src.items ≤ 16000000 }
+    requires arr { length texts.now.arr.items ≤ 16000000 }
+    requires img { length img.now ≤ 16000000 }
 {
-    let alloc = rt.alloc();
-    let words = words(alloc, std::str::from_utf8(line)?)?;
-    let mut files = store(alloc, oil, src, arr)?;
-    let mut out = MemSink::new(alloc, SPACE, &[])?;
+    let words = words(alloc, line)?;
+    let mut files = store(alloc, texts, img, space)?;
+    let mut out = MemSink::new(alloc, space, &[])?;
     let status = sloth_top(alloc, words.as_slice(), &mut files, &mut out);
-    print!(rt; "{}", std::str::from_utf8(out.taken())?)?;
-    println!(rt; "=== {status:?}")?;
+    let printed = std::str::from_utf8(out.taken())?;
+    let text = format!(in alloc; "{printed}=== {status:?}\n")?;
+    let img = Vec::from_slice(alloc, files.file("img").unwrap_or(b""))?;
+    Ok(Outcome { text, img })
+}
+
+/// Runs the command of a line, and prints what it prints and its status. The image file that it leaves is kept.
+pub fn run(rt: &(impl Print + AllocGlobal), line: &str, texts: &mut Texts) -> anyhow::Result<()> {
+    if !texts.are_short() {
+        return Ok(());
+    }
+    let answer = answer(rt.alloc(), line, texts, &texts.img, SPACE)?;
+    print!(rt; "{}", answer.text)?;
+    texts.img = answer.img;
+    Ok(())
+}
+
+/// Runs two commands, which ` / ` divides, one after the other, and prints how many bytes both answer, or that their answers differ.
+pub fn run_both(
+    rt: &(impl Print + AllocGlobal),
+    lines: &str,
+    texts: &mut Texts,
+) -> anyhow::Result<()> {
+    let Some((one, other)) = lines.split_once(" / ") else {
+        return Ok(());
+    };
+    if !texts.are_short() {
+        return Ok(());
+    }
+    let first = answer(rt.alloc(), one, texts, &texts.img, SPACE)?;
+    texts.img = first.img;
+    if !texts.are_short() {
+        return Ok(());
+    }
+    let second = answer(rt.alloc(), other, texts, &texts.img, SPACE)?;
+    if first.text == second.text {
+        println!(rt; "both {} bytes", first.text.len())?;
+    } else {
+        println!(rt; "they differ")?;
+    }
+    Ok(())
+}
+
+/// Runs the command of a line with the image file cut to each length, from 0 to its whole. Where the answer is another one than with a
+/// byte less, prints the length and the answer.
+pub fn run_cut(rt: &(impl Print + AllocGlobal), line: &str, texts: &Texts) -> anyhow::Result<()> {
+    if !texts.are_short() {
+        return Ok(());
+    }
+    let mut last = String::new(rt.alloc());
+    for size in 0..=texts.img.len() {
+        let answer = answer(rt.alloc(), line, texts, &texts.img[..size], LITTLE)?;
+        if answer.text != last {
+            print!(rt; "{size} bytes\n{}", answer.text)?;
+            last = answer.text;
+        }
+    }
     Ok(())
 }

@@ -1,45 +1,66 @@
 //! Runs commands of the program on files in memory, and prints what they print and how they end. A text ends before a line `=== oil`,
-//! `=== src` or `=== arr`, which says what it is; it stays until the next one of its kind. Another line behind `=== ` is a command,
-//! such as `order oil src arr img 5000`: it is run on the files of these names.
+//! `=== src` or `=== arr`, which says what it is; it stays until the next one of its kind. Other lines behind `=== `:
+//! - `image HEX` makes the image file of these bytes, `change AT HEX` writes bytes over those from a place on, or behind the end, and
+//!   `exchange AT AT` exchanges two marks; `-AT` counts back from the end;
+//! - `cut`, and a command such as `exec img arr 10`: it is run with the image file cut to each length, and each new answer is printed;
+//! - `both`, and two commands with ` / ` between them: they are run one after the other, and it is printed whether they answer alike;
+//! - a command, such as `order oil src arr img 5000`: it is run on the files of these names. The image file that it leaves is kept.
 #![tactic(auto)]
 
-ghost use Rattle.std.specs.Prelude.{◌≤◌, length};
-
 mod commands;
+mod texts;
 
-use crate::commands::answer;
+use crate::commands::{run, run_both, run_cut};
+use crate::texts::Texts;
 use sloth_base::memory::NoMemory;
-use std::alloc::Global;
 use std::io::Read;
 
-/// The greatest length of a text.
-const LONGEST: usize = 16_000_000;
+// Changes the image file where a line behind `=== ` asks for it.
+fn change(rt: &impl AllocGlobal, asked: &str, texts: &mut Texts) -> Result<bool, NoMemory> {
+    if let Some(digits) = asked.strip_prefix("image ") {
+        texts.make(rt.alloc(), digits);
+    } else if let Some(words) = asked.strip_prefix("change ") {
+        texts.change(rt.alloc(), words)?;
+    } else if let Some(words) = asked.strip_prefix("exchange ") {
+        texts.exchange(words);
+    } else {
+        return Ok(false);
+    }
+    Ok(true)
+}
 
-// The text takes the place of another one.
-fn replace(text: &mut Vec<u8>, lines: &[u8]) -> Result<(), NoMemory> {
-    text.clear();
-    text.extend_from_slice(lines).map_err(|_| NoMemory)?;
-    Ok(())
+// Does what a line behind `=== ` asks for, with the lines before it.
+fn obey(
+    rt: &(impl Print + AllocGlobal),
+    asked: &str,
+    lines: &[u8],
+    texts: &mut Texts,
+) -> anyhow::Result<()> {
+    if texts.replace(asked.as_bytes(), lines)? || change(rt, asked, texts)? {
+        return Ok(());
+    }
+    if let Some(commands) = asked.strip_prefix("both ") {
+        return run_both(rt, commands, texts);
+    }
+    match asked.strip_prefix("cut ") {
+        Some(command) => run_cut(rt, command, texts),
+        None => run(rt, asked, texts),
+    }
 }
 
 fn main(rt: HostRuntime) -> anyhow::Result<()> {
     let mut input = Vec::new(rt.alloc());
     rt.reader().read_to_end(&mut input)?;
-    let mut oil = Vec::new(rt.alloc());
-    let mut src = Vec::new(rt.alloc());
-    let mut arr = Vec::new(rt.alloc());
+    let mut texts = Texts::new(rt.alloc());
     let mut lines = Vec::new(rt.alloc());
     for line in input.as_slice().split(|byte| *byte == b'\n') {
         if let Some(asked) = line.strip_prefix(b"=== ") {
-            if asked == b"oil".as_slice() {
-                replace(&mut oil, lines.as_slice())?;
-            } else if asked == b"src".as_slice() {
-                replace(&mut src, lines.as_slice())?;
-            } else if asked == b"arr".as_slice() {
-                replace(&mut arr, lines.as_slice())?;
-            } else if oil.len() <= LONGEST && src.len() <= LONGEST && arr.len() <= LONGEST {
-                answer(&rt, asked, oil.as_slice(), src.as_slice(), arr.as_slice())?;
-            }
+            obey(
+                &rt,
+                std::str::from_utf8(asked)?,
+                lines.as_slice(),
+                &mut texts,
+            )?;
             lines.clear();
         } else {
             lines.extend_from_slice(line)?;

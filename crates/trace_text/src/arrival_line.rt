@@ -59,10 +59,11 @@ fn moment(line: &[u8]) -> u64
     value(before(line, b' '), 10)
 }
 
-fn position(tasks: &[Name], name: &[u8]) -> Option<usize>
-    ensures { result ≡ position (bytes_eq name.now) tasks.now }
+/// The place of the first name with these bytes.
+pub fn position(names: &[Name], name: &[u8]) -> Option<usize>
+    ensures { result ≡ position (bytes_eq name.now) names.now }
 {
-    tasks.iter().position(|task| same(name, task.bytes()))
+    names.iter().position(|other| same(name, other.bytes()))
 }
 
 fn first_names(tasks: &[Name], count: usize) -> &[Name]

@@ -1,49 +1,19 @@
 //! Reads arrivals files.
-ghost use Rattle.std.specs.Prelude.{◌≡◌, ◌==◌, ◌<◌, ◌+◌, ◌^◌, ◌∷◌, [], ◌++◌, length, map, IfOk, IfErr, OnOk};
-ghost use Rattle.std.specs.List.{slice_split};
-ghost use Rattle.std.specs.Str.Lines.{strip_carriage_return};
+ghost use Rattle.std.specs.Prelude.{◌≡◌, ◌<◌, ◌+◌, ◌^◌, ◌∷◌, [], ◌++◌, length, map, IfOk, IfErr, OnOk};
 ghost use Rattle.sloth_base.specs.Arrivals.{AreArrivals};
 ghost use Rattle.sloth_refusal.specs.Order.{ErrorIs, NoFault};
 ghost use Rattle.text_pieces.specs.Names.{now};
-ghost use Rattle.asm_lines.specs.Lines.{line_of, lines, without_returns};
+ghost use Rattle.asm_lines.specs.Lines.{lines, without_returns};
 ghost use Rattle.trace_text.specs.ArrivalsText.{arrivals_of, arrivals_in, LineFault, LinesFault, ArrivalsFault};
 
 use crate::arrival_line::{arrival_of, is_arrival, line_fault};
+use asm_lines::cutting::{line_of, split};
 use sloth_base::event::Arrival;
 use sloth_base::memory::NoMemory;
 use sloth_base::name::Name;
 use sloth_base::refusal::BuildError;
-use std::alloc::{AllocError, Global};
-use text_pieces::bytes::front;
+use std::alloc::Global;
 use text_pieces::growth::push;
-
-// The parts between LF bytes.
-fn parts<'a>(alloc: Global, text: &'a [u8]) -> Result<Vec<&'a [u8]>, AllocError>
-    ensures { IfOk result (λ parts. map now parts.items ≡ slice_split (λ b. b == 10) text.now) }
-{
-    text.split(|b| *b == b'\n').collect(alloc)
-}
-
-fn strip_carriage_return(part: &[u8]) -> &[u8]
-    ensures { result.now ≡ strip_carriage_return part.now }
-{
-    if !part.is_empty() && part[part.len() - 1] == b'\r' {
-        front(part, part.len() - 1)
-    } else {
-        part
-    }
-}
-
-// A line without the CR before its LF. The last one has no LF.
-fn line_of<'a>(part: &'a [u8], is_last: bool) -> &'a [u8]
-    ensures { result.now ≡ line_of is_last part.now }
-{
-    if is_last {
-        part
-    } else {
-        strip_carriage_return(part)
-    }
-}
 
 // The lines of the parts between LF bytes.
 fn lines_of<'a>(alloc: Global, parts: &[&'a [u8]]) -> Result<Vec<&'a [u8]>, NoMemory>
@@ -61,7 +31,7 @@ fn lines_of<'a>(alloc: Global, parts: &[&'a [u8]]) -> Result<Vec<&'a [u8]>, NoMe
 fn lines<'a>(alloc: Global, text: &'a [u8]) -> Result<Vec<&'a [u8]>, NoMemory>
     ensures { IfOk result (λ read. map now read.items ≡ lines text.now) }
 {
-    let parts = parts(alloc, text)?;
+    let parts = split(alloc, text, b'\n')?;
     let read = lines_of(alloc, parts.as_slice())?;
     Ok(read)
 }

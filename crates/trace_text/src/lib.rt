@@ -1,10 +1,15 @@
-//! Event lines, what is printed of a run, and the arrivals that are given to one.
+//! Event lines, what is printed of a run and of an image, and the arrivals that are given to a run.
 #![tactic(auto)]
 
 pub mod arrival_line;
 pub mod arrivals;
+pub mod event_line;
 pub mod laws;
 pub mod line_text;
+pub mod listing;
 pub mod print;
+pub mod summary;
 
 pub use arrivals::read_arrivals;
+pub use event_line::read_line;
+pub use listing::listing_line;

@@ -1,6 +1,9 @@
 //! A line in a fixed buffer.
 ghost use Rattle.std.specs.Prelude.{◌≡◌, ◌+◌, ◌≤◌, ◌++◌, [], length, decimal, take};
+ghost use Rattle.hex.specs.Hex.{encode_lower};
+ghost use Rattle.trace_text.specs.Listing.{word_text};
 
+use hex::encode_to_slice;
 use itoa::Buffer;
 use std::marker::Model;
 
@@ -59,5 +62,25 @@ impl LineText {
         let mut buffer = Buffer::new();
         let digits = buffer.format(number).as_bytes();
         self.push(digits);
+    }
+    /// Appends four bytes in eight hexadecimal digits, in lower case.
+    pub fn push_hex(&mut self, bytes: [u8; 4])
+        requires { length self.old + 8 ≤ 256 }
+        ensures digits { self.new ≡ self.old ++ encode_lower bytes }
+        ensures length { length self.new ≡ length self.old + 8 }
+    {
+        let mut digits = [0; 8];
+        let _ = encode_to_slice(bytes, &mut digits);
+        self.push(&digits);
+    }
+
+    /// Appends a number in eight hexadecimal digits, in lower case.
+    #[tactic(auto, unfolding(crate::specs::Listing::word_text))]
+    pub fn push_word(&mut self, number: u32)
+        requires { length self.old + 8 ≤ 256 }
+        ensures digits { self.new ≡ self.old ++ word_text number }
+        ensures length { length self.new ≡ length self.old + 8 }
+    {
+        self.push_hex(number.to_be_bytes());
     }
 }

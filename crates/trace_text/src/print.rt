@@ -35,8 +35,8 @@ pub fn print(event: &Stamped, form: Form, image: &Image) -> LineText
     line
 }
 
-// Appends the counts of an event's first and last instruction.
-fn push_counts(line: &mut LineText, event: &Stamped)
+/// Appends the counts of an event's first and last instruction.
+pub fn push_counts(line: &mut LineText, event: &Stamped)
     requires { length line.old ≤ 100 }
     ensures counts { line.new ≡ line.old ++ counts_text Form.Counted event.now }
     ensures short { length line.new ≤ length line.old + 22 }
@@ -48,7 +48,7 @@ fn push_counts(line: &mut LineText, event: &Stamped)
 }
 
 // Appends the name of a number, or `-`.
-fn push_name(line: &mut LineText, names: &[Name], number: u32)
+pub(crate) fn push_name(line: &mut LineText, names: &[Name], number: u32)
     requires short { (k : ℕ) → length (name_of names.now k) ≤ 64 }
     requires room { length line.old + 64 ≤ 256 }
     ensures name { line.new ≡ line.old ++ name_of names.now number }
@@ -60,8 +60,8 @@ fn push_name(line: &mut LineText, names: &[Name], number: u32)
     }
 }
 
-// The name of a service.
-fn service_name(service: Service) -> &'static [u8]
+/// The name of a service.
+pub fn service_name(service: Service) -> &'static [u8]
     ensures name { result.now ≡ service_text service }
     ensures short { length result.now ≤ 15 }
 {
@@ -81,8 +81,8 @@ fn service_name(service: Service) -> &'static [u8]
     }
 }
 
-// Appends an event.
-fn push_event(line: &mut LineText, event: &Event, tasks: &[Name], functions: &[Name])
+/// Appends an event, with names of at most 64 bytes.
+pub fn push_event(line: &mut LineText, event: &Event, tasks: &[Name], functions: &[Name])
     requires tasks { (k : ℕ) → length (name_of tasks.now k) ≤ 64 }
     requires functions { (k : ℕ) → length (name_of functions.now k) ≤ 64 }
     requires room { length line.old + 155 ≤ 256 }

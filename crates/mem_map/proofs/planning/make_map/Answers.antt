@@ -1,10 +1,15 @@
-use Rattle.std.proofs.Common.{◌∙◌, ℕ, List, length, ap, arith}
-use Rattle.std.specs.Prelude.{map}
+use Rattle.std.proofs.Common.{◌≡◌, ◌≤◌, ◌<◌, ◌∙◌, ℕ, List, length, sym, ap, subst, drop, arith}
+use Rattle.std.specs.Prelude.{All, map}
 use Rattle.sloth_base.specs.declared.config.TaskDecl.{TaskDecl}
+use Rattle.sloth_region.specs.declared.extent.Extent.{Extent}
 use Rattle.mem_map.specs.Run.{end_of}
 use Rattle.mem_map.specs.Plan.{code_end, items_at, symbol_bytes}
-use Rattle.mem_map.proofs.Planned.{sizes_small, code_short, items_above, counts_few, symbols_few, symbols_short, stacks_some, ends_are}
+use Rattle.mem_map.proofs.Planned.{sizes_small, code_short, items_above, counts_few, symbols_few, symbols_short, ends_are}
 use Rattle.mem_map.proofs.Mapped.{addressed, zoned}
+use Rattle.mem_map.specs.Run.{room_for}
+use Rattle.mem_map.specs.Stacks.{first_own}
+use Rattle.mem_map.proofs.StackNumbers.{few_stacks}
+use Rattle.mem_map.proofs.StackParts.{ArePlaced, part, shared_some, fit, placed}
 use Rattle.mem_map.proofs.planning.make_map.Goals as goal
 
 -- ---- what is called
@@ -14,14 +19,14 @@ plan_code-requires-clause-small c = sizes_small _ _ _ _ _ c.requires c.told-want
 
 pub plan_code-requires-clause-services : goal.plan_code-requires-clause-services
 plan_code-requires-clause-services c =
-    let e = ap (λ (l : List TaskDecl). items_at (length l) c.args.wanted.now) c.items.ensures in
+    let e = ap (λ (l : List TaskDecl). items_at (length l) c.args.wanted.now) c.items-declared.ensures in
     let a = items_above _ _ _ _ _ c.requires c.told-wanted in
     let h = code_short _ _ _ _ _ c.requires c.told-wanted in
     omega (arith, e, a, h)
 
 pub plan_code-requires-clause-items : goal.plan_code-requires-clause-items
 plan_code-requires-clause-items c =
-    let e = ap (λ (l : List TaskDecl). code_end (length l) c.args.wanted.now c.args.sizes.now) c.items.ensures in
+    let e = ap (λ (l : List TaskDecl). code_end (length l) c.args.wanted.now c.args.sizes.now) c.items-declared.ensures in
     let h = code_short _ _ _ _ _ c.requires c.told-wanted in
     omega (arith, e, h)
 
@@ -33,7 +38,7 @@ plan_symbols-requires-clause-few c = symbols_few _ _ _ _ _ c.requires c.told-wan
 
 pub plan_symbols-requires-clause-fits : goal.plan_symbols-requires-clause-fits
 plan_symbols-requires-clause-fits c =
-    let e = c.in_ok-code.ensures.end ∙ ap (λ (l : List TaskDecl). code_end (length l) c.args.wanted.now c.args.sizes.now) c.items.ensures in
+    let e = c.in_ok-code.ensures.end ∙ ap (λ (l : List TaskDecl). code_end (length l) c.args.wanted.now c.args.sizes.now) c.items-declared.ensures in
     let f = ap (λ (from : ℕ). end_of from (map symbol_bytes c.args.app.now.symbols)) e in
     let h = code_short _ _ _ _ _ c.requires c.told-wanted in
     let s = symbols_short _ _ _ _ _ c.requires c.told-wanted in
@@ -43,64 +48,121 @@ plan_symbols-requires-clause-fits c =
 
 pub overflow_sub-code : goal.overflow_sub-code
 overflow_sub-code c =
-    let e = c.in_ok-code.ensures.end ∙ ap (λ (l : List TaskDecl). code_end (length l) c.args.wanted.now c.args.sizes.now) c.items.ensures in
+    let e = c.in_ok-code.ensures.end ∙ ap (λ (l : List TaskDecl). code_end (length l) c.args.wanted.now c.args.sizes.now) c.items-declared.ensures in
     let h = ends_are _ _ _ _ _ c.requires c.told-wanted _ _ e c.in_ok-symbols.ensures.end in
     let some = h.some in
     omega (arith, some)
 
 pub overflow_add-symbols : goal.overflow_add-symbols
 overflow_add-symbols c =
-    let e = c.in_ok-code.ensures.end ∙ ap (λ (l : List TaskDecl). code_end (length l) c.args.wanted.now c.args.sizes.now) c.items.ensures in
+    let e = c.in_ok-code.ensures.end ∙ ap (λ (l : List TaskDecl). code_end (length l) c.args.wanted.now c.args.sizes.now) c.items-declared.ensures in
     let h = ends_are _ _ _ _ _ c.requires c.told-wanted _ _ e c.in_ok-symbols.ensures.end in
     record { fits = h.fits }
 
 pub overflow_sub-symbols : goal.overflow_sub-symbols
 overflow_sub-symbols c =
-    let e = c.in_ok-code.ensures.end ∙ ap (λ (l : List TaskDecl). code_end (length l) c.args.wanted.now c.args.sizes.now) c.items.ensures in
+    let e = c.in_ok-code.ensures.end ∙ ap (λ (l : List TaskDecl). code_end (length l) c.args.wanted.now c.args.sizes.now) c.items-declared.ensures in
     let h = ends_are _ _ _ _ _ c.requires c.told-wanted _ _ e c.in_ok-symbols.ensures.end in
     let below = h.below in
     omega (arith, below)
 
+pub stack_lengths-requires-clause-some : goal.stack_lengths-requires-clause-some
+stack_lengths-requires-clause-some c =
+    subst (λ (l : List TaskDecl). 0 < first_own l → 1 ≤ c.args.stacks.now.bounds.shared) (sym c.items-declared.ensures) (shared_some _ _ _ c.requires.needs)
+
+pub stack_lengths-requires-clause-lengths : goal.stack_lengths-requires-clause-lengths
+stack_lengths-requires-clause-lengths c = λ t l.
+    let tasks = ap (λ (l : List TaskDecl). length l) c.items-declared.ensures in
+    let p = part _ _ _ c.requires.needs t (omega (arith, tasks, l)) in
+    let some = p.some in
+    (omega (arith, some), p.small)
+
+pub plan_zones-requires-clause-few : goal.plan_zones-requires-clause-few
+plan_zones-requires-clause-few c =
+    let few = c.requires.in_range.configuration.few_tasks in
+    let tasks = ap (λ (l : List TaskDecl). length l) c.items-declared.ensures in
+    let count = c.in_ok-lengths.ensures.count in
+    let least = few_stacks c.items-declared.result.now in
+    let same = ap (λ (l : List ℕ). length l) c.deref.ensures.value in
+    omega (arith, few, tasks, count, least, same)
+
+pub task_parts-requires-clause-fit : goal.task_parts-requires-clause-fit
+task_parts-requires-clause-fit c =
+    fit _ _ _ c.requires.needs _ c.in_ok-lengths.lengths.items c.in_ok-zones.zones.extents c.in_ok-zones.zones.stacks
+    (record {
+      declared_is = c.items-declared.ensures;
+      are = c.in_ok-lengths.ensures;
+      words = c.in_ok-zones.zones.words;
+      code = c.in_ok-zones.zones.code;
+      data_extent = c.in_ok-zones.zones.data;
+      extents_are = c.in_ok-zones.ensures.extents;
+      apart = c.in_ok-zones.ensures.apart;
+      lens = c.in_ok-zones.ensures.stacks ∙ c.deref.ensures.value;
+      aligned = c.in_ok-zones.ensures.stacks_aligned;
+    })
+    _ c.items.ensures _ c.items-2.ensures
+
 pub plan_zones-requires-clause-some : goal.plan_zones-requires-clause-some
 plan_zones-requires-clause-some c =
-    let e = c.in_ok-code.ensures.end ∙ ap (λ (l : List TaskDecl). code_end (length l) c.args.wanted.now c.args.sizes.now) c.items.ensures in
+    let e = c.in_ok-code.ensures.end ∙ ap (λ (l : List TaskDecl). code_end (length l) c.args.wanted.now c.args.sizes.now) c.items-declared.ensures in
     let h = ends_are _ _ _ _ _ c.requires c.told-wanted _ _ e c.in_ok-symbols.ensures.end in
     let some = h.some in
     let below = h.below in
-    (omega (arith, some), omega (arith, below), stacks_some _ _ _ _ _ c.requires c.told-wanted)
+    (omega (arith, some), omega (arith, below), subst (All (λ len. 1 ≤ len)) (sym c.deref.ensures.value) c.in_ok-lengths.ensures.some)
 
 pub plan_zones-requires-clause-words : goal.plan_zones-requires-clause-words
 plan_zones-requires-clause-words c =
-    let e = c.in_ok-code.ensures.end ∙ ap (λ (l : List TaskDecl). code_end (length l) c.args.wanted.now c.args.sizes.now) c.items.ensures in
+    let e = c.in_ok-code.ensures.end ∙ ap (λ (l : List TaskDecl). code_end (length l) c.args.wanted.now c.args.sizes.now) c.items-declared.ensures in
     (ends_are _ _ _ _ _ c.requires c.told-wanted _ _ e c.in_ok-symbols.ensures.end).even
 
 pub plan_zones-requires-clause-room : goal.plan_zones-requires-clause-room
 plan_zones-requires-clause-room c =
-    let e = c.in_ok-code.ensures.end ∙ ap (λ (l : List TaskDecl). code_end (length l) c.args.wanted.now c.args.sizes.now) c.items.ensures in
-    (ends_are _ _ _ _ _ c.requires c.told-wanted _ _ e c.in_ok-symbols.ensures.end).room
+    let e = c.in_ok-code.ensures.end ∙ ap (λ (l : List TaskDecl). code_end (length l) c.args.wanted.now c.args.sizes.now) c.items-declared.ensures in
+    let h = (ends_are _ _ _ _ _ c.requires c.told-wanted _ _ e c.in_ok-symbols.ensures.end).room in
+    let few = c.requires.in_range.configuration.few_tasks in
+    let tasks = ap (λ (l : List TaskDecl). length l) c.items-declared.ensures in
+    let short = c.in_ok-lengths.ensures.room in
+    let same = ap (room_for 16) c.deref.ensures.value in
+    omega (arith, h, few, tasks, short, same)
 
 -- ---- the map
 
 pub returns-clause-addresses : goal.returns-clause-addresses
 returns-clause-addresses c =
-    let tasks = ap (λ (l : List TaskDecl). length l) c.items.ensures in
-    let e = c.in_ok-code.ensures.end ∙ ap (λ (l : List TaskDecl). code_end (length l) c.args.wanted.now c.args.sizes.now) c.items.ensures in
+    let tasks = ap (λ (l : List TaskDecl). length l) c.items-declared.ensures in
+    let e = c.in_ok-code.ensures.end ∙ ap (λ (l : List TaskDecl). code_end (length l) c.args.wanted.now c.args.sizes.now) c.items-declared.ensures in
     addressed _ _ _ _ _ c.requires c.told-wanted _
     c.in_ok-zones.zones.code c.in_ok-zones.zones.data c.in_ok-code.code.end c.in_ok-symbols.symbols.end
-    (record { extents = c.in_ok-zones.ensures.extents; code_is = c.in_ok-zones.ensures.code; data_is = c.in_ok-zones.ensures.data_zone; code_end_is = e; data_end_is = c.in_ok-symbols.ensures.end })
+    (record { all = c.in_ok-zones.zones.stacks; extents = c.in_ok-zones.ensures.extents; code_is = c.in_ok-zones.ensures.code; data_is = c.in_ok-zones.ensures.data_zone; code_end_is = e; data_end_is = c.in_ok-symbols.ensures.end })
     _ tasks c.idle_at.ensures c.handlers-handlers.ensures.lines c.handlers-handlers.ensures.prologues c.handlers-handlers.ensures.unused
     c.in_ok-code.ensures.services c.in_ok-code.ensures.items c.in_ok-first.ensures c.in_ok-symbols.ensures.starts
 
 pub returns-clause-zones : goal.returns-clause-zones
 returns-clause-zones c =
-    let tasks = ap (λ (l : List TaskDecl). length l) c.items.ensures in
-    let e = c.in_ok-code.ensures.end ∙ ap (λ (l : List TaskDecl). code_end (length l) c.args.wanted.now c.args.sizes.now) c.items.ensures in
+    let tasks = ap (λ (l : List TaskDecl). length l) c.items-declared.ensures in
+    let e = c.in_ok-code.ensures.end ∙ ap (λ (l : List TaskDecl). code_end (length l) c.args.wanted.now c.args.sizes.now) c.items-declared.ensures in
     zoned _ _ _ _ _ c.requires c.told-wanted _
     c.in_ok-zones.zones.code c.in_ok-zones.zones.data c.in_ok-code.code.end c.in_ok-symbols.symbols.end
-    (record { extents = c.in_ok-zones.ensures.extents; code_is = c.in_ok-zones.ensures.code; data_is = c.in_ok-zones.ensures.data_zone; code_end_is = e; data_end_is = c.in_ok-symbols.ensures.end })
+    (record { all = c.in_ok-zones.zones.stacks; extents = c.in_ok-zones.ensures.extents; code_is = c.in_ok-zones.ensures.code; data_is = c.in_ok-zones.ensures.data_zone; code_end_is = e; data_end_is = c.in_ok-symbols.ensures.end })
     (addressed _ _ _ _ _ c.requires c.told-wanted _
     c.in_ok-zones.zones.code c.in_ok-zones.zones.data c.in_ok-code.code.end c.in_ok-symbols.symbols.end
-    (record { extents = c.in_ok-zones.ensures.extents; code_is = c.in_ok-zones.ensures.code; data_is = c.in_ok-zones.ensures.data_zone; code_end_is = e; data_end_is = c.in_ok-symbols.ensures.end })
+    (record { all = c.in_ok-zones.zones.stacks; extents = c.in_ok-zones.ensures.extents; code_is = c.in_ok-zones.ensures.code; data_is = c.in_ok-zones.ensures.data_zone; code_end_is = e; data_end_is = c.in_ok-symbols.ensures.end })
     _ tasks c.idle_at.ensures c.handlers-handlers.ensures.lines c.handlers-handlers.ensures.prologues c.handlers-handlers.ensures.unused
     c.in_ok-code.ensures.services c.in_ok-code.ensures.items c.in_ok-first.ensures c.in_ok-symbols.ensures.starts)
-    c.in_ok-zones.ensures.words c.in_ok-zones.ensures.apart c.in_ok-zones.ensures.stacks c.in_ok-zones.ensures.stacks_aligned
+    c.in_ok-zones.ensures.words c.in_ok-zones.ensures.apart
+
+pub returns-clause-stacks : goal.returns-clause-stacks
+returns-clause-stacks c =
+    placed _ _ _ c.requires.needs _ c.in_ok-lengths.lengths.items c.in_ok-zones.zones.extents c.in_ok-zones.zones.stacks
+    (record {
+      declared_is = c.items-declared.ensures;
+      are = c.in_ok-lengths.ensures;
+      words = c.in_ok-zones.zones.words;
+      code = c.in_ok-zones.zones.code;
+      data_extent = c.in_ok-zones.zones.data;
+      extents_are = c.in_ok-zones.ensures.extents;
+      apart = c.in_ok-zones.ensures.apart;
+      lens = c.in_ok-zones.ensures.stacks ∙ c.deref.ensures.value;
+      aligned = c.in_ok-zones.ensures.stacks_aligned;
+    })
+    _ c.items.ensures _ c.items-2.ensures _ c.in_ok-parts.ensures (ap (λ (l : List Extent). drop 3 l) c.in_ok-zones.ensures.extents)

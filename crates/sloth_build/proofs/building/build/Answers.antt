@@ -1,7 +1,7 @@
-use Rattle.sloth_build.proofs.Covered.{may_build}
+use Rattle.sloth_build.proofs.Ready.{may_build}
 use Rattle.sloth_build.proofs.building.build.Goals as goal
 
 pub image-requires : goal.image-requires
 image-requires c =
     let read = c.in_ok-config.ensures in
-    rw c.items.ensures (may_build _ _ read.well_formed read.built read.named _ read.bounds read.room read.lengths)
+    may_build _ _ read.well_formed read.named _ read.bounds read.room read.lengths read.parts

@@ -1,4 +1,5 @@
 use Rattle.sloth_cli.proofs.Complete.{tells-usage, tells-refused, is-complete}
+use Rattle.sloth_cli.proofs.ImageComplete.{tells-fault, tells-no-image, tells-exec-refused, tells-executed, tells-listed}
 use Rattle.sloth_cli.proofs.top.sloth_top.Goals as goal
 
 pub returns-clause-usage : goal.returns-clause-usage
@@ -9,3 +10,18 @@ returns-clause-refused g c = tells-refused _ _ _ _ c.answer.ensures
 
 pub returns-clause-complete : goal.returns-clause-complete
 returns-clause-complete g c = is-complete _ _ _ _ c.answer.ensures
+
+pub returns-clause-fault : goal.returns-clause-fault
+returns-clause-fault g c = tells-fault _ _ _ _ c.answer.ensures
+
+pub returns-clause-no_image : goal.returns-clause-no_image
+returns-clause-no_image g c = tells-no-image _ _ _ _ c.answer.ensures
+
+pub returns-clause-exec_refused : goal.returns-clause-exec_refused
+returns-clause-exec_refused g c = tells-exec-refused _ _ _ _ c.answer.ensures
+
+pub returns-clause-executed : goal.returns-clause-executed
+returns-clause-executed g c = tells-executed _ _ _ _ c.answer.ensures
+
+pub returns-clause-listed : goal.returns-clause-listed
+returns-clause-listed g c = tells-listed _ _ _ _ c.answer.ensures

@@ -1,5 +1,9 @@
-use Rattle.task_verify.proofs.Paths.{Passed}
+use Rattle.std.proofs.Common.{◌+◌, ◌*◌, length}
+use Rattle.task_verify.specs.Ways.{Searching, unmarked}
 use Rattle.task_verify.proofs.reachable.spread.Given as goal
 
 abbrev pub invariant-loop-from : goal.invariant-loop-from
-invariant-loop-from l = Passed l.func l.fn.marks l.marks l.fresh l.from
+invariant-loop-from l = Searching l.func l.marks l.pending.items
+
+abbrev pub decreases-loop-from : goal.decreases-loop-from
+decreases-loop-from l = 2 * unmarked l.marks + length l.pending.items

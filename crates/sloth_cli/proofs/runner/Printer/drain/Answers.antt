@@ -1,6 +1,6 @@
 use Rattle.std.proofs.Common.{◌∙◌, refl}
 use Rattle.std.proofs.lemmas.Result.{err_from_is_err_and}
-use Rattle.sloth_cli.proofs.Draining.{draining-init, draining-put, draining-broke, draining-done, draining-ends, draining-fed}
+use Rattle.sloth_cli.proofs.Draining.{draining-init, draining-put, draining-broke, draining-done, draining-ends, handed-out}
 use Rattle.sloth_cli.proofs.runner.Printer.drain.Goals as goal
 
 pub loop-event-init : goal.loop-event-init
@@ -27,7 +27,7 @@ returns-clause-ok g c = draining-done _ _ _ _ c.loop-event.self.after_idle c.loo
 
 pub returns-clause-fed : goal.returns-clause-fed
 returns-clause-fed g c steps events fed =
-    (c.in_default.ensures.none steps _ (draining-fed _ _ _ _ c.loop-event.self.after_idle c.loop-event.observer _ _ c.loop-event.invariant.0 c.in_default.ensures.empty steps events fed)).0
+    (c.in_default.ensures.none steps _ (handed-out _ c.loop-event.observer c.loop-event.invariant.0.hands c.in_default.ensures.empty steps events fed)).0
 
 pub returns-clause-after_idle : goal.returns-clause-after_idle
 returns-clause-after_idle g c = draining-ends _ _ _ _ c.loop-event.self.after_idle c.loop-event.observer _ _ c.loop-event.invariant.0 c.in_default.ensures.empty

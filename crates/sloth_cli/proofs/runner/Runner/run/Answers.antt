@@ -33,8 +33,8 @@ returns-in-Some-clause-text g c =
 
 pub returns-in-Some-clause-end : goal.returns-in-Some-clause-end
 returns-in-Some-clause-end g c =
-    stopped-end c.args.self.now c.loop-self.self _ c.loop-self.printer _ (g.S.Sink.seen c.loop-self.out) (count_of c.loop-self.self) c.args.n c.in-Some.end
-    c.loop-self.invariant.0 (rw c.in-Some.is at c.in_ok-end.ensures.halted) (omega arith)
+    stopped-end c.args.self.now c.loop-self.self (count_of c.loop-self.self) c.args.n c.in-Some.end
+    c.loop-self.invariant.0.ran (rw c.in-Some.is at c.in_ok-end.ensures.halted) (omega arith)
 
 pub returns-clause-text : goal.returns-clause-text
 returns-clause-text g c =
@@ -45,5 +45,5 @@ returns-clause-text g c =
 pub returns-clause-end : goal.returns-clause-end
 returns-clause-end g c =
     let all : count_of c.loop-self.self ≡ c.args.n = omega arith in
-    whole-end c.args.self.now c.loop-self.self _ c.loop-self.printer _ (g.S.Sink.seen c.loop-self.out) (count_of c.loop-self.self) c.loop-self.invariant.0
+    whole-end c.args.self.now c.loop-self.self (count_of c.loop-self.self) c.loop-self.invariant.0.ran
     ∙ ap (run_end (image_of c.args.self.now) (given c.args.self.now)) all

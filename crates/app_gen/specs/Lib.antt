@@ -1,0 +1,5 @@
+pub mod Draws
+pub mod Pieces
+pub mod Oil
+pub mod Source
+pub mod Load

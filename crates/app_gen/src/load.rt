@@ -1,0 +1,50 @@
+//! The arrivals.
+ghost use Rattle.std.specs.Prelude.{◌≡◌, ◌≤◌, ◌<◌, ◌+◌, ◌%◌, IfOk};
+ghost use Rattle.app_gen.specs.Load.{high_bits, first_arrivals};
+
+use crate::draws::Draws;
+use sloth_base::event::Arrival;
+use sloth_base::memory::NoMemory;
+use sloth_base::numbers::Line;
+use std::alloc::Global;
+use text_pieces::growth::push;
+
+/// The number of arrivals.
+const ARRIVALS: usize = 1_000;
+
+/// The moment that the first gap begins at.
+const START: u32 = 1_000;
+
+/// The greatest gap between two arrivals.
+const LONGEST_GAP: u32 = 900;
+
+// A gap, from a draw.
+fn gap(draw: u32) -> u32
+    ensures is { result ≡ 1 + high_bits draw % 900 }
+    ensures short { result ≤ 900 }
+{
+    1 + (draw >> 16) % LONGEST_GAP
+}
+
+// A line, from a draw.
+fn line(draw: u32, tasks: u32) -> Line
+    requires { (1 ≤ tasks) × (tasks ≤ 30) }
+    ensures { result ≡ high_bits draw % tasks }
+{
+    Line(((draw >> 16) % tasks) as u8)
+}
+
+/// The arrivals of an application of so many tasks, with two draws for each.
+pub fn arrivals(alloc: Global, tasks: u32, draws: &mut Draws) -> Result<Vec<Arrival>, NoMemory>
+    requires { (1 ≤ tasks) × (tasks ≤ 30) }
+    ensures { IfOk result (λ arrivals. arrivals.items ≡ first_arrivals draws.old tasks 1000) }
+{
+    let mut arrivals = Vec::new(alloc);
+    let mut at = START;
+    for _number in 0..ARRIVALS {
+        at += gap(draws.next());
+        let line = line(draws.next(), tasks);
+        push(&mut arrivals, Arrival { at, line })?;
+    }
+    Ok(arrivals)
+}

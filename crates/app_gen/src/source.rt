@@ -1,0 +1,130 @@
+//! The task source.
+ghost use Rattle.std.specs.Prelude.{◌≡◌, ◌++◌, ◌<◌, ◌≤◌, ◌-◌, ◌^◌, OnOk, IfOk};
+ghost use Rattle.std.specs.List.{flat_map, range_with_len};
+ghost use Rattle.app_gen.specs.Draws.{draw};
+ghost use Rattle.app_gen.specs.Source.{sets, wakes, first_body, begins, adds, waits, numbered_body, body, source_text};
+
+use crate::draws::Draws;
+use crate::pieces::{has_event, put};
+use sloth_base::memory::NoMemory;
+use std::alloc::Global;
+
+// Appends the setting of the event of a task that has one.
+#[tactic(auto, unfolding(crate::specs::Source::sets))]
+fn put_sets(text: &mut Vec<u8>, task: u32) -> Result<(), NoMemory>
+    ensures { OnOk result (text.new.items ≡ text.old.items ++ sets task) }
+{
+    if has_event(task) {
+        put(text, b"SetEvent T", task)?;
+        put(text, b", E", task)?;
+        text.extend_from_slice(b"\n")?;
+    }
+    Ok(())
+}
+
+// Appends what the first task does with another.
+fn put_wake(text: &mut Vec<u8>, task: u32) -> Result<(), NoMemory>
+    ensures { OnOk result (text.new.items ≡ text.old.items ++ wakes task) }
+{
+    put(text, b"ActivateTask T", task)?;
+    text.extend_from_slice(b"\n")?;
+    put_sets(text, task)?;
+    Ok(())
+}
+
+// Appends the same for all others.
+fn put_wakes(text: &mut Vec<u8>, tasks: u32) -> Result<(), NoMemory>
+    requires { 1 ≤ tasks }
+    ensures { OnOk result (text.new.items ≡ text.old.items ++ flat_map wakes (range_with_len 1 (tasks - 1))) }
+{
+    for task in 1..tasks {
+        put_wake(text, task)?;
+    }
+    Ok(())
+}
+
+// Appends the body of the first task.
+fn put_first_body(text: &mut Vec<u8>, tasks: u32) -> Result<(), NoMemory>
+    requires { 1 ≤ tasks }
+    ensures { OnOk result (text.new.items ≡ text.old.items ++ first_body tasks) }
+{
+    text.extend_from_slice(b"task T0\nlabel loop\n")?;
+    put_wakes(text, tasks)?;
+    text.extend_from_slice(b"j loop\nend\n")?;
+    Ok(())
+}
+
+// Appends the waiting of a task that has an event.
+#[tactic(auto, unfolding(crate::specs::Source::waits))]
+fn put_waits(text: &mut Vec<u8>, task: u32) -> Result<(), NoMemory>
+    ensures { OnOk result (text.new.items ≡ text.old.items ++ waits task) }
+{
+    if has_event(task) {
+        put(text, b"WaitEvent E", task)?;
+        put(text, b"\nClearEvent E", task)?;
+        text.extend_from_slice(b"\n")?;
+    }
+    Ok(())
+}
+
+// Appends how a body begins.
+fn put_begins(text: &mut Vec<u8>, task: u32, number: u32) -> Result<(), NoMemory>
+    ensures { OnOk result (text.new.items ≡ text.old.items ++ begins task number) }
+{
+    put(text, b"task T", task)?;
+    put(text, b", 2\nli t0, ", number)?;
+    text.extend_from_slice(b"\nsw t0, frame[1]\n")?;
+    Ok(())
+}
+
+// Appends the work of a body.
+fn put_adds(text: &mut Vec<u8>, task: u32) -> Result<(), NoMemory>
+    requires { task < 2 ^ 30 }
+    ensures { OnOk result (text.new.items ≡ text.old.items ++ adds task) }
+{
+    let resource = task % 4;
+    put(text, b"GetResource R", resource)?;
+    text.extend_from_slice(b"\nlw t1, tab[t0 & 252]\nadd t1, t1, t0\n")?;
+    put(text, b"sw t1, tab+", 4 * task)?;
+    put(text, b"\nReleaseResource R", resource)?;
+    text.extend_from_slice(b"\n")?;
+    Ok(())
+}
+
+// Appends the body of a task.
+fn put_body(text: &mut Vec<u8>, task: u32, number: u32) -> Result<(), NoMemory>
+    requires { task < 2 ^ 30 }
+    ensures { OnOk result (text.new.items ≡ text.old.items ++ numbered_body task number) }
+{
+    put_begins(text, task, number)?;
+    put_adds(text, task)?;
+    put_waits(text, task)?;
+    text.extend_from_slice(b"lw t2, frame[1]\nTerminateTask\nend\n")?;
+    Ok(())
+}
+
+// Appends the bodies of all tasks but the first. Each takes a draw.
+fn put_bodies(text: &mut Vec<u8>, tasks: u32, draws: &mut Draws) -> Result<(), NoMemory>
+    requires { (1 ≤ tasks) × (tasks ≤ 30) }
+    ensures text { OnOk result (text.new.items ≡ text.old.items ++ flat_map (body draws.old) (range_with_len 1 (tasks - 1))) }
+    ensures draws { OnOk result (draws.new ≡ draw draws.old (tasks - 1)) }
+{
+    for task in 1..tasks {
+        put_body(text, task, draws.next())?;
+    }
+    Ok(())
+}
+
+/// The task source of an application of so many tasks, which takes a draw for each task but the first.
+#[tactic(auto, unfolding(crate::specs::Source::source_text))]
+pub fn source_text(alloc: Global, tasks: u32, draws: &mut Draws) -> Result<Vec<u8>, NoMemory>
+    requires { (1 ≤ tasks) × (tasks ≤ 30) }
+    ensures text { IfOk result (λ text. text.items ≡ source_text draws.old tasks) }
+    ensures draws { OnOk result (draws.new ≡ draw draws.old (tasks - 1)) }
+{
+    let mut text = Vec::new(alloc);
+    text.extend_from_slice(b"data tab, 256\n")?;
+    put_first_body(&mut text, tasks)?;
+    put_bodies(&mut text, tasks, draws)?;
+    Ok(text)
+}

@@ -1,0 +1,24 @@
+-- Blocks of all services.
+use Rattle.std.specs.Prelude.{ℕ, List}
+use Rattle.sloth_base.specs.declared.places.Levels.{Levels}
+use Rattle.sloth_base.specs.declared.service.Service.{Service}
+use Rattle.sloth_base.specs.declared.service.Service.TheVariants.{SetEvent, ClearEvent, GetEvent, WaitEvent}
+use Rattle.rv32_instr.specs.declared.InstrKind.{InstrKind}
+use Rattle.service_gen.specs.Block as others
+use Rattle.event_gen.specs.Block as events
+
+-- the objects with which a service may be called: a task, a resource, or 0 where there is none
+abbrev pub IsCalledWith : Service → ℕ → Type 0
+IsCalledWith SetEvent object = events.HasBlock SetEvent object
+IsCalledWith ClearEvent object = events.HasBlock ClearEvent object
+IsCalledWith GetEvent object = events.HasBlock GetEvent object
+IsCalledWith WaitEvent object = events.HasBlock WaitEvent object
+IsCalledWith service object = others.HasBlock service object
+
+-- the code of a service with its object has the service's effect
+abbrev pub ServesCall : Service → ℕ → Levels → List InstrKind → Type 0
+ServesCall SetEvent object levels code = events.Serves SetEvent object code
+ServesCall ClearEvent object levels code = events.Serves ClearEvent object code
+ServesCall GetEvent object levels code = events.Serves GetEvent object code
+ServesCall WaitEvent object levels code = events.Serves WaitEvent object code
+ServesCall service object levels code = others.Serves service object levels code

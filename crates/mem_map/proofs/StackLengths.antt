@@ -1,0 +1,82 @@
+-- The lengths of the stacks, one more at a time.
+use Rattle.std.proofs.Common.{◌≡◌, ℕ, zero, suc, ◌+◌, ◌*◌, ◌<◌, ◌≤◌, ⊎_elim, List, [], ◌∷◌, ◌++◌, length, get_or, true, false, cond, sym, ap, ◌∙◌, subst, arith}
+use Rattle.std.specs.Prelude.{All}
+use Rattle.std.proofs.lemmas.Bool.{cases_Bool, cases_eq}
+use Rattle.std.proofs.lemmas.List.{get_or_append_left, length-append}
+use Rattle.std.proofs.lemmas.List.Elements.{All-append, All-cons, All-nil}
+use Rattle.std.proofs.Math.Seq.{get_or-append_seam}
+use Rattle.sloth_base.specs.declared.config.TaskDecl.{TaskDecl}
+use Rattle.stack_bounds.specs.declared.stacks.Stacks.{Stacks}
+use Rattle.stack_bounds.specs.Bounds.{bytes_of}
+use Rattle.mem_map.specs.Run.{room_for}
+use Rattle.mem_map.specs.Stacks.{is_extended, own_before, first_own, shared_length, AreLengths}
+use Rattle.mem_map.proofs.StackNumbers.{skipped, rises}
+
+room_more : (lengths : List ℕ) (len : ℕ) → room_for 16 (lengths ++ len ∷ []) ≡ room_for 16 lengths + 15 + len
+room_more [] len = omega arith
+room_more (l ∷ lengths) len = let r = room_more lengths len in omega (arith, r)
+
+pub none : (tasks : List TaskDecl) (stacks : Stacks) → first_own tasks ≡ 0 → AreLengths tasks stacks 0 []
+none tasks stacks e = record {
+  count = omega (arith, e);
+  shared = λ l. absurd (omega (arith, l, e));
+  own = λ t l. absurd (omega (arith, l));
+  some = All-nil (λ len. 1 ≤ len);
+  room = omega arith;
+}
+
+pub one : (tasks : List TaskDecl) (stacks : Stacks) (len : ℕ) → first_own tasks ≡ 1 → len ≡ shared_length stacks → 1 ≤ stacks.bounds.shared → stacks.bounds.shared ≤ 269824
+    → AreLengths tasks stacks 0 (len ∷ [])
+one tasks stacks len e is some small = record {
+  count = omega (arith, e);
+  shared = λ l. is;
+  own = λ t l. absurd (omega (arith, l));
+  some = All-cons (λ x. 1 ≤ x) len [] (omega (arith, is, some)) (All-nil (λ x. 1 ≤ x));
+  room = omega (arith, is, small);
+}
+
+module _ (tasks : List TaskDecl) (stacks : Stacks) (end : ℕ) (lengths : List ℕ) (h : AreLengths tasks stacks end lengths) where
+  -- behind a basic task
+  pub same : is_extended tasks end ≡ false → AreLengths tasks stacks (suc end) lengths
+  same basic =
+      let s = skipped tasks end basic in
+      let c = h.count in
+      let r = h.room in
+      record {
+        count = omega (arith, s, c);
+        shared = h.shared;
+        own = λ t l e. ⊎_elim
+            (λ is. let P : ℕ → Type 0 = λ x. is_extended tasks x ≡ false in absurd (let f = sym (subst P (sym is) basic) ∙ e in cc))
+            (λ ne. h.own t (omega (arith, l, ne)) e)
+            (cases_eq t end);
+        some = h.some;
+        room = omega (arith, r);
+      }
+
+  -- behind an extended one
+  pub more : (len : ℕ) → is_extended tasks end ≡ true → len ≡ bytes_of stacks end → 1 ≤ len → len ≤ 8572 → AreLengths tasks stacks (suc end) (lengths ++ len ∷ [])
+  more len extended is some small =
+      let one_more : own_before tasks (suc end) ≡ own_before tasks end + 1 = counted extended in
+      let c = h.count in
+      let r = h.room in
+      let longer = length-append lengths (len ∷ []) in
+      let m = room_more lengths len in
+      record {
+        count = omega (arith, longer, c, one_more);
+        shared = λ l. get_or_append_left lengths (len ∷ []) 0 0 (omega (arith, c, l)) ∙ h.shared l;
+        own = λ t l e. ⊎_elim
+            (λ here.
+            let P : ℕ → Type 0 = λ x. get_or (lengths ++ len ∷ []) (first_own tasks + own_before tasks x) 0 ≡ bytes_of stacks x in
+            let Q : ℕ → Type 0 = λ k. get_or (lengths ++ len ∷ []) k 0 ≡ bytes_of stacks end in
+            subst P (sym here) (subst Q c (get_or-append_seam lengths len [] 0 ∙ is)))
+            (λ ne.
+            let before : t < end = omega (arith, l, ne) in
+            let below = rises tasks t end before e in
+            get_or_append_left lengths (len ∷ []) 0 (first_own tasks + own_before tasks t) (omega (arith, c, below)) ∙ h.own t before e)
+            (cases_eq t end);
+        some = All-append (λ x. 1 ≤ x) lengths (len ∷ []) h.some (All-cons (λ x. 1 ≤ x) len [] some (All-nil (λ x. 1 ≤ x)));
+        room = omega (arith, r, m, small);
+      }
+    where
+      counted : is_extended tasks end ≡ true → own_before tasks (suc end) ≡ own_before tasks end + 1
+      counted e = ap (λ b. own_before tasks end + cond b 1 0) e

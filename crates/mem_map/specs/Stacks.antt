@@ -1,0 +1,95 @@
+-- The stacks of an image: one for all basic tasks, one for each extended task, and each task's part of its stack.
+use Rattle.std.specs.Prelude.{ℕ, zero, suc, ◌+◌, ◌*◌, ◌%◌, ◌<◌, ◌≤◌, ◌≡◌, ◌≢◌, ◌⊎◌, ◌==◌, Bool, true, List, cond, length, get_or, All}
+use Rattle.sloth_base.specs.Named.{undeclared, declaration}
+use Rattle.sloth_base.specs.declared.app.App.{App}
+use Rattle.sloth_base.specs.declared.config.Config.{Config}
+use Rattle.sloth_base.specs.declared.config.TaskDecl.{TaskDecl}
+use Rattle.sloth_region.specs.declared.extent.Extent.{Extent}
+use Rattle.sloth_region.specs.declared.map.Map.{Map}
+use Rattle.sloth_region.specs.Region.{aligned, IsBelow}
+use Rattle.stack_bounds.specs.declared.stacks.Stacks.{Stacks}
+use Rattle.stack_bounds.specs.Bounds.{IsBasic, MayMeet, bytes_of, offset_of}
+use Rattle.mem_map.specs.Zones.{data_zone, stack_of, nowhere, all_stacks}
+use Rattle.mem_map.specs.Run.{room_for}
+
+-- ---- which stack each task has
+
+-- whether a task has events
+abbrev pub is_extended : List TaskDecl → ℕ → Bool
+is_extended tasks t = (get_or tasks t undeclared).extended
+
+-- how many of the tasks before this one are extended
+abbrev pub own_before : List TaskDecl → ℕ → ℕ
+own_before tasks zero = 0
+own_before tasks (suc t) = own_before tasks t + cond (is_extended tasks t) 1 0
+
+-- the place of the first extended task's stack among the stacks: behind the shared one, if some task is basic
+abbrev pub first_own : List TaskDecl → ℕ
+first_own tasks = cond (own_before tasks (length tasks) == length tasks) 0 1
+
+-- the place of a task's stack among the stacks
+abbrev pub stack_number : List TaskDecl → ℕ → ℕ
+stack_number tasks t = cond (is_extended tasks t) (first_own tasks + own_before tasks t) 0
+
+-- how many stacks there are
+abbrev pub stack_count : List TaskDecl → ℕ
+stack_count tasks = first_own tasks + own_before tasks (length tasks)
+
+-- ---- lengths
+
+-- the shared stack, to the next multiple of 16
+abbrev pub shared_length : Stacks → ℕ
+shared_length stacks = aligned stacks.bounds.shared 16
+
+-- the lengths of the stacks of the tasks before this one
+pub record AreLengths (tasks : List TaskDecl) (stacks : Stacks) (end : ℕ) (lengths : List ℕ) : Type 0 where
+  pub count : length lengths ≡ first_own tasks + own_before tasks end
+  pub shared : 0 < first_own tasks → get_or lengths 0 0 ≡ shared_length stacks
+  pub own : (t : ℕ) → t < end → is_extended tasks t ≡ true → get_or lengths (first_own tasks + own_before tasks t) 0 ≡ bytes_of stacks t
+  pub some : All (λ len. 1 ≤ len) lengths
+  pub room : room_for 16 lengths ≤ 269854 + 8587 * end
+
+-- ---- parts
+
+-- a task's part has room in the stack that it has among these
+pub record HasStack (tasks : List TaskDecl) (all : List Extent) (offsets : List ℕ) (t : ℕ) : Type 0 where
+  pub there : stack_number tasks t < length all
+  pub below : get_or offsets t 0 ≤ (get_or all (stack_number tasks t) nowhere).len
+  pub short : (get_or all (stack_number tasks t) nowhere).base + (get_or all (stack_number tasks t) nowhere).len < 4294967296
+
+-- the stacks and the tops of the tasks before this one
+pub record AreOf (tasks : List TaskDecl) (all : List Extent) (offsets : List ℕ) (end : ℕ) (stacks : List Extent) (tops : List ℕ) : Type 0 where
+  pub stacks_count : length stacks ≡ end
+  pub tops_count : length tops ≡ end
+  pub stack : (t : ℕ) → t < end → get_or stacks t nowhere ≡ get_or all (stack_number tasks t) nowhere
+  pub top : (t : ℕ) → t < end
+      → get_or tops t 0 + get_or offsets t 0 ≡ (get_or all (stack_number tasks t) nowhere).base + (get_or all (stack_number tasks t) nowhere).len
+
+-- ---- what a map has of stacks
+
+-- the address behind a task's part of its stack
+abbrev pub top_of : Map → ℕ → ℕ
+top_of map t = get_or map.tops t 0
+
+-- the parts of two tasks have no address in common
+abbrev pub PartsApart : Stacks → Map → (t u : ℕ) → Type 0
+PartsApart stacks map t u = (top_of map t + bytes_of stacks u ≤ top_of map u) ⊎ (top_of map u + bytes_of stacks t ≤ top_of map t)
+
+-- All basic tasks have one stack, and each extended task one of its own. A task has its bytes below its top, and tasks that may have
+-- something there at once have parts that are apart.
+pub record HasStacks (config : Config) (app : App) (stacks : Stacks) (map : Map) : Type 0 where
+  pub count : length map.stacks ≡ length config.tasks
+  pub tops : length map.tops ≡ length config.tasks
+  pub shared : (t u : ℕ) → IsBasic config t → IsBasic config u → stack_of map t ≡ stack_of map u
+  pub shared_long : (t : ℕ) → IsBasic config t → (stack_of map t).len ≡ shared_length stacks
+  pub own_long : (t : ℕ) → t < length config.tasks → (declaration config t).extended ≡ true → (stack_of map t).len ≡ bytes_of stacks t
+  pub own : (t u : ℕ) → t < length config.tasks → u < length config.tasks → t ≢ u → (declaration config t).extended ≡ true
+      → IsBelow (stack_of map t) (stack_of map u) ⊎ IsBelow (stack_of map u) (stack_of map t)
+  pub aligned : All (λ e. e.base % 16 ≡ 0) map.stacks
+  -- the stacks are the extents behind that of the data, and there is no other
+  pub among : (t : ℕ) → t < length config.tasks → (k : ℕ) × (k < length (all_stacks map)) × (stack_of map t ≡ get_or (all_stacks map) k nowhere)
+  pub no_other : (k : ℕ) → k < length (all_stacks map) → (t : ℕ) × (t < length config.tasks) × (stack_of map t ≡ get_or (all_stacks map) k nowhere)
+  pub above : (t : ℕ) → t < length config.tasks → (stack_of map t).base + bytes_of stacks t ≤ top_of map t
+  pub within : (t : ℕ) → t < length config.tasks → top_of map t ≤ (stack_of map t).base + (stack_of map t).len
+  pub whole : (t : ℕ) → t < length config.tasks → top_of map t % 4 ≡ 0
+  pub apart : (t u : ℕ) → t < length config.tasks → u < length config.tasks → t ≢ u → MayMeet config app t u → PartsApart stacks map t u

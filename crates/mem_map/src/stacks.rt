@@ -1,0 +1,125 @@
+//! The stacks of the tasks: how long each is, which of them a task has, and where its part of it ends.
+ghost use Rattle.std.specs.Prelude.{ℕ, ◌≡◌, ◌<◌, ◌≤◌, ◌+◌, ◌%◌, IfOk, All, length, get_or, cond, true};
+ghost use Rattle.stack_bounds.specs.Bounds.{IsLength, bytes_of};
+ghost use Rattle.mem_map.specs.Run.{room_for};
+ghost use Rattle.mem_map.specs.Stacks.{is_extended, own_before, first_own, stack_number, shared_length, AreLengths, HasStack, AreOf};
+
+use sloth_base::config::TaskDecl;
+use sloth_base::list::List;
+use sloth_region::extent::Extent;
+use stack_bounds::stacks::Stacks;
+use std::alloc::{AllocError, Global};
+
+/// The length of the shared stack is a multiple of this.
+const WHOLE: u32 = 16;
+
+/// How many of the tasks before this one are extended.
+fn own_before(tasks: &[TaskDecl], end: usize) -> usize
+    requires { end ≤ length tasks.now }
+    ensures is { result ≡ own_before tasks.now end }
+    ensures few { result ≤ end }
+{
+    let mut count = 0;
+    for number in 0..end {
+        if tasks[number].extended {
+            count += 1;
+        }
+    }
+    count
+}
+
+/// The place of the first extended task's stack among the stacks: behind the shared one, if some task is basic.
+fn first_own(tasks: &[TaskDecl]) -> usize
+    ensures is { result ≡ first_own tasks.now }
+    ensures small { result ≤ 1 }
+{
+    if own_before(tasks, tasks.len()) == tasks.len() {
+        0
+    } else {
+        1
+    }
+}
+
+/// The place of a task's stack among the stacks.
+fn stack_number(tasks: &[TaskDecl], task: usize) -> usize
+    requires few { length tasks.now ≤ 30 }
+    requires known { task < length tasks.now }
+    ensures { result ≡ stack_number tasks.now task }
+{
+    if tasks[task].extended {
+        first_own(tasks) + own_before(tasks, task)
+    } else {
+        0
+    }
+}
+
+/// The length of the shared stack, if there is one.
+fn shared_lengths(
+    alloc: Global,
+    tasks: &[TaskDecl],
+    stacks: &Stacks,
+) -> Result<Vec<u32>, AllocError>
+    requires some { 0 < first_own tasks.now → 1 ≤ stacks.now.bounds.shared }
+    requires small { stacks.now.bounds.shared ≤ 269824 }
+    ensures { IfOk result (λ lengths. AreLengths tasks.now stacks.now 0 lengths.items) }
+{
+    let mut lengths = Vec::new(alloc);
+    if first_own(tasks) == 1 {
+        lengths.push((stacks.bounds.shared + (WHOLE - 1)) / WHOLE * WHOLE)?;
+    }
+    Ok(lengths)
+}
+
+/// The lengths of all stacks: that of the shared one, if some task is basic, and behind it those of the extended tasks.
+pub fn stack_lengths(
+    alloc: Global,
+    tasks: &[TaskDecl],
+    stacks: &Stacks,
+) -> Result<Vec<u32>, AllocError>
+    requires count { length stacks.now.bounds.bytes ≡ length tasks.now }
+    requires some { 0 < first_own tasks.now → 1 ≤ stacks.now.bounds.shared }
+    requires lengths { (t : ℕ) → t < length tasks.now → (1 ≤ bytes_of stacks.now t) × (bytes_of stacks.now t ≤ 8572) }
+    requires small { stacks.now.bounds.shared ≤ 269824 }
+    ensures { IfOk result (λ lengths. AreLengths tasks.now stacks.now (length tasks.now) lengths.items) }
+{
+    let mut lengths = shared_lengths(alloc, tasks, stacks)?;
+    let bytes = stacks.bounds.bytes.items();
+    for (number, task) in tasks.iter().enumerate() {
+        if task.extended {
+            lengths.push(bytes[number])?;
+        }
+    }
+    Ok(lengths)
+}
+
+/// The stack of each task, and the address behind its part of it.
+#[derive(Drop)]
+pub struct Parts {
+    pub stacks: List<Extent>,
+    pub tops: List<u32>,
+}
+
+/// The stack of each task among all stacks, and its part of it, so many bytes below the end.
+pub fn task_parts(
+    alloc: Global,
+    tasks: &[TaskDecl],
+    all: &[Extent],
+    offsets: &[u32],
+) -> Result<Parts, AllocError>
+    requires few { length tasks.now ≤ 30 }
+    requires count { length offsets.now ≡ length tasks.now }
+    requires fit { (t : ℕ) → t < length tasks.now → HasStack tasks.now all.now offsets.now t }
+    ensures { IfOk result (λ parts. AreOf tasks.now all.now offsets.now (length tasks.now) parts.stacks parts.tops) }
+{
+    let mut stacks = Vec::new(alloc);
+    let mut tops = Vec::new(alloc);
+    for task in 0..tasks.len() {
+        let stack = all[stack_number(tasks, task)];
+        stacks.push(stack)?;
+        tops.push(stack.base + (stack.len - offsets[task]))?;
+    }
+    Ok(Parts {
+        stacks: List::from_vec(stacks),
+        tops: List::from_vec(tops),
+    })
+}

@@ -1,0 +1,5 @@
+pub mod Staying
+pub mod Effects
+pub mod Once
+pub mod Protocol
+pub mod Examples

@@ -1,0 +1,92 @@
+-- Blocking: which events of lower tasks stand between the one that makes a task Ready and its entry (OSEK OS 2.2.3, section 8).
+use Rattle.std.specs.Prelude.{ℕ, ◌<◌, ◌≤◌, ◌≡◌, ◌⊎◌, ◌==◌, List, [], ◌∷◌, ◌++◌, Bool, true, false, cond, length, Option, Some, None}
+use Rattle.sloth_base.specs.declared.config.Config.{Config}
+use Rattle.sloth_base.specs.declared.app.App.{App}
+use Rattle.sloth_base.specs.declared.event.Event.{Event}
+use Rattle.sloth_base.specs.declared.event.Event.TheVariants as event
+use Rattle.sloth_base.specs.declared.event.Stamped.{Stamped}
+use Rattle.osek_machine.specs.declared.state.TaskState.TheVariants as mode
+use Rattle.osek_machine.specs.State.{System, task, opening}
+use Rattle.osek_machine.specs.Priority.{is_in}
+use Rattle.osek_machine.specs.Steps.{OsekStep}
+use Rattle.osek_machine.specs.Runs.{Leads}
+use Rattle.osek_valid.specs.Apart.{priority_of, static_priority}
+
+-- ---- events
+
+-- the task of a `run` or `call` event
+abbrev pub working_task : Event → Option ℕ
+working_task (event.Run t func item result) = Some t
+working_task (event.Call t served status) = Some t
+working_task event.Boot = None
+working_task (event.Admit t) = None
+working_task (event.Enter t) = None
+working_task (event.Left t served) = None
+working_task (event.Back t) = None
+working_task event.Idle = None
+working_task event.Stray = None
+
+-- the event is a `call`
+abbrev pub is_call : Event → Bool
+is_call (event.Call t served status) = true
+is_call event.Boot = false
+is_call (event.Admit t) = false
+is_call (event.Enter t) = false
+is_call (event.Run t func item result) = false
+is_call (event.Left t served) = false
+is_call (event.Back t) = false
+is_call event.Idle = false
+is_call event.Stray = false
+
+-- the event is the `enter` of task h
+abbrev pub is_entry_of : (h : ℕ) → Event → Bool
+is_entry_of h (event.Enter t) = t == h
+is_entry_of h event.Boot = false
+is_entry_of h (event.Admit t) = false
+is_entry_of h (event.Run t func item result) = false
+is_entry_of h (event.Call t served status) = false
+is_entry_of h (event.Left t served) = false
+is_entry_of h (event.Back t) = false
+is_entry_of h event.Idle = false
+is_entry_of h event.Stray = false
+
+-- the events in front of the first `enter` of task h, or all where there is none
+abbrev pub up_to_entry : (h : ℕ) → List Stamped → List Stamped
+up_to_entry h [] = []
+up_to_entry h (e ∷ events) = cond (is_entry_of h e.event) [] (e ∷ up_to_entry h events)
+
+-- the event makes task h Ready, which was not Ready before it
+pub record MakesReady (config : Config) (app : App) (h : ℕ) (made : Event) (found next : System) : Type 0 where
+  pub declared : h < length config.tasks
+  pub step : OsekStep config app made found next
+  pub not_before : ¬ ((task found h).state ≡ mode.Ready)
+  pub behind : (task next h).state ≡ mode.Ready
+
+-- ---- blocking
+
+-- a `run` or `call` event of task u, whose static priority is below that of task h
+pub record IsOfLower (config : Config) (h : ℕ) (e : Event) (u : ℕ) : Type 0 where
+  pub works : working_task e ≡ Some u
+  pub lower : static_priority config u < static_priority config h
+
+-- the current priority of task u is at least the static priority of task h
+abbrev pub IsRaisedTo : Config → System → (u h : ℕ) → Type 0
+IsRaisedTo config found u h = static_priority config h ≤ priority_of config u (task found u)
+
+-- a `call` that finds task h among those that were admitted since the last event of another kind: its stretch may already have been running
+abbrev pub FindsFresh : Event → System → (h : ℕ) → Type 0
+FindsFresh e found h = (is_call e ≡ true) × (is_in h found.fresh ≡ true)
+
+-- All `run` and `call` events of lower tasks among these, which begin in state s, are of task b. Each finds b's current priority at least the
+-- static priority of h, except a `call` that finds h fresh.
+pub record IsBlockedBy (config : Config) (app : App) (h : ℕ) (s : System) (events : List Stamped) (b : ℕ) : Type 0 where
+  pub of_one : (front rest : List Stamped) (e : Stamped) (u : ℕ) → events ≡ front ++ e ∷ rest → IsOfLower config h e.event u → u ≡ b
+  pub raised : (front rest : List Stamped) (e : Stamped) (u : ℕ) (found : System) → events ≡ front ++ e ∷ rest → IsOfLower config h e.event u
+      → Leads config app front s found → IsRaisedTo config found u h ⊎ FindsFresh e.event found h
+
+-- From each event that makes a task Ready up to its `enter`, one task of lower priority at most blocks it.
+abbrev pub BlocksOnce : Config → App → List Stamped → Type 0
+BlocksOnce config app events =
+    (before behind : List Stamped) (made : Stamped) (h : ℕ) (found s : System) → events ≡ before ++ made ∷ behind
+    → Leads config app before (opening config app) found → MakesReady config app h made.event found s
+    → (b : ℕ) × IsBlockedBy config app h s (up_to_entry h behind) b

@@ -1,0 +1,23 @@
+//! Laws of runs.
+ghost use Rattle.osek_blocking.specs.Laws.{RunsBlockOnce, RunsExclude, ResourcesAreGot, RunsKeepCeilingProtocol};
+
+/// In every run a Ready task is blocked by one lower task at most, and only while that task's current priority is at least its own.
+pub fn runs_block_once()
+    ensures { RunsBlockOnce }
+{}
+
+/// In every state of a run of well-formed task code no two tasks hold one resource, no two Active tasks have one current priority, and
+/// a task that is not Active holds none.
+pub fn runs_exclude()
+    ensures { RunsExclude }
+{}
+
+/// GetResource answers E_OK at each of its events.
+pub fn resources_are_got()
+    ensures { ResourcesAreGot }
+{}
+
+/// Every run of well-formed task code keeps the priority ceiling protocol: the three laws together.
+pub fn runs_keep_ceiling_protocol()
+    ensures { RunsKeepCeilingProtocol }
+{}

@@ -1,0 +1,7 @@
+pub mod Below
+pub mod Follows
+pub mod Lists
+pub mod Only
+pub mod Rooms
+pub mod Sound
+pub mod Started

@@ -1,0 +1,74 @@
+-- Each event leads from a sound state to a sound one.
+use Rattle.std.proofs.Common.{◌≡◌, ◌∙◌, ℕ, ◌∷◌, Some, None, refl, sym, subst}
+use Rattle.std.specs.Prelude.{Result, Ok, Err, OnOk, OnErr}
+use Rattle.std.proofs.lemmas.Option.{none-some}
+use Rattle.sloth_base.specs.declared.config.Config.{Config}
+use Rattle.sloth_base.specs.declared.app.App.{App}
+use Rattle.sloth_base.specs.declared.event.Event.{Event}
+use Rattle.sloth_base.specs.declared.event.Event.TheVariants as event
+use Rattle.osek_machine.specs.declared.state.TaskState.{TaskState}
+use Rattle.osek_machine.specs.declared.state.TaskState.TheVariants as mode
+use Rattle.osek_machine.specs.State.{System, task}
+use Rattle.osek_machine.specs.Services.{if_suspended, activated}
+use Rattle.osek_machine.specs.Steps.{OsekStep}
+use Rattle.osek_machine.specs.Next.{next_state}
+use Rattle.osek_machine.proofs.Next.{step_of, step_is}
+use Rattle.osek_valid.specs.Valid.{AreDistinct}
+use Rattle.osek_valid.proofs.Apart.{step_apart}
+use Rattle.osek_valid.proofs.Facts.{facts}
+use Rattle.osek_valid.proofs.Steps.{step_valid}
+use Rattle.osek_run.specs.Laws.{IsOwn}
+use Rattle.osek_run.specs.Steps.{IsSound, Machine}
+use Rattle.osek_run.proofs.Only.{settles}
+use Rattle.osek_run.proofs.Rooms.{not_among}
+
+module _ (config : Config) (app : App) (s : System) (sound : IsSound config app s) where
+  admitted-differ : (t : ℕ) (m : TaskState) → (task s t).state ≡ m → AreDistinct (if_suspended m (record (activated s t) { fresh = t ∷ s.fresh }) s).fresh
+  admitted-differ t mode.Suspended e = (not_among config app s sound t e, sound.distinct)
+  admitted-differ t mode.Ready e = sound.distinct
+  admitted-differ t mode.Active e = sound.distinct
+  admitted-differ t (mode.Waiting mask) e = sound.distinct
+
+  settled-differ : (e : Event) (next : System) → IsOwn e → OsekStep config app e s next → AreDistinct next.fresh
+  settled-differ e next own h = subst AreDistinct (sym (settles config app e s next own h)) tt
+
+  fresh-differ : (e : Event) (next : System) → OsekStep config app e s next → AreDistinct next.fresh
+  fresh-differ event.Boot next h = settled-differ event.Boot next refl h
+  fresh-differ (event.Admit t) next h =
+      subst (λ (x : System). AreDistinct x.fresh) (sym h.2) (admitted-differ t (task s t).state refl)
+  fresh-differ (event.Enter t) next h = settled-differ (event.Enter t) next refl h
+  fresh-differ (event.Run t func item result) next h = settled-differ (event.Run t func item result) next refl h
+  fresh-differ (event.Call t served status) next h = settled-differ (event.Call t served status) next refl h
+  fresh-differ (event.Left t served) next h = settled-differ (event.Left t served) next refl h
+  fresh-differ (event.Back t) next h = settled-differ (event.Back t) next refl h
+  fresh-differ event.Idle next h = settled-differ event.Idle next refl h
+  fresh-differ event.Stray next h = absurd h
+
+  step-sound : (e : Event) (next : System) → OsekStep config app e s next → IsSound config app next
+  step-sound e next h = record {
+    well_formed = sound.well_formed;
+    valid = step_valid config app e s next (facts config app sound.well_formed) h sound.valid;
+    apart = step_apart config app e s next h sound.valid.count sound.apart;
+    distinct = fresh-differ e next h;
+  }
+
+  -- the state is sound behind an event, and behind one that changes nothing
+  pub sound-after : {A E : Type 0} (e : Event) (next : System) (r : Result A E) → OnOk r (next_state config app e s ≡ Some next) → OnErr r (next ≡ s)
+      → IsSound config app next
+  sound-after e next (Ok x) h same = step-sound e next (step_of config app s next e h)
+  sound-after e next (Err x) h same = subst (IsSound config app) (sym same) sound
+
+module _ (inside now : Machine) (view : inside ≡ now) (e : Event) where
+  pub steps-ok : {A E : Type 0} (next : System) (r : Result A E) → OnOk r (next_state inside.config inside.app e inside.system ≡ Some next)
+      → OnOk r (OsekStep now.config now.app e now.system next)
+  steps-ok next (Ok x) h =
+      let P : Machine → Type 0 = λ m. OsekStep m.config m.app e m.system next in
+      subst P view (step_of inside.config inside.app inside.system next e h)
+  steps-ok next (Err x) h = h
+
+  pub steps-err : {A E : Type 0} (r : Result A E) → OnErr r (next_state inside.config inside.app e inside.system ≡ None)
+      → OnErr r ((next : System) → OsekStep now.config now.app e now.system next → ⊥)
+  steps-err (Ok x) h = h
+  steps-err (Err x) h = λ next step.
+      let P : Machine → Type 0 = λ m. OsekStep m.config m.app e m.system next in
+      none-some next (sym h ∙ step_is inside.config inside.app inside.system next e (subst P (sym view) step))

@@ -1,0 +1,6 @@
+pub mod Changes
+pub mod Frames
+pub mod Laws
+pub mod Plans
+pub mod Running
+pub mod Steps

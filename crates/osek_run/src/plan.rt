@@ -1,0 +1,32 @@
+//! What an event of the running task does.
+
+use crate::change::TaskChange;
+use sloth_base::app::Width;
+
+/// What an event of one task does to another task, or to the data.
+#[derive(Clone, Copy, Debug, PartialEq, Eq)]
+pub enum Other {
+    Nothing,
+    /// This task becomes Ready.
+    Activate(u32),
+    /// Events of a task are set.
+    AddEvents {
+        task: u32,
+        mask: u32,
+    },
+    /// A value is stored in a symbol.
+    Store {
+        symbol: u32,
+        width: Width,
+        offset: u32,
+        value: u32,
+    },
+}
+
+/// What an item does, and the result or status that it shows; none where the task leaves.
+#[derive(Clone, Copy, Debug, PartialEq, Eq)]
+pub struct Plan {
+    pub answer: Option<u32>,
+    pub change: TaskChange,
+    pub other: Other,
+}

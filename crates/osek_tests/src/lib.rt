@@ -1,0 +1,5 @@
+//! Tests of the abstract scheduler on texts.
+#![tactic(auto)]
+
+#[cfg(test)]
+mod scheduler_tests;

@@ -1,0 +1,211 @@
+-- The code of Schedule has its effect, and so has the way back.
+use Rattle.std.proofs.Common.{◌≡◌, ℕ, ◌+◌, ◌*◌, ◌-◌, ◌%◌, ◌≤◌, List, [], ◌∷◌, ◌++◌, length, get_or, refl, ◌∙◌, subst, arith}
+use Rattle.std.specs.Prelude.{true, set, ◌≢◌}
+use Rattle.std.proofs.lemmas.List.{get_or-set_other}
+use Rattle.sloth_base.specs.Machine.{Core, State}
+use Rattle.sloth_base.specs.Status.{E_OK}
+use Rattle.sloth_region.specs.Layout.{cur, words_high, controller_base}
+use Rattle.rv32_instr.specs.declared.InstrKind.{InstrKind}
+use Rattle.rv32_instr.specs.declared.InstrKind.TheVariants.{Lui, Csrrw, Mret}
+use Rattle.rv32_instr.specs.declared.csr.TheConstants.{MEPC, PLEVEL}
+use Rattle.rv32_routine.specs.Place.{at, InPlace}
+use Rattle.rv32_routine.specs.Masked.{FromOpening}
+use Rattle.rv32_routine.specs.Kernel.{CanRun, masking}
+use Rattle.rv32_routine.specs.Owes.{Owes, Level}
+use Rattle.rv32_routine.proofs.Spread.{spread, spread_from, others}
+use Rattle.rv32_routine.proofs.Whole.{masked}
+use Rattle.service_gen.proofs.Serving.{opens}
+use Rattle.service_gen.specs.Pieces.{lowers, stops_at_back, comes_back}
+use Rattle.service_gen.specs.Back.{a0}
+use Rattle.service_gen.specs.Schedule.{start_register, way_back, MayYield, Yielded, MayComeBack, CameBack, Yields}
+
+-- up to the way back
+abbrev pub lowering : List InstrKind
+lowering = Lui 4 words_high ∷ (lowers ++ stops_at_back)
+
+abbrev pub body : List InstrKind
+body = lowering ++ comes_back
+
+-- ---- code in place is so in its parts
+
+in_place-first : (ram : List ℕ) (first rest : List InstrKind) (offset : ℕ) → InPlace ram offset (first ++ rest) → InPlace ram offset first
+in_place-first ram [] rest offset h = tt
+in_place-first ram (kind ∷ first) rest offset h = (h.0, in_place-first ram first rest (offset + 4) h.1)
+
+pub in_place-rest : (ram : List ℕ) (first rest : List InstrKind) (offset : ℕ) → InPlace ram offset (first ++ rest) → InPlace ram (offset + 4 * length first) rest
+in_place-rest ram [] rest offset h = subst (λ o. InPlace ram o rest) (let e : offset ≡ offset + 0 = omega arith in e) h
+in_place-rest ram (kind ∷ first) rest offset h =
+    let e : offset + 4 + 4 * length first ≡ offset + 4 * length (kind ∷ first) = omega arith in
+    subst (λ o. InPlace ram o rest) e (in_place-rest ram first rest (offset + 4) h.1)
+
+-- ---- the lower level
+
+module _ (offset task : ℕ) (c : Core) (h : MayYield offset task (masking ∷ body) c) where
+  abbrev x2 : ℕ
+  x2 = get_or c.registers 2 0
+
+  abbrev level : ℕ
+  level = get_or c.levels task 0
+
+  abbrev tail : List ℕ
+  tail = spread_from 27 5 c.registers
+
+  abbrev here : ℕ
+  here = 0x8000_0000 + (offset + 32)
+
+  abbrev there : ℕ
+  there = 0x8000_0000 + (offset + 52)
+
+  -- the registers at the end
+  abbrev low : List ℕ
+  low = 0 ∷ (controller_base + (task + 1)) ∷ x2 ∷ there ∷ 0x8000_0000 ∷ tail
+
+  abbrev end : State
+  end =
+      record {
+        pc = there - there % 4;
+        core = record (spread c) { registers = set (set low 30 c.ilevel) 10 E_OK; mepc = there - there % 4; plevel = level % 256; ilevel = level % 256; mie = c.mpie; mpie = true };
+      }
+
+  kept : (i : ℕ) → 5 ≤ i → i ≢ a0 → i ≢ start_register → get_or end.core.registers i 0 ≡ get_or (spread c).registers i 0
+  kept i past not_status not_level =
+      get_or-set_other (set low 30 c.ilevel) 10 i E_OK 0 not_status ∙ get_or-set_other low 30 i c.ilevel 0 not_level
+      ∙ others (controller_base + (task + 1)) x2 there 0x8000_0000 (get_or c.registers 1 0) x2 (get_or c.registers 3 0) (get_or c.registers 4 0) tail i past
+
+  has_yielded : Yielded offset task [] (at offset (spread c)) end
+  has_yielded =
+      let fits = h.line in
+      let aligned = h.can_run.aligned in
+      record {
+        touches = refl;
+        left = record { zero = refl; registers = refl; opened = h.previous; previous = refl; running = omega arith; pending = refl; enabled = refl; levels = refl; ram = refl; scratch = refl; controller = refl };
+        pc = omega arith;
+        x2 = refl;
+        status = refl;
+        level = refl;
+        kept = kept;
+      }
+
+  lowering_owes : Owes offset (offset + 4 + 48) (offset + 4) lowering 0 (Yielded offset task) (at offset (spread c)) (masked (spread c))
+  lowering_owes =
+      let small = h.is_task in
+      let inside = h.can_run.inside in (
+        0x8000_0000,
+        refl,
+        (
+          c.ilevel,
+          refl,
+          refl,
+          (
+            cur,
+            record { is = refl; aligned = refl; inside = omega arith },
+            task + 1,
+            h.runs,
+            (
+              controller_base,
+              refl,
+              (
+                controller_base + (task + 1),
+                omega arith,
+                (
+                  Level task,
+                  (omega arith, omega arith),
+                  (
+                    c.plevel,
+                    refl,
+                    refl,
+                    (
+                      here,
+                      omega arith,
+                      (
+                        there,
+                        omega arith,
+                        (
+                          c.mepc,
+                          refl,
+                          refl,
+                          (E_OK, refl, has_yielded),
+                        ),
+                      ),
+                    ),
+                  ),
+                ),
+              ),
+            ),
+          ),
+        ),
+      )
+
+  can_lower : CanRun offset (masking ∷ lowering) c
+  can_lower =
+      let can = h.can_run in
+      let inside = can.inside in
+      record {
+        controller = can.controller;
+        registers = can.registers;
+        zero = can.zero;
+        lines = can.lines;
+        aligned = can.aligned;
+        behind = can.behind;
+        inside = omega arith;
+        placed = in_place-first c.ram (masking ∷ lowering) comes_back offset can.placed;
+      }
+
+  lowers_it : FromOpening 12 (at offset c) (Yielded offset task)
+  lowers_it = opens offset 12 lowering c (Yielded offset task) can_lower (omega arith) lowering_owes
+
+-- ---- the way back
+
+abbrev returning : List InstrKind
+returning = Csrrw 0 30 PLEVEL ∷ Csrrw 0 31 MEPC ∷ Mret ∷ []
+
+module _ (offset : ℕ) (c : Core) (h : MayComeBack offset (masking ∷ body) c) where
+  returning_owes : Owes (offset + way_back) (offset + way_back + 4 + 12) (offset + way_back + 4) returning 0 CameBack (at (offset + way_back) (spread c)) (masked (spread c))
+  returning_owes =
+      let fits = h.level in
+      let aligned = h.goes_back.back in (
+        c.plevel,
+        refl,
+        refl,
+        (
+          c.mepc,
+          refl,
+          refl,
+          record {
+            touches = refl;
+            left = record { zero = refl; registers = refl; opened = h.goes_back.previous; previous = refl; running = omega arith; pending = refl; enabled = refl; levels = refl; ram = refl; scratch = refl; controller = refl };
+            pc = omega arith;
+            registers = refl;
+          },
+        ),
+      )
+
+  can_return : CanRun (offset + way_back) (masking ∷ returning) c
+  can_return =
+      let can = h.goes_back.can_run in
+      let inside = can.inside in
+      let aligned = can.aligned in
+      let behind = can.behind in
+      record {
+        controller = can.controller;
+        registers = can.registers;
+        zero = can.zero;
+        lines = can.lines;
+        aligned = omega arith;
+        behind = omega arith;
+        inside = omega arith;
+        placed = in_place-rest c.ram (masking ∷ lowering) comes_back offset can.placed;
+      }
+
+  returns_it : FromOpening 3 (at (offset + way_back) c) CameBack
+  returns_it = opens (offset + way_back) 3 returning c CameBack can_return (omega arith) returning_owes
+
+pub yields : Yields (masking ∷ body)
+yields =
+    record {
+      size = (let n : length (masking ∷ body) ≡ 17 = refl in omega arith);
+      masks = (body, refl);
+      masks_again = (masking ∷ lowering, returning, refl, refl);
+      runs = λ offset task core h. lowers_it offset task core h;
+      comes_back = λ offset core h. returns_it offset core h;
+    }

@@ -1,0 +1,60 @@
+-- Schedule (OSEK OS 2.2.3, section 13.2.3.3), and the way back from it.
+use Rattle.std.specs.Prelude.{ℕ, ◌+◌, ◌≡◌, ◌≢◌, ◌<◌, ◌≤◌, true, List, [], ◌∷◌, ◌++◌, length, slice_index}
+use Rattle.sloth_base.specs.Machine.{Core, State}
+use Rattle.sloth_base.specs.Status.{E_OK}
+use Rattle.sloth_region.specs.Layout.{cur}
+use Rattle.rv32_instr.specs.declared.InstrKind.{InstrKind}
+use Rattle.rv32_instr.specs.Ram.{word_at}
+use Rattle.rv32_routine.specs.Masked.{FromOpening}
+use Rattle.rv32_routine.specs.Place.{at}
+use Rattle.rv32_routine.specs.Kernel.{CanRun, LeftAs, masking}
+use Rattle.service_gen.specs.Back.{CanGoBack, a0}
+
+-- the register of the level to come back to
+abbrev pub start_register : ℕ
+start_register = 30
+
+-- where the way back stands in the code: behind 13 instructions
+abbrev pub way_back : ℕ
+way_back = 52
+
+-- the code can run, this task runs, and its line has a level
+pub record MayYield (offset task : ℕ) (code : List InstrKind) (core : Core) : Type 0 where
+  pub can_run : CanRun offset code core
+  pub previous : core.mpie ≡ true
+  pub level : core.ilevel < 256
+  pub runs : word_at core.ram cur ≡ task + 1
+  pub is_task : task < 30
+  pub line : slice_index core.levels task < 256
+
+-- The level of the task's line runs, so that what is above it may run; the one that ran is kept for the way back, which comes next.
+-- The status is E_OK. Of x5 to x31 no other is new.
+pub record Yielded (offset task : ℕ) (touched : List ℕ) (start end : State) : Type 0 where
+  pub touches : touched ≡ []
+  pub left : LeftAs (record start.core { ilevel = slice_index start.core.levels task }) end.core
+  pub pc : end.pc ≡ 0x8000_0000 + (offset + way_back)
+  pub x2 : slice_index end.core.registers 2 ≡ slice_index start.core.registers 2
+  pub status : slice_index end.core.registers a0 ≡ E_OK
+  pub level : slice_index end.core.registers start_register ≡ start.core.ilevel
+  pub kept : (i : ℕ) → 5 ≤ i → i ≢ a0 → i ≢ start_register → slice_index end.core.registers i ≡ slice_index start.core.registers i
+
+-- the code can run, and the level to come back to is one
+pub record MayComeBack (offset : ℕ) (code : List InstrKind) (core : Core) : Type 0 where
+  pub goes_back : CanGoBack offset code core
+  pub level : slice_index core.registers start_register < 256
+
+-- The level that was kept runs again, and the caller goes on; no register is new.
+pub record CameBack (touched : List ℕ) (start end : State) : Type 0 where
+  pub touches : touched ≡ []
+  pub left : LeftAs (record start.core { ilevel = slice_index start.core.registers start_register }) end.core
+  pub pc : end.pc ≡ slice_index start.core.registers 31
+  pub registers : end.core.registers ≡ start.core.registers
+
+-- Code of Schedule: its first instruction masks, and at most 12 more lead to its effect, whatever lines arrive. So does the first
+-- of the way back, with at most 3 more.
+pub record Yields (code : List InstrKind) : Type 0 where
+  pub size : length code ≤ 17
+  pub masks : (rest : List InstrKind) × (code ≡ masking ∷ rest)
+  pub masks_again : (first rest : List InstrKind) × (code ≡ first ++ masking ∷ rest) × (length first ≡ 13)
+  pub runs : (offset task : ℕ) (core : Core) → MayYield offset task code core → FromOpening 12 (at offset core) (Yielded offset task)
+  pub comes_back : (offset : ℕ) (core : Core) → MayComeBack offset code core → FromOpening 3 (at (offset + way_back) core) CameBack

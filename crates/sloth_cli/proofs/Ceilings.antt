@@ -1,0 +1,27 @@
+-- The runs of what is built keep the priority ceiling protocol.
+use Rattle.std.proofs.Common.{ℕ, List, Option, Some, None, length}
+use Rattle.sloth_base.specs.declared.config.Config.{Config}
+use Rattle.sloth_base.specs.declared.app.App.{App}
+use Rattle.sloth_base.specs.Arrivals.{AreArrivals}
+use Rattle.sloth_base.specs.declared.event.Arrival.{Arrival}
+use Rattle.sloth_base.specs.declared.image.Image.{Image}
+use Rattle.app_rules.specs.AppRange.{AppInRange}
+use Rattle.osek_blocking.proofs.Protocol.{keeps_protocol}
+use Rattle.sim_induction.specs.Sound.{Sound, events_of}
+use Rattle.sloth_source.specs.Texts.{Accepted}
+use Rattle.sloth_cli.specs.Command.{Run, IsInLimit}
+use Rattle.sloth_cli.specs.Top.{RunsKeepProtocol, ShownKeepProtocol}
+
+-- accepted task code is well formed, and each run of its image is one of the abstract scheduler
+pub runs-keep : (oil src : List ℕ) (config : Config) (app : App) (image : Image) → AppInRange config app → Accepted oil src config app → Sound config app image
+    → RunsKeepProtocol config app image
+runs-keep oil src config app image range accepted sound arrivals n in_range few =
+    let code = accepted.code in
+    keeps_protocol config app (events_of image arrivals n) (record { in_range = range; no_cycle = code.no_cycle; no_fault = code.no_fault })
+    (sound.each arrivals n in_range few).osek
+
+-- and so does the run that a command shows
+pub shown-keep : (config : Config) (app : App) (image : Image) (arrivals : List Arrival) (run : Option Run) → RunsKeepProtocol config app image
+    → AreArrivals (length config.tasks) arrivals → IsInLimit run → ShownKeepProtocol config app image arrivals run
+shown-keep config app image arrivals None keeps in_range few = tt
+shown-keep config app image arrivals (Some run) keeps in_range few = keeps arrivals run.n in_range few

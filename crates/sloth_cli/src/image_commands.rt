@@ -1,0 +1,152 @@
+//! The commands on image files: `exec` and `list`. They write no file.
+ghost use Rattle.std.specs.Prelude.{◌≡◌, ◌≤◌, IfOk, IfErr, OnOk, OnErr, length};
+ghost use Rattle.sloth_base.specs.Arrivals.{AreArrivals};
+ghost use Rattle.sloth_base.specs.ImageRange.{InFormat};
+ghost use Rattle.sloth_io.specs.Sink.{gains, GainsPart};
+ghost use Rattle.sloth_io.specs.Store.{KeepsFiles};
+ghost use Rattle.image_file.specs.ImageText.{ImageText};
+ghost use Rattle.trace_text.specs.Listing.{listing};
+ghost use Rattle.sloth_cli.specs.Command.{Executes, Lists};
+ghost use Rattle.sloth_cli.specs.Words.{execution_of};
+ghost use Rattle.sloth_cli.specs.Inputs.{input_limit, AreRead};
+ghost use Rattle.sloth_cli.specs.ImageFiles.{AreExecInputs, IsInput, end_line, exec_text};
+ghost use Rattle.sloth_cli.specs.ImageAnswers.{end_status};
+ghost use Rattle.sloth_cli.specs.Runner.{run_end};
+ghost use Rattle.sloth_cli.specs.Top.{world, inputs_of, Took};
+ghost use Rattle.sloth_cli.specs.Failures.{ReadFailed, LoadFailed, LinesFailed, CommandFailed, IsPerformed};
+
+use crate::command::ExecWords;
+use crate::failure::Failure;
+use crate::inputs::fetch;
+use crate::last_line::stopped_line;
+use crate::listing::put_listing;
+use crate::runner::{RunEnd, Runner};
+use crate::top::Status;
+use image_file::read::read_image;
+use sloth_base::event::Arrival;
+use sloth_base::image::Image;
+use sloth_io::sink::{Sink, SinkFault};
+use sloth_io::store::Store;
+use std::alloc::Global;
+use trace_text::print::Form;
+use trace_text::read_arrivals;
+
+// An image file and an arrivals file.
+#[derive(Drop)]
+struct ExecInputs {
+    file: Vec<u8>,
+    arr: Vec<u8>,
+}
+
+// Reads the inputs of a run, in the order of the words.
+fn read_inputs<F: Store>(alloc: Global, files: &mut F, e: &ExecWords) -> Result<ExecInputs, Failure>
+    ensures ok { IfOk result (λ i. AreExecInputs (F.seen files.old) (execution_of e.now) i.file.items i.arr.items) }
+    ensures err { IfErr result (λ failure.
+        ReadFailed failure (F.seen files.old) (F.seen files.new) (inputs_of (Executes (execution_of e.now)))) }
+    ensures keeps { KeepsFiles (F.seen files.old) (F.seen files.new) }
+{
+    Ok(ExecInputs {
+        file: fetch(alloc, files, e.img)?,
+        arr: fetch(alloc, files, e.arr)?,
+    })
+}
+
+// An image, and the arrivals of its run.
+#[derive(Drop)]
+struct Loaded {
+    image: Image,
+    arrivals: Vec<Arrival>,
+}
+
+// Judges the inputs of a run, the image before its arrivals.
+fn load(alloc: Global, inputs: &ExecInputs) -> Result<Loaded, Failure>
+    requires { length inputs.now.arr.items ≤ input_limit }
+    ensures image { IfOk result (λ loaded. ImageText inputs.now.file.items loaded.image) }
+    ensures read { IfOk result (λ loaded. AreRead loaded.image.tasks inputs.now.arr.items loaded.arrivals.items) }
+    ensures in_range { IfOk result (λ loaded. AreArrivals (length loaded.image.tasks) loaded.arrivals.items) }
+    ensures err { IfErr result (λ failure. LoadFailed failure inputs.now.file.items inputs.now.arr.items) }
+{
+    let image = read_image(alloc, inputs.file.as_slice())?;
+    let arrivals = read_arrivals(alloc, inputs.arr.as_slice(), image.tasks.items())?;
+    Ok(Loaded { image, arrivals })
+}
+
+// Puts the line of a run that stopped.
+fn put_end<S: Sink>(end: RunEnd, out: &mut S) -> Result<(), SinkFault>
+    ensures ok { OnOk result (S.seen out.new ≡ gains (S.seen out.old) (end_line end)) }
+    ensures err { OnErr result (GainsPart (S.seen out.old) (S.seen out.new) (end_line end)) }
+{
+    match end {
+        RunEnd::Whole => Ok(()),
+        RunEnd::Stopped { pc, stop } => out.put(stopped_line(pc, stop).bytes()),
+    }
+}
+
+// The status of a run that ended so.
+fn status_of(end: RunEnd) -> Status
+    ensures { result ≡ end_status end }
+{
+    match end {
+        RunEnd::Whole => Status::Done,
+        RunEnd::Stopped { .. } => Status::Stopped,
+    }
+}
+
+// Takes all memory of the run, runs the image, and puts its lines.
+fn run_image<S: Sink>(
+    alloc: Global,
+    image: &Image,
+    arrivals: &[Arrival],
+    n: u32,
+    out: &mut S,
+) -> Result<RunEnd, Failure>
+    requires format { InFormat image.now }
+    requires arrivals { AreArrivals (length image.now.tasks) arrivals.now }
+    requires few { n ≤ 1000000 }
+    ensures end { IfOk result (λ end. end ≡ run_end image.now arrivals.now n) }
+    ensures text { OnOk result (Took (S.seen out.old) (S.seen out.new) (exec_text image.now arrivals.now n)) }
+    ensures err { IfErr result (λ failure.
+        LinesFailed failure (S.seen out.old) (S.seen out.new) (exec_text image.now arrivals.now n)) }
+{
+    let mut runner = Runner::new(alloc, image, arrivals)?;
+    let end = runner.run(n, Form::Counted, out)?;
+    put_end(end, out)?;
+    Ok(end)
+}
+
+/// Runs an image file, and puts what is seen of the run, but for the last line of a failure.
+pub fn execute<F: Store, S: Sink>(
+    alloc: Global,
+    files: &mut F,
+    out: &mut S,
+    e: &ExecWords,
+) -> Result<Status, Failure>
+    requires { e.now.n ≤ 1000000 }
+    ensures done { IfOk result (λ status. IsPerformed status
+        (world (F.seen files.old) (S.seen out.old)) (world (F.seen files.new) (S.seen out.new)) (Executes (execution_of e.now))) }
+    ensures err { IfErr result (λ failure. CommandFailed failure
+        (world (F.seen files.old) (S.seen out.old)) (world (F.seen files.new) (S.seen out.new)) (Executes (execution_of e.now))) }
+{
+    let inputs = read_inputs(alloc, files, e)?;
+    let loaded = load(alloc, &inputs)?;
+    let end = run_image(alloc, &loaded.image, loaded.arrivals.as_slice(), e.n, out)?;
+    Ok(status_of(end))
+}
+
+/// Lists an image file, but for the last line of a failure.
+pub fn list<F: Store, S: Sink>(
+    alloc: Global,
+    files: &mut F,
+    out: &mut S,
+    img: &str,
+) -> Result<Status, Failure>
+    ensures done { IfOk result (λ status. IsPerformed status
+        (world (F.seen files.old) (S.seen out.old)) (world (F.seen files.new) (S.seen out.new)) (Lists img.now)) }
+    ensures err { IfErr result (λ failure. CommandFailed failure
+        (world (F.seen files.old) (S.seen out.old)) (world (F.seen files.new) (S.seen out.new)) (Lists img.now)) }
+{
+    let file = fetch(alloc, files, img)?;
+    let image = read_image(alloc, file.as_slice())?;
+    put_listing(&image, out)?;
+    Ok(Status::Done)
+}

@@ -1,0 +1,285 @@
+-- The event of a counted line is found.
+use Rattle.std.proofs.Common.{◌≡◌, ◌≢◌, ◌∙◌, ℕ, ◌<◌, ◌≤◌, ⊎_elim, Bool, true, false, List, [], ◌∷◌, ◌++◌, Option, Some, None, length, get_or, cond, arith, refl, sym, ap, subst, true≢false}
+use Rattle.std.specs.Prelude.{◌&&◌, decimal, codes, bytes_eq, position, unwrap_or, nat_lt}
+use Rattle.std.specs.List.{AllPairs}
+use Rattle.std.proofs.lemmas.Bool.{lt-ltb, le-ltb, cases_lt}
+use Rattle.std.proofs.lemmas.List.Sums.{position_or_len_is, list_all-from_AllPass}
+use Rattle.std.proofs.lemmas.Option.{none-some, same_Some, slice_get-get_or, slice_get_past}
+use Rattle.std.proofs.lemmas.Slice.Eq.{bytes_eq-Decides}
+use Rattle.sloth_base.specs.ImageRange.{AreNames, IsName, IsWord as IsNameWord, begins_word, continues_word}
+use Rattle.sloth_base.specs.declared.event.Event.{Event}
+use Rattle.sloth_base.specs.declared.event.Event.TheVariants as event
+use Rattle.sloth_base.specs.declared.event.Stamped.{Stamped}
+use Rattle.sloth_base.specs.declared.service.Service.{Service}
+use Rattle.sloth_base.specs.declared.service.Service.TheVariants as service
+use Rattle.text_pieces.specs.Bytes.{has}
+use Rattle.asm_lines.proofs.Cuts.{lacks, has_in, before_is, behind_is}
+use Rattle.trace_text.specs.EventLines.{IsPlace, IsTaskNumber, HasNumbers, IsLineOf, IsWord, counted_line}
+use Rattle.trace_text.specs.EventsRead.{◌>>=◌, first_word, other_words, number, place, task_number, service_named, run_in, call_in, left_in, more_in, is_single, single_in, of_task, event_in, stamped_in, word_of}
+use Rattle.trace_text.specs.Lines.{name_of, service_text, event_text}
+use Rattle.trace_text.proofs.Digits.{decimal_lacks, number_back}
+
+-- ---- words
+
+-- words one after another, grouped as they are printed
+two : (a b : List ℕ) → a ++ codes " " ++ b ≡ a ++ 32 ∷ b
+two [] b = refl
+two (x ∷ a) b = ap (λ (t : List ℕ). x ∷ t) (two a b)
+
+three : (a b c : List ℕ) → a ++ codes " " ++ b ++ codes " " ++ c ≡ a ++ 32 ∷ (b ++ 32 ∷ c)
+three [] b c = ap (λ (t : List ℕ). 32 ∷ t) (two b c)
+three (x ∷ a) b c = ap (λ (t : List ℕ). x ∷ t) (three a b c)
+
+four : (a b c d : List ℕ) → a ++ codes " " ++ b ++ codes " " ++ c ++ codes " " ++ d ≡ a ++ 32 ∷ (b ++ 32 ∷ (c ++ 32 ∷ d))
+four [] b c d = ap (λ (t : List ℕ). 32 ∷ t) (three b c d)
+four (x ∷ a) b c d = ap (λ (t : List ℕ). x ∷ t) (four a b c d)
+
+first_is : (a b : List ℕ) → has 32 a ≡ false → first_word (a ++ 32 ∷ b) ≡ a
+first_is a b h = before_is 32 a b refl h
+
+others_are : (a b : List ℕ) → has 32 a ≡ false → other_words (a ++ 32 ∷ b) ≡ b
+others_are a b h = behind_is 32 a b refl h
+
+-- ---- names
+
+name_lacks : (name : List ℕ) → IsName name → has 32 name ≡ false
+name_lacks [] h = absurd h.word
+name_lacks (first ∷ rest) h =
+    has_in 32 (first ∷ []) rest
+    (lacks begins_word 32 refl (first ∷ []) (ap (λ b. b && true) h.word.0))
+    (lacks continues_word 32 refl rest (list_all-from_AllPass continues_word rest h.word.1))
+
+is_not_dash : (name : List ℕ) → IsName name → bytes_eq name (codes "-") ≡ false
+is_not_dash name h = by (bytes_eq name (codes "-")) refl
+  where
+    by : (b : Bool) → bytes_eq name (codes "-") ≡ b → bytes_eq name (codes "-") ≡ false
+    by false e = e
+    by true e =
+        let P : List ℕ → Type 0 = λ t. IsNameWord t in
+        let w : IsNameWord (codes "-") = subst P ((bytes_eq-Decides name (codes "-")).0 e) h.word in
+        absurd (true≢false (sym w.0))
+
+word_is : (n : ℕ) → n < 0x1_0000_0000 → word_of n ≡ Some n
+word_is n h = let t = le-ltb 4294967295 n (omega (arith, h)) in ap (λ b. cond b None (Some n)) t
+
+-- Where names differ, the place of a name is the one at which it stands.
+position_at : (names : List (List ℕ)) → AllPairs (λ one other. one ≢ other) names → (i : ℕ) → i < length names
+    → position (bytes_eq (get_or names i [])) names ≡ Some i
+position_at names differ i h =
+    let name = get_or names i [] in
+    let at = position_or_len_is (bytes_eq name) names i [] (omega (arith, h)) (λ k l. earlier k l (bytes_eq name (get_or names k [])) refl) (λ l. (bytes_eq-Decides name name).1 refl) in
+    ap (λ n. cond (nat_lt n (length names)) (Some n) None) at ∙ ap (λ b. cond b (Some i) None) (lt-ltb i (length names) h)
+  where
+    earlier : (k : ℕ) → k < i → (b : Bool) → bytes_eq (get_or names i []) (get_or names k []) ≡ b → bytes_eq (get_or names i []) (get_or names k []) ≡ false
+    earlier k l true e = absurd (differ k i [] l h (sym ((bytes_eq-Decides (get_or names i []) (get_or names k [])).0 e)))
+    earlier k l false e = e
+
+module _ (names : List (List ℕ)) (named : AreNames names) where
+  inside : (i : ℕ) → i < length names → name_of names i ≡ get_or names i []
+  inside i h = ap (λ o. unwrap_or o (codes "-")) (slice_get-get_or names i [] h)
+
+  past : (i : ℕ) → length names ≤ i → name_of names i ≡ codes "-"
+  past i h = ap (λ o. unwrap_or o (codes "-")) (slice_get_past names i h)
+
+  is_name : (i : ℕ) → i < length names → IsName (name_of names i)
+  is_name i h = subst IsName (sym (inside i h)) (named.each i [] h)
+
+  place_back : (i : ℕ) → IsPlace (length names) i → place names (name_of names i) ≡ Some i
+  unfolding place
+  place_back i h =
+      ap (λ w. position (bytes_eq w) names >>= word_of) (inside i h.inside)
+      ∙ (ap (λ o. o >>= word_of) (position_at names named.distinct i h.inside) ∙ word_is i h.word)
+
+  place_lacks : (i : ℕ) → IsPlace (length names) i → has 32 (name_of names i) ≡ false
+  place_lacks i h = name_lacks (name_of names i) (is_name i h.inside)
+
+  dash_back : (t : ℕ) → length names ≤ t → IsTaskNumber (length names) t → task_number names (name_of names t) ≡ Some t
+  unfolding task_number
+  dash_back t ge h =
+      let e : t ≡ 4294967295 = ⊎_elim (λ lt. absurd (omega (arith, lt, ge))) (λ e. e) h.names in
+      ap (task_number names) (past t ge) ∙ ap Some (sym e)
+
+  number_in_place : (t : ℕ) → t < length names → IsTaskNumber (length names) t → task_number names (name_of names t) ≡ Some t
+  unfolding task_number
+  number_in_place t lt h =
+      ap (λ b. cond b (Some 4294967295) (place names (name_of names t))) (is_not_dash (name_of names t) (is_name t lt))
+      ∙ place_back t (record { word = h.word; inside = lt })
+
+  task_back : (t : ℕ) → IsTaskNumber (length names) t → task_number names (name_of names t) ≡ Some t
+  task_back t h = ⊎_elim (λ lt. number_in_place t lt h) (λ ge. dash_back t ge h) (cases_lt t (length names))
+
+  task_lacks : (t : ℕ) → has 32 (name_of names t) ≡ false
+  unfolding has
+  task_lacks t = ⊎_elim (λ lt. name_lacks (name_of names t) (is_name t lt)) (λ ge. ap (has 32) (past t ge)) (cases_lt t (length names))
+
+  -- a name or `-` is short
+  pub short_names : (k : ℕ) → length (name_of names k) ≤ 64
+  short_names k =
+      ⊎_elim (λ lt. (is_name k lt).short) (λ ge. subst (λ (t : List ℕ). length t ≤ 64) (sym (past k ge)) (omega arith)) (cases_lt k (length names))
+
+service_back : (s : Service) → service_named (service_text s) ≡ Some s
+unfolding service_named
+service_back service.ActivateTask = refl
+service_back service.TerminateTask = refl
+service_back service.ChainTask = refl
+service_back service.Schedule = refl
+service_back service.GetTaskID = refl
+service_back service.GetTaskState = refl
+service_back service.GetResource = refl
+service_back service.ReleaseResource = refl
+service_back service.SetEvent = refl
+service_back service.ClearEvent = refl
+service_back service.GetEvent = refl
+service_back service.WaitEvent = refl
+
+service_lacks : (s : Service) → has 32 (service_text s) ≡ false
+unfolding has
+service_lacks service.ActivateTask = refl
+service_lacks service.TerminateTask = refl
+service_lacks service.ChainTask = refl
+service_lacks service.Schedule = refl
+service_lacks service.GetTaskID = refl
+service_lacks service.GetTaskState = refl
+service_lacks service.GetResource = refl
+service_lacks service.ReleaseResource = refl
+service_lacks service.SetEvent = refl
+service_lacks service.ClearEvent = refl
+service_lacks service.GetEvent = refl
+service_lacks service.WaitEvent = refl
+
+-- ---- events
+
+one_after : {A B : Type 0} (o : Option A) (go : A → Option B) (a : A) → o ≡ Some a → (o >>= go) ≡ go a
+one_after o go a e = ap (λ x. x >>= go) e
+
+module _ (tasks functions : List (List ℕ)) (named : AreNames tasks) (known : AreNames functions) where
+  cut_there : (kind rest : List ℕ) → has 32 kind ≡ false
+      → of_task tasks functions (first_word (kind ++ 32 ∷ rest)) (other_words (kind ++ 32 ∷ rest)) ≡ of_task tasks functions kind rest
+  cut_there kind rest h =
+      ap (λ (k : List ℕ). of_task tasks functions k (other_words (kind ++ 32 ∷ rest))) (first_is kind rest h) ∙ ap (of_task tasks functions kind) (others_are kind rest h)
+
+  alone : (kind : List ℕ) (t : ℕ) → IsTaskNumber (length tasks) t → is_single kind ≡ true → of_task tasks functions kind (name_of tasks t) ≡ single_in kind t
+  unfolding of_task
+  alone kind t h e =
+      let w = name_of tasks t in
+      ap (λ b. cond b (task_number tasks w >>= (λ task. single_in kind task)) (task_number tasks (first_word w) >>= (λ task. more_in kind task functions (other_words w)))) e
+      ∙ one_after (task_number tasks w) (λ task. single_in kind task) t (task_back tasks named t h)
+
+  with_more : (kind : List ℕ) (t : ℕ) (rest : List ℕ) → IsTaskNumber (length tasks) t → is_single kind ≡ false
+      → of_task tasks functions kind (name_of tasks t ++ 32 ∷ rest) ≡ more_in kind t functions rest
+  unfolding of_task
+  with_more kind t rest h e =
+      let w = name_of tasks t ++ 32 ∷ rest in
+      let lacks = task_lacks tasks named t in
+      ap (λ b. cond b (task_number tasks w >>= (λ task. single_in kind task)) (task_number tasks (first_word w) >>= (λ task. more_in kind task functions (other_words w)))) e
+      ∙ (one_after (task_number tasks (first_word w)) (λ task. more_in kind task functions (other_words w)) t
+      (ap (task_number tasks) (first_is (name_of tasks t) rest lacks) ∙ task_back tasks named t h)
+      ∙ ap (more_in kind t functions) (others_are (name_of tasks t) rest lacks))
+
+  run_back : (t f i r : ℕ) → IsPlace (length functions) f → i < 0x1_0000_0000 → r < 0x1_0000_0000
+      → run_in t functions (name_of functions f ++ 32 ∷ (decimal i ++ 32 ∷ decimal r)) ≡ Some (event.Run t f i r)
+  unfolding run_in
+  run_back t f i r h p q =
+      let a = name_of functions f in
+      let rest = decimal i ++ 32 ∷ decimal r in
+      let text = a ++ 32 ∷ rest in
+      let lacks = place_lacks functions known f h in
+      let digits = decimal_lacks i (omega (arith, p)) in
+      let behind_name = others_are a rest lacks in
+      one_after (place functions (first_word text))
+      (λ f. number (first_word (other_words text)) >>= (λ i. number (other_words (other_words text)) >>= (λ r. Some (event.Run t f i r)))) f
+      (ap (place functions) (first_is a rest lacks) ∙ place_back functions known f h)
+      ∙ (one_after (number (first_word (other_words text))) (λ i. number (other_words (other_words text)) >>= (λ r. Some (event.Run t f i r))) i
+      (ap (λ (w : List ℕ). number (first_word w)) behind_name ∙ (ap number (first_is (decimal i) (decimal r) digits) ∙ number_back i p))
+      ∙ one_after (number (other_words (other_words text))) (λ r. Some (event.Run t f i r)) r
+      (ap (λ (w : List ℕ). number (other_words w)) behind_name ∙ (ap number (others_are (decimal i) (decimal r) digits) ∙ number_back r q)))
+
+  call_back : (t : ℕ) (s : Service) (v : ℕ) → v < 0x1_0000_0000 → call_in t (service_text s ++ 32 ∷ decimal v) ≡ Some (event.Call t s v)
+  unfolding call_in
+  call_back t s v q =
+      let text = service_text s ++ 32 ∷ decimal v in
+      one_after (service_named (first_word text)) (λ s. number (other_words text) >>= (λ v. Some (event.Call t s v))) s
+      (ap service_named (first_is (service_text s) (decimal v) (service_lacks s)) ∙ service_back s)
+      ∙ one_after (number (other_words text)) (λ v. Some (event.Call t s v)) v
+      (ap number (others_are (service_text s) (decimal v) (service_lacks s)) ∙ number_back v q)
+
+  left_back : (t : ℕ) (s : Service) → left_in t (service_text s) ≡ Some (event.Left t s)
+  unfolding left_in
+  left_back t s = one_after (service_named (service_text s)) (λ s. Some (event.Left t s)) s (service_back s)
+
+  event_back : (e : Event) → HasNumbers (length tasks) (length functions) e → event_in tasks functions (event_text tasks functions e) ≡ Some e
+  unfolding event_in is_single single_in more_in has
+  event_back event.Boot h = refl
+  event_back (event.Admit t) h = cut_there (codes "admit") (name_of tasks t) refl ∙ alone (codes "admit") t h refl
+  event_back (event.Enter t) h = cut_there (codes "enter") (name_of tasks t) refl ∙ alone (codes "enter") t h refl
+  event_back (event.Run t f i r) h =
+      let a = name_of tasks t in
+      let b = name_of functions f in
+      cut_there (codes "run") (a ++ codes " " ++ b ++ codes " " ++ decimal i ++ codes " " ++ decimal r) refl
+      ∙ (ap (of_task tasks functions (codes "run")) (four a b (decimal i) (decimal r))
+      ∙ (with_more (codes "run") t (b ++ 32 ∷ (decimal i ++ 32 ∷ decimal r)) h.0 refl ∙ run_back t f i r h.1 h.2 h.3))
+  event_back (event.Call t s v) h =
+      let a = name_of tasks t in
+      cut_there (codes "call") (a ++ codes " " ++ service_text s ++ codes " " ++ decimal v) refl
+      ∙ (ap (of_task tasks functions (codes "call")) (three a (service_text s) (decimal v))
+      ∙ (with_more (codes "call") t (service_text s ++ 32 ∷ decimal v) h.0 refl ∙ call_back t s v h.1))
+  event_back (event.Left t s) h =
+      let a = name_of tasks t in
+      cut_there (codes "left") (a ++ codes " " ++ service_text s) refl
+      ∙ (ap (of_task tasks functions (codes "left")) (two a (service_text s))
+      ∙ (with_more (codes "left") t (service_text s) h refl ∙ left_back t s))
+  event_back (event.Back t) h = cut_there (codes "back") (name_of tasks t) refl ∙ alone (codes "back") t h refl
+  event_back event.Idle h = refl
+  event_back event.Stray h = refl
+
+  pub stamped_back : (e : Stamped) (text : List ℕ) → IsLineOf tasks functions e text → stamped_in tasks functions text ≡ Some e
+  unfolding stamped_in
+  stamped_back e text h =
+      let a = decimal e.stamp.from in
+      let b = decimal e.stamp.at in
+      let c = event_text tasks functions e.event in
+      let spaced = a ++ 32 ∷ (b ++ 32 ∷ c) in
+      let is : text ≡ spaced = h.prints ∙ three a b c in
+      let p = h.from in
+      let q = h.at in
+      let front = decimal_lacks e.stamp.from (omega (arith, p)) in
+      let next = decimal_lacks e.stamp.at (omega (arith, q)) in
+      let behind_from = ap other_words is ∙ others_are a (b ++ 32 ∷ c) front in
+      one_after (number (first_word text))
+      (λ from. number (first_word (other_words text)) >>= (λ at. event_in tasks functions (other_words (other_words text)) >>= (λ event. Some (record { stamp = record { from = from; at = at }; event = event })))) e.stamp.from
+      (ap (λ (w : List ℕ). number (first_word w)) is ∙ (ap number (first_is a (b ++ 32 ∷ c) front) ∙ number_back e.stamp.from p))
+      ∙ (one_after (number (first_word (other_words text)))
+      (λ at. event_in tasks functions (other_words (other_words text)) >>= (λ event. Some (record { stamp = record { from = e.stamp.from; at = at }; event = event }))) e.stamp.at
+      (ap (λ (w : List ℕ). number (first_word w)) behind_from ∙ (ap number (first_is b c next) ∙ number_back e.stamp.at q))
+      ∙ one_after (event_in tasks functions (other_words (other_words text))) (λ event. Some (record { stamp = e.stamp; event = event })) e.event
+      (ap (λ (w : List ℕ). event_in tasks functions (other_words w)) behind_from ∙ (ap (event_in tasks functions) (others_are b c next) ∙ event_back e.event h.numbers)))
+
+  -- ---- the text is compared with the line of the event that is found
+
+  -- the event is the one whose line the text is
+  abbrev pub IsReading : List ℕ → Option Stamped → Type 0
+  IsReading text read = (e : Stamped) → (read ≡ Some e → IsLineOf tasks functions e text) × (IsLineOf tasks functions e text → read ≡ Some e)
+
+  pub unread : (text : List ℕ) → None ≡ stamped_in tasks functions text → IsReading text None
+  unread text n e = (λ h. absurd (none-some e h), λ is. n ∙ stamped_back e text is)
+
+  pub misread : (text line : List ℕ) (found : Stamped) → Some found ≡ stamped_in tasks functions text → line ≡ counted_line tasks functions found
+      → bytes_eq line text ≡ false → IsReading text None
+  misread text line found s l f e = (
+    λ h. absurd (none-some e h),
+    λ is.
+        let same : found ≡ e = same_Some found e (s ∙ stamped_back e text is) in
+        let printed : line ≡ text = l ∙ (ap (counted_line tasks functions) same ∙ sym is.prints) in
+        absurd (true≢false (sym ((bytes_eq-Decides line text).1 printed) ∙ f)),
+  )
+
+  pub reread : (text line : List ℕ) (found : Stamped) → Some found ≡ stamped_in tasks functions text → line ≡ counted_line tasks functions found
+      → bytes_eq line text ≡ true → IsWord found.stamp.from → IsWord found.stamp.at → HasNumbers (length tasks) (length functions) found.event
+      → IsReading text (Some found)
+  reread text line found s l t p q n e = (
+    λ h.
+        let is : IsLineOf tasks functions found text = record { from = p; at = q; numbers = n; prints = sym ((bytes_eq-Decides line text).0 t) ∙ l } in
+        let P : Stamped → Type 0 = λ x. IsLineOf tasks functions x text in
+        subst P (same_Some found e h) is,
+    λ is. s ∙ stamped_back e text is,
+  )

@@ -1,0 +1,45 @@
+-- The events that counted lines show.
+use Rattle.std.specs.Prelude.{◌≡◌, ◌<◌, ◌⊎◌, ℕ, List, length, ◌++◌}
+use Rattle.sloth_base.specs.declared.event.Event.{Event}
+use Rattle.sloth_base.specs.declared.event.Event.TheVariants as event
+use Rattle.sloth_base.specs.declared.event.Stamped.{Stamped}
+use Rattle.trace_text.specs.Lines.{counts_text, event_text}
+use Rattle.trace_text.specs.declared.print.Form.TheVariants as form
+
+-- a number of 32 bits
+abbrev pub IsWord : ℕ → Type 0
+IsWord n = n < 0x1_0000_0000
+
+-- the number of one of so many names
+pub record IsPlace (count n : ℕ) : Type 0 where
+  pub word : IsWord n
+  pub inside : n < count
+
+-- the number of one of so many tasks, or 4,294,967,295, which is that of no task
+pub record IsTaskNumber (count n : ℕ) : Type 0 where
+  pub word : IsWord n
+  pub names : (n < count) ⊎ (n ≡ 4294967295)
+
+-- the numbers in an event, with so many tasks and functions
+abbrev pub HasNumbers : (tasks functions : ℕ) → Event → Type 0
+HasNumbers tasks functions event.Boot = Unit {0}
+HasNumbers tasks functions (event.Admit t) = IsTaskNumber tasks t
+HasNumbers tasks functions (event.Enter t) = IsTaskNumber tasks t
+HasNumbers tasks functions (event.Run t function item result) =
+    IsTaskNumber tasks t × IsPlace functions function × IsWord item × IsWord result
+HasNumbers tasks functions (event.Call t called status) = IsTaskNumber tasks t × IsWord status
+HasNumbers tasks functions (event.Left t called) = IsTaskNumber tasks t
+HasNumbers tasks functions (event.Back t) = IsTaskNumber tasks t
+HasNumbers tasks functions event.Idle = Unit {0}
+HasNumbers tasks functions event.Stray = Unit {0}
+
+-- the counted line of an event without its LF, with the names of tasks and functions
+abbrev pub counted_line : List (List ℕ) → List (List ℕ) → Stamped → List ℕ
+counted_line tasks functions e = counts_text form.Counted e ++ event_text tasks functions e.event
+
+-- the text is the counted line of an event whose numbers name tasks and functions, or no task
+pub record IsLineOf (tasks functions : List (List ℕ)) (e : Stamped) (text : List ℕ) : Type 0 where
+  pub from : IsWord e.stamp.from
+  pub at : IsWord e.stamp.at
+  pub numbers : HasNumbers (length tasks) (length functions) e.event
+  pub prints : text ≡ counted_line tasks functions e

@@ -1,0 +1,114 @@
+-- How the one event is found that a counted line may show: word after word, read loosely. The line of that event is compared with the text.
+use Rattle.std.specs.Prelude.{ℕ, nat_lt, Bool, ◌||◌, if◌then◌else◌, List, []}
+use Rattle.std.specs.Prelude.{◌∷◌, codes, bytes_eq, position, Option, Some, None, option_and_then}
+use Rattle.sloth_base.specs.ServiceCodes.{services}
+use Rattle.sloth_base.specs.declared.event.Event.{Event}
+use Rattle.sloth_base.specs.declared.event.Event.TheVariants as event
+use Rattle.sloth_base.specs.declared.event.Stamped.{Stamped}
+use Rattle.sloth_base.specs.declared.service.Service.{Service}
+use Rattle.text_pieces.specs.Digits.{value_from, capped}
+use Rattle.asm_lines.specs.Operands.{before, behind}
+use Rattle.trace_text.specs.Lines.{service_text}
+
+infixl 10 ◌>>=◌
+-- goes on with what there is
+abbrev pub ◌>>=◌ : {A B : Type 0} → Option A → (A → Option B) → Option B
+o >>= go = option_and_then go o
+
+-- a number, where it has 32 bits
+abbrev pub word_of : ℕ → Option ℕ
+word_of n = if nat_lt 4294967295 n then None else Some n
+
+-- what stands before the first space (32)
+abbrev pub first_word : List ℕ → List ℕ
+first_word text = before 32 text
+
+-- what stands behind the first space
+abbrev pub other_words : List ℕ → List ℕ
+other_words text = behind 32 text
+
+-- the number that decimal digits write
+unfoldable pub number : List ℕ → Option ℕ
+number word = word_of (capped (value_from 10 0 word))
+
+-- the number of a name
+unfoldable pub place : List (List ℕ) → List ℕ → Option ℕ
+place names word = do
+  n ← position (bytes_eq word) names
+  word_of n
+
+-- the number of a task; that of no task for `-`
+unfoldable pub task_number : List (List ℕ) → List ℕ → Option ℕ
+task_number tasks word = if bytes_eq word (codes "-") then Some 4294967295 else place tasks word
+
+-- the first of these services that has this name
+abbrev pub service_among : List Service → List ℕ → Option Service
+service_among [] word = None
+service_among (s ∷ rest) word = if bytes_eq word (service_text s) then Some s else service_among rest word
+
+-- the service of a name
+unfoldable pub service_named : List ℕ → Option Service
+service_named word = service_among services word
+
+-- a run of an item by a task, of which these words tell
+unfoldable pub run_in : ℕ → List (List ℕ) → List ℕ → Option Event
+run_in task functions text = do
+  function ← place functions (first_word text)
+  item ← number (first_word (other_words text))
+  result ← number (other_words (other_words text))
+  Some (event.Run task function item result)
+
+-- a call by a task
+unfoldable pub call_in : ℕ → List ℕ → Option Event
+call_in task text = do
+  called ← service_named (first_word text)
+  status ← number (other_words text)
+  Some (event.Call task called status)
+
+-- a leave of a task
+unfoldable pub left_in : ℕ → List ℕ → Option Event
+left_in task text = do
+  called ← service_named text
+  Some (event.Left task called)
+
+-- an event of a task and of more, by its first word
+unfoldable pub more_in : List ℕ → ℕ → List (List ℕ) → List ℕ → Option Event
+more_in kind task functions text =
+    if bytes_eq kind (codes "run") then run_in task functions text
+    else if bytes_eq kind (codes "call") then call_in task text
+    else if bytes_eq kind (codes "left") then left_in task text
+    else None
+
+-- an event of a task alone, by its first word
+unfoldable pub single_in : List ℕ → ℕ → Option Event
+single_in kind task =
+    if bytes_eq kind (codes "admit") then Some (event.Admit task)
+    else if bytes_eq kind (codes "enter") then Some (event.Enter task)
+    else if bytes_eq kind (codes "back") then Some (event.Back task)
+    else None
+
+-- the words tell of no more than a task
+unfoldable pub is_single : List ℕ → Bool
+is_single kind = bytes_eq kind (codes "admit") || (bytes_eq kind (codes "enter") || bytes_eq kind (codes "back"))
+
+-- an event of a task, by its first word and the others
+unfoldable pub of_task : List (List ℕ) → List (List ℕ) → List ℕ → List ℕ → Option Event
+of_task tasks functions kind text =
+    if is_single kind then task_number tasks text >>= (λ task. single_in kind task)
+    else task_number tasks (first_word text) >>= (λ task. more_in kind task functions (other_words text))
+
+-- an event
+unfoldable pub event_in : List (List ℕ) → List (List ℕ) → List ℕ → Option Event
+event_in tasks functions text =
+    if bytes_eq text (codes "boot") then Some event.Boot
+    else if bytes_eq text (codes "idle") then Some event.Idle
+    else if bytes_eq text (codes "stray") then Some event.Stray
+    else of_task tasks functions (first_word text) (other_words text)
+
+-- an event behind its counts
+unfoldable pub stamped_in : List (List ℕ) → List (List ℕ) → List ℕ → Option Stamped
+stamped_in tasks functions text = do
+  from ← number (first_word text)
+  at ← number (first_word (other_words text))
+  event ← event_in tasks functions (other_words (other_words text))
+  Some (record { stamp = record { from = from; at = at }; event = event })

@@ -1,0 +1,242 @@
+//! Reading event lines.
+ghost use Rattle.std.specs.Prelude.{◌≡◌, ℕ, ◌↔◌, Some, IfSome, length};
+ghost use Rattle.sloth_base.specs.ImageRange.{AreNames};
+ghost use Rattle.sloth_base.specs.declared.event.Stamped.{Stamped as AnyEvent};
+ghost use Rattle.trace_text.specs.EventLines.{HasNumbers, IsLineOf, IsPlace, IsTaskNumber, IsWord, counted_line};
+ghost use Rattle.trace_text.specs.EventsRead.{call_in, event_in, is_single, left_in, more_in, number, of_task, place};
+ghost use Rattle.trace_text.specs.EventsRead.{run_in, service_named, single_in, stamped_in, task_number};
+
+use crate::arrival_line::position;
+use crate::line_text::LineText;
+use crate::print::{push_counts, push_event, service_name};
+use sloth_base::event::{Event, Stamp, Stamped};
+use sloth_base::name::Name;
+use sloth_base::service::Service;
+use text_pieces::bytes::{before, behind, same};
+use text_pieces::numerals::value;
+
+/// The number of no task.
+const NO_TASK: u32 = 4_294_967_295;
+
+/// The greatest number of 32 bits.
+const GREATEST: u64 = 4_294_967_295;
+
+// The number that decimal digits write.
+#[tactic(auto, unfolding(crate::specs::EventsRead::number))]
+fn number(word: &[u8]) -> Option<u32>
+    ensures number { result ≡ number word.now }
+    ensures small { IfSome result (λ n. IsWord n) }
+{
+    let n = value(word, 10);
+    if n > GREATEST {
+        return None;
+    }
+    Some(n as u32)
+}
+
+// The number of a name.
+#[tactic(auto, unfolding(crate::specs::EventsRead::place))]
+fn place(names: &[Name], word: &[u8]) -> Option<u32>
+    ensures place { result ≡ place names.now word.now }
+    ensures inside { IfSome result (λ n. IsPlace (length names.now) n) }
+{
+    let n = position(names, word)? as u64;
+    if n > GREATEST {
+        return None;
+    }
+    Some(n as u32)
+}
+
+// The number of a task; that of no task for `-`.
+#[tactic(auto, unfolding(crate::specs::EventsRead::task_number))]
+fn task_number(tasks: &[Name], word: &[u8]) -> Option<u32>
+    ensures number { result ≡ task_number tasks.now word.now }
+    ensures names { IfSome result (λ n. IsTaskNumber (length tasks.now) n) }
+{
+    if same(word, b"-") {
+        return Some(NO_TASK);
+    }
+    place(tasks, word)
+}
+
+// The service of a name.
+#[tactic(auto, unfolding(crate::specs::EventsRead::service_named))]
+fn service_named(word: &[u8]) -> Option<Service>
+    ensures { result ≡ service_named word.now }
+{
+    for code in 0..12 {
+        let Some(service) = Service::from_code(code) else {
+            return None;
+        };
+        if same(word, service_name(service)) {
+            return Some(service);
+        }
+    }
+    None
+}
+
+// A run of an item by a task.
+#[tactic(auto, unfolding(crate::specs::EventsRead::run_in))]
+fn run_in(task: u32, functions: &[Name], text: &[u8]) -> Option<Event>
+    ensures event { result ≡ run_in task functions.now text.now }
+    ensures numbers { (tasks : ℕ) → IsTaskNumber tasks task → IfSome result (λ event. HasNumbers tasks (length functions.now) event) }
+{
+    let func = place(functions, before(text, b' '))?;
+    let others = behind(text, b' ');
+    let item = number(before(others, b' '))?;
+    let result = number(behind(others, b' '))?;
+    Some(Event::Run {
+        task,
+        func,
+        item,
+        result,
+    })
+}
+
+// A call by a task.
+#[tactic(auto, unfolding(crate::specs::EventsRead::call_in))]
+fn call_in(task: u32, text: &[u8]) -> Option<Event>
+    ensures event { result ≡ call_in task text.now }
+    ensures numbers { (tasks functions : ℕ) → IsTaskNumber tasks task → IfSome result (λ event. HasNumbers tasks functions event) }
+{
+    let service = service_named(before(text, b' '))?;
+    let status = number(behind(text, b' '))?;
+    Some(Event::Call {
+        task,
+        service,
+        status,
+    })
+}
+
+// A leave of a task.
+#[tactic(auto, unfolding(crate::specs::EventsRead::left_in))]
+fn left_in(task: u32, text: &[u8]) -> Option<Event>
+    ensures event { result ≡ left_in task text.now }
+    ensures numbers { (tasks functions : ℕ) → IsTaskNumber tasks task → IfSome result (λ event. HasNumbers tasks functions event) }
+{
+    let service = service_named(text)?;
+    Some(Event::Left { task, service })
+}
+
+// An event of a task and of more, by its first word.
+#[tactic(auto, unfolding(crate::specs::EventsRead::more_in))]
+fn more_in(kind: &[u8], task: u32, functions: &[Name], text: &[u8]) -> Option<Event>
+    ensures event { result ≡ more_in kind.now task functions.now text.now }
+    ensures numbers { (tasks : ℕ) → IsTaskNumber tasks task → IfSome result (λ event. HasNumbers tasks (length functions.now) event) }
+{
+    if same(kind, b"run") {
+        return run_in(task, functions, text);
+    }
+    if same(kind, b"call") {
+        return call_in(task, text);
+    }
+    if same(kind, b"left") {
+        return left_in(task, text);
+    }
+    None
+}
+
+// An event of a task alone, by its first word.
+#[tactic(auto, unfolding(crate::specs::EventsRead::single_in))]
+fn single_in(kind: &[u8], task: u32) -> Option<Event>
+    ensures event { result ≡ single_in kind.now task }
+    ensures numbers { (tasks functions : ℕ) → IsTaskNumber tasks task → IfSome result (λ event. HasNumbers tasks functions event) }
+{
+    if same(kind, b"admit") {
+        return Some(Event::Admit(task));
+    }
+    if same(kind, b"enter") {
+        return Some(Event::Enter(task));
+    }
+    if same(kind, b"back") {
+        return Some(Event::Back(task));
+    }
+    None
+}
+
+// Whether an event with this first word tells of no more than a task.
+#[tactic(auto, unfolding(crate::specs::EventsRead::is_single))]
+fn is_single(kind: &[u8]) -> bool
+    ensures { result ≡ is_single kind.now }
+{
+    same(kind, b"admit") || same(kind, b"enter") || same(kind, b"back")
+}
+
+// An event of a task, by its first word and the others.
+#[tactic(auto, unfolding(crate::specs::EventsRead::of_task))]
+fn of_task(tasks: &[Name], functions: &[Name], kind: &[u8], text: &[u8]) -> Option<Event>
+    ensures event { result ≡ of_task tasks.now functions.now kind.now text.now }
+    ensures numbers { IfSome result (λ event. HasNumbers (length tasks.now) (length functions.now) event) }
+{
+    if is_single(kind) {
+        let task = task_number(tasks, text)?;
+        return single_in(kind, task);
+    }
+    let task = task_number(tasks, before(text, b' '))?;
+    more_in(kind, task, functions, behind(text, b' '))
+}
+
+// The one event that these words may show.
+#[tactic(auto, unfolding(crate::specs::EventsRead::event_in))]
+fn event_in(tasks: &[Name], functions: &[Name], text: &[u8]) -> Option<Event>
+    ensures event { result ≡ event_in tasks.now functions.now text.now }
+    ensures numbers { IfSome result (λ event. HasNumbers (length tasks.now) (length functions.now) event) }
+{
+    if same(text, b"boot") {
+        return Some(Event::Boot);
+    }
+    if same(text, b"idle") {
+        return Some(Event::Idle);
+    }
+    if same(text, b"stray") {
+        return Some(Event::Stray);
+    }
+    of_task(tasks, functions, before(text, b' '), behind(text, b' '))
+}
+
+// The one event that a counted line may show.
+#[tactic(auto, unfolding(crate::specs::EventsRead::stamped_in))]
+fn stamped_in(tasks: &[Name], functions: &[Name], text: &[u8]) -> Option<Stamped>
+    ensures event { result ≡ stamped_in tasks.now functions.now text.now }
+    ensures from { IfSome result (λ e. IsWord e.stamp.from) }
+    ensures at { IfSome result (λ e. IsWord e.stamp.at) }
+    ensures numbers { IfSome result (λ e. HasNumbers (length tasks.now) (length functions.now) e.event) }
+{
+    let from = number(before(text, b' '))?;
+    let others = behind(text, b' ');
+    let at = number(before(others, b' '))?;
+    let event = event_in(tasks, functions, behind(others, b' '))?;
+    Some(Stamped {
+        stamp: Stamp { from, at },
+        event,
+    })
+}
+
+// The counted line of an event.
+fn counted_line(tasks: &[Name], functions: &[Name], event: &Stamped) -> LineText
+    requires tasks { AreNames tasks.now }
+    requires functions { AreNames functions.now }
+    ensures { result ≡ counted_line tasks.now functions.now event.now }
+{
+    let mut line = LineText::new();
+    push_counts(&mut line, event);
+    push_event(&mut line, &event.event, tasks, functions);
+    line
+}
+
+/// The event whose counted line this text is, without its LF: exactly where there is one. `-` is read as the task of number
+/// 4,294,967,295. Takes no memory.
+pub fn read_line(text: &[u8], tasks: &[Name], funcs: &[Name]) -> Option<Stamped>
+    requires tasks { AreNames tasks.now }
+    requires funcs { AreNames funcs.now }
+    ensures { (event : AnyEvent) → (result ≡ Some event) ↔ IsLineOf tasks.now funcs.now event text.now }
+{
+    let Some(event) = stamped_in(tasks, funcs, text) else {
+        return None;
+    };
+    let line = counted_line(tasks, funcs, &event);
+    if !same(line.bytes(), text) {
+        return None;
+    }
+    Some(event)
+}
