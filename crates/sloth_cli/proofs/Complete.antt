@@ -160,7 +160,7 @@ pub no-broken-put : (old new : Output) (text : List ℕ) → PutsWork old new te
 no-broken-put old new text (inl stay) h = stays old.faults new.faults stay (counted-put old new text h)
 no-broken-put old new text (inr room) h = full old.taken old.space text room h.4
 
-no-failed-write : (old new : Files) (name : List ℕ) (size : ℕ) → WritesWork old new name size → IsUnwritten old new name size → ⊥
+pub no-failed-write : (old new : Files) (name : List ℕ) (size : ℕ) → WritesWork old new name size → IsUnwritten old new name size → ⊥
 no-failed-write old new name size (inl stay) h = stays old.failed_writes new.failed_writes stay h.0
 no-failed-write old new name size (inr works) h = let a = h.1 works.0 in let b = works.1 in cc
 
@@ -240,7 +240,7 @@ one-app old c oil src arr config other app another arrivals others there h read 
     (same.0, same.1, g.read.arrivals_are ∙ (by_names ∙ (by_text ∙ sym read.arrivals_are)))
 
 -- an image of one is an image of the other
-image-of : (config other : Config) (app another : App) (image : Image) → (other ≡ config) × (another ≡ app) → IsImageOf other another image
+pub image-of : (config other : Config) (app another : App) (image : Image) → (other ≡ config) × (another ≡ app) → IsImageOf other another image
     → IsImageOf config app image
 image-of config other app another image same h =
     subst (λ x. IsImageOf config x image) same.1 (subst (λ x. IsImageOf x another image) same.0 h)

@@ -15,7 +15,7 @@ use Rattle.image_file.proofs.Unique.{image-unique}
 use Rattle.trace_text.specs.ArrivalsText.{ArrivalsFault, arrivals_in}
 use Rattle.trace_text.specs.Listing.{listing}
 use Rattle.sloth_source.proofs.Least.{one_least}
-use Rattle.sloth_cli.specs.Command.{Command, Execution, Builds, Executes, Lists, IsCommand}
+use Rattle.sloth_cli.specs.Command.{Command, Execution, Builds, Executes, Lists, Samples, IsCommand}
 use Rattle.sloth_cli.specs.Inputs.{input_limit, AreRead}
 use Rattle.sloth_cli.specs.ImageFiles.{IsInput, AreExecInputs, ReadsImageFile, IsRunnable, IsExecuted, IsNoImage, exec_text}
 use Rattle.sloth_cli.specs.ImageAnswers.{end_status, LinesWork, AnswersNoImage, AnswersFault, TellsFault, TellsNoImage, TellsExecRefused, TellsExecuted, TellsListed}
@@ -51,6 +51,7 @@ none-unread : (P : List ℕ → Type 0) (old : Files) (c : Command) (file : List
 none-unread P old (Builds b) file i f h = i
 none-unread P old (Executes e) file i f h = no-exec-unread P old e file i.0 i.1 f h
 none-unread P old (Lists img) file i f h = no-list-unread P old img file i f h
+none-unread P old (Samples seed img) file i f h = i
 
 no-failed-read : (old new : Files) (c : Command) (file : List ℕ) → IsTrue old.tells → ReadsImageFile old c file → ReadsWork old new → IsFailedRead old new c → ⊥
 no-failed-read old new c file tells i works =
@@ -64,6 +65,7 @@ told-file : (old : Files) (c : Command) (one other : List ℕ) → IsTrue old.te
 told-file old (Builds b) one other tells h i = absurd h
 told-file old (Executes e) one other tells h i = told old e.img one other tells h.1.image_file.read i.1.image_file.read
 told-file old (Lists img) one other tells h i = told old img one other tells h.read i.read
+told-file old (Samples seed img) one other tells h i = absurd h
 
 -- ---- an image or none
 
@@ -81,23 +83,27 @@ done-image old new (Executes e) file text tells i h =
     let a = h.0.accepted in moved a.file file (told-file old (Executes e) a.file file tells (a.arr, a.inputs) i) (h.0.image, a.is_image)
 done-image old new (Lists img) file text tells i h =
     moved h.0.file file (told-file old (Lists img) h.0.file file tells h.0.input i) (h.0.image, h.0.is_image)
+done-image old new (Samples seed img) file text tells i h = absurd i
 
 stopped-image : (old new : Files) (c : Command) (file text : List ℕ) → IsTrue old.tells → ReadsImageFile old c file → CommandStopped old new c text → HasImage file
 stopped-image old new (Builds b) file text tells i h = absurd i
 stopped-image old new (Executes e) file text tells i h =
     let a = h.2.accepted in moved a.file file (told-file old (Executes e) a.file file tells (a.arr, a.inputs) i) (h.2.image, a.is_image)
 stopped-image old new (Lists img) file text tells i h = absurd h
+stopped-image old new (Samples seed img) file text tells i h = absurd i
 
 refused-image : (old : Files) (c : Command) (file : List ℕ) (r : Refusal) → IsTrue old.tells → ReadsImageFile old c file → CommandRefused old c r → HasImage file
 refused-image old (Builds b) file r tells i h = absurd i
 refused-image old (Executes e) file r tells i h =
     moved h.file file (told-file old (Executes e) h.file file tells (h.arr, h.inputs) i) (h.image, h.is_image)
 refused-image old (Lists img) file r tells i h = absurd h
+refused-image old (Samples seed img) file r tells i h = absurd i
 
 unwritten : (old new : Files) (c : Command) (file : List ℕ) → ReadsImageFile old c file → CommandUnwritten old new c → ⊥
 unwritten old new (Builds b) file i h = i
 unwritten old new (Executes e) file i h = h
 unwritten old new (Lists img) file i h = h
+unwritten old new (Samples seed img) file i h = i
 
 -- what an answer says of the image file: it is one, or has this fault, or memory was wanting
 abbrev Verdict : Status → List ℕ → List ℕ → Type 0

@@ -4,10 +4,15 @@ mod Draining
 mod Turning
 mod Running
 mod Tallying
+mod LineByLine
+mod Listed
+mod Summed
+mod Kept
 mod Causes
 mod Commands
 mod Complete
 mod ImageCauses
 mod ImageComplete
+mod SampleCauses
+mod SampleComplete
 mod InMemoryCalls
-mod Listed

@@ -23,11 +23,13 @@ pub record Execution : Type 0 where
   pub arr : List ℕ
   pub n : ℕ
 
--- a command: one that builds an image, one that runs an image file, or one that lists an image file
+-- a command: one that builds an image, one that runs an image file, one that lists an image file, or one that generates an application from
+-- a seed, builds its image and runs it
 pub data Command : Type 0 where
   Builds : Building → Command
   Executes : Execution → Command
   Lists : List ℕ → Command
+  Samples : ℕ → List ℕ → Command
 
 -- `run` prints the events with their counts, `order` without them
 abbrev pub word_of : Form → List ℕ
@@ -39,22 +41,24 @@ abbrev pub words_by : List ℕ → List ℕ → List ℕ → Option Run → List
 words_by oil src img None = codes "build" ∷ oil ∷ src ∷ img ∷ []
 words_by oil src img (Some run) = word_of run.form ∷ oil ∷ src ∷ run.arr ∷ img ∷ decimal run.n ∷ []
 
--- those, `exec IMG ARR N` and `list IMG`
+-- those, `exec IMG ARR N`, `list IMG` and `sample SEED IMG`
 abbrev pub spelled : Command → List (List ℕ)
 spelled (Builds b) = words_by b.oil b.src b.img b.run
 spelled (Executes e) = codes "exec" ∷ e.img ∷ e.arr ∷ decimal e.n ∷ []
 spelled (Lists img) = codes "list" ∷ img ∷ []
+spelled (Samples seed img) = codes "sample" ∷ decimal seed ∷ img ∷ []
 
 -- at most so many instructions are run
 abbrev pub IsInLimit : Option Run → Type 0
 IsInLimit None = Unit {0}
 IsInLimit (Some run) = run.n ≤ 1000000
 
--- the same of a command
+-- the same of a command; a seed is a word of 32 bits
 abbrev pub KeepsLimit : Command → Type 0
 KeepsLimit (Builds b) = IsInLimit b.run
 KeepsLimit (Executes e) = e.n ≤ 1000000
 KeepsLimit (Lists img) = Unit {0}
+KeepsLimit (Samples seed img) = seed ≤ 4294967295
 
 -- the words are those of this command
 abbrev pub IsCommand : List (List ℕ) → Command → Type 0

@@ -13,10 +13,12 @@ use Rattle.image_file.specs.ImageText.{ImageText}
 use Rattle.image_file.specs.Faults.{Faulty}
 use Rattle.image_file.specs.declared.fault.ImageError.{ImageError}
 use Rattle.image_file.specs.declared.fault.ImageError.TheVariants as image_error
+use Rattle.sloth_source.specs.Texts.{FirstRefusal}
 use Rattle.sloth_cli.specs.Command.{Command}
 use Rattle.sloth_cli.specs.Inputs.{input_limit}
 use Rattle.sloth_cli.specs.ImageFiles.{IsNoImage}
 use Rattle.sloth_cli.specs.LastLine.{refusal_line, no_image_line}
+use Rattle.sloth_cli.specs.Samples.{sample_oil, sample_source}
 use Rattle.sloth_cli.specs.Top.{World, FirstUnread, IsFailedRead, IsLongRead, IsRefusal, FilesStay, IsWritten, Took, BrokeOff, Puts}
 use Rattle.sloth_cli.specs.Top.{CommandDone, CommandRefused, CommandUnwritten, CommandStopped}
 use Rattle.sloth_cli.specs.declared.top.Status.{Status}
@@ -59,6 +61,12 @@ abbrev pub JudgeFailed : Failure → List ℕ → List ℕ → List ℕ → Type
 JudgeFailed (failure.Refused refusal) oil src arr = IsRefusal oil src arr refusal
 JudgeFailed failure.NoMemory oil src arr = Unit {0}
 JudgeFailed _ oil src arr = ⊥
+
+-- nothing was built of the texts that are generated from this seed for this reason
+abbrev pub SampleFailed : Failure → ℕ → Type 0
+SampleFailed (failure.Refused refusal) seed = FirstRefusal sample_oil (sample_source seed) refusal
+SampleFailed failure.NoMemory seed = Unit {0}
+SampleFailed _ seed = ⊥
 
 -- no image and no arrivals were read of these files for this reason
 abbrev pub LoadFailed : Failure → List ℕ → List ℕ → Type 0

@@ -12,7 +12,7 @@ use Rattle.image_file.specs.declared.fault.ImageFault.{ImageFault}
 use Rattle.trace_text.specs.ArrivalsText.{ArrivalsFault}
 use Rattle.trace_text.specs.Listing.{listing}
 use Rattle.trace_text.specs.declared.print.Form.TheVariants as form
-use Rattle.sloth_cli.specs.Command.{Command, Execution, Builds, Executes, Lists}
+use Rattle.sloth_cli.specs.Command.{Command, Execution, Builds, Executes, Lists, Samples}
 use Rattle.sloth_cli.specs.Inputs.{input_limit, AreRead}
 use Rattle.sloth_cli.specs.LastLine.{stopped_line}
 use Rattle.sloth_cli.specs.Runner.{run_text, run_end}
@@ -36,6 +36,7 @@ abbrev pub ReadsImageFile : Files → Command → List ℕ → Type 0
 ReadsImageFile files (Builds b) file = ⊥
 ReadsImageFile files (Executes e) file = (arr : List ℕ) × AreExecInputs files e file arr
 ReadsImageFile files (Lists img) file = IsInput files img file
+ReadsImageFile files (Samples seed img) file = ⊥
 
 -- ---- `exec`
 

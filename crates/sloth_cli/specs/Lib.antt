@@ -5,7 +5,9 @@ pub mod Words
 pub mod Inputs
 pub mod LastLine
 pub mod ImageFiles
+pub mod Samples
 pub mod Top
 pub mod ImageAnswers
+pub mod SampleAnswers
 pub mod Failures
 pub mod InMemory

@@ -20,11 +20,12 @@ use Rattle.image_file.specs.declared.fault.ImageFault.{ImageFault}
 use Rattle.rv32_instr.specs.declared.stop.Stop.{Stop}
 use Rattle.sloth_source.specs.Texts.{Accepted, FirstRefusal}
 use Rattle.trace_text.specs.ArrivalsText.{ArrivalsFault}
-use Rattle.sloth_cli.specs.Command.{Command, Building, Run, Builds, Executes, Lists, IsCommand, NoCommand}
+use Rattle.sloth_cli.specs.Command.{Command, Building, Run, Builds, Executes, Lists, Samples, IsCommand, NoCommand}
 use Rattle.sloth_cli.specs.Inputs.{input_limit, AreRead}
 use Rattle.sloth_cli.specs.ImageFiles.{IsExecuted, IsExecRefused, IsListed, IsNoImage}
 use Rattle.sloth_cli.specs.LastLine.{refusal_line, built_line, no_image_line}
-use Rattle.sloth_cli.specs.Runner.{run_text}
+use Rattle.sloth_cli.specs.Runner.{run_text, run_end}
+use Rattle.sloth_cli.specs.Samples.{sample_oil, sample_source, sample_arrivals, sample_text}
 use Rattle.sloth_cli.specs.declared.runner.RunEnd.TheVariants as ends
 use Rattle.sloth_cli.specs.declared.top.Status.{Status}
 use Rattle.sloth_cli.specs.declared.top.Status.TheVariants as status
@@ -50,6 +51,7 @@ abbrev pub inputs_of : Command → List (List ℕ)
 inputs_of (Builds b) = b.oil ∷ b.src ∷ arrivals_named b.run
 inputs_of (Executes e) = e.img ∷ e.arr ∷ []
 inputs_of (Lists img) = img ∷ []
+inputs_of (Samples seed img) = []
 
 -- the arrivals are read from this text; a command that runs nothing has none
 abbrev pub HoldsArrivals : Files → Option Run → List ℕ → Type 0
@@ -181,29 +183,60 @@ pub record IsFailedWrite (old new : Files) (c : Building) : Type 0 where
   pub failed : IsUnwritten old new c.img (length (image_bytes image))
   pub others : KeepsOthers old new c.img
 
+-- The texts that are generated from the seed are accepted, IMG holds the image's file, and this is the summary of the image's run with the
+-- generated arrivals.
+pub record IsSampled (old new : Files) (seed : ℕ) (img text : List ℕ) : Type 0 where
+  pub config : Config
+  pub app : App
+  pub image : Image
+  pub arrivals : List Arrival
+  pub accepted : Accepted sample_oil (sample_source seed) config app
+  pub arrivals_are : arrivals ≡ sample_arrivals seed (length config.tasks)
+  pub is_image : IsImageOf config app image
+  pub written : IsWritten old new img (image_bytes image)
+  pub text_is : text ≡ sample_text image arrivals
+  -- so all its instructions are run
+  pub whole : run_end image arrivals 1000000 ≡ ends.Whole
+  -- and the events that are counted keep the priority ceiling protocol
+  pub protocol : KeepsCeilingProtocol config app (events_of image arrivals 1000000)
+
+-- the generated texts are accepted, the write of the image's file failed, and no other file has changed
+pub record IsUnwrittenSample (old new : Files) (seed : ℕ) (img : List ℕ) : Type 0 where
+  pub config : Config
+  pub app : App
+  pub image : Image
+  pub accepted : Accepted sample_oil (sample_source seed) config app
+  pub is_image : IsImageOf config app image
+  pub failed : IsUnwritten old new img (length (image_bytes image))
+  pub others : KeepsOthers old new img
+
 -- the command was done, and this is its text; a command on an image file changes no file
 abbrev pub CommandDone : Files → Files → Command → List ℕ → Type 0
 CommandDone old new (Builds b) text = IsDone old new b text
 CommandDone old new (Executes e) text = IsExecuted old e ends.Whole text × FilesStay old new
 CommandDone old new (Lists img) text = IsListed old img text × FilesStay old new
+CommandDone old new (Samples seed img) text = IsSampled old new seed img text
 
--- its inputs are refused so; of one that lists an image there are none to be refused
+-- its inputs or its generated texts are refused so; of one that lists an image there are none to be refused
 abbrev pub CommandRefused : Files → Command → Refusal → Type 0
 CommandRefused old (Builds b) refusal = IsRefused old b refusal
 CommandRefused old (Executes e) refusal = IsExecRefused old e refusal
 CommandRefused old (Lists img) refusal = ⊥
+CommandRefused old (Samples seed img) refusal = FirstRefusal sample_oil (sample_source seed) refusal
 
 -- its file was to be written, and the write failed
 abbrev pub CommandUnwritten : Files → Files → Command → Type 0
 CommandUnwritten old new (Builds b) = IsFailedWrite old new b
 CommandUnwritten old new (Executes e) = ⊥
 CommandUnwritten old new (Lists img) = ⊥
+CommandUnwritten old new (Samples seed img) = IsUnwrittenSample old new seed img
 
 -- the machine stopped before the last instruction that was to be run; an image that was built never does
 abbrev pub CommandStopped : Files → Files → Command → List ℕ → Type 0
 CommandStopped old new (Builds b) text = ⊥
 CommandStopped old new (Executes e) text = (pc : ℕ) × (stop : Stop) × IsExecuted old e (ends.Stopped pc stop) text × FilesStay old new
 CommandStopped old new (Lists img) text = ⊥
+CommandStopped old new (Samples seed img) text = ⊥
 
 -- the sink took the text, and no put failed
 abbrev pub Took : Output → Output → List ℕ → Type 0

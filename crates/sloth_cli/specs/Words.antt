@@ -1,6 +1,6 @@
 -- The command that given words are.
 use Rattle.std.specs.Prelude.{Option, Some, None}
-use Rattle.sloth_cli.specs.Command.{Command, Building, Execution, Run, Builds, Executes, Lists}
+use Rattle.sloth_cli.specs.Command.{Command, Building, Execution, Run, Builds, Executes, Lists, Samples}
 use Rattle.sloth_cli.specs.declared.command.BuildWords.{BuildWords}
 use Rattle.sloth_cli.specs.declared.command.ExecWords.{ExecWords}
 use Rattle.sloth_cli.specs.declared.command.CommandWords.{CommandWords}
@@ -25,3 +25,4 @@ abbrev pub command_of : CommandWords → Command
 command_of (words.Build b) = Builds (building_of b)
 command_of (words.Exec e) = Executes (execution_of e)
 command_of (words.List img) = Lists img.now
+command_of (words.Sample seed img) = Samples seed img.now

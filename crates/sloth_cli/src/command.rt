@@ -43,24 +43,39 @@ pub enum CommandWords<'a> {
     Exec(ExecWords<'a>),
     /// `list IMG`: the image file.
     List(&'a str),
+    /// `sample SEED IMG`
+    Sample { seed: u32, img: &'a str },
 }
 
-// A number of instructions, without sign and without a leading zero.
-fn instructions(word: &str) -> Option<u32>
-    ensures some { IfSome result (λ n. (word.now ≡ decimal n) × (n ≤ 1000000)) }
-    ensures none { IfNone result ((n : ℕ) → n ≤ 1000000 → word.now ≡ decimal n → ⊥) }
+// A word of 32 bits in decimal digits, without sign and without a leading zero.
+fn number(word: &str) -> Option<u32>
+    ensures some { IfSome result (λ n. (word.now ≡ decimal n) × (n ≤ 4294967295)) }
+    ensures none { IfNone result ((n : ℕ) → n ≤ 4294967295 → word.now ≡ decimal n → ⊥) }
 {
     let Ok(n) = word.parse::<u32>() else {
         return None;
     };
-    if n > 1_000_000 {
-        return None;
-    }
     let mut buffer = Buffer::new();
     if buffer.format(n) == word {
         return Some(n);
     }
     None
+}
+
+// A number of instructions, in the same form.
+fn instructions(word: &str) -> Option<u32>
+    ensures some { IfSome result (λ n. (word.now ≡ decimal n) × (n ≤ 1000000)) }
+    ensures none { IfNone result ((n : ℕ) → n ≤ 1000000 → word.now ≡ decimal n → ⊥) }
+{
+    match number(word) {
+        None => None,
+        Some(n) => {
+            if n > 1_000_000 {
+                return None;
+            }
+            Some(n)
+        }
+    }
 }
 
 // The form that the first word asks for.
@@ -101,6 +116,14 @@ fn is_list(word: &str) -> bool
     word == "list"
 }
 
+// Whether it asks for a generated application.
+fn is_sample(word: &str) -> bool
+    ensures yes { result ≡ true → word.now ≡ codes "sample" }
+    ensures no { word.now ≡ codes "sample" → result ≡ true }
+{
+    word == "sample"
+}
+
 // The command of two words.
 fn list_command(words: &[String]) -> Option<CommandWords<'_>>
     requires { length words.now ≡ 2 }
@@ -111,6 +134,24 @@ fn list_command(words: &[String]) -> Option<CommandWords<'_>>
         return None;
     }
     Some(CommandWords::List(words[1].as_str()))
+}
+
+// The command of three words.
+fn sample_command(words: &[String]) -> Option<CommandWords<'_>>
+    requires { length words.now ≡ 3 }
+    ensures some { IfSome result (λ c. IsCommand (words_of words.now) (command_of c)) }
+    ensures none { IfNone result (NoCommand (words_of words.now)) }
+{
+    if !is_sample(words[0].as_str()) {
+        return None;
+    }
+    match number(words[1].as_str()) {
+        None => None,
+        Some(seed) => Some(CommandWords::Sample {
+            seed,
+            img: words[2].as_str(),
+        }),
+    }
 }
 
 // The run of an image file that four words ask for.
@@ -183,6 +224,7 @@ pub fn command(words: &[String]) -> Option<CommandWords<'_>>
 {
     match words.len() {
         2 => list_command(words),
+        3 => sample_command(words),
         4 => image_command(words),
         6 => run_command(words),
         _ => None,

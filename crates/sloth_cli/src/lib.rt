@@ -9,6 +9,8 @@ pub mod last_line;
 pub mod laws;
 pub mod listing;
 pub mod runner;
+pub mod sample_command;
+pub mod summary;
 pub mod tally;
 pub mod top;
 

@@ -13,6 +13,7 @@ ghost use Rattle.sloth_cli.specs.Runner.{run_text};
 ghost use Rattle.sloth_cli.specs.Top.{world, arrivals_named, inputs_of, names_of, AreInputs, HoldsArrivals, IsImageOf, IsWritten, done_text};
 ghost use Rattle.sloth_cli.specs.Top.{Took, Puts, Answers, TellsUsage, TellsRefused, IsComplete};
 ghost use Rattle.sloth_cli.specs.ImageAnswers.{TellsFault, TellsNoImage, TellsExecRefused, TellsExecuted, TellsListed};
+ghost use Rattle.sloth_cli.specs.SampleAnswers.{TellsSampleRefused, TellsSampled};
 ghost use Rattle.sloth_cli.specs.Failures.{ReadFailed, JudgeFailed, PerformFailed, CommandFailed, Finished, IsPerformed};
 ghost use Rattle.sloth_cli.specs.declared.top.Status.TheVariants.{Done as IsDone};
 
@@ -22,6 +23,7 @@ use crate::image_commands::{execute, list};
 use crate::inputs::fetch;
 use crate::last_line::{built_line, no_image_line, refusal_line};
 use crate::runner::Runner;
+use crate::sample_command::sample_run;
 use image_file::write::write_image;
 use sloth_base::app::App;
 use sloth_base::config::Config;
@@ -239,6 +241,7 @@ fn obey<F: Store, S: Sink>(
         }
         CommandWords::Exec(e) => execute(alloc, files, out, e),
         CommandWords::List(img) => list(alloc, files, out, img),
+        CommandWords::Sample { seed, img } => sample_run(alloc, files, out, *seed, img),
     }
 }
 
@@ -297,6 +300,9 @@ pub fn sloth_top<F: Store, S: Sink>(
         (world (F.seen files.old) (S.seen out.old)) (world (F.seen files.new) (S.seen out.new)) result }
     ensures executed { TellsExecuted (words_of words.now) (world (F.seen files.old) (S.seen out.old)) (world (F.seen files.new) (S.seen out.new)) result }
     ensures listed { TellsListed (words_of words.now) (world (F.seen files.old) (S.seen out.old)) (world (F.seen files.new) (S.seen out.new)) result }
+    ensures sample_refused { TellsSampleRefused (words_of words.now)
+        (world (F.seen files.old) (S.seen out.old)) (world (F.seen files.new) (S.seen out.new)) result }
+    ensures sampled { TellsSampled (words_of words.now) (world (F.seen files.old) (S.seen out.old)) (world (F.seen files.new) (S.seen out.new)) result }
 {
     answer(alloc, words, files, out)
 }

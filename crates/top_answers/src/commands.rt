@@ -1,6 +1,7 @@
 //! Commands on files in memory.
 ghost use Rattle.std.specs.Prelude.{◌≡◌, ◌≤◌, IfOk, length};
 
+use crate::faults::Faults;
 use crate::texts::Texts;
 use sloth_base::list::List;
 use sloth_base::memory::NoMemory;
@@ -30,8 +31,14 @@ fn file(alloc: Global, name: &[u8], bytes: &[u8], space: u32) -> Result<MemFile,
     })
 }
 
-// The three texts, and an image file with this space.
-fn store(alloc: Global, texts: &Texts, img: &[u8], space: u32) -> Result<MemStore, NoMemory>
+// The three texts, and an image file with this space. These calls are to fail.
+fn store(
+    alloc: Global,
+    texts: &Texts,
+    img: &[u8],
+    space: u32,
+    fails: &[u32],
+) -> Result<MemStore, NoMemory>
     requires oil { length texts.now.oil.items ≤ 16000000 }
     requires src { length texts.now.src.items ≤ 16000000 }
     requires arr { length texts.now.arr.items ≤ 16000000 }
@@ -41,7 +48,7 @@ fn store(alloc: Global, texts: &Texts, img: &[u8], space: u32) -> Result<MemStor
     let src = file(alloc, b"src", &texts.src, 0)?;
     let arr = file(alloc, b"arr", &texts.arr, 0)?;
     let img = file(alloc, b"img", img, space)?;
-    MemStore::new(alloc, &[arr, img, oil, src], &[])
+    MemStore::new(alloc, &[arr, img, oil, src], fails)
 }
 
 // The words of a line.
@@ -60,13 +67,14 @@ struct Outcome {
     img: Vec<u8>,
 }
 
-// Runs the command of a line on these files, of at most 16,000,000 bytes each.
+// Runs the command of a line on these files, of at most 16,000,000 bytes each, with these failing calls.
 fn answer(
     alloc: Global,
     line: &str,
     texts: &Texts,
     img: &[u8],
     space: u32,
+    faults: &Faults,
 ) -> anyhow::Result<Outcome>
     requires oil { length texts.now.oil.items ≤ 16000000 }
     requires src { length texts.now.src.items ≤ 16000000 }
@@ -74,8 +82,8 @@ fn answer(
     requires img { length img.now ≤ 16000000 }
 {
     let words = words(alloc, line)?;
-    let mut files = store(alloc, texts, img, space)?;
-    let mut out = MemSink::new(alloc, space, &[])?;
+    let mut files = store(alloc, texts, img, space, &faults.store)?;
+    let mut out = MemSink::new(alloc, space, &faults.sink)?;
     let status = sloth_top(alloc, words.as_slice(), &mut files, &mut out);
     let printed = std::str::from_utf8(out.taken())?;
     let text = format!(in alloc; "{printed}=== {status:?}\n")?;
@@ -88,7 +96,8 @@ pub fn run(rt: &(impl Print + AllocGlobal), line: &str, texts: &mut Texts) -> an
     if !texts.are_short() {
         return Ok(());
     }
-    let answer = answer(rt.alloc(), line, texts, &texts.img, SPACE)?;
+    let none = Faults::none(rt.alloc());
+    let answer = answer(rt.alloc(), line, texts, &texts.img, SPACE, &none)?;
     print!(rt; "{}", answer.text)?;
     texts.img = answer.img;
     Ok(())
@@ -106,12 +115,13 @@ pub fn run_both(
     if !texts.are_short() {
         return Ok(());
     }
-    let first = answer(rt.alloc(), one, texts, &texts.img, SPACE)?;
+    let none = Faults::none(rt.alloc());
+    let first = answer(rt.alloc(), one, texts, &texts.img, SPACE, &none)?;
     texts.img = first.img;
     if !texts.are_short() {
         return Ok(());
     }
-    let second = answer(rt.alloc(), other, texts, &texts.img, SPACE)?;
+    let second = answer(rt.alloc(), other, texts, &texts.img, SPACE, &none)?;
     if first.text == second.text {
         println!(rt; "both {} bytes", first.text.len())?;
     } else {
@@ -126,13 +136,50 @@ pub fn run_cut(rt: &(impl Print + AllocGlobal), line: &str, texts: &Texts) -> an
     if !texts.are_short() {
         return Ok(());
     }
+    let none = Faults::none(rt.alloc());
     let mut last = String::new(rt.alloc());
     for size in 0..=texts.img.len() {
-        let answer = answer(rt.alloc(), line, texts, &texts.img[..size], LITTLE)?;
+        let img = &texts.img[..size];
+        let answer = answer(rt.alloc(), line, texts, img, LITTLE, &none)?;
         if answer.text != last {
             print!(rt; "{size} bytes\n{}", answer.text)?;
             last = answer.text;
         }
     }
+    Ok(())
+}
+
+// What an image file is, beside the one before and the one that the command leaves where no call fails.
+fn state(img: &[u8], before: &[u8], image: &[u8]) -> &'static str {
+    if img == before {
+        "as before"
+    } else if img == image {
+        "the image"
+    } else {
+        "another"
+    }
+}
+
+/// Runs a command with failing calls: of the store, ` / `, of the sink, ` / `, the command. Prints the answer, and what the image file is.
+pub fn run_failing(
+    rt: &(impl Print + AllocGlobal),
+    asked: &str,
+    texts: &Texts,
+) -> anyhow::Result<()> {
+    let Some((store, rest)) = asked.split_once("/ ") else {
+        return Ok(());
+    };
+    let Some((sink, line)) = rest.split_once("/ ") else {
+        return Ok(());
+    };
+    if !texts.are_short() {
+        return Ok(());
+    }
+    let none = Faults::none(rt.alloc());
+    let whole = answer(rt.alloc(), line, texts, &texts.img, LITTLE, &none)?;
+    let faults = Faults::read(rt.alloc(), store, sink)?;
+    let answer = answer(rt.alloc(), line, texts, &texts.img, LITTLE, &faults)?;
+    let state = state(&answer.img, &texts.img, &whole.img);
+    print!(rt; "{}IMG {state}\n", answer.text)?;
     Ok(())
 }

@@ -4,13 +4,17 @@
 //!   `exchange AT AT` exchanges two marks; `-AT` counts back from the end;
 //! - `cut`, and a command such as `exec img arr 10`: it is run with the image file cut to each length, and each new answer is printed;
 //! - `both`, and two commands with ` / ` between them: they are run one after the other, and it is printed whether they answer alike;
+//! - `failing`, and calls of the store, calls of the sink and a command with ` / ` between them, such as `3 4 / 2:1 / build oil src img`:
+//!   it is run while calls 3 and 4 of the store fail, and call 2 of the sink once it has taken a byte; behind its answer stands whether the
+//!   image file is as before, the image that is left where no call fails, or another. The image file is then put back;
 //! - a command, such as `order oil src arr img 5000`: it is run on the files of these names. The image file that it leaves is kept.
 #![tactic(auto)]
 
 mod commands;
+mod faults;
 mod texts;
 
-use crate::commands::{run, run_both, run_cut};
+use crate::commands::{run, run_both, run_cut, run_failing};
 use crate::texts::Texts;
 use sloth_base::memory::NoMemory;
 use std::io::Read;
@@ -41,6 +45,9 @@ fn obey(
     }
     if let Some(commands) = asked.strip_prefix("both ") {
         return run_both(rt, commands, texts);
+    }
+    if let Some(words) = asked.strip_prefix("failing ") {
+        return run_failing(rt, words, texts);
     }
     match asked.strip_prefix("cut ") {
         Some(command) => run_cut(rt, command, texts),

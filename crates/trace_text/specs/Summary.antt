@@ -1,5 +1,5 @@
 -- The summary of a run: how many events of each kind it shows.
-use Rattle.std.specs.Prelude.{ℕ, ◌+◌, ◌==◌, List, [], ◌∷◌, ◌++◌, count_by, decimal, codes, slice_index, map}
+use Rattle.std.specs.Prelude.{ℕ, zero, suc, ◌==◌, if◌then◌else◌, List, [], ◌∷◌, ◌++◌, count_by, decimal, codes, slice_index, map}
 use Rattle.sloth_base.specs.declared.event.Event.{Event}
 use Rattle.sloth_base.specs.declared.event.Event.TheVariants as event
 use Rattle.sloth_base.specs.declared.event.Stamped.{Stamped}
@@ -24,19 +24,28 @@ count_of_kind events kind = count_by (λ e. kind_of e.event == kind) events
 abbrev pub counts_of : List Stamped → List ℕ
 counts_of events = map (count_of_kind events) (0 ∷ 1 ∷ 2 ∷ 3 ∷ 4 ∷ 5 ∷ 6 ∷ 7 ∷ 8 ∷ [])
 
--- a line of the summary: a word, one space, a number
-unfoldable pub summary_line : List ℕ → ℕ → List ℕ
-summary_line word number = word ++ codes " " ++ decimal number ++ codes "\n"
+-- the word of a kind
+unfoldable pub kind_word : ℕ → List ℕ
+kind_word kind =
+    if kind == 0 then codes "boot"
+    else (if kind == 1 then codes "admit"
+    else (if kind == 2 then codes "enter"
+    else (if kind == 3 then codes "run"
+    else (if kind == 4 then codes "call"
+    else (if kind == 5 then codes "left"
+    else (if kind == 6 then codes "back"
+    else (if kind == 7 then codes "idle"
+    else codes "stray")))))))
+
+-- the line of a kind: its word, one space, its number
+unfoldable pub kind_line : List ℕ → ℕ → List ℕ
+kind_line counts kind = kind_word kind ++ codes " " ++ decimal (slice_index counts kind) ++ codes "\n"
+
+-- the lines of the first kinds, so many of them
+unfoldable pub first_kinds : List ℕ → ℕ → List ℕ
+first_kinds counts zero = []
+first_kinds counts (suc k) = first_kinds counts k ++ kind_line counts k
 
 -- the text of these numbers, nine lines
-unfoldable pub summary_text : List ℕ → List ℕ
-summary_text counts =
-    summary_line (codes "boot") (slice_index counts 0)
-    ++ summary_line (codes "admit") (slice_index counts 1)
-    ++ summary_line (codes "enter") (slice_index counts 2)
-    ++ summary_line (codes "run") (slice_index counts 3)
-    ++ summary_line (codes "call") (slice_index counts 4)
-    ++ summary_line (codes "left") (slice_index counts 5)
-    ++ summary_line (codes "back") (slice_index counts 6)
-    ++ summary_line (codes "idle") (slice_index counts 7)
-    ++ summary_line (codes "stray") (slice_index counts 8)
+abbrev pub summary_text : List ℕ → List ℕ
+summary_text counts = first_kinds counts 9

@@ -1,6 +1,6 @@
 //! The summary of a run.
-ghost use Rattle.std.specs.Prelude.{◌≡◌, ◌<◌, ◌≤◌, ◌+◌, ◌++◌, length};
-ghost use Rattle.trace_text.specs.Summary.{kind_of, summary_line, summary_text};
+ghost use Rattle.std.specs.Prelude.{◌≡◌, ◌<◌, ◌≤◌, length};
+ghost use Rattle.trace_text.specs.Summary.{kind_of, kind_word, kind_line};
 
 use crate::line_text::LineText;
 use sloth_base::event::Event;
@@ -26,34 +26,35 @@ pub fn kind_of(event: &Event) -> usize
     }
 }
 
-// Appends a line of the summary.
-#[tactic(auto, unfolding(crate::specs::Summary::summary_line))]
-fn push_line(text: &mut LineText, word: &[u8], number: u32)
-    requires word { length word.now ≤ 5 }
-    requires room { length text.old + 17 ≤ 256 }
-    ensures line { text.new ≡ text.old ++ summary_line word.now number }
-    ensures short { length text.new ≤ length text.old + 17 }
+// The word of a kind.
+#[tactic(auto, unfolding(crate::specs::Summary::kind_word))]
+fn kind_word(kind: usize) -> &'static [u8]
+    ensures is { result.now ≡ kind_word kind }
+    ensures short { length result.now ≤ 5 }
 {
-    text.push(word);
-    text.push(b" ");
-    text.push_number(number);
-    text.push(b"\n");
+    match kind {
+        0 => b"boot",
+        1 => b"admit",
+        2 => b"enter",
+        3 => b"run",
+        4 => b"call",
+        5 => b"left",
+        6 => b"back",
+        7 => b"idle",
+        _ => b"stray",
+    }
 }
 
-/// The summary of these numbers of events, by their kinds: nine lines, each with its LF.
-#[tactic(auto, unfolding(crate::specs::Summary::summary_text))]
-pub fn summary(counts: &[u32; KINDS]) -> LineText
-    ensures { result ≡ summary_text counts.now }
+/// The line of a kind in the summary of these numbers of events, with its LF.
+#[tactic(auto, unfolding(crate::specs::Summary::kind_line))]
+pub fn kind_line(counts: &[u32; KINDS], kind: usize) -> LineText
+    requires { kind < 9 }
+    ensures { result ≡ kind_line counts.now kind }
 {
-    let mut text = LineText::new();
-    push_line(&mut text, b"boot", counts[0]);
-    push_line(&mut text, b"admit", counts[1]);
-    push_line(&mut text, b"enter", counts[2]);
-    push_line(&mut text, b"run", counts[3]);
-    push_line(&mut text, b"call", counts[4]);
-    push_line(&mut text, b"left", counts[5]);
-    push_line(&mut text, b"back", counts[6]);
-    push_line(&mut text, b"idle", counts[7]);
-    push_line(&mut text, b"stray", counts[8]);
-    text
+    let mut line = LineText::new();
+    line.push(kind_word(kind));
+    line.push(b" ");
+    line.push_number(counts[kind]);
+    line.push(b"\n");
+    line
 }

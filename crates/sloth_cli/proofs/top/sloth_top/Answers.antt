@@ -1,5 +1,6 @@
 use Rattle.sloth_cli.proofs.Complete.{tells-usage, tells-refused, is-complete}
 use Rattle.sloth_cli.proofs.ImageComplete.{tells-fault, tells-no-image, tells-exec-refused, tells-executed, tells-listed}
+use Rattle.sloth_cli.proofs.SampleComplete.{tells-sample-refused, tells-sampled}
 use Rattle.sloth_cli.proofs.top.sloth_top.Goals as goal
 
 pub returns-clause-usage : goal.returns-clause-usage
@@ -25,3 +26,9 @@ returns-clause-executed g c = tells-executed _ _ _ _ c.answer.ensures
 
 pub returns-clause-listed : goal.returns-clause-listed
 returns-clause-listed g c = tells-listed _ _ _ _ c.answer.ensures
+
+pub returns-clause-sample_refused : goal.returns-clause-sample_refused
+returns-clause-sample_refused g c = tells-sample-refused _ _ _ _ c.answer.ensures
+
+pub returns-clause-sampled : goal.returns-clause-sampled
+returns-clause-sampled g c = tells-sampled _ _ _ _ c.answer.ensures

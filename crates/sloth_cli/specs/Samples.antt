@@ -1,0 +1,25 @@
+-- What `sample` generates from a seed, and what it shows.
+use Rattle.std.specs.Prelude.{ℕ, List, filter, nat_lt}
+use Rattle.sloth_base.specs.declared.event.Arrival.{Arrival}
+use Rattle.sloth_base.specs.declared.image.Image.{Image}
+use Rattle.app_gen.specs.Load.{arrivals}
+use Rattle.app_gen.specs.Oil.{oil_text}
+use Rattle.app_gen.specs.Source.{source_text}
+use Rattle.sim_induction.specs.Sound.{events_of}
+use Rattle.trace_text.specs.Summary.{counts_of, summary_text}
+
+-- the OIL text: that of a generated application of 30 tasks
+abbrev pub sample_oil : List ℕ
+sample_oil = oil_text 30
+
+-- its task source
+abbrev pub sample_source : ℕ → List ℕ
+sample_source seed = source_text seed 30
+
+-- its arrivals, each of a line that one of so many tasks has
+abbrev pub sample_arrivals : ℕ → ℕ → List Arrival
+sample_arrivals seed tasks = filter (λ a. nat_lt a.line tasks) (arrivals seed 30)
+
+-- what is put: the summary of what is observed of the image's run of 1,000,000 instructions with these arrivals
+unfoldable pub sample_text : Image → List Arrival → List ℕ
+sample_text image arrivals = summary_text (counts_of (events_of image arrivals 1000000))
