@@ -1,4 +1,5 @@
-# One instruction or more of each mnemonic, and behind `#=` what its word is read as; then words that the machine does not have.
+# One instruction or more of each mnemonic, and behind `#=` what its word is read as; then words that the machine does not have,
+# and an instruction behind them.
 
         .option norvc
         .option norelax
@@ -64,3 +65,4 @@
         .word 0x00113023                #= none (sd)
         .word 0x000000f3                #= none (ecall with a register)
         .word 0x02011093                #= none (slli by 32)
+        addi x5, x0, 5                  #= Addi { rd: Reg(5), rs1: Reg(0), imm: 5 }

@@ -115,7 +115,20 @@
         mret
         .endm
 
-        .macro  prologue task, level, frame, words, first
+# Goes on behind the wait, where the task has a context of its own.
+        .macro  go_on_behind_wait task
+        lw      x1, RESUME+4+4*\task(x4)
+        beq     x1, x0, anew\@
+        sw      x0, RESUME+4+4*\task(x4)
+        lw      x3, 0(x1)
+        csrrw   x0, MEPC, x3
+        restore
+        addi    x10, x0, 0
+        mret
+anew\@:
+        .endm
+
+        .macro  prologue task, level, frame, words, first, extended=0
         save
         lui     x4, 0x80000
         csrrs   x3, MEPC, x0
@@ -132,6 +145,9 @@
         addi    x3, x0, 1
         sw      x3, 4+12*\task(x4)
         csrrwi  x0, PLEVEL, \level
+        .if     \extended
+        go_on_behind_wait \task
+        .endif
         constant x2, \frame
         constant x3, \first
         csrrw   x0, MEPC, x3
@@ -166,6 +182,29 @@
 go\@:   end_task
         raise   \task
         leave
+        .endm
+
+# The lower level, with the way back as the address to go on at, and behind it the way back.
+        .macro  schedule
+        open
+        csrrs   x30, ILEVEL, x0
+        lw      x3, 0(x4)
+        lui     x1, 0x10000
+        add     x1, x1, x3
+        lbu     x3, 63(x1)
+        csrrw   x0, PLEVEL, x3
+here\@: auipc   x3, 0
+        addi    x3, x3, 20
+        csrrw   x0, MEPC, x3
+        addi    x10, x0, 0
+        mret
+        .if     . - here\@ - 20
+        .error  "the way back is elsewhere"
+        .endif
+        csrrci  x0, mstatus, 8
+        csrrw   x0, PLEVEL, x30
+        csrrw   x0, MEPC, x31
+        mret
         .endm
 
         .macro  get_task_state task
@@ -314,6 +353,18 @@ rest\@: sw      x0, -8(x3)
 #: prologue 800ffffc
         .section .p04, "ax"
         prologue 0, 30, 0x80002e00 - 128, 32, 0x80001b74
+#: prologue 800ffffc
+        .section .p05, "ax"
+        prologue 0, 5, 0x80002e00, 0, 0x80001b74, 1
+#: prologue 800ffffc
+        .section .p06, "ax"
+        prologue 0, 5, 0x80002e00 - 4, 1, 0x80001b74, 1
+#: prologue 800ffffc
+        .section .p07, "ax"
+        prologue 0, 30, 0x80002e00, 0, 0x80001b74, 1
+#: prologue 800ffffc
+        .section .p08, "ax"
+        prologue 0, 30, 0x80002e00 - 128, 32, 0x80001b74, 1
 
 #: service 80001000
 #: mark 80001000 Opening 0 0 0
@@ -338,6 +389,11 @@ rest\@: sw      x0, -8(x3)
         .section .b11, "ax"
         chain_task 29
 #: service 80001000
+#: mark 80001000 Opening 3 0 0
+#: mark 80001034 Back 0 0 0
+        .section .b23, "ax"
+        schedule
+#: service 80001000
 #: mark 80001000 Opening 4 0 0
         .section .b12, "ax"
         open
@@ -347,11 +403,11 @@ rest\@: sw      x0, -8(x3)
         back
 #: service 80001000
 #: mark 80001000 Opening 5 0 0
-        .section .b17, "ax"
+        .section .b05, "ax"
         get_task_state 0
 #: service 80001000
 #: mark 80001000 Opening 5 0 0
-        .section .b18, "ax"
+        .section .b06, "ax"
         get_task_state 29
 #: service 80001000
 #: mark 80001000 Opening 6 0 0

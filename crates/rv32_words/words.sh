@@ -2,6 +2,10 @@
 # Writes the files `stdin` and `stdout` from `instructions.s` and `words.s` with the GNU assembler for RISC-V (in Debian,
 # binutils-riscv64-unknown-elf). The gate needs neither this script nor the assembler.
 cd "$(dirname "$0")" || exit 1
+
+# Two sections of one name would be one in the object.
+[ -z "$(sed -n 's/^ *\.section \(\.[a-z0-9]*\),.*/\1/p' words.s | sort | uniq -d)" ] || exit 1
+
 object=$(mktemp) || exit 1
 
 assemble() {

@@ -5,12 +5,12 @@ use Rattle.std.specs.List.{list_any, sum_by}
 use Rattle.std.specs.Str.{bytes_eq}
 use Rattle.std.proofs.lemmas.Bool.{cases_lt}
 use Rattle.std.proofs.lemmas.List.{map-append}
-use Rattle.std.proofs.lemmas.List.Elements.{All-nil, All-cons, All-head, All-tail, All-map, All-filter, filter_passes, filter_more}
+use Rattle.std.proofs.lemmas.List.Elements.{All-head, All-tail, filter_more}
 use Rattle.std.proofs.lemmas.List.Quantifiers.{all_pairs_push}
 use Rattle.std.proofs.lemmas.List.Sums.{sum_by-cons, sum_by_more}
 use Rattle.std.proofs.lemmas.Slice.Eq.{bytes_eq-Decides}
 use Rattle.std.proofs.Math.Seq.{take-length}
-use Rattle.text_pieces.proofs.Tests.{or_left, or_right}
+use Rattle.text_pieces.proofs.Tests.{none_pass}
 
 pub map_map : {X Y Z : Type 0} (g : Y → Z) (f : X → Y) (xs : List X) → map g (map f xs) ≡ map (λ x. g (f x)) xs
 map_map g f [] = refl
@@ -58,10 +58,6 @@ module _ {X Y : Type 0} (f : X → Y) (g : Y → ℕ) (w : X → ℕ) where
 
 -- ---- names
 
-pub none_pass : {X : Type 0} (p : X → Bool) (xs : List X) → list_any p xs ≡ false → All (λ x. p x ≡ false) xs
-none_pass p [] e = All-nil (λ x. p x ≡ false)
-none_pass p (x ∷ xs) e = All-cons (λ x. p x ≡ false) x xs (or_left (p x) (list_any p xs) e) (none_pass p xs (or_right (p x) (list_any p xs) e))
-
 -- names that differ from one another
 abbrev pub Apart : List (List ℕ) → Type 0
 Apart names = AllPairs (λ a b. a ≢ b) names
@@ -106,9 +102,6 @@ keep_all (x ∷ xs) = ap (λ ys. x ∷ ys) (keep_all xs)
 pub all_apart : {X : Type 0} (f : X → List ℕ) (xs : List X) (d : X) → ((i : ℕ) → i < length xs → list_any (bytes_eq (f (get_or xs i d))) (map f (take i xs)) ≡ false) → Apart (map f xs)
 all_apart f xs d rule = subst (λ ys. Apart (map f ys)) (keep_all xs)
     (kept_apart (λ x. true) f xs d (λ i h t. subst (λ ys. list_any (bytes_eq (f (get_or xs i d))) (map f ys) ≡ false) (sym (keep_all (take i xs))) (rule i h)))
-
-pub All-kept : {X Y : Type 0} (p : X → Bool) (f : X → Y) (P : Y → Type 0) (xs : List X) → All (λ x. p x ≡ true → P (f x)) xs → All P (map f (filter p xs))
-All-kept p f P xs h = All-map P f (filter p xs) (λ k d l. All-filter p (λ x. p x ≡ true → P (f x)) xs h k d l (filter_passes p xs k d l))
 
 -- two places of one name are one
 pub same_place : (names : List (List ℕ)) → Apart names → (i j : ℕ) (d : List ℕ) → i < length names → j < length names → get_or names i d ≡ get_or names j d → i ≡ j

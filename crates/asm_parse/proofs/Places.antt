@@ -1,15 +1,12 @@
 -- Places of names among names.
 use Rattle.std.proofs.Common.{◌≡◌, ◌∙◌, ap, sym, refl, subst, suc, ℕ, ◌<◌, Bool, true, false, cond, List, [], ◌∷◌, length, map, get_or, Option, Some, None, true≢false, arith}
-use Rattle.std.specs.Prelude.{◌||◌, nat_lt, position, is_some, unwrap_or, filter}
+use Rattle.std.specs.Prelude.{◌||◌, position, is_some, unwrap_or, filter}
 use Rattle.std.specs.List.{list_any}
 use Rattle.std.specs.Str.{bytes_eq}
-use Rattle.std.proofs.lemmas.Bool.{lt-ltb}
 use Rattle.std.proofs.lemmas.List.Quantifiers.{position-Some}
-use Rattle.std.proofs.lemmas.List.Sums.{position_or_len_is}
 use Rattle.std.proofs.lemmas.Slice.Eq.{bytes_eq-Decides}
 use Rattle.text_pieces.proofs.Places.{position-any}
 use Rattle.asm_parse.specs.Operations.{number_of}
-use Rattle.asm_parse.proofs.Growth.{Apart}
 
 -- the place of a name that is there
 pub place_of : (names : List (List ℕ)) (name : List ℕ) → list_any (bytes_eq name) names ≡ true → (i : ℕ) × (position (bytes_eq name) names ≡ Some i)
@@ -29,17 +26,6 @@ number_is names name i e = ap (λ o. unwrap_or o 0) e
 
 pub number_below : (names : List (List ℕ)) (name : List ℕ) → list_any (bytes_eq name) names ≡ true → number_of names name < length names
 number_below names name h = let p = place_of names name h in subst (λ n. n < length names) (sym (number_is names name p.0 p.1)) (stands names name p.0 [] p.1).0
-
--- Where names differ, the place of a name is the one at which it stands.
-pub position_at : (names : List (List ℕ)) → Apart names → (i : ℕ) (d : List ℕ) → i < length names → position (bytes_eq (get_or names i d)) names ≡ Some i
-position_at names a i d h =
-    let name = get_or names i d in
-    let at = position_or_len_is (bytes_eq name) names i d (omega (arith, h)) (λ k l. before k l (bytes_eq name (get_or names k d)) refl) (λ l. (bytes_eq-Decides name name).1 refl) in
-    ap (λ n. cond (nat_lt n (length names)) (Some n) None) at ∙ ap (λ b. cond b (Some i) None) (lt-ltb i (length names) h)
-  where
-    before : (k : ℕ) → k < i → (b : Bool) → bytes_eq (get_or names i d) (get_or names k d) ≡ b → bytes_eq (get_or names i d) (get_or names k d) ≡ false
-    before k l true e = absurd (a k i d l h (sym ((bytes_eq-Decides (get_or names i d) (get_or names k d)).0 e)))
-    before k l false e = e
 
 -- one of the elements that pass has such a name
 pub record IsPlace {X : Type 0} (p q : X → Bool) (xs : List X) : Type 0 where

@@ -8,7 +8,8 @@ use Rattle.std.proofs.lemmas.List.Elements.{All-weaker, All-map, recursion_from_
 use Rattle.std.proofs.lemmas.List.Sums.{length-filter, sum-map}
 use Rattle.std.proofs.lemmas.Option.{slice_get-get_or}
 use Rattle.std.proofs.lemmas.Slice.Eq.{bytes_eq-Decides}
-use Rattle.text_pieces.proofs.Tests.{and_left}
+use Rattle.text_pieces.proofs.Tests.{and_left, none_pass, All-kept}
+use Rattle.text_pieces.proofs.Places.{position_at}
 use Rattle.sloth_base.specs.ConfigRange.{InRange}
 use Rattle.sloth_base.specs.ImageRange.{IsName, AreNames}
 use Rattle.sloth_base.specs.Named.{function, missing, IsBodyOf}
@@ -37,13 +38,13 @@ use Rattle.asm_parse.specs.AppTexts.{AppText, SourceTextFault}
 use Rattle.app_rules.specs.AppRange.{IsResource, IsCallable, IsPlaced, IsBody, HasBodies, IsWithinLimits, AppInRange, no_event}
 use Rattle.asm_parse.proofs.BodiesRead.{IsReadBody, bodies_read, no_body, body_at, line_at, names_apart, few_bodies, few_words, short_name, known_at, short_at, labels_apart, few_items}
 use Rattle.asm_parse.proofs.Declared.{header_name, label_name}
-use Rattle.asm_parse.proofs.Growth.{map_map, Apart, same_place, none_pass, sum_mapped, All-kept}
+use Rattle.asm_parse.proofs.Growth.{map_map, Apart, same_place, sum_mapped}
 use Rattle.asm_parse.proofs.ItemsRange.{label_or, names_of_labels, IsSound, items_range, IsPlacedIn, labels_range}
 use Rattle.asm_parse.proofs.Known.{IsKnown, IsEvent}
 use Rattle.asm_parse.proofs.LinesRead.{all_read}
 use Rattle.asm_parse.proofs.Operands.{was_true}
 use Rattle.asm_parse.proofs.OpsRange.{not_true}
-use Rattle.asm_parse.proofs.Places.{place_of, stands, number_is, number_below, position_at, found_kept}
+use Rattle.asm_parse.proofs.Places.{place_of, stands, number_is, number_below, found_kept}
 use Rattle.asm_parse.proofs.Read.{IsRead}
 use Rattle.asm_parse.proofs.SymbolsRange.{names, few_symbols, few_bytes, some_bytes}
 

@@ -6,7 +6,7 @@ use Rattle.std.specs.Str.{bytes_eq}
 use Rattle.std.proofs.lemmas.Bool.{eqb-false, ltb-false, cases_lt}
 use Rattle.std.proofs.lemmas.List.{get_or_default}
 use Rattle.std.proofs.lemmas.List.Sums.{sum-map}
-use Rattle.text_pieces.proofs.Tests.{or_left, or_right}
+use Rattle.text_pieces.proofs.Tests.{or_left, or_right, All-kept}
 use Rattle.sloth_base.specs.ImageRange.{IsName, AreNames}
 use Rattle.sloth_base.specs.declared.app.Symbol.{Symbol}
 use Rattle.sloth_base.specs.declared.refusal.Code.TheVariants.{A5, A6}
@@ -20,7 +20,7 @@ use Rattle.asm_names.specs.Said.{is_data, name_of, number_of, symbol_names}
 use Rattle.asm_names.specs.NameFaults.{has_long, bytes_of, is_taken, is_too_much, DataFault}
 use Rattle.asm_parse.specs.Apps.{symbol_of}
 use Rattle.asm_parse.proofs.Declared.{data_or, data_name, data_size}
-use Rattle.asm_parse.proofs.Growth.{within, sum_kept, Apart, kept_apart, All-kept}
+use Rattle.asm_parse.proofs.Growth.{within, sum_kept, Apart, kept_apart}
 use Rattle.asm_parse.proofs.Read.{IsRead}
 
 -- a symbol is as long as the number behind its name

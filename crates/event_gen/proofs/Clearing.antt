@@ -15,7 +15,7 @@ use Rattle.rv32_routine.specs.Kernel.{masking}
 use Rattle.rv32_routine.specs.Owes.{Owes}
 use Rattle.rv32_routine.proofs.Spread.{spread}
 use Rattle.rv32_routine.proofs.Whole.{masked}
-use Rattle.service_gen.proofs.Returning.{answered}
+use Rattle.service_gen.proofs.Returning.{goes_back}
 use Rattle.service_gen.proofs.Serving.{opens}
 use Rattle.service_gen.specs.Pieces.{back}
 use Rattle.event_gen.specs.Pieces.{finds_own, clears_own}
@@ -38,7 +38,6 @@ module _ (offset task : ℕ) (c : Core) (h : MayClear offset task (masking ∷ b
   body_owes : Owes offset (offset + 4 + 60) (offset + 4) body 0 (EventsCleared task) (at offset (spread c)) (masked (spread c))
   body_owes =
       let small = h.is_task in
-      let level = h.level in
       let low = h.goes_back.can_run.behind in
       let word = word_at c.ram (events task) in (
         0x8000_0000,
@@ -78,26 +77,8 @@ module _ (offset task : ℕ) (c : Core) (h : MayClear offset task (masking ∷ b
                           (
                             E_OK,
                             refl,
-                            (
-                              c.ilevel,
-                              refl,
-                              refl,
-                              (
-                                c.plevel,
-                                refl,
-                                refl,
-                                (
-                                  c.mepc,
-                                  refl,
-                                  refl,
-                                  record {
-                                    touches = refl;
-                                    status = refl;
-                                    back = answered offset (masking ∷ body) c h.goes_back (4294967295 - mask) c.ilevel c.ilevel E_OK c.pending c.pending (cleared_ram c.ram task mask) (omega arith);
-                                  },
-                                ),
-                              ),
-                            ),
+                            goes_back offset (masking ∷ body) c h.goes_back (EventsCleared task) (4294967295 - mask) (0x8000_0000 + 12 * (task + 1)) E_OK
+                                c.pending c.pending (cleared_ram c.ram task mask) h.level (λ last is went. record { touches = refl; status = is; back = went }),
                           ),
                         ),
                       ),

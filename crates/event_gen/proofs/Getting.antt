@@ -1,23 +1,23 @@
 -- The code of GetEvent has its effect.
-use Rattle.std.proofs.Common.{◌≡◌, ℕ, ◌+◌, ◌<◌, ◌≤◌, ◌⊎◌, List, ◌∷◌, ◌++◌, length, get_or, refl, ap, arith, inl, inr, ⊎_elim}
-use Rattle.std.specs.Prelude.{false, bit_or, bit_xor, eqb}
+use Rattle.std.proofs.Common.{◌≡◌, ℕ, ◌+◌, ◌≤◌, List, ◌∷◌, ◌++◌, length, get_or, refl, ap, arith, inl, inr, ⊎_elim}
+use Rattle.std.specs.Prelude.{false, eqb}
 use Rattle.std.proofs.lemmas.Bool.{eq-eqb}
 use Rattle.sloth_base.specs.Machine.{Core, State}
 use Rattle.sloth_base.specs.Arrive.{arrive}
 use Rattle.sloth_base.specs.Status.{E_OK, E_OS_STATE}
-use Rattle.sloth_region.specs.Layout.{active, events, words_high, controller_base}
+use Rattle.sloth_region.specs.Layout.{active, events, words_high}
 use Rattle.rv32_instr.specs.declared.InstrKind.{InstrKind}
 use Rattle.rv32_instr.specs.declared.InstrKind.TheVariants.{Lui}
 use Rattle.rv32_instr.specs.Ram.{word_at}
 use Rattle.rv32_routine.specs.Place.{at}
 use Rattle.rv32_routine.specs.Masked.{FromOpening}
 use Rattle.rv32_routine.specs.Kernel.{masking}
-use Rattle.rv32_routine.specs.Owes.{Owes, Pending, Enabled}
+use Rattle.rv32_routine.specs.Owes.{Owes}
 use Rattle.rv32_routine.proofs.Spread.{spread, spread_from}
 use Rattle.rv32_routine.proofs.Whole.{masked}
 use Rattle.rv32_routine.proofs.Leave.{behind}
-use Rattle.service_gen.proofs.Returning.{answered, answered_with}
-use Rattle.service_gen.proofs.Busy.{bit_arrives, busy_of, busies}
+use Rattle.service_gen.proofs.Returning.{goes_back, goes_back_with}
+use Rattle.service_gen.proofs.Busy.{Finds, looks_owe}
 use Rattle.service_gen.proofs.Chaining.{lands}
 use Rattle.service_gen.proofs.Serving.{opens}
 use Rattle.service_gen.specs.Pieces.{busy, back}
@@ -44,39 +44,19 @@ module _ (offset task : ℕ) (c : Core) (h : MayGet offset task (masking ∷ bod
   told = word_at c.ram (events task)
 
   -- behind the look at the task, which found v
-  looked_owe : (o : ℕ) (p : List ℕ) (v : ℕ) → o + 4 ≤ 0x20_0000 → (((word ≡ 0) × (get_or p task 0 ≡ 0) × (get_or c.enabled task 0 ≡ 1)) × (v ≡ 0)) ⊎ ((((word ≡ 0) × (get_or p task 0 ≡ 0) × (get_or c.enabled task 0 ≡ 1)) → ⊥) × (v ≡ 1)) → Owes offset (offset + 4 + 64) o (refuses 2 ++ (tells_events task ++ back)) 0 (λ u. EventsTold task (task ∷ u)) (st p) (record (masked (spread c)) { registers = 0 ∷ word ∷ x2 ∷ v ∷ 0x8000_0000 ∷ tail; pending = p })
+  looked_owe : (o : ℕ) (p : List ℕ) (v : ℕ) → o + 4 ≤ 0x20_0000 → Finds task (record c { pending = p }) v
+      → Owes offset (offset + 4 + 64) o (refuses 2 ++ (tells_events task ++ back)) 0 (λ u. EventsTold task (task ∷ u)) (st p)
+      (record (masked (spread c)) { registers = 0 ∷ word ∷ x2 ∷ v ∷ 0x8000_0000 ∷ tail; pending = p })
   looked_owe o p v small found =
-      let few = h.is_task in
-      let level = h.level in (
+      let few = h.is_task in (
         E_OS_STATE,
         refl,
         record {
           passed = 2;
           lands = lands (o + 4) 12 2 (omega arith) (omega arith) refl;
           when_taken = λ t. ⊎_elim
-              (λ s. (
-                c.ilevel,
-                refl,
-                refl,
-                (
-                  c.plevel,
-                  refl,
-                  refl,
-                  (
-                    c.mepc,
-                    refl,
-                    refl,
-                    record {
-                      touches = refl;
-                      told = inl (record {
-                        suspended = s.0;
-                        status = refl;
-                        back = answered offset (masking ∷ body task) c h.goes_back word c.ilevel c.ilevel E_OS_STATE p p c.ram (omega arith);
-                      });
-                    },
-                  ),
-                ),
-              ))
+              (λ s. goes_back offset (masking ∷ body task) c h.goes_back (λ u. EventsTold task (task ∷ u)) word v E_OS_STATE p p c.ram h.level
+              (λ last is went. record { touches = refl; told = inl (record { suspended = s.0; status = is; back = went }) }))
               (λ s. let f : eqb v 0 ≡ false = ap (λ x. eqb x 0) s.1 in absurd (cc))
               found;
           when_not = λ n. ⊎_elim
@@ -89,30 +69,11 @@ module _ (offset task : ℕ) (c : Core) (h : MayGet offset task (masking ∷ bod
                   record { is = omega arith; aligned = omega arith; inside = omega arith },
                   told,
                   refl,
-                  (
-                    c.ilevel,
-                    refl,
-                    refl,
-                    (
-                      c.plevel,
-                      refl,
-                      refl,
-                      (
-                        c.mepc,
-                        refl,
-                        refl,
-                        record {
-                          touches = refl;
-                          told = inr (record {
-                            not_suspended = s.0;
-                            status = refl;
-                            answer = refl;
-                            back = answered_with offset (masking ∷ body task) c h.goes_back word c.ilevel c.ilevel E_OK told p p c.ram (omega arith);
-                          });
-                        },
-                      ),
-                    ),
-                  ),
+                  goes_back_with offset (masking ∷ body task) c h.goes_back (λ u. EventsTold task (task ∷ u)) word v E_OK told p p c.ram h.level
+                      (λ last is answer went. record {
+                        touches = refl;
+                        told = inr (record { not_suspended = s.0; status = is; answer = answer; back = went });
+                      }),
                 ),
               ))
               found;
@@ -121,45 +82,12 @@ module _ (offset task : ℕ) (c : Core) (h : MayGet offset task (masking ∷ bod
 
   body_owes : Owes offset (offset + 4 + 64) (offset + 4) (body task) 0 (EventsTold task) (at offset (spread c)) (masked (spread c))
   body_owes =
-      let small = h.is_task in
-      let line : task < 32 = omega arith in
-      let long = h.goes_back.can_run.lines in
-      let fits = h.goes_back.can_run.inside in
-      let e = get_or c.enabled task 0 in (
+      let fits = h.goes_back.can_run.inside in (
         0x8000_0000,
         refl,
-        (
-          controller_base,
-          refl,
-          (
-            Enabled task,
-            (omega arith, line),
-            (
-              bit_xor e 1,
-              refl,
-              (
-                Pending task,
-                (omega arith, line),
-                λ lines only. (
-                  bit_or (bit_xor e 1) (get_or (arrive lines c.pending) task 0),
-                  refl,
-                  (
-                    active task,
-                    record { is = omega arith; aligned = omega arith; inside = omega arith },
-                    word,
-                    refl,
-                    (
-                      busy_of e (get_or (arrive lines c.pending) task 0) word,
-                      refl,
-                      looked_owe (behind 8 (offset + 4)) (arrive lines c.pending) (busy_of e (get_or (arrive lines c.pending) task 0) word) (omega arith)
-                          (busies e (get_or (arrive lines c.pending) task 0) word h.enabled_bit (bit_arrives lines c.pending task (omega arith) h.pending_bit) h.active_bit),
-                    ),
-                  ),
-                ),
-              ),
-            ),
-          ),
-        ),
+        looks_owe offset (offset + 4 + 64) task (EventsTold task) (refuses 2 ++ (tells_events task ++ back)) c h.is_task h.goes_back.can_run.lines
+            h.active_bit h.pending_bit h.enabled_bit (offset + 4 + 4) (get_or c.registers 1 0) (get_or c.registers 3 0)
+            (λ lines v only found. looked_owe (behind 8 (offset + 4)) (arrive lines c.pending) v (omega arith) found),
       )
 
   runs_it : FromOpening 16 (at offset c) (EventsTold task)

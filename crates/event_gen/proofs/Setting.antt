@@ -1,6 +1,6 @@
 -- The code of SetEvent has its effect.
-use Rattle.std.proofs.Common.{◌≡◌, ℕ, ◌+◌, ◌<◌, ◌≤◌, ◌⊎◌, List, ◌∷◌, ◌++◌, length, get_or, refl, ap, arith, inl, inr, ⊎_elim}
-use Rattle.std.specs.Prelude.{false, set, bit_and, bit_or, bit_xor, eqb}
+use Rattle.std.proofs.Common.{◌≡◌, ℕ, ◌+◌, ◌<◌, ◌≤◌, List, ◌∷◌, ◌++◌, length, get_or, refl, ap, arith, inl, inr, ⊎_elim}
+use Rattle.std.specs.Prelude.{false, set, bit_and, eqb}
 use Rattle.std.proofs.lemmas.Bool.{eq-eqb, cases_eq, ne_eqb}
 use Rattle.sloth_base.specs.Machine.{Core, State}
 use Rattle.sloth_base.specs.Arrive.{arrive}
@@ -17,10 +17,11 @@ use Rattle.rv32_routine.proofs.Words.{word_at-other}
 use Rattle.rv32_routine.proofs.Spread.{spread, spread_from}
 use Rattle.rv32_routine.proofs.Whole.{masked}
 use Rattle.rv32_routine.proofs.Leave.{behind}
-use Rattle.service_gen.proofs.Returning.{answered}
-use Rattle.service_gen.proofs.Busy.{bit_arrives, busy_of, busies}
+use Rattle.service_gen.proofs.Returning.{goes_back}
+use Rattle.service_gen.proofs.Busy.{Finds, looks_owe}
 use Rattle.service_gen.proofs.Chaining.{lands}
 use Rattle.service_gen.proofs.Serving.{opens}
+use Rattle.service_gen.specs.ActivateTask.{LooksSuspended}
 use Rattle.service_gen.specs.Back.{CanGoBack}
 use Rattle.service_gen.specs.Pieces.{busy, raises, back}
 use Rattle.event_gen.specs.Pieces.{refuses, adds_events, asks_awaited, enables}
@@ -63,11 +64,12 @@ module _ (offset task : ℕ) (c : Core) (h : MaySet offset task (masking ∷ bod
       }
 
   -- the look at the awaited events
-  asked_owe : (o : ℕ) (p : List ℕ) → o + 8 ≤ 0x20_0000 → (((word ≡ 0) × (get_or p task 0 ≡ 0) × (get_or c.enabled task 0 ≡ 1)) → ⊥) → Owes offset (offset + 4 + 100) o (asks_awaited task ++ (raises task ++ (enables task ++ back))) 0 (λ u. EventsSet task (task ∷ u)) (st p) (record (masked (spread c)) { registers = 0 ∷ word ∷ x2 ∷ grown ∷ 0x8000_0000 ∷ set tail 5 E_OK; pending = p; ram = ram })
+  asked_owe : (o : ℕ) (p : List ℕ) → o + 8 ≤ 0x20_0000 → (LooksSuspended task (record c { pending = p }) → ⊥)
+      → Owes offset (offset + 4 + 100) o (asks_awaited task ++ (raises task ++ (enables task ++ back))) 0 (λ u. EventsSet task (task ∷ u)) (st p)
+      (record (masked (spread c)) { registers = 0 ∷ word ∷ x2 ∷ grown ∷ 0x8000_0000 ∷ set tail 5 E_OK; pending = p; ram = ram })
   asked_owe o p small not_suspended =
       let few = h.is_task in
       let line : task < 32 = omega arith in
-      let level = h.level in
       let v = bit_and grown waits_for in (
         wait task,
         record { is = omega arith; aligned = omega arith; inside = omega arith },
@@ -80,30 +82,11 @@ module _ (offset task : ℕ) (c : Core) (h : MaySet offset task (masking ∷ bod
             passed = 4;
             lands = lands (o + 4 + 4) 20 4 (omega arith) (omega arith) refl;
             when_taken = λ t. ⊎_elim
-                (λ none. (
-                  c.ilevel,
-                  refl,
-                  refl,
-                  (
-                    c.plevel,
-                    refl,
-                    refl,
-                    (
-                      c.mepc,
-                      refl,
-                      refl,
-                      record {
-                        touches = refl;
-                        done = inr (inl (record {
-                          not_suspended = not_suspended;
-                          none_awaited = none;
-                          status = refl;
-                          back = answered offset (masking ∷ body task) c h.goes_back waits_for c.ilevel c.ilevel E_OK p p ram (omega arith);
-                        }));
-                      },
-                    ),
-                  ),
-                ))
+                (λ none. goes_back offset (masking ∷ body task) c h.goes_back (λ u. EventsSet task (task ∷ u)) waits_for v E_OK p p ram h.level
+                (λ last is went. record {
+                  touches = refl;
+                  done = inr (inl (record { not_suspended = not_suspended; none_awaited = none; status = is; back = went }));
+                }))
                 (λ some. let f = ne_eqb v 0 some in absurd (cc))
                 (cases_eq v 0);
             when_not = λ n. ⊎_elim
@@ -122,32 +105,17 @@ module _ (offset task : ℕ) (c : Core) (h : MaySet offset task (masking ∷ bod
                         (
                           Enabled task,
                           (omega arith, line),
-                          (
-                            c.ilevel,
-                            refl,
-                            refl,
-                            (
-                              c.plevel,
-                              refl,
-                              refl,
-                              (
-                                c.mepc,
-                                refl,
-                                refl,
-                                record {
-                                  touches = refl;
-                                  done = inr (inr (record {
-                                    not_suspended = not_suspended;
-                                    one_awaited = some;
-                                    status = refl;
-                                    back =
-                                        let w = answered offset (masking ∷ body task) (record c { enabled = set c.enabled task 1 }) (enabled_too (set c.enabled task 1)) controller_base c.ilevel c.ilevel E_OK p (set p task 1) ram (omega arith) in
-                                        record { left = w.left; pc = w.pc; x2 = w.x2; kept = w.kept };
-                                  }));
-                                },
-                              ),
-                            ),
-                          ),
+                          goes_back offset (masking ∷ body task) (record c { enabled = set c.enabled task 1 }) (enabled_too (set c.enabled task 1))
+                              (λ u s last. EventsSet task (task ∷ u) (st p) last) controller_base 1 E_OK p (set p task 1) ram h.level
+                              (λ last is went. record {
+                                touches = refl;
+                                done = inr (inr (record {
+                                  not_suspended = not_suspended;
+                                  one_awaited = some;
+                                  status = is;
+                                  back = record { left = went.left; pc = went.pc; x2 = went.x2; kept = went.kept };
+                                }));
+                              }),
                         ),
                       ),
                     ),
@@ -158,41 +126,25 @@ module _ (offset task : ℕ) (c : Core) (h : MaySet offset task (masking ∷ bod
         ),
       )
 
-  -- behind the look at the task, which found v
-  looked_owe : (o : ℕ) (p : List ℕ) (v : ℕ) → o + 40 ≤ 0x20_0000 → (((word ≡ 0) × (get_or p task 0 ≡ 0) × (get_or c.enabled task 0 ≡ 1)) × (v ≡ 0)) ⊎ ((((word ≡ 0) × (get_or p task 0 ≡ 0) × (get_or c.enabled task 0 ≡ 1)) → ⊥) × (v ≡ 1)) → Owes offset (offset + 4 + 100) o (refuses 11 ++ (adds_events task ++ (asks_awaited task ++ (raises task ++ (enables task ++ back))))) 0 (λ u. EventsSet task (task ∷ u)) (st p) (record (masked (spread c)) { registers = 0 ∷ word ∷ x2 ∷ v ∷ 0x8000_0000 ∷ tail; pending = p })
+  -- the code behind the look at the task
+  abbrev further : List InstrKind
+  further = refuses 11 ++ (adds_events task ++ (asks_awaited task ++ (raises task ++ (enables task ++ back))))
+
+  -- behind the look, which found v
+  looked_owe : (o : ℕ) (p : List ℕ) (v : ℕ) → o + 40 ≤ 0x20_0000 → Finds task (record c { pending = p }) v
+      → Owes offset (offset + 4 + 100) o further 0 (λ u. EventsSet task (task ∷ u)) (st p)
+      (record (masked (spread c)) { registers = 0 ∷ word ∷ x2 ∷ v ∷ 0x8000_0000 ∷ tail; pending = p })
   looked_owe o p v small found =
       let few = h.is_task in
-      let low = h.goes_back.can_run.behind in
-      let level = h.level in (
+      let low = h.goes_back.can_run.behind in (
         E_OS_STATE,
         refl,
         record {
           passed = 11;
           lands = lands (o + 4) 48 11 (omega arith) (omega arith) refl;
           when_taken = λ t. ⊎_elim
-              (λ s. (
-                c.ilevel,
-                refl,
-                refl,
-                (
-                  c.plevel,
-                  refl,
-                  refl,
-                  (
-                    c.mepc,
-                    refl,
-                    refl,
-                    record {
-                      touches = refl;
-                      done = inl (record {
-                        suspended = s.0;
-                        status = refl;
-                        back = answered offset (masking ∷ body task) c h.goes_back word c.ilevel c.ilevel E_OS_STATE p p c.ram (omega arith);
-                      });
-                    },
-                  ),
-                ),
-              ))
+              (λ s. goes_back offset (masking ∷ body task) c h.goes_back (λ u. EventsSet task (task ∷ u)) word v E_OS_STATE p p c.ram h.level
+              (λ last is went. record { touches = refl; done = inl (record { suspended = s.0; status = is; back = went }) }))
               (λ s. let f : eqb v 0 ≡ false = ap (λ x. eqb x 0) s.1 in absurd (cc))
               found;
           when_not = λ n. ⊎_elim
@@ -223,45 +175,12 @@ module _ (offset task : ℕ) (c : Core) (h : MaySet offset task (masking ∷ bod
 
   body_owes : Owes offset (offset + 4 + 100) (offset + 4) (body task) 0 (EventsSet task) (at offset (spread c)) (masked (spread c))
   body_owes =
-      let small = h.is_task in
-      let line : task < 32 = omega arith in
-      let long = h.goes_back.can_run.lines in
-      let fits = h.goes_back.can_run.inside in
-      let e = get_or c.enabled task 0 in (
+      let fits = h.goes_back.can_run.inside in (
         0x8000_0000,
         refl,
-        (
-          controller_base,
-          refl,
-          (
-            Enabled task,
-            (omega arith, line),
-            (
-              bit_xor e 1,
-              refl,
-              (
-                Pending task,
-                (omega arith, line),
-                λ lines only. (
-                  bit_or (bit_xor e 1) (get_or (arrive lines c.pending) task 0),
-                  refl,
-                  (
-                    active task,
-                    record { is = omega arith; aligned = omega arith; inside = omega arith },
-                    word,
-                    refl,
-                    (
-                      busy_of e (get_or (arrive lines c.pending) task 0) word,
-                      refl,
-                      looked_owe (behind 8 (offset + 4)) (arrive lines c.pending) (busy_of e (get_or (arrive lines c.pending) task 0) word) (omega arith)
-                          (busies e (get_or (arrive lines c.pending) task 0) word h.enabled_bit (bit_arrives lines c.pending task (omega arith) h.pending_bit) h.active_bit),
-                    ),
-                  ),
-                ),
-              ),
-            ),
-          ),
-        ),
+        looks_owe offset (offset + 4 + 100) task (EventsSet task) further c h.is_task h.goes_back.can_run.lines
+            h.active_bit h.pending_bit h.enabled_bit (offset + 4 + 4) (get_or c.registers 1 0) (get_or c.registers 3 0)
+            (λ lines v only found. looked_owe (behind 8 (offset + 4)) (arrive lines c.pending) v (omega arith) found),
       )
 
   runs_it : FromOpening 25 (at offset c) (EventsSet task)

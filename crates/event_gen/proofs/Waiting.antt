@@ -19,7 +19,7 @@ use Rattle.rv32_routine.proofs.Spread.{spread, spread_from}
 use Rattle.rv32_routine.proofs.Runs.{saves_owes}
 use Rattle.rv32_routine.proofs.Whole.{masked}
 use Rattle.rv32_routine.proofs.Leave.{leave_owes, behind}
-use Rattle.service_gen.proofs.Returning.{answered}
+use Rattle.service_gen.proofs.Returning.{goes_back}
 use Rattle.service_gen.proofs.Chaining.{lands}
 use Rattle.service_gen.proofs.Serving.{opens}
 use Rattle.service_gen.specs.Pieces.{back}
@@ -225,7 +225,6 @@ module _ (offset task place own : ℕ) (c : Core) (h : MayWait offset task place
   looked_owe : (rest : List InstrKind) → (found ≡ 0 → Owes offset end (behind 14 (offset + 4)) rest 0 (Waited task place own) st (record (masked (spread c)) { registers = 0 ∷ found ∷ sp ∷ (0x8000_0000 + 12 * (task + 1)) ∷ 0x8000_0000 ∷ tail })) → Owes offset end (offset + 4) (Lui 4 words_high ∷ (finds_own ++ (asks_set ++ (answers_set ++ (back ++ rest))))) 0 (Waited task place own) st (masked (spread c))
   looked_owe rest go =
       let small = h.is_task in
-      let level = h.level in
       let fits = h.goes_back.can_run.inside in (
         0x8000_0000,
         refl,
@@ -266,29 +265,8 @@ module _ (offset task place own : ℕ) (c : Core) (h : MayWait offset task place
                             (λ some. (
                               E_OK,
                               refl,
-                              (
-                                c.ilevel,
-                                refl,
-                                refl,
-                                (
-                                  c.plevel,
-                                  refl,
-                                  refl,
-                                  (
-                                    c.mepc,
-                                    refl,
-                                    refl,
-                                    record {
-                                      touches = refl;
-                                      done = inl (record {
-                                        one_set = some;
-                                        status = refl;
-                                        back = answered offset (masking ∷ body) c h.goes_back found c.ilevel c.ilevel E_OK c.pending c.pending c.ram (omega arith);
-                                      });
-                                    },
-                                  ),
-                                ),
-                              ),
+                              goes_back offset (masking ∷ body) c h.goes_back (Waited task place own) found (0x8000_0000 + 12 * (task + 1)) E_OK
+                                  c.pending c.pending c.ram h.level (λ last is went. record { touches = refl; done = inl (record { one_set = some; status = is; back = went }) }),
                             ))
                             (cases_eq found 0);
                       },

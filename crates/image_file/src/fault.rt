@@ -12,7 +12,7 @@ pub enum ImageFault {
     I1,
     /// The file ends inside a part, or a number of the header is out of its limits.
     I2,
-    /// A name is no name or stands twice, or a mark is none.
+    /// A name is no word of 1 to 64 bytes, two tasks or two functions have one name, or a mark is out of range.
     I3,
     /// The marks' addresses do not rise.
     I4,

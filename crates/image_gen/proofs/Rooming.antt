@@ -106,36 +106,16 @@ with_back at bytes code room long =
           (All-cons Q (back_mark (sum32 at way_back)) [] (omega arith, omega arith) (All-nil Q));
     }
 
--- the marks of a service's block
+-- the marks of a service's block: the opening, and behind it Schedule's way back
 service_marks : (s : Service) (object : ℕ) (levels : Levels) (code : List InstrKind) (at number : ℕ) → at + 4 * length code < 4294967296
     → ServesCall s object levels code → HasServiceMarks at (4 * length code) (opening at number ∷ further_marks s at)
-service_marks service.ActivateTask object levels code at number room h =
-    let some = some_code service.ActivateTask object levels code h in opening_alone at (4 * length code) number (omega (arith, some))
-service_marks service.TerminateTask object levels code at number room h =
-    let some = some_code service.TerminateTask object levels code h in opening_alone at (4 * length code) number (omega (arith, some))
-service_marks service.ChainTask object levels code at number room h =
-    let some = some_code service.ChainTask object levels code h in opening_alone at (4 * length code) number (omega (arith, some))
 service_marks service.Schedule object levels code at number room h =
     let again = h.masks_again in
     let long = ap length again.2 ∙ length-append again.0 (masking ∷ again.1) in
     let behind = again.3 in
     with_back at (4 * length code) number room (omega (arith, long, behind))
-service_marks service.GetTaskID object levels code at number room h =
-    let some = some_code service.GetTaskID object levels code h in opening_alone at (4 * length code) number (omega (arith, some))
-service_marks service.GetTaskState object levels code at number room h =
-    let some = some_code service.GetTaskState object levels code h in opening_alone at (4 * length code) number (omega (arith, some))
-service_marks service.GetResource object levels code at number room h =
-    let some = some_code service.GetResource object levels code h in opening_alone at (4 * length code) number (omega (arith, some))
-service_marks service.ReleaseResource object levels code at number room h =
-    let some = some_code service.ReleaseResource object levels code h in opening_alone at (4 * length code) number (omega (arith, some))
-service_marks service.SetEvent object levels code at number room h =
-    let some = some_code service.SetEvent object levels code h in opening_alone at (4 * length code) number (omega (arith, some))
-service_marks service.ClearEvent object levels code at number room h =
-    let some = some_code service.ClearEvent object levels code h in opening_alone at (4 * length code) number (omega (arith, some))
-service_marks service.GetEvent object levels code at number room h =
-    let some = some_code service.GetEvent object levels code h in opening_alone at (4 * length code) number (omega (arith, some))
-service_marks service.WaitEvent object levels code at number room h =
-    let some = some_code service.WaitEvent object levels code h in opening_alone at (4 * length code) number (omega (arith, some))
+service_marks s object levels code at number room h =
+    let some = some_code s object levels code h in opening_alone at (4 * length code) number (omega (arith, some))
 
 -- a place in a list where something is
 pub there : {X : Type 0} (xs : List X) (t : ℕ) (e : X) → slice_get xs t ≡ Some e → t < length xs

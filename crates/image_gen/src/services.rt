@@ -6,6 +6,7 @@ ghost use Rattle.event_gen.specs.Calls.{IsCalledWith, ServesCall};
 ghost use Rattle.image_gen.specs.Services.{IsServed, AreServed, IsService, AreServices};
 
 use crate::prologues::push;
+use crate::wanted::{NUMBERS, OBJECTS};
 use rv32_instr::Block;
 use sloth_base::config::Config;
 use sloth_base::memory::NoMemory;
@@ -13,12 +14,6 @@ use sloth_base::places::Levels;
 use sloth_base::service::Service;
 use sloth_region::map::Map;
 use std::alloc::Global;
-
-/// The numbers of services, by service code * 40 + object.
-const NUMBERS: usize = 512;
-
-/// The objects of a service.
-const OBJECTS: usize = 40;
 
 // The code of a service with its object.
 fn called(
@@ -36,10 +31,8 @@ fn called(
     ensures serves { IfOk result (λ block. ServesCall service object levels.now block.code) }
 {
     match service {
-        Service::SetEvent => event_gen::block(alloc, service, object, config, levels, map),
-        Service::ClearEvent => event_gen::block(alloc, service, object, config, levels, map),
-        Service::GetEvent => event_gen::block(alloc, service, object, config, levels, map),
-        Service::WaitEvent => event_gen::block(alloc, service, object, config, levels, map),
+        Service::SetEvent | Service::ClearEvent | Service::GetEvent | Service::WaitEvent =>
+            event_gen::block(alloc, service, object, config, levels, map),
         _ => service_gen::block(alloc, service, object, config, levels, map),
     }
 }

@@ -8,7 +8,7 @@ use sloth_base::app::{App, Func, Op};
 pub const NUMBERS: usize = 512;
 
 /// The objects that a service may have.
-const OBJECTS: usize = 40;
+pub const OBJECTS: usize = 40;
 
 // What the operation calls is wanted too.
 fn mark_call(wanted: &mut [bool; 512], op: Op)

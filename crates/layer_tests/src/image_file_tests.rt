@@ -1,7 +1,7 @@
 // The bytes of a small image.
 
 use crate::images::small_image;
-use image_file::write::write_image;
+use image_file::write_image;
 use std::test::Fail;
 
 #[test]

@@ -90,16 +90,16 @@ fn a_sink_in_memory(rt: HostRuntime) -> Result<(), Fail> {
 fn files_of_the_system(rt: HostRuntime) -> Result<(), Fail> {
     let mut files = FileStore::new(&rt);
     let mut into = Vec::new(rt.alloc());
+    assert_eq!(rt; files.failed_reads(), 0);
     assert_eq!(rt; files.read("none", 9, &mut into), Err(StoreFault::Failed));
-    assert_eq!(rt; files.write("made", b"a text"), Ok(()));
-    assert_eq!(rt;
-        files.write("no/folder", b"a text"),
-        Err(StoreFault::Failed)
-    );
-    assert_eq!(rt; files.read("made", 5, &mut into), Err(StoreFault::TooLong));
+    assert_eq!(rt; files.failed_reads(), 1);
+    assert_eq!(rt; files.write("made", b"new"), Ok(()));
+    assert_eq!(rt; files.write("no/folder", b"new"), Err(StoreFault::Failed));
+    assert_eq!(rt; files.read("made", 2, &mut into), Err(StoreFault::TooLong));
     assert_eq!(rt; into.len(), 0);
-    assert_eq!(rt; files.read("made", 6, &mut into), Ok(()));
-    assert_eq!(rt; into.as_slice(), b"a text".as_slice());
+    assert_eq!(rt; files.read("made", 3, &mut into), Ok(()));
+    assert_eq!(rt; into.as_slice(), b"new".as_slice());
+    assert_eq!(rt; files.failed_reads(), 1, "no other call is a failed read");
     assert_eq!(rt; OutSink::new(&rt).put(b"a line\n"), Ok(()));
     Ok(())
 }

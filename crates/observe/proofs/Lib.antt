@@ -6,5 +6,5 @@ pub mod Turning
 pub mod Feeding
 pub mod Rule
 pub mod Masking
-mod Places
+pub mod Places
 mod Rows

@@ -3,16 +3,12 @@ use Rattle.std.proofs.Common.{◌≡◌, ◌∙◌, ℕ, ◌<◌, ◌≤◌, ◌
 use Rattle.std.specs.Prelude.{◌||◌, All, AllPairs, map, filter, find}
 use Rattle.std.specs.List.{list_any}
 use Rattle.std.proofs.lemmas.List.{map-append}
-use Rattle.std.proofs.lemmas.List.Elements.{All-nil, All-cons, All-head, All-tail, filter_more}
+use Rattle.std.proofs.lemmas.List.Elements.{All-head, All-tail, filter_more}
 use Rattle.std.proofs.lemmas.List.Quantifiers.{all_pairs_push}
 use Rattle.std.proofs.Math.Seq.{take-length}
-use Rattle.text_pieces.proofs.Tests.{or_left, or_right}
+use Rattle.text_pieces.proofs.Tests.{All-kept}
 
 module _ {X : Type 0} (p : X → Bool) where
-  pub none_pass : (xs : List X) → list_any p xs ≡ false → All (λ x. p x ≡ false) xs
-  none_pass [] e = All-nil (λ x. p x ≡ false)
-  none_pass (x ∷ xs) e = All-cons (λ x. p x ≡ false) x xs (or_left (p x) (list_any p xs) e) (none_pass xs (or_right (p x) (list_any p xs) e))
-
   -- what holds of each element holds of the one that is found
   pub found_has : (P : X → Type 0) (xs : List X) (x : X) → find p xs ≡ Some x → All P xs → P x
   found_has P [] x e h = cc
@@ -55,14 +51,6 @@ module _ {X : Type 0} (p : X → Bool) where
           }
 
   module _ {Y : Type 0} (f : X → Y) where
-    pub All-kept : (P : Y → Type 0) (xs : List X) → All (λ x. p x ≡ true → P (f x)) xs → All P (map f (filter p xs))
-    All-kept P [] h = All-nil P
-    All-kept P (x ∷ xs) h = by (All-kept P xs (All-tail (λ y. p y ≡ true → P (f y)) x xs h)) (p x) refl
-      where
-        by : All P (map f (filter p xs)) → (b : Bool) → p x ≡ b → All P (map f (filter p (x ∷ xs)))
-        by ih true t = rw t (All-cons P (f x) (map f (filter p xs)) (All-head (λ y. p y ≡ true → P (f y)) x xs h t) ih)
-        by ih false t = rw t ih
-
     module _ (R : Y → Y → Type 0) (xs : List X)
         (rule : (i : ℕ) (d : X) → i < length xs → p (get_or xs i d) ≡ true → All (λ x. p x ≡ true → R (f x) (f (get_or xs i d))) (take i xs)) where
       pairs_before : (i : ℕ) (d : X) → i ≤ length xs → AllPairs R (map f (filter p (take i xs)))
@@ -78,7 +66,7 @@ module _ {X : Type 0} (p : X → Bool) where
               let m = filter_more p xs i d within ∙ ap (λ b. filter p (take i xs) ++ cond b (x ∷ []) []) t in
               subst (λ ys. AllPairs R (map f ys)) (sym m)
               (subst (AllPairs R) (sym (map-append f (filter p (take i xs)) (x ∷ [])))
-              (all_pairs_push R (map f (filter p (take i xs))) (f x) ih (λ k c l. All-kept (λ y. R y (f x)) (take i xs) (rule i d within t) k c l)))
+              (all_pairs_push R (map f (filter p (take i xs))) (f x) ih (λ k c l. All-kept p f (λ y. R y (f x)) (take i xs) (rule i d within t) k c l)))
           by false t ih =
               let x = get_or xs i d in
               let m = filter_more p xs i d within ∙ ap (λ b. filter p (take i xs) ++ cond b (x ∷ []) []) t in

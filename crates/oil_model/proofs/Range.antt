@@ -16,7 +16,8 @@ use Rattle.oil_model.specs.Events.{number_masks, events_of}
 use Rattle.oil_model.specs.ModelFaults.{ModelFault}
 use Rattle.oil_model.specs.Configs.{resource_names, task_of, tasks_of, config_of}
 use Rattle.oil_model.proofs.NoFaults.{few_tasks, few_names, few_events}
-use Rattle.oil_model.proofs.Lists.{All-kept, pairs_kept}
+use Rattle.text_pieces.proofs.Tests.{All-kept}
+use Rattle.oil_model.proofs.Lists.{pairs_kept}
 use Rattle.oil_model.proofs.RangeNames.{are_names, scheduler_alone}
 use Rattle.oil_model.proofs.RangeEvents.{event_names, masks_positive}
 use Rattle.oil_model.proofs.RangeUnions.{is_union}

@@ -17,7 +17,8 @@ use Rattle.oil_model.specs.Events.{is_event, number_masks, mask_by, event_decls,
 use Rattle.oil_model.specs.AttributeFaults.{misses_value}
 use Rattle.oil_model.specs.ModelFaults.{ModelFault}
 use Rattle.oil_model.specs.Configs.{mask_of_value, listed_mask, event_mask}
-use Rattle.oil_model.proofs.Lists.{none_pass, found_has, IsFirst, first_of}
+use Rattle.text_pieces.proofs.Tests.{none_pass}
+use Rattle.oil_model.proofs.Lists.{found_has, IsFirst, first_of}
 use Rattle.oil_model.proofs.Attributes.{allowed, refers}
 use Rattle.oil_model.proofs.RangeEvents.{masks_positive}
 use Rattle.oil_model.proofs.Unions.{Within, within_both, within_zero}

@@ -15,11 +15,11 @@ use Rattle.oil_parse.specs.declared.tree.OilTree.{OilTree}
 use Rattle.oil_model.specs.Objects.{is_of_kind, has_scheduler}
 use Rattle.oil_model.specs.ObjectFaults.{doubles, is_doubled, comes_behind}
 use Rattle.oil_model.specs.ModelFaults.{ModelFault}
-use Rattle.text_pieces.proofs.Tests.{or_left, or_right}
+use Rattle.text_pieces.proofs.Tests.{or_left, or_right, none_pass, All-kept}
 use Rattle.sloth_refusal.proofs.Nowhere.{case_false}
 use Rattle.oil_model.proofs.NoFaults.{inner_at, not_above}
 use Rattle.sloth_base.specs.declared.refusal.Part.TheVariants.{Oil}
-use Rattle.oil_model.proofs.Lists.{none_pass, All-kept, pairs_kept}
+use Rattle.oil_model.proofs.Lists.{pairs_kept}
 
 pub true_not_false : (b : Bool) → b ≡ true → b ≡ false → {A : Type 0} → A
 true_not_false b t f = absurd (let q : true ≡ false = sym t ∙ f in no q)

@@ -26,7 +26,8 @@ use Rattle.oil_model.specs.Configs.{resource_number, listed_resource, with_numbe
 use Rattle.sloth_refusal.proofs.Nowhere.{nowhere, case_false}
 use Rattle.oil_model.proofs.NoFaults.{inner_at}
 use Rattle.sloth_base.specs.declared.refusal.Part.TheVariants.{Oil}
-use Rattle.oil_model.proofs.Lists.{none_pass, IsFirst, first_of}
+use Rattle.text_pieces.proofs.Tests.{none_pass}
+use Rattle.oil_model.proofs.Lists.{IsFirst, first_of}
 use Rattle.oil_model.proofs.Attributes.{allowed}
 use Rattle.oil_model.proofs.RangeNames.{true_not_false}
 

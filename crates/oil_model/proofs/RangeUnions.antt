@@ -18,8 +18,8 @@ use Rattle.oil_model.specs.Objects.{is_use}
 use Rattle.oil_model.specs.Events.{mask_named, mask_given}
 use Rattle.oil_model.specs.TaskFaults.{have_common_bit, clashes, shares_with, shares_bit}
 use Rattle.oil_model.specs.Configs.{mask_of_value, listed_mask, event_mask}
-use Rattle.oil_model.proofs.Lists.{none_pass, IsFirst, first_of}
-use Rattle.text_pieces.proofs.Tests.{and_left, and_right}
+use Rattle.oil_model.proofs.Lists.{IsFirst, first_of}
+use Rattle.text_pieces.proofs.Tests.{and_left, and_right, none_pass}
 use Rattle.oil_model.proofs.Unions.{Within, within_both, within_zero, within_or, within_left, within_right, and_swapped, union_of, AreApart, union_is, within_union, union_within}
 
 abbrev pub Apart : List EventDecl → Type 0

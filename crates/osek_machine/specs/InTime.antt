@@ -39,7 +39,7 @@ is_boot event.Stray = false
 abbrev pub others : List Stamped → List Stamped
 others events = filter (λ e. not (is_admit e)) events
 
--- how many admits of a task, and arrivals of its line, a moment has
+-- how many admits of a task a moment has
 abbrev pub admits_at : ℕ → ℕ → List Stamped → ℕ
 admits_at k t events = count_by (λ e. is_number t (admitted_task e.event) && (e.stamp.at == k)) events
 
@@ -93,7 +93,7 @@ pub record LeavesOut (n : ℕ) (arrivals : List Arrival) (events : List Stamped)
 
 -- ---- where an admit stands
 
--- an event that is no admit and one behind it, an admit and an event behind it, and so on
+-- what the stamps of an event and of one behind it owe, by which of the two are admits
 abbrev pub StandsBefore : Bool → Bool → Stamp → Stamp → Type 0
 StandsBefore false false earlier later = earlier.at < later.from
 StandsBefore true false admit later = admit.at ≤ later.at

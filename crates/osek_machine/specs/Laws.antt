@@ -1,4 +1,4 @@
--- Laws of the abstract machine.
+-- Laws of the abstract scheduler.
 use Rattle.std.specs.Prelude.{◌≡◌, ◌↔◌, Some}
 use Rattle.sloth_base.specs.declared.config.Config.{Config}
 use Rattle.sloth_base.specs.declared.app.App.{App}

@@ -1,4 +1,4 @@
--- Runs of the abstract machine.
+-- Runs of the abstract scheduler.
 use Rattle.std.specs.Prelude.{ℕ, ◌<◌, ◌≡◌, List, [], ◌∷◌, ◌++◌, length}
 use Rattle.sloth_base.specs.declared.config.Config.{Config}
 use Rattle.sloth_base.specs.declared.app.App.{App}
@@ -52,6 +52,6 @@ Follows config app past s (e ∷ events) end =
     (next : System) × OsekStep config app e.event s next × PassesOverArrivals config app past s e.stamp.from e.event
     × Follows config app (past ++ e ∷ []) next events end
 
--- the events are a run of the abstract machine
+-- the events are a run of the abstract scheduler
 abbrev pub OsekRun : Config → App → List Stamped → Type 0
 OsekRun config app events = (end : System) × Follows config app [] (opening config app) events end

@@ -1,4 +1,4 @@
--- The state of the abstract machine: tasks, their registers, frames, events and resources, and the data.
+-- The state of the abstract scheduler: tasks, their registers, frames, events and resources, and the data.
 use Rattle.std.specs.Prelude.{ℕ, ◌<◌, List, [], Bool, false, length, get_or, set, map, replicate}
 use Rattle.sloth_base.specs.declared.config.Config.{Config}
 use Rattle.sloth_base.specs.declared.app.App.{App}

@@ -1,5 +1,5 @@
 -- The one event that may come next, arrivals aside.
-use Rattle.std.proofs.Common.{◌≡◌, ℕ, ◌+◌, ◌*◌, ◌<◌, ◌≤◌, ◌⊎◌, List, [], ◌∷◌, Bool, true, false, cond, length, map, Option, Some, None, refl, sym, ap, ◌∙◌, subst, arith, inl, inr}
+use Rattle.std.proofs.Common.{◌≡◌, ℕ, ◌<◌, ◌≤◌, ◌⊎◌, List, [], ◌∷◌, Bool, true, false, length, map, Option, Some, None, refl, sym, ap, ◌∙◌, subst, arith, inl, inr}
 use Rattle.std.specs.Prelude.{◌≢◌}
 use Rattle.std.proofs.lemmas.Bool.{true≢false, cases_eq, cases_lt}
 use Rattle.std.proofs.lemmas.Option.{same_Some}
@@ -16,7 +16,7 @@ use Rattle.sloth_base.specs.Named.{operation}
 use Rattle.osek_machine.specs.declared.state.TaskState.{TaskState}
 use Rattle.osek_machine.specs.declared.state.TaskState.TheVariants as mode
 use Rattle.osek_machine.specs.State.{Frame, System, task, opening}
-use Rattle.osek_machine.specs.Priority.{rank, is_active, IsDue, IsTop}
+use Rattle.osek_machine.specs.Priority.{rank, IsDue, IsTop}
 use Rattle.osek_machine.specs.Meaning.{Meant, meaning}
 use Rattle.osek_machine.specs.Services.{Outcome, GoesOn, Leaves, outcome}
 use Rattle.osek_machine.specs.Steps.{IsAt, Executes, Serves, OsekStep}
@@ -24,8 +24,8 @@ use Rattle.osek_machine.specs.Next.{next_state}
 use Rattle.osek_machine.specs.Runs.{Leads}
 use Rattle.osek_machine.proofs.Next.{step_is}
 use Rattle.osek_valid.specs.Valid.{Valid}
-use Rattle.osek_valid.specs.Apart.{Apart, Excludes, priority_of, static_priority}
-use Rattle.osek_valid.proofs.Apart.{step_apart, opening_apart}
+use Rattle.osek_valid.specs.Apart.{Apart, Excludes, static_priority}
+use Rattle.osek_valid.proofs.Apart.{rank_active, rank_ready, step_apart, opening_apart}
 use Rattle.osek_valid.proofs.Excluding.{excludes}
 use Rattle.osek_valid.proofs.Facts.{Facts, facts}
 use Rattle.osek_valid.proofs.Steps.{step_valid, opening_valid}
@@ -114,12 +114,6 @@ module _ (config : Config) (app : App) (s : System) (t : ℕ) where
 -- ---- one task is due
 
 module _ (config : Config) (app : App) (s : System) (w : Facts config app) (v : Valid config app s) (x : Excludes config s) where
-  of_active : (t : ℕ) → (task s t).state ≡ mode.Active → rank config s t ≡ 2 * priority_of config t (task s t) + 1
-  of_active t e = ap (λ m. cond (is_active m) (2 * priority_of config t (task s t) + 1) (2 * static_priority config t)) e
-
-  of_ready : (t : ℕ) → (task s t).state ≡ mode.Ready → rank config s t ≡ 2 * static_priority config t
-  of_ready t e = ap (λ m. cond (is_active m) (2 * priority_of config t (task s t) + 1) (2 * static_priority config t)) e
-
   static_differ : (t u : ℕ) → t < length config.tasks → u < length config.tasks → t ≢ u → static_priority config t ≢ static_priority config u
   static_differ t u lt lu n e = by (cases_lt t u)
     where
@@ -135,11 +129,11 @@ module _ (config : Config) (app : App) (s : System) (w : Facts config app) (v : 
 
       by : IsDue s t → IsDue s u → ⊥
       by (inl p) (inl q) =
-          static_differ t u a.declared b.declared n (omega (arith, same, of_ready t p, of_ready u q))
-      by (inl p) (inr q) = omega (arith, same, of_ready t p, of_active u q)
-      by (inr p) (inl q) = omega (arith, same, of_active t p, of_ready u q)
+          static_differ t u a.declared b.declared n (omega (arith, same, rank_ready config s t p, rank_ready config s u q))
+      by (inl p) (inr q) = omega (arith, same, rank_ready config s t p, rank_active config s u q)
+      by (inr p) (inl q) = omega (arith, same, rank_active config s t p, rank_ready config s u q)
       by (inr p) (inr q) =
-          x.priorities_differ t u (record { first = a.declared; second = b.declared; differ = n }) p q (omega (arith, same, of_active t p, of_active u q))
+          x.priorities_differ t u (record { first = a.declared; second = b.declared; differ = n }) p q (omega (arith, same, rank_active config s t p, rank_active config s u q))
 
   one_top : (t u : ℕ) → IsTop config s [] t → IsTop config s [] u → t ≡ u
   one_top t u a b = by (cases_eq t u)

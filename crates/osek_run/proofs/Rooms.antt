@@ -1,9 +1,9 @@
 -- With well-formed task code there is always room for the next event.
-use Rattle.std.proofs.Common.{◌≡◌, ◌∙◌, ℕ, ◌+◌, ◌<◌, ◌≤◌, ◌⊎◌, inl, inr, List, [], ◌∷◌, Bool, true, false, cond, ltb, length, length-append, get_or, map, Option, Some, None, bit_and, refl, sym, ap, subst, arith, eqb}
-use Rattle.std.specs.Prelude.{◌&&◌, ◌||◌, ◌==◌, not, is_some, slice_get}
+use Rattle.std.proofs.Common.{◌≡◌, ◌∙◌, ℕ, ◌+◌, ◌<◌, ◌≤◌, ◌⊎◌, inl, inr, ⊎_elim, List, [], ◌∷◌, Bool, true, false, cond, ltb, length, length-append, map, Option, Some, None, bit_and, refl, sym, ap, subst, arith, eqb}
+use Rattle.std.specs.Prelude.{◌&&◌, ◌||◌, ◌==◌, not, is_some, slice_get, IfSome}
 use Rattle.std.specs.List.{AllByRecursion, IsDistinct, list_any, list_all}
-use Rattle.std.proofs.lemmas.Bool.{ltb-true, leb-true, cases_lt, cases_eq, and_parts, or_cases, eqb-true, eq-eqb, false≢true, true≢false}
-use Rattle.std.proofs.lemmas.List.{get_or-set_same, get_or-set_other, set_past, length-map}
+use Rattle.std.proofs.lemmas.Bool.{ltb-true, leb-true, cases_lt, cases_eq, and_parts, or_parts, or_cases, eqb-true, ne_eqb, false≢true, false_from_ne_true}
+use Rattle.std.proofs.lemmas.List.{get_or-set_same, length-map}
 use Rattle.std.proofs.lemmas.List.Sums.{get_or-le-sum_by, sum-map}
 use Rattle.std.proofs.lemmas.Map.Steps.{length-le_from_distinct_below}
 use Rattle.std.proofs.lemmas.Option.{slice_get_within, get_or_from_slice_get}
@@ -35,6 +35,7 @@ use Rattle.osek_machine.specs.Next.{is_ready, is_top, is_position, operation_of,
 use Rattle.osek_machine.proofs.Next.{step_of}
 use Rattle.osek_machine.proofs.Tests.{if_true_some, on_some_from, some_one, Decides-is_top}
 use Rattle.osek_valid.specs.Valid.{IsFrame, IsCalledFrom, AreCalls, AreDistinct, Valid}
+use Rattle.osek_valid.proofs.Apart.{at_task}
 use Rattle.osek_valid.proofs.Facts.{Facts, facts}
 use Rattle.osek_valid.proofs.Steps.{step_valid}
 use Rattle.osek_valid.proofs.Tidy.{tidy}
@@ -47,25 +48,16 @@ use Rattle.osek_run.specs.Changes.{changed, Allows}
 use Rattle.osek_run.specs.Plans.{with_change, with_other, carried_out, plan, write_plan, service_plan, item_plan, item_behind, load_of, is_inside, HasOther, HasRoom}
 use Rattle.osek_run.specs.Running.{IsComputed, own_operation, run_plan, call_in, call_plan, serving_plan, running_plan, entry_change, entry_plan, back_plan}
 use Rattle.osek_run.specs.Steps.{answer_plan, leave_plan, follows, IsRead, IsSound}
-use Rattle.osek_run.proofs.Follows.{InFunction, own-operation, run-follows, call-follows, left-follows}
+use Rattle.osek_run.proofs.Follows.{InFunction, own-operation, enter-follows, run-follows, call-follows, left-follows, back-follows}
 
 -- ---- numbers that differ
 
-neither : (a b : Bool) → (a || b) ≡ false → (a ≡ false) × (b ≡ false)
-neither true b h = absurd (true≢false h)
-neither false b h = (refl, h)
-
 eqb_sym : (x y : ℕ) → eqb x y ≡ eqb y x
-eqb_sym x y = by (eqb x y) (eqb y x) refl refl
-  where
-    by : (a b : Bool) → eqb x y ≡ a → eqb y x ≡ b → eqb x y ≡ eqb y x
-    by true b e f = e ∙ sym (eq-eqb y x (sym (eqb-true x y e)))
-    by false true e f = absurd (true≢false (sym (eq-eqb x y (sym (eqb-true y x f))) ∙ e))
-    by false false e f = e ∙ sym f
+eqb_sym x y = ⊎_elim (λ e. ap (λ z. eqb z y) e ∙ sym (ap (eqb y) e)) (λ n. ne_eqb x y n ∙ sym (ne_eqb y x (λ e. n (sym e)))) (cases_eq x y)
 
 others : (x : ℕ) (xs : List ℕ) → is_in x xs ≡ false → AllByRecursion (λ y. eqb x y ≡ false) xs
 others x [] h = tt
-others x (y ∷ xs) h = let w = neither (y == x) (is_in x xs) h in (eqb_sym x y ∙ w.0, others x xs w.1)
+others x (y ∷ xs) h = let w = or_parts (y == x) (is_in x xs) h in (eqb_sym x y ∙ w.0, others x xs w.1)
 
 distinct : (xs : List ℕ) → AreDistinct xs → IsDistinct eqb xs
 unfolding IsDistinct
@@ -83,36 +75,27 @@ at_most xs n d below = length-le_from_distinct_below xs n (distinct xs d) (λ q 
 -- ---- functions in progress
 
 module _ (app : App) (t : ℕ) where
+  -- a function is there where it is the first of these, or one of the others
+  first-known : (f q : ℕ) (rest : List ℕ) → f < length app.funcs → (is_in q rest ≡ true → q < length app.funcs) → is_in q (f ∷ rest) ≡ true
+      → q < length app.funcs
+  first-known f q rest known later e = ⊎_elim (λ same. subst (λ x. x < length app.funcs) (eqb-true f q same) known) later (or_cases _ _ e)
+
   callers-known : (f : ℕ) (outer : List Frame) → IsCalledFrom app t f outer → (q : ℕ) → is_in q (map (λ x. x.func) outer) ≡ true → q < length app.funcs
   callers-known f [] h q e = absurd (false≢true e)
-  callers-known f (caller ∷ outer) h q e = by (or_cases _ _ e) (callers-known caller.func outer h.2 q)
-    where
-      by : ((caller.func == q) ≡ true) ⊎ (is_in q (map (λ x. x.func) outer) ≡ true) → (is_in q (map (λ x. x.func) outer) ≡ true → q < length app.funcs) → q < length app.funcs
-      by (inl same) rest = subst (λ x. x < length app.funcs) (eqb-true caller.func q same) h.0.known
-      by (inr later) rest = rest later
+  callers-known f (caller ∷ outer) h q e = first-known caller.func q (map (λ x. x.func) outer) h.0.known (callers-known caller.func outer h.2 q) e
 
   calls-known : (frames : List Frame) → AreCalls app t frames → (q : ℕ) → is_in q (map (λ x. x.func) frames) ≡ true → q < length app.funcs
   calls-known [] h q e = absurd (false≢true e)
-  calls-known (frame ∷ outer) h q e = by (or_cases _ _ e)
-    where
-      by : ((frame.func == q) ≡ true) ⊎ (is_in q (map (λ x. x.func) outer) ≡ true) → q < length app.funcs
-      by (inl same) = subst (λ x. x < length app.funcs) (eqb-true frame.func q same) h.0.known
-      by (inr later) = callers-known frame.func outer h.1 q later
+  calls-known (frame ∷ outer) h q e = first-known frame.func q (map (λ x. x.func) outer) h.0.known (callers-known frame.func outer h.1 q) e
 
 -- ---- a task after what an event does besides
 
 module _ {X : Type 0} (get : Task → X) where
   kept-at : (s : System) (u t : ℕ) (new : Task) → get new ≡ get (task s u) → get (task (with_task s u new) t) ≡ get (task s t)
-  kept-at s u t new e = by (cases_eq t u) (cases_lt u (length s.tasks))
-    where
-      by : (t ≡ u) ⊎ (t ≡ u → ⊥) → (u < length s.tasks) ⊎ (length s.tasks ≤ u) → get (task (with_task s u new) t) ≡ get (task s t)
-      by (inl same) (inl lt) =
-          ap (λ x. get (task (with_task s u new) x)) same ∙ (ap get (get_or-set_same s.tasks u new sleeping lt) ∙ (e ∙ sym (ap (λ x. get (task s x)) same)))
-      by (inl same) (inr ge) = ap (λ (ts : List Task). get (get_or ts t sleeping)) (set_past s.tasks u new ge)
-      by (inr n) lt = ap get (get_or-set_other s.tasks u t new sleeping n)
+  kept-at s u t new e = at_task s u t new (λ k. get k ≡ get (task s t)) refl (λ same. e ∙ sym (ap (λ x. get (task s x)) same))
 
-  kept-besides : (o : Other) (s : System) (t : ℕ) → ((k : Task) → get (changed change.Activate k) ≡ get k) → ((mask : ℕ) (k : Task) → get (changed (change.AddEvents mask) k) ≡ get k)
-      → get (task (with_other o s) t) ≡ get (task s t)
+  kept-besides : (o : Other) (s : System) (t : ℕ) → ((k : Task) → get (changed change.Activate k) ≡ get k)
+      → ((mask : ℕ) (k : Task) → get (changed (change.AddEvents mask) k) ≡ get k) → get (task (with_other o s) t) ≡ get (task s t)
   kept-besides other.Nothing s t a b = refl
   kept-besides (other.Activate u) s t a b = kept-at s u t (changed change.Activate (task s u)) (a (task s u))
   kept-besides (other.AddEvents u mask) s t a b = kept-at s u t (changed (change.AddEvents mask) (task s u)) (b mask (task s u))
@@ -137,24 +120,31 @@ in_range-so config app f (op.Invoke a) h = tt
 in_range-so config app f op.Return h = tt
 in_range-so config app f (op.Serve call) h = tt
 
-module _ (config : Config) (app : App) (s : System) (sound : IsSound config app s) where
+-- an event and its plan, if it has one: it leads to the next state, and there is room for it
+pub record IsPlanned (config : Config) (app : App) (s : System) (t : ℕ) (e : Event) (o : Option Plan) : Type 0 where
+  pub leads : next_state config app e s ≡ follows t s o
+  pub room : IfSome o (λ p. HasRoom t p s)
+
+module _ {config : Config} {app : App} {s : System} (sound : IsSound config app s) where
   abbrev w : Facts config app
   w = facts config app sound.well_formed
 
+  -- a function that has an item is there
+  known-by : (f i : ℕ) → i < length (function app f).items → f < length app.funcs
+  known-by f i inside = ⊎_elim (λ lt. lt) past (cases_lt f (length app.funcs))
+    where
+      past : length app.funcs ≤ f → f < length app.funcs
+      past ge =
+          let none : length (function app f).items ≡ 0 = ap (λ (x : Func). length x.items) (get_or-eq_default app.funcs missing ge) in
+          absurd (omega (arith, inside, none))
+
   computed-in : (frames : List Frame) (o : Op) → operation_of app frames ≡ Some o → IsComputed o
   computed-in [] o e = absurd cc
-  computed-in (frame ∷ outer) o e = by (cases_lt frame.func (length app.funcs))
-    where
-      by : (frame.func < length app.funcs) ⊎ (length app.funcs ≤ frame.func) → IsComputed o
-      by (inl lt) =
-          let found = if_true_some (ltb frame.item (length (function app frame.func).items)) _ o e in
-          in_range-so config app (function app frame.func) o
-          (w.items frame.func frame.item o (record { known = lt; inside = ltb-true _ _ found.0; is = some_one _ _ found.1 }))
-      by (inr ge) =
-          let none : length (function app frame.func).items ≡ 0 = ap (λ (f : Func). length f.items) (get_or-eq_default app.funcs missing ge) in
-          let found = if_true_some (ltb frame.item (length (function app frame.func).items)) _ o e in
-          let inside = ltb-true frame.item (length (function app frame.func).items) found.0 in
-          absurd (omega (arith, inside, none))
+  computed-in (frame ∷ outer) o e =
+      let found = if_true_some (ltb frame.item (length (function app frame.func).items)) _ o e in
+      let inside = ltb-true _ _ found.0 in
+      in_range-so config app (function app frame.func) o
+      (w.items frame.func frame.item o (record { known = known-by frame.func frame.item inside; inside = inside; is = some_one _ _ found.1 }))
 
   item-small : (frame : Frame) → IsFrame app frame → frame.item < 4294967295
   item-small frame h =
@@ -186,13 +176,13 @@ module _ (config : Config) (app : App) (s : System) (sound : IsSound config app 
           let past : length s.tasks ≤ t = subst (λ n. n ≤ t) (sym sound.valid.count) ge in
           subst (λ (k : Task). P k.frames) (sym (get_or-eq_default s.tasks sleeping past)) (of t [] tt)
 
-  pub moves : (t : ℕ) → CanMove (task s t).frames
+  moves : (t : ℕ) → CanMove (task s t).frames
   moves t = calls-of CanMove calls-move t
 
-  leaves : (t : ℕ) → CanMove (out_of (task s t).frames)
-  leaves t = calls-of (λ frames. CanMove (out_of frames)) calls-leave t
+  returns : (t : ℕ) → CanMove (out_of (task s t).frames)
+  returns t = calls-of (λ frames. CanMove (out_of frames)) calls-leave t
 
-  pub in_function : (t : ℕ) → InFunction app (task s t).frames
+  in_function : (t : ℕ) → InFunction app (task s t).frames
   in_function t = calls-of (InFunction app) calls-in t
 
   pub reads : IsRead config app s
@@ -205,12 +195,14 @@ module _ (config : Config) (app : App) (s : System) (sound : IsSound config app 
     moves = moves;
   }
 
-  few_words : (f : ℕ) → f < length app.funcs → (function app f).frame_words ≤ 32
-  few_words f lt = (w.in_range.bodies f missing lt).frame
-
   words-of : (f : ℕ) (found : Func) → slice_get app.funcs f ≡ Some found → found.frame_words ≤ 32
   words-of f found e =
-      subst (λ (g : Func). g.frame_words ≤ 32) (get_or_from_slice_get app.funcs f found missing e) (few_words f (slice_get_within app.funcs f found e))
+      subst (λ (g : Func). g.frame_words ≤ 32) (get_or_from_slice_get app.funcs f found missing e)
+      (w.in_range.bodies f missing (slice_get_within app.funcs f found e)).frame
+
+  -- the system has each task of the configuration
+  in_tasks : (t : ℕ) → t < length config.tasks → t < length s.tasks
+  in_tasks t lt = subst (λ n. t < n) (sym sound.valid.count) lt
 
   -- ---- the state behind the event is sound too
 
@@ -218,18 +210,13 @@ module _ (config : Config) (app : App) (s : System) (sound : IsSound config app 
     behind : Valid config app (settled (carried_out t p s))
     behind = step_valid config app e s (settled (carried_out t p s)) w (step_of config app s (settled (carried_out t p s)) e next) sound.valid
 
-    inside : t < length s.tasks
-    inside = subst (λ n. t < n) (sym sound.valid.count) lt
-
-    frames-behind : (task (settled (carried_out t p s)) t).frames ≡ (changed p.change (task s t)).frames
-    frames-behind =
-        kept-besides (λ (k : Task). k.frames) p.other (with_change t p.change s) t (λ k. refl) (λ mask k. refl)
-        ∙ ap (λ (k : Task). k.frames) (get_or-set_same s.tasks t (changed p.change (task s t)) sleeping inside)
-
-    held-behind : (task (settled (carried_out t p s)) t).held ≡ (changed p.change (task s t)).held
-    held-behind =
-        kept-besides (λ (k : Task). k.held) p.other (with_change t p.change s) t (λ k. refl) (λ mask k. refl)
-        ∙ ap (λ (k : Task). k.held) (get_or-set_same s.tasks t (changed p.change (task s t)) sleeping inside)
+    -- a part of the task that nothing changes besides
+    part-behind : {X : Type 0} (get : Task → X) → ((k : Task) → get (changed change.Activate k) ≡ get k)
+        → ((mask : ℕ) (k : Task) → get (changed (change.AddEvents mask) k) ≡ get k)
+        → get (task (settled (carried_out t p s)) t) ≡ get (changed p.change (task s t))
+    part-behind get a b =
+        kept-besides get p.other (with_change t p.change s) t a b
+        ∙ ap get (get_or-set_same s.tasks t (changed p.change (task s t)) sleeping (in_tasks t lt))
 
     few_frames : length (changed p.change (task s t)).frames ≤ 64
     few_frames =
@@ -237,7 +224,7 @@ module _ (config : Config) (app : App) (s : System) (sound : IsSound config app 
         let most = at_most (map (λ x. x.func) (task (settled (carried_out t p s)) t).frames) (length app.funcs) own.frames_differ
         (calls-known app t (task (settled (carried_out t p s)) t).frames own.calls) in
         let long = length-map (task (settled (carried_out t p s)) t).frames (λ (x : Frame). x.func) in
-        let same = ap length frames-behind in
+        let same = ap length (part-behind (λ (k : Task). k.frames) (λ k. refl) (λ mask k. refl)) in
         let few = w.in_range.limits.few_bodies in
         omega (arith, most, long, same, few)
 
@@ -245,7 +232,7 @@ module _ (config : Config) (app : App) (s : System) (sound : IsSound config app 
     few_held =
         let own = tidy config app w (settled (carried_out t p s)) t behind lt in
         let most = at_most (task (settled (carried_out t p s)) t).held 33 (behind.each t lt).distinct own.few in
-        let same = ap length held-behind in
+        let same = ap length (part-behind (λ (k : Task). k.held) (λ k. refl) (λ mask k. refl)) in
         omega (arith, most, same)
 
   -- ---- items
@@ -261,19 +248,16 @@ module _ (config : Config) (app : App) (s : System) (sound : IsSound config app 
     from_some : (p q : Plan) → Some p ≡ Some q → Roomy p → Roomy q
     from_some p q e r = subst Roomy (some_one p q e) r
 
-    none-at-all : (q : Plan) → None ≡ Some q → Roomy q
-    none-at-all q e = absurd cc
+    room-of : (p q : Plan) → Some p ≡ Some q → Roomy p → HasRoom t q s
+    room-of p q e r = let same = from_some p q e r in record { declared = in_tasks t lt; allows = same.0; besides = same.1 }
 
     from_on : {A : Type 0} (o : Option A) (make : A → Plan) (q : Plan) → on_some o (λ a. Some (make a)) ≡ Some q → ((a : A) → o ≡ Some a → Roomy (make a)) → Roomy q
-    from_on o make q e r = let found = on_some_from o (λ a. Some (make a)) q e in from_some (make found.0) q found.2 (r found.0 found.1)
+    from_on o make q e r = let found = on_some_from o _ q e in from_some (make found.0) q found.2 (r found.0 found.1)
 
     has_word : (frames : List Frame) (frame : Frame) (word old : ℕ) → slice_get frames 0 ≡ Some frame → slice_get frame.words word ≡ Some old → HasWord word frames
     has_word [] frame word old e f = tt
     has_word (x ∷ outer) frame word old e f =
-        subst (λ (y : Frame). word < length y.words) (sym (same_frame x frame e)) (slice_get_within frame.words word old f)
-      where
-        same_frame : (x y : Frame) → Some x ≡ Some y → x ≡ y
-        same_frame x y g = some_one x y g
+        subst (λ (y : Frame). word < length y.words) (sym (some_one x frame e)) (slice_get_within frame.words word old f)
 
     stored-in : (v y offset : ℕ) (wd : Width) (q : Plan) → if_true (is_inside s.symbols y wd offset) (Some (plan (Some v) change.MoveOn (other.Store y wd offset v))) ≡ Some q → Roomy q
     stored-in v y offset wd q e =
@@ -305,14 +289,14 @@ module _ (config : Config) (app : App) (s : System) (sound : IsSound config app 
         from_on (item_behind f label) (λ item. plan (Some 0) (change.GoTo item) other.Nothing) q e (λ item h. (tt, tt))
     item-room (op.Invoke g) f frame q at e deep =
         let make = λ (called : Func). plan (Some 0) (change.Invoke g called.frame_words) other.Nothing in
-        let found = on_some_from (slice_get app.funcs g) (λ called. Some (make called)) q e in
+        let found = on_some_from (slice_get app.funcs g) _ q e in
         let same = some_one (make found.0) q found.2 in
         let long = subst (λ (p : Plan). length (changed p.change k).frames ≤ 64) (sym same) deep in
         subst Roomy same ((omega (arith, long), words-of g found.0 found.1), tt)
     item-room op.Return f frame q at e deep =
         let found = if_true_some (ltb 1 (length k.frames)) _ q e in
-        from_some (plan (Some 0) change.Return other.Nothing) q found.1 (leaves t, tt)
-    item-room (op.Serve call) f frame q at e deep = none-at-all q e
+        from_some (plan (Some 0) change.Return other.Nothing) q found.1 (returns t, tt)
+    item-room (op.Serve call) f frame q at e deep = absurd cc
 
     -- ---- services
 
@@ -330,7 +314,7 @@ module _ (config : Config) (app : App) (s : System) (sound : IsSound config app 
     one_of false p q a b = b
 
     there : (u : ℕ) → is_task config u ≡ true → u < length s.tasks
-    there u e = subst (λ n. u < n) (sym sound.valid.count) (ltb-true u (length config.tasks) e)
+    there u e = in_tasks u (ltb-true u (length config.tasks) e)
 
     service-room : (srv : Service) (object mask : ℕ) → is_there config k.held srv object ≡ true
         → length (changed (plan_of srv object mask).change k).held ≤ 33 → Roomy (plan_of srv object mask)
@@ -338,7 +322,7 @@ module _ (config : Config) (app : App) (s : System) (sound : IsSound config app 
         either (task s object).state _ _ (moves t, there object e) (moves t, tt)
     service-room service.TerminateTask object mask e holds = (tt, tt)
     service-room service.ChainTask object mask e holds =
-        one_of (object == t) _ _ (tt, subst (λ n. t < n) (sym sound.valid.count) lt) (either (task s object).state _ _ (tt, there object e) (moves t, tt))
+        one_of (object == t) _ _ (tt, in_tasks t lt) (either (task s object).state _ _ (tt, there object e) (moves t, tt))
     service-room service.Schedule object mask e holds = (moves t, tt)
     service-room service.GetTaskID object mask e holds = (moves t, tt)
     service-room service.GetTaskState object mask e holds = (moves t, tt)
@@ -358,11 +342,12 @@ module _ (config : Config) (app : App) (s : System) (sound : IsSound config app 
   declared : (others : List ℕ) (t : ℕ) → is_top config s others t ≡ true → t < length config.tasks
   declared others t e = ((Decides-is_top config s others t).0 e).declared
 
-  -- room for a plan of a task of the configuration
-  room-of : (t : ℕ) (p : Plan) → t < length config.tasks → Allows p.change (task s t) × HasOther p.other s → HasRoom t p s
-  room-of t p lt r = record { declared = subst (λ n. t < n) (sym sound.valid.count) lt; allows = r.0; besides = r.1 }
+  -- a plan that passes a test
+  passes : (o : Option Plan) (test : Plan → Bool) (p : Plan) → on_some o (λ x. if_true (test x) (Some x)) ≡ Some p → o ≡ Some p
+  passes None test p e = absurd cc
+  passes (Some x) test p e = (if_true_some (test x) (Some x) p e).1
 
-  pub entry-room : (t : ℕ) (p : Plan) → entry_plan config app t s ≡ Some p → HasRoom t p s
+  entry-room : (t : ℕ) (p : Plan) → entry_plan config app t s ≡ Some p → HasRoom t p s
   entry-room t p e =
       let top = if_true_some (s.booted && (is_top config s [] t && is_ready (task s t).state)) _ p e in
       let lt = declared [] t (and_parts _ _ (and_parts _ _ top.0).1).0 in
@@ -370,59 +355,88 @@ module _ (config : Config) (app : App) (s : System) (sound : IsSound config app 
       let non = (declaration config t).non in
       let depth = length (task s t).frames in
       let make = λ (f : Func). entry_change body f.frame_words depth non in
-      let found = on_some_from (slice_get app.funcs body) (λ f. Some (make f)) p top.1 in
+      let found = on_some_from (slice_get app.funcs body) _ p top.1 in
       let words = words-of body found.0 found.1 in
-      room-of t p lt (subst (λ (q : Plan). Allows q.change (task s t) × HasOther q.other s) (some_one (make found.0) p found.2) (by (depth == 0) body non found.0 words t))
+      room-of t lt (make found.0) p found.2 (by (depth == 0) body non found.0 words t)
     where
       by : (b : Bool) (body : ℕ) (non : Bool) (f : Func) → f.frame_words ≤ 32 → (t : ℕ)
           → Allows (cond b (change.Start body f.frame_words non) (change.Resume non)) (task s t) × Unit {0}
       by true body non f h t = (h, tt)
       by false body non f h t = (tt, tt)
 
-  pub back-room : (t : ℕ) (p : Plan) → back_plan config t s ≡ Some p → HasRoom t p s
+  back-room : (t : ℕ) (p : Plan) → back_plan config t s ≡ Some p → HasRoom t p s
   back-room t p e =
       let top = if_true_some (s.booted && (is_top config s [] t && (is_active (task s t).state && (task s t).owed))) _ p e in
       let lt = declared [] t (and_parts _ _ (and_parts _ _ top.0).1).0 in
-      room-of t p lt (subst (λ (q : Plan). Allows q.change (task s t) × HasOther q.other s) (some_one _ p top.1) (tt, tt))
+      room-of t lt _ p top.1 (tt, tt)
 
-  pub run-room : (t func item result : ℕ) (p : Plan) → running_plan config app t func item result s ≡ Some p → HasRoom t p s
+  run-room : (t func item result : ℕ) (p : Plan) → running_plan config app t func item result s ≡ Some p → HasRoom t p s
   run-room t func item result p e =
       let top = if_true_some (s.booted && (is_top config s [] t && is_position func item (task s t).frames)) _ p e in
       let lt = declared [] t (and_parts _ _ (and_parts _ _ top.0).1).0 in
       let next = run-follows config app t s func item result (in_function t) ∙ ap (follows t s) e in
-      let o = on_some_from (own_operation app (task s t)) (λ o. on_some (run_plan app o (task s t) s.symbols) (λ x. if_true (is_number result x.answer) (Some x))) p top.1 in
-      let q = on_some_from (run_plan app o.0 (task s t) s.symbols) (λ x. if_true (is_number result x.answer) (Some x)) p o.2 in
-      let same = some_one _ p (if_true_some (is_number result q.0.answer) _ p q.2).1 in
-      let planned : run_plan app o.0 (task s t) s.symbols ≡ Some p = q.1 ∙ ap Some same in
+      let o = on_some_from (own_operation app (task s t)) _ p top.1 in
+      let planned = passes (run_plan app o.0 (task s t) s.symbols) (λ x. is_number result x.answer) p o.2 in
       let own = if_true_some (list_all is_own (registers_of o.0)) _ p planned in
-      let frame = on_some_from (slice_get (task s t).frames 0)
-      (λ x. on_some (slice_get app.funcs x.func) (λ f. item_plan app o.0 f x (length (task s t).frames) (task s t).registers s.symbols)) p own.1 in
-      let f = on_some_from (slice_get app.funcs frame.0.func) (λ f. item_plan app o.0 f frame.0 (length (task s t).frames) (task s t).registers s.symbols) p frame.2 in
-      room-of t p lt (item-room t lt o.0 f.0 frame.0 p frame.1 f.2 (few_frames (event.Run t func item result) t lt p next))
+      let frame = on_some_from (slice_get (task s t).frames 0) _ p own.1 in
+      let f = on_some_from (slice_get app.funcs frame.0.func) _ p frame.2 in
+      room-of t lt p p refl (item-room t lt o.0 f.0 frame.0 p frame.1 f.2 (few_frames (event.Run t func item result) t lt p next))
 
-  serving-room : (e : Event) (t : ℕ) (srv : Service) (p : Plan) → next_state config app e s ≡ Some (settled (carried_out t p s)) → serving_plan config app t srv s ≡ Some p → HasRoom t p s
+  serving-room : (e : Event) (t : ℕ) (srv : Service) (p : Plan) → next_state config app e s ≡ Some (settled (carried_out t p s))
+      → serving_plan config app t srv s ≡ Some p → HasRoom t p s
   serving-room e t srv p next planned =
       let top = if_true_some (s.booted && is_top config s s.fresh t) _ p planned in
       let lt = declared s.fresh t (and_parts _ _ top.0).1 in
-      let o = on_some_from (own_operation app (task s t)) (λ o. on_some (call_in o) (call_plan config srv t s)) p top.1 in
+      let o = on_some_from (own_operation app (task s t)) _ p top.1 in
       let call = on_some_from (call_in o.0) (call_plan config srv t s) p o.2 in
       let found = if_true_some ((code_of call.0.service == code_of srv) && is_there config (task s t).held srv call.0.object) _ p call.2 in
       let same = some_one (service_plan srv call.0.object call.0.mask t s) p found.1 in
       let holds = subst (λ (q : Plan). length (changed q.change (task s t)).held ≤ 33) (sym same) (few_held e t lt p next) in
-      room-of t p lt (subst (λ (q : Plan). Allows q.change (task s t) × HasOther q.other s) same
-      (service-room t lt srv call.0.object call.0.mask (and_parts _ _ found.0).1 holds))
+      room-of t lt _ p found.1 (service-room t lt srv call.0.object call.0.mask (and_parts _ _ found.0).1 holds)
 
-  pub call-room : (t : ℕ) (srv : Service) (status : ℕ) (p : Plan) → answer_plan config app t srv status s ≡ Some p → HasRoom t p s
+  call-room : (t : ℕ) (srv : Service) (status : ℕ) (p : Plan) → answer_plan config app t srv status s ≡ Some p → HasRoom t p s
   call-room t srv status p e =
-      let q = on_some_from (serving_plan config app t srv s) (λ x. if_true (is_number status x.answer) (Some x)) p e in
-      let same = some_one _ p (if_true_some (is_number status q.0.answer) _ p q.2).1 in
-      serving-room (event.Call t srv status) t srv p (call-follows config app t s sound.valid.count srv status ∙ ap (follows t s) e) (q.1 ∙ ap Some same)
+      serving-room (event.Call t srv status) t srv p (call-follows config app t s sound.valid.count srv status ∙ ap (follows t s) e)
+      (passes (serving_plan config app t srv s) (λ x. is_number status x.answer) p e)
 
-  pub left-room : (t : ℕ) (srv : Service) (p : Plan) → leave_plan config app t srv s ≡ Some p → HasRoom t p s
+  left-room : (t : ℕ) (srv : Service) (p : Plan) → leave_plan config app t srv s ≡ Some p → HasRoom t p s
   left-room t srv p e =
-      let q = on_some_from (serving_plan config app t srv s) (λ x. if_true (not (is_some x.answer)) (Some x)) p e in
-      let same = some_one _ p (if_true_some (not (is_some q.0.answer)) _ p q.2).1 in
-      serving-room (event.Left t srv) t srv p (left-follows config app t s sound.valid.count srv ∙ ap (follows t s) e) (q.1 ∙ ap Some same)
+      serving-room (event.Left t srv) t srv p (left-follows config app t s sound.valid.count srv ∙ ap (follows t s) e)
+      (passes (serving_plan config app t srv s) (λ x. not (is_some x.answer)) p e)
+
+  -- ---- each event and its plan
+
+  -- an event by the name that is told of it
+  pub by_name : {e named : Event} → e ≡ named → next_state config app e s ≡ next_state config app named s
+  by_name is = ap (λ (x : Event). next_state config app x s) is
+
+  -- an event and the plan that was made, by the event of this name and the plan that it has
+  planned : {e named : Event} {o plan : Option Plan} (t : ℕ) → e ≡ named → o ≡ plan → next_state config app named s ≡ follows t s plan
+      → ((p : Plan) → plan ≡ Some p → HasRoom t p s) → IsPlanned config app s t e o
+  planned {o = o} t is made leads room =
+      record { leads = by_name is ∙ (leads ∙ sym (ap (follows t s) made)); room = by o (λ p e. room p (sym made ∙ e)) }
+    where
+      by : (x : Option Plan) → ((p : Plan) → x ≡ Some p → HasRoom t p s) → IfSome x (λ p. HasRoom t p s)
+      by None h = tt
+      by (Some p) h = h p refl
+
+  module _ {e : Event} {o : Option Plan} {t : ℕ} where
+    pub enters : e ≡ event.Enter t → o ≡ entry_plan config app t s → IsPlanned config app s t e o
+    enters is made = planned t is made (enter-follows config app t s) (entry-room t)
+
+    pub runs : {func item result : ℕ} → e ≡ event.Run t func item result → o ≡ running_plan config app t func item result s → IsPlanned config app s t e o
+    runs {func} {item} {result} is made =
+        planned t is made (run-follows config app t s func item result (in_function t)) (run-room t func item result)
+
+    pub serves : {srv : Service} {status : ℕ} → e ≡ event.Call t srv status → o ≡ answer_plan config app t srv status s → IsPlanned config app s t e o
+    serves {srv} {status} is made =
+        planned t is made (call-follows config app t s sound.valid.count srv status) (call-room t srv status)
+
+    pub leaves : {srv : Service} → e ≡ event.Left t srv → o ≡ leave_plan config app t srv s → IsPlanned config app s t e o
+    leaves {srv} is made = planned t is made (left-follows config app t s sound.valid.count srv) (left-room t srv)
+
+    pub comes_back : e ≡ event.Back t → o ≡ back_plan config t s → IsPlanned config app s t e o
+    comes_back is made = planned t is made (back-follows config app t s) (back-room t)
 
   -- ---- admits
 
@@ -434,11 +448,7 @@ module _ (config : Config) (app : App) (s : System) (sound : IsSound config app 
 
   -- what is fresh is Ready
   pub not_among : (t : ℕ) → (task s t).state ≡ mode.Suspended → is_in t s.fresh ≡ false
-  not_among t asleep = by (is_in t s.fresh) refl
-    where
-      by : (b : Bool) → is_in t s.fresh ≡ b → is_in t s.fresh ≡ false
-      by false e = e
-      by true e = absurd (no_both (task s t).state asleep (sound.apart.fresh_ready t e))
+  not_among t asleep = false_from_ne_true _ (λ e. no_both (task s t).state asleep (sound.apart.fresh_ready t e))
 
   pub admit-room : (t : ℕ) → t < length s.tasks → (task s t).state ≡ mode.Suspended → length s.fresh < 30
   admit-room t lt asleep =

@@ -2,6 +2,7 @@
 use Rattle.std.proofs.Common.{◌≡◌, ◌∙◌, ℕ, ◌∷◌, Some, None, refl, sym, subst}
 use Rattle.std.specs.Prelude.{Result, Ok, Err, OnOk, OnErr}
 use Rattle.std.proofs.lemmas.Option.{none-some}
+use Rattle.std.proofs.lemmas.Result.{on_ok_weaker, on_err_weaker}
 use Rattle.sloth_base.specs.declared.config.Config.{Config}
 use Rattle.sloth_base.specs.declared.app.App.{App}
 use Rattle.sloth_base.specs.declared.event.Event.{Event}
@@ -24,7 +25,7 @@ use Rattle.osek_run.proofs.Rooms.{not_among}
 
 module _ (config : Config) (app : App) (s : System) (sound : IsSound config app s) where
   admitted-differ : (t : ℕ) (m : TaskState) → (task s t).state ≡ m → AreDistinct (if_suspended m (record (activated s t) { fresh = t ∷ s.fresh }) s).fresh
-  admitted-differ t mode.Suspended e = (not_among config app s sound t e, sound.distinct)
+  admitted-differ t mode.Suspended e = (not_among sound t e, sound.distinct)
   admitted-differ t mode.Ready e = sound.distinct
   admitted-differ t mode.Active e = sound.distinct
   admitted-differ t (mode.Waiting mask) e = sound.distinct
@@ -59,16 +60,15 @@ module _ (config : Config) (app : App) (s : System) (sound : IsSound config app 
   sound-after e next (Err x) h same = subst (IsSound config app) (sym same) sound
 
 module _ (inside now : Machine) (view : inside ≡ now) (e : Event) where
+  abbrev Steps : System → Machine → Type 0
+  Steps next m = OsekStep m.config m.app e m.system next
+
   pub steps-ok : {A E : Type 0} (next : System) (r : Result A E) → OnOk r (next_state inside.config inside.app e inside.system ≡ Some next)
       → OnOk r (OsekStep now.config now.app e now.system next)
-  steps-ok next (Ok x) h =
-      let P : Machine → Type 0 = λ m. OsekStep m.config m.app e m.system next in
-      subst P view (step_of inside.config inside.app inside.system next e h)
-  steps-ok next (Err x) h = h
+  steps-ok next r = on_ok_weaker r (λ h. subst (Steps next) view (step_of inside.config inside.app inside.system next e h))
 
   pub steps-err : {A E : Type 0} (r : Result A E) → OnErr r (next_state inside.config inside.app e inside.system ≡ None)
       → OnErr r ((next : System) → OsekStep now.config now.app e now.system next → ⊥)
-  steps-err (Ok x) h = h
-  steps-err (Err x) h = λ next step.
-      let P : Machine → Type 0 = λ m. OsekStep m.config m.app e m.system next in
-      none-some next (sym h ∙ step_is inside.config inside.app inside.system next e (subst P (sym view) step))
+  steps-err r =
+      on_err_weaker r (λ h next step.
+      none-some next (sym h ∙ step_is inside.config inside.app inside.system next e (subst (Steps next) (sym view) step)))

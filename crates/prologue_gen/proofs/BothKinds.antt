@@ -1,5 +1,5 @@
 -- What the prologues of basic and of extended tasks have in common.
-use Rattle.std.proofs.Common.{ℕ, ◌+◌, ◌%◌, ◌≡◌, ◌<◌, ◌≤◌, Bool, true, false, List, length, arith}
+use Rattle.std.proofs.Common.{ℕ, ◌+◌, ◌-◌, ◌%◌, ◌^◌, ◌≡◌, ◌<◌, ◌≤◌, Bool, true, false, List, ◌++◌, length, subst, arith}
 use Rattle.sloth_base.specs.Machine.{Core}
 use Rattle.rv32_instr.specs.declared.InstrKind.{InstrKind}
 use Rattle.rv32_routine.specs.Masked.{Masked, WithArrivals}
@@ -8,6 +8,27 @@ use Rattle.rv32_routine.proofs.Masked.{masked_more}
 use Rattle.prologue_gen.specs.Fresh.{vector, Entered}
 use Rattle.prologue_gen.specs.Resumed.{MayStart}
 use Rattle.prologue_gen.specs.Places.{DoesEnter}
+use Rattle.prologue_gen.specs.Pieces.{saves_context, marks_active, takes_up, starts_anew}
+use Rattle.prologue_gen.proofs.Starting.{enters}
+use Rattle.prologue_gen.proofs.Resuming.{enters_or_resumes}
+
+-- the code of a prologue
+abbrev pub code : Bool → ℕ → ℕ → ℕ → ℕ → ℕ → List InstrKind
+code extended task level frame words first = saves_context ++ (marks_active task level ++ (takes_up extended task ++ starts_anew frame words first))
+
+-- it enters the task, whose frame is given by its offset
+by_offset : (extended : Bool) (task level first frame words : ℕ) → task < 30 → level < 32 → first < 2 ^ 32 → words ≤ 32
+    → DoesEnter extended task level first frame words (code extended task level (0x8000_0000 + frame) words first)
+by_offset false = enters
+by_offset true = enters_or_resumes
+
+-- whose frame is given by its address
+pub does_enter : (extended : Bool) (task level first frame words : ℕ) → task < 30 → level < 32 → first < 2 ^ 32 → words ≤ 32 → 0x8000_0000 ≤ frame
+    → DoesEnter extended task level first (frame - 0x8000_0000) words (code extended task level frame words first)
+does_enter extended task level first frame words is_task low_level fits few in_ram =
+    let same : 0x8000_0000 + (frame - 0x8000_0000) ≡ frame = omega arith in
+    subst (λ x. DoesEnter extended task level first (frame - 0x8000_0000) words (code extended task level x words first)) same
+    (by_offset extended task level first (frame - 0x8000_0000) words is_task low_level fits few)
 
 pub size : (extended : Bool) (task level first frame words : ℕ) (code : List InstrKind) → DoesEnter extended task level first frame words code
     → (0 < length code) × (length code ≤ 109 + words)

@@ -1,5 +1,5 @@
 -- The pieces of a prologue.
-use Rattle.std.specs.Prelude.{ℕ, ◌+◌, pos, neg_ℤ, List, [], ◌∷◌, ◌++◌}
+use Rattle.std.specs.Prelude.{ℕ, Bool, false, true, ◌+◌, pos, neg_ℤ, List, [], ◌∷◌, ◌++◌}
 use Rattle.sloth_region.specs.Layout.{cur, active, resume, below_word, context_bytes, context_pc, context_level, context_cur, context_below, words_high}
 use Rattle.rv32_instr.specs.declared.csr.TheConstants.{MEPC, PLEVEL}
 use Rattle.rv32_instr.specs.declared.InstrKind.{InstrKind}
@@ -49,3 +49,8 @@ goes_on task = takes_own task ++ (restores 27 5 1 ++ answers_wait)
 -- x1 is the address of the task's context; where there is none, what takes it up is passed
 abbrev pub asks_kept : ℕ → List InstrKind
 asks_kept task = Lw 1 4 (pos (resume task)) ∷ Beq 1 0 (past (goes_on task)) ∷ []
+
+-- the context that is kept for an extended task is taken up; for a basic one none is kept
+abbrev pub takes_up : Bool → ℕ → List InstrKind
+takes_up false task = []
+takes_up true task = asks_kept task ++ goes_on task

@@ -1,12 +1,10 @@
 //! The block of a prologue.
 ghost use Rattle.std.specs.Prelude.{◌≡◌, ◌+◌, ◌-◌, ◌*◌, ◌<◌, ◌≤◌, ℕ, [], All, IfOk, slice_index, length};
-ghost use Rattle.prologue_gen.specs.Fresh.{Enters};
-ghost use Rattle.prologue_gen.specs.Resumed.{EntersOrResumes};
 ghost use Rattle.prologue_gen.specs.Places.{IsBody, IsTop, EntersTask, DoesEnter, frame_at};
 
 use crate::body::body_of;
 use crate::fresh::{mark_active, save_context, start_anew};
-use crate::resumed::{ask_kept, go_on};
+use crate::resumed::take_up;
 use rv32_instr::{Block, Instr};
 use sloth_base::app::App;
 use sloth_base::config::Config;
@@ -108,51 +106,10 @@ fn code_of(
     ensures size { IfOk result (λ code. length code.items ≤ 256) }
     ensures enters { IfOk result (λ code. DoesEnter extended task level first (frame - 0x80000000) words code.items) }
 {
-    if extended {
-        extended_code(alloc, task, level, frame, words, first)
-    } else {
-        code(alloc, task, level, frame, words, first)
-    }
-}
-
-/// The code of the prologue of a basic task.
-fn code(
-    alloc: Global,
-    task: u32,
-    level: u8,
-    frame: u32,
-    words: u32,
-    first: u32,
-) -> Result<Vec<Instr>, AllocError>
-    requires small { (task < 30) × (level < 32) × (words ≤ 32) }
-    requires in_ram { 0x80000000 ≤ frame }
-    ensures { IfOk result (λ code. Enters task level first (frame - 0x80000000) words code.items) }
-{
     let mut code = Vec::new(alloc);
     save_context(&mut code)?;
     mark_active(&mut code, task, level)?;
-    start_anew(&mut code, frame, words, first)?;
-    Ok(code)
-}
-
-/// The code of the prologue of an extended task.
-fn extended_code(
-    alloc: Global,
-    task: u32,
-    level: u8,
-    frame: u32,
-    words: u32,
-    first: u32,
-) -> Result<Vec<Instr>, AllocError>
-    requires small { (task < 30) × (level < 32) × (words ≤ 32) }
-    requires in_ram { 0x80000000 ≤ frame }
-    ensures { IfOk result (λ code. EntersOrResumes task level first (frame - 0x80000000) words code.items) }
-{
-    let mut code = Vec::new(alloc);
-    save_context(&mut code)?;
-    mark_active(&mut code, task, level)?;
-    ask_kept(&mut code, task)?;
-    go_on(&mut code, task)?;
+    take_up(&mut code, extended, task)?;
     start_anew(&mut code, frame, words, first)?;
     Ok(code)
 }

@@ -1,6 +1,6 @@
 //! The parts of an extended task's prologue: where a context is kept for the task, it goes on behind its wait.
 ghost use Rattle.std.specs.Prelude.{◌≡◌, ◌<◌, ◌++◌, OnOk};
-ghost use Rattle.prologue_gen.specs.Pieces.{takes_own, answers_wait, goes_on, asks_kept};
+ghost use Rattle.prologue_gen.specs.Pieces.{takes_own, answers_wait, goes_on, asks_kept, takes_up};
 
 use rv32_instr::Instr;
 use rv32_instr::asm::{A0, X1, X2, X3, X4, ZERO, addi, beq, csrrw, lw, mret, sw};
@@ -13,8 +13,20 @@ use std::alloc::AllocError;
 /// How many instructions take up a task's own context.
 const GOES_ON: u32 = 33;
 
+/// Takes up the context that is kept for an extended task; for a basic one none is kept. x4 holds 0x80000000.
+pub fn take_up(code: &mut Vec<Instr>, extended: bool, task: u32) -> Result<(), AllocError>
+    requires { task < 30 }
+    ensures { OnOk result (code.new.items ≡ code.old.items ++ takes_up extended task) }
+{
+    if extended {
+        ask_kept(code, task)?;
+        go_on(code, task)?;
+    }
+    Ok(())
+}
+
 /// x1 := the address of the task's own context; passes what takes it up where there is none. x4 holds 0x80000000.
-pub fn ask_kept(code: &mut Vec<Instr>, task: u32) -> Result<(), AllocError>
+fn ask_kept(code: &mut Vec<Instr>, task: u32) -> Result<(), AllocError>
     requires { task < 30 }
     ensures { OnOk result (code.new.items ≡ code.old.items ++ asks_kept task) }
 {
@@ -23,7 +35,7 @@ pub fn ask_kept(code: &mut Vec<Instr>, task: u32) -> Result<(), AllocError>
 }
 
 /// The task goes on behind its wait, as its context at x1 says. x4 holds 0x80000000.
-pub fn go_on(code: &mut Vec<Instr>, task: u32) -> Result<(), AllocError>
+fn go_on(code: &mut Vec<Instr>, task: u32) -> Result<(), AllocError>
     requires { task < 30 }
     ensures { OnOk result (code.new.items ≡ code.old.items ++ goes_on task) }
 {

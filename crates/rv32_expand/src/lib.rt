@@ -1,5 +1,5 @@
-//! Definitions alone: the instructions of each item of task code (`specs/Expansion`), and what it is for the items to stand
-//! in an image, each behind its mark (`specs/InPlace`).
+//! The instructions of each item of task code and how long they are (`specs/Expansion`), and what it is for the items to stand in an
+//! image, each with its mark on its last instruction (`specs/InPlace`).
 #![tactic(auto)]
 
 pub mod addresses;

@@ -1,11 +1,11 @@
 //! A configuration of one task, its levels and its task code, and the map of its kernel.
-ghost use Rattle.std.specs.Prelude.{◌≡◌, ◌<◌, ◌≤◌, ℕ, All, IfOk, length, slice_index};
+ghost use Rattle.std.specs.Prelude.{◌≡◌, ◌↔◌, ◌<◌, ◌≤◌, ℕ, All, IfOk, false, length, slice_index};
 ghost use Rattle.sloth_base.specs.ConfigRange.{InRange};
 ghost use Rattle.prologue_gen.specs.Places.{IsBody, IsBasic, IsTop};
 ghost use Rattle.vector_gen.specs.Vectors.{AreInReach};
 
 use sloth_base::app::{App, Func};
-use sloth_base::config::{Config, TaskDecl};
+use sloth_base::config::{Config, EventDecl, TaskDecl};
 use sloth_base::list::List;
 use sloth_base::memory::NoMemory;
 use sloth_base::name::Name;
@@ -17,27 +17,33 @@ use std::alloc::Global;
 
 const IDLE: u32 = 0x8000_0548;
 
-/// A configuration of one task, which is preemptable or not, and autostarted or not.
-pub fn config(alloc: Global, non: bool, autostart: bool) -> Result<Config, NoMemory>
+/// A configuration of an event and of one task, which is extended or basic, preemptable or not, and autostarted or not.
+pub fn config(alloc: Global, extended: bool, non: bool, autostart: bool) -> Result<Config, NoMemory>
     ensures range { IfOk result InRange }
-    ensures basic { IfOk result (λ config. IsBasic config.tasks 0) }
+    ensures basic { IfOk result (λ config. IsBasic config.tasks 0 ↔ (extended ≡ false)) }
     ensures one { IfOk result (λ config. length config.tasks ≡ 1) }
 {
     let main = TaskDecl {
         name: Name::new(alloc, b"Main")?,
         priority: 3,
-        extended: false,
+        extended,
         non,
         autostart,
         resources: List::from_vec(Vec::new(alloc)),
-        events: 0,
+        events: extended as u32,
     };
     let mut tasks = Vec::new(alloc);
     tasks.push(main).map_err(|_| NoMemory)?;
+    let event = EventDecl {
+        name: Name::new(alloc, b"Go")?,
+        mask: 1,
+    };
+    let mut events = Vec::new(alloc);
+    events.push(event).map_err(|_| NoMemory)?;
     Ok(Config {
         tasks: List::from_vec(tasks),
         resources: List::from_vec(Vec::new(alloc)),
-        events: List::from_vec(Vec::new(alloc)),
+        events: List::from_vec(events),
         res_scheduler: false,
     })
 }

@@ -42,14 +42,15 @@ fn list_boot(
     map: &Map,
 ) -> anyhow::Result<()> {
     let alloc = rt.alloc();
-    let config = config(alloc, false, autostart)?;
+    let config = config(alloc, false, false, autostart)?;
     let code = boot(alloc, &config, levels, map)?;
     list(rt, "boot", &code)
 }
 
-// The prologue of a task that is preemptable or not, with a frame of so many words.
+// The prologue of a task that is extended or basic, preemptable or not, with a frame of so many words.
 fn list_prologue(
     rt: &(impl Print + AllocGlobal),
+    extended: bool,
     non: bool,
     frame_words: u32,
     levels: &Levels,
@@ -61,7 +62,7 @@ fn list_prologue(
     requires items { (length map.now.places.first ≡ 1) × All (λ i. i < length map.now.places.items) map.now.places.first }
 {
     let alloc = rt.alloc();
-    let config = config(alloc, non, false)?;
+    let config = config(alloc, extended, non, false)?;
     let app = app(alloc, frame_words)?;
     let code = prologue(alloc, TaskId(0), &config, &app, levels, map)?;
     list(rt, "prologue", &code)
@@ -82,7 +83,8 @@ fn list_service(
     list(rt, "service", &code)
 }
 
-// The blocks of all services, each with the least and the greatest object that it may have.
+// The blocks of the services that need no events: those on a task for the tasks 0 and 29, GetResource's for the resources 1 and 32,
+// ReleaseResource's for 0 and 32, the others once, of them Schedule's with its way back.
 fn list_services(
     rt: &(impl Print + AllocGlobal),
     config: &Config,
@@ -94,6 +96,7 @@ fn list_services(
     list_service(rt, Service::TerminateTask, 0, config, levels, map)?;
     list_service(rt, Service::ChainTask, 0, config, levels, map)?;
     list_service(rt, Service::ChainTask, 29, config, levels, map)?;
+    list_service(rt, Service::Schedule, 0, config, levels, map)?;
     list_service(rt, Service::GetTaskID, 0, config, levels, map)?;
     list_service(rt, Service::GetTaskState, 0, config, levels, map)?;
     list_service(rt, Service::GetTaskState, 29, config, levels, map)?;
@@ -118,7 +121,7 @@ fn list_event_service(
     list(rt, "service", &code)
 }
 
-// The blocks of all services on events, in the same way.
+// The blocks of the services on events: those on a task for the tasks 0 and 29, the others once.
 fn list_event_services(
     rt: &(impl Print + AllocGlobal),
     config: &Config,
@@ -133,7 +136,8 @@ fn list_event_services(
     list_event_service(rt, Service::WaitEvent, 0, config, levels, map)
 }
 
-// Boot and the prologues in each form.
+// Boot in each form, and the prologues of a basic and of an extended task: where it is preemptable, with a frame of 0 words and of 1;
+// where it isn't, of 0 words and of 32.
 fn list_entries(rt: &(impl Print + AllocGlobal), levels: &Levels, map: &Map) -> anyhow::Result<()>
     requires levels { (levels.now.top < 32) × ((t : ℕ) → slice_index levels.now.task t < 32) }
     requires tops { (length map.now.tops ≡ 1) × All IsTop map.now.tops }
@@ -141,10 +145,14 @@ fn list_entries(rt: &(impl Print + AllocGlobal), levels: &Levels, map: &Map) -> 
 {
     list_boot(rt, true, levels, map)?;
     list_boot(rt, false, levels, map)?;
-    list_prologue(rt, false, 0, levels, map)?;
-    list_prologue(rt, false, 1, levels, map)?;
-    list_prologue(rt, true, 0, levels, map)?;
-    list_prologue(rt, true, 32, levels, map)
+    list_prologue(rt, false, false, 0, levels, map)?;
+    list_prologue(rt, false, false, 1, levels, map)?;
+    list_prologue(rt, false, true, 0, levels, map)?;
+    list_prologue(rt, false, true, 32, levels, map)?;
+    list_prologue(rt, true, false, 0, levels, map)?;
+    list_prologue(rt, true, false, 1, levels, map)?;
+    list_prologue(rt, true, true, 0, levels, map)?;
+    list_prologue(rt, true, true, 32, levels, map)
 }
 
 // The kernel's code.
@@ -153,7 +161,7 @@ fn list_kernel(rt: &(impl Print + AllocGlobal)) -> anyhow::Result<()> {
     let map = map(rt.alloc())?;
     list_loops(rt, &map)?;
     list_entries(rt, &levels, &map)?;
-    let config = config(rt.alloc(), false, false)?;
+    let config = config(rt.alloc(), false, false, false)?;
     list_services(rt, &config, &levels, &map)?;
     list_event_services(rt, &config, &levels, &map)
 }

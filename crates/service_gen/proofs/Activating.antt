@@ -1,5 +1,5 @@
 -- The code of ActivateTask has its effect.
-use Rattle.std.proofs.Common.{◌≡◌, ℕ, ◌+◌, ◌<◌, ◌⊎◌, List, ◌∷◌, ◌++◌, length, get_or, refl, ap, arith, inl, inr, ⊎_elim}
+use Rattle.std.proofs.Common.{◌≡◌, ℕ, ◌+◌, ◌<◌, ◌⊎◌, List, ◌∷◌, ◌++◌, length, get_or, refl, sym, ap, subst, arith, inl, inr, ⊎_elim}
 use Rattle.std.specs.Prelude.{set, bit_or, bit_xor}
 use Rattle.sloth_base.specs.Machine.{Core}
 use Rattle.sloth_base.specs.Arrive.{arrive}
@@ -15,10 +15,10 @@ use Rattle.rv32_routine.specs.Owes.{Owes, Pending, Enabled}
 use Rattle.rv32_routine.proofs.Spread.{spread}
 use Rattle.rv32_routine.proofs.Whole.{masked}
 use Rattle.service_gen.proofs.Busy.{bit_arrives, busy_of, busies}
-use Rattle.service_gen.proofs.Returning.{answered}
+use Rattle.service_gen.proofs.Returning.{goes_back}
 use Rattle.service_gen.proofs.Serving.{opens}
 use Rattle.service_gen.specs.Pieces.{busy, tells, raises, back}
-use Rattle.service_gen.specs.ActivateTask.{MayActivate, Activated, Activates}
+use Rattle.service_gen.specs.ActivateTask.{LooksSuspended, MayActivate, Activated, Activates}
 
 abbrev pub body : ℕ → List InstrKind
 body task = Lui 4 words_high ∷ (busy task 10 1 ++ (tells ++ (raises task ++ back)))
@@ -31,14 +31,26 @@ answers : (e p a : ℕ) → e < 2 → p < 2 → a < 2 → (((a ≡ 0) × (p ≡ 
 answers e p a x y z =
     ⊎_elim (λ s. inl (s.0, ap (λ v. shifted_left v 2) s.1)) (λ s. inr (s.0, ap (λ v. shifted_left v 2) s.1)) (busies e p a x y z)
 
+-- the status is E_OK where the task is Suspended, else E_OS_LIMIT
+abbrev Answers : ℕ → Core → ℕ → Type 0
+Answers task core status = (LooksSuspended task core × (status ≡ 0)) ⊎ ((LooksSuspended task core → ⊥) × (status ≡ 4))
+
 module _ (offset task : ℕ) (c : Core) (h : MayActivate offset task (masking ∷ body task) c) where
+  -- behind arrivals at the touch of the line
+  abbrev at_touch : List ℕ → Core
+  at_touch lines = record c { pending = arrive lines c.pending }
+
+  found : (lines : List ℕ) → Answers task (at_touch lines) (answer (get_or c.enabled task 0) (get_or (arrive lines c.pending) task 0) (word_at c.ram (active task)))
+  found lines =
+      let small = h.is_task in
+      let long = h.goes_back.can_run.lines in
+      answers (get_or c.enabled task 0) (get_or (arrive lines c.pending) task 0) (word_at c.ram (active task)) h.enabled_bit
+      (bit_arrives lines c.pending task (omega arith) h.pending_bit) h.active_bit
+
   body_owes : Owes offset (offset + 4 + 64) (offset + 4) (body task) 0 (Activated task) (at offset (spread c)) (masked (spread c))
   body_owes =
       let small = h.is_task in
       let line : task < 32 = omega arith in
-      let can = h.goes_back.can_run in
-      let long = can.lines in
-      let level = h.level in
       let e = get_or c.enabled task 0 in
       let a = word_at c.ram (active task) in (
         0x8000_0000,
@@ -80,26 +92,9 @@ module _ (offset task : ℕ) (c : Core) (h : MayActivate offset task (masking �
                               (omega arith, line),
                               inl (
                                 (λ z. absurd (cc)),
-                                (
-                                  c.ilevel,
-                                  refl,
-                                  refl,
-                                  (
-                                    c.plevel,
-                                    refl,
-                                    refl,
-                                    (
-                                      c.mepc,
-                                      refl,
-                                      refl,
-                                      record {
-                                        touches = refl;
-                                        status = answers e (get_or (arrive lines c.pending) task 0) a h.enabled_bit (bit_arrives lines c.pending task (omega arith) h.pending_bit) h.active_bit;
-                                        back = answered offset (masking ∷ body task) c h.goes_back controller_base c.ilevel c.ilevel (answer e (get_or (arrive lines c.pending) task 0) a) (arrive lines c.pending) (set (arrive lines c.pending) task 1) c.ram (omega arith);
-                                      },
-                                    ),
-                                  ),
-                                ),
+                                goes_back offset (masking ∷ body task) c h.goes_back (λ u. Activated task (task ∷ u)) controller_base 1
+                                    (answer e (get_or (arrive lines c.pending) task 0) a) (arrive lines c.pending) (set (arrive lines c.pending) task 1) c.ram h.level
+                                    (λ last is went. record { touches = refl; status = subst (Answers task (at_touch lines)) (sym is) (found lines); back = went }),
                               ),
                             ),
                           ),

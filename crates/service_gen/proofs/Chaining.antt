@@ -1,6 +1,6 @@
 -- The code of ChainTask has its effect.
 use Rattle.std.proofs.Common.{◌≡◌, ℕ, ◌+◌, ◌*◌, ◌<◌, ◌≤◌, List, [], ◌∷◌, ◌++◌, length, get_or, refl, sym, ap, ◌∙◌, arith, inl, inr, ⊎_elim}
-use Rattle.std.specs.Prelude.{false, set, pos, bit_or, bit_xor, ◌≢◌, eqb}
+use Rattle.std.specs.Prelude.{false, set, pos, ◌≢◌, eqb}
 use Rattle.std.proofs.lemmas.Bool.{cases_eq, eq-eqb, ne_eqb}
 use Rattle.sloth_base.specs.Machine.{Core, State}
 use Rattle.sloth_base.specs.Arrive.{arrive, state_arrive}
@@ -12,17 +12,18 @@ use Rattle.rv32_instr.specs.Ram.{word_at}
 use Rattle.sloth_base.specs.Arithmetic.{plus}
 use Rattle.rv32_routine.specs.Place.{at}
 use Rattle.rv32_routine.specs.Masked.{FromOpening}
-use Rattle.rv32_routine.specs.Owes.{AreOf, Owes, Pending, Enabled}
+use Rattle.rv32_routine.specs.Owes.{AreOf, Owes, Pending}
 use Rattle.rv32_routine.specs.Kernel.{leave, masking}
 use Rattle.rv32_routine.proofs.Arrivals.{other_bytes}
 use Rattle.rv32_routine.proofs.Spread.{spread, spread_from}
 use Rattle.rv32_routine.proofs.Whole.{masked}
 use Rattle.rv32_routine.proofs.Leave.{leave_owes, behind}
-use Rattle.service_gen.proofs.Returning.{answered}
-use Rattle.service_gen.proofs.Busy.{bit_arrives, busy_of, busies}
+use Rattle.service_gen.proofs.Returning.{goes_back}
+use Rattle.service_gen.proofs.Busy.{Finds, looks_owe}
 use Rattle.service_gen.proofs.Ending.{ends_owe, ended_below, has_ended}
 use Rattle.service_gen.proofs.Serving.{opens}
 use Rattle.service_gen.specs.Pieces.{ends, busy, raises, back, asks, refuses}
+use Rattle.service_gen.specs.ActivateTask.{LooksSuspended}
 use Rattle.service_gen.specs.TerminateTask.{ended_ram, Terminated}
 use Rattle.service_gen.specs.ChainTask.{MayChain, Chained, Chains}
 
@@ -82,42 +83,21 @@ module _ (offset task own place : ℕ) (c : Core) (h : MayChain offset task own 
       ))
 
   -- the task was not Suspended
-  stays_owe : (o : ℕ) (p : List ℕ) (v : ℕ) → task ≢ own → (((word ≡ 0) × (get_or p task 0 ≡ 0) × (get_or c.enabled task 0 ≡ 1)) → ⊥) → Owes offset (offset + 4 + 272) o (Addi 10 0 (pos E_OS_LIMIT) ∷ (back ++ (ends ++ (raises task ++ leave)))) 0 (λ u. Chained task own place (task ∷ u)) (st p) (record (masked (spread c)) { registers = 0 ∷ word ∷ x2 ∷ v ∷ 0x8000_0000 ∷ tail; pending = p })
-  stays_owe o p v ne busy =
-      let level = h.level in (
-        E_OS_LIMIT,
-        refl,
-        (
-          c.ilevel,
-          refl,
-          refl,
-          (
-            c.plevel,
-            refl,
-            refl,
-            (
-              c.mepc,
-              refl,
-              refl,
-              inr (record {
-                other = ne;
-                not_suspended = busy;
-                touches = refl;
-                status = refl;
-                back = answered offset (masking ∷ body task) c h.goes_back word c.ilevel c.ilevel E_OS_LIMIT p p c.ram (omega arith);
-              }),
-            ),
-          ),
-        ),
-      )
+  stays_owe : (o : ℕ) (p : List ℕ) (v : ℕ) → task ≢ own → (LooksSuspended task (record c { pending = p }) → ⊥)
+      → Owes offset (offset + 4 + 272) o (Addi 10 0 (pos E_OS_LIMIT) ∷ (back ++ (ends ++ (raises task ++ leave)))) 0 (λ u. Chained task own place (task ∷ u)) (st p)
+      (record (masked (spread c)) { registers = 0 ∷ word ∷ x2 ∷ v ∷ 0x8000_0000 ∷ tail; pending = p })
+  stays_owe o p v ne busy = (
+    E_OS_LIMIT,
+    refl,
+    goes_back offset (masking ∷ body task) c h.goes_back (λ u. Chained task own place (task ∷ u)) word v E_OS_LIMIT p p c.ram h.level
+        (λ last is went. inr (record { other = ne; not_suspended = busy; touches = refl; status = is; back = went })),
+  )
 
   -- behind the look at the task
-  looked_owe : (o : ℕ) (lines : List ℕ) → o ≤ 0x20_0000 → task ≢ own → Owes offset (offset + 4 + 272) o (refuses ++ (back ++ (ends ++ (raises task ++ leave)))) 0 (λ u. Chained task own place (task ∷ u)) (st (arrive lines c.pending)) (record (masked (spread c)) { registers = 0 ∷ word ∷ x2 ∷ busy_of (get_or c.enabled task 0) (get_or (arrive lines c.pending) task 0) word ∷ 0x8000_0000 ∷ tail; pending = arrive lines c.pending })
-  looked_owe o lines small ne =
-      let p = arrive lines c.pending in
-      let v = busy_of (get_or c.enabled task 0) (get_or p task 0) word in
-      let long = h.goes_back.can_run.lines in
-      let found = busies (get_or c.enabled task 0) (get_or p task 0) word h.enabled_bit (bit_arrives lines c.pending task (omega arith) h.pending_bit) h.active_bit in
+  looked_owe : (o : ℕ) (p : List ℕ) (v : ℕ) → o ≤ 0x20_0000 → task ≢ own → Finds task (record c { pending = p }) v
+      → Owes offset (offset + 4 + 272) o (refuses ++ (back ++ (ends ++ (raises task ++ leave)))) 0 (λ u. Chained task own place (task ∷ u)) (st p)
+      (record (masked (spread c)) { registers = 0 ∷ word ∷ x2 ∷ v ∷ 0x8000_0000 ∷ tail; pending = p })
+  looked_owe o p v small ne found =
       record {
         passed = 5;
         lands = lands o 24 5 small (omega arith) refl;
@@ -134,9 +114,7 @@ module _ (offset task own place : ℕ) (c : Core) (h : MayChain offset task own 
   body_owes : Owes offset (offset + 4 + 272) (offset + 4) (body task) 0 (Chained task own place) (at offset (spread c)) (masked (spread c))
   body_owes =
       let fits = inside in
-      let small = h.is_task in
-      let below = line in
-      let e = get_or c.enabled task 0 in (
+      let small = h.is_task in (
         0x8000_0000,
         refl,
         (
@@ -155,37 +133,10 @@ module _ (offset task own place : ℕ) (c : Core) (h : MayChain offset task own 
                   (λ ne. let f = ne_eqb (own + 1) (task + 1) ne in absurd (cc))
                   (cases_eq (own + 1) (task + 1));
               when_not = λ n.
-                  let ne : task ≢ own = λ x. n (eq-eqb (own + 1) (task + 1) (ap (λ y. y + 1) (sym x))) in (
-                    controller_base,
-                    refl,
-                    (
-                      Enabled task,
-                      (omega arith, below),
-                      (
-                        bit_xor e 1,
-                        refl,
-                        (
-                          Pending task,
-                          (omega arith, below),
-                          λ lines only. (
-                            bit_or (bit_xor e 1) (get_or (arrive lines c.pending) task 0),
-                            refl,
-                            (
-                              active task,
-                              record { is = omega arith; aligned = omega arith; inside = omega arith },
-                              word,
-                              refl,
-                              (
-                                busy_of e (get_or (arrive lines c.pending) task 0) word,
-                                refl,
-                                looked_owe (behind 11 (offset + 4)) lines (omega arith) ne,
-                              ),
-                            ),
-                          ),
-                        ),
-                      ),
-                    ),
-                  );
+                  let ne : task ≢ own = λ x. n (eq-eqb (own + 1) (task + 1) (ap (λ y. y + 1) (sym x))) in
+                  looks_owe offset (offset + 4 + 272) task (Chained task own place) (refuses ++ (back ++ (ends ++ (raises task ++ leave)))) c h.is_task
+                  h.goes_back.can_run.lines h.active_bit h.pending_bit h.enabled_bit (behind 4 (offset + 4)) (task + 1) (own + 1)
+                  (λ lines v only found. looked_owe (behind 11 (offset + 4)) (arrive lines c.pending) v (omega arith) ne found);
             },
           ),
         ),

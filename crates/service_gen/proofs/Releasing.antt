@@ -12,7 +12,7 @@ use Rattle.rv32_routine.specs.Kernel.{masking}
 use Rattle.rv32_routine.specs.Owes.{Owes}
 use Rattle.rv32_routine.proofs.Spread.{spread}
 use Rattle.rv32_routine.proofs.Whole.{masked}
-use Rattle.service_gen.proofs.Returning.{answered}
+use Rattle.service_gen.proofs.Returning.{goes_back_at}
 use Rattle.service_gen.proofs.Serving.{opens}
 use Rattle.service_gen.specs.Pieces as piece
 use Rattle.service_gen.specs.ReleaseResource.{MayRelease, Released, Releases}
@@ -36,21 +36,8 @@ module _ (offset resource : ℕ) (c : Core) (h : MayRelease offset resource (mas
           (
             E_OK,
             refl,
-            (
-              c.plevel,
-              refl,
-              refl,
-              (
-                c.mepc,
-                refl,
-                refl,
-                record {
-                  touches = refl;
-                  status = refl;
-                  back = answered offset (masking ∷ body resource) c h.goes_back (get_or c.registers 1 0) level level E_OK c.pending c.pending c.ram (omega arith);
-                },
-              ),
-            ),
+            goes_back_at offset (masking ∷ body resource) c h.goes_back (Released resource) (get_or c.registers 1 0) level level E_OK c.pending c.pending
+                c.ram (omega arith) (λ last is went. record { touches = refl; status = is; back = went }),
           ),
         ),
       )

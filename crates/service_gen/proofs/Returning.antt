@@ -1,12 +1,15 @@
--- The way back to the caller: what its end leaves.
-use Rattle.std.proofs.Common.{◌≡◌, ℕ, ◌-◌, ◌%◌, ◌<◌, ◌≤◌, ◌⊎◌, List, ◌∷◌, length, get_or, refl, ◌∙◌, arith, ⊎_elim}
-use Rattle.std.specs.Prelude.{true, set, ◌≢◌}
+-- The way back to the caller: what is owed of it, and what its end leaves.
+use Rattle.std.proofs.Common.{◌≡◌, ℕ, ◌-◌, ◌%◌, ◌<◌, ◌≤◌, ◌⊎◌, List, [], ◌∷◌, length, get_or, refl, ◌∙◌, arith, ⊎_elim}
+use Rattle.std.specs.Prelude.{true, set, slice_index, ◌≢◌}
 use Rattle.std.proofs.lemmas.List.{get_or-set_other}
 use Rattle.sloth_base.specs.Machine.{Core, State}
 use Rattle.rv32_instr.specs.declared.InstrKind.{InstrKind}
 use Rattle.rv32_routine.specs.Place.{at}
+use Rattle.rv32_routine.specs.Owes.{Owes}
 use Rattle.rv32_routine.proofs.Spread.{spread, spread_from, others}
+use Rattle.rv32_routine.proofs.Whole.{masked}
 use Rattle.service_gen.specs.Back.{CanGoBack, WentBack, a0, a1}
+use Rattle.service_gen.specs.Pieces.{back_at, back}
 
 module _ (offset : ℕ) (code : List InstrKind) (c : Core) (can : CanGoBack offset code c) where
   abbrev x2 : ℕ
@@ -53,14 +56,44 @@ module _ (offset : ℕ) (code : List InstrKind) (c : Core) (can : CanGoBack offs
   not_a1 i apart e = ⊎_elim (λ below. absurd (omega arith)) (λ above. absurd (omega arith)) apart
 
   -- with a status
-  pub answered : (x1 x3 level status : ℕ) (before pending ram : List ℕ) → x3 % 256 ≡ level → WentBack a0 (left level pending ram) (start before) (end x1 x3 (set tail 5 status) pending ram)
+  answered : (x1 x3 level status : ℕ) (before pending ram : List ℕ) → x3 % 256 ≡ level → WentBack a0 (left level pending ram) (start before) (end x1 x3 (set tail 5 status) pending ram)
   answered x1 x3 level status before pending ram running =
       returned a0 x1 x3 level (set tail 5 status) before pending ram refl running
       (λ i past apart. get_or-set_other (0 ∷ x1 ∷ x2 ∷ x3 ∷ 0x8000_0000 ∷ tail) 10 i status 0 (not_a0 a0 i (omega arith) apart) ∙ other x1 x3 i past)
 
   -- with a status and an answer
-  pub answered_with : (x1 x3 level status answer : ℕ) (before pending ram : List ℕ) → x3 % 256 ≡ level → WentBack a1 (left level pending ram) (start before) (end x1 x3 (set (set tail 6 answer) 5 status) pending ram)
+  answered_with : (x1 x3 level status answer : ℕ) (before pending ram : List ℕ) → x3 % 256 ≡ level → WentBack a1 (left level pending ram) (start before) (end x1 x3 (set (set tail 6 answer) 5 status) pending ram)
   answered_with x1 x3 level status answer before pending ram running =
       let low = 0 ∷ x1 ∷ x2 ∷ x3 ∷ 0x8000_0000 ∷ tail in
       returned a1 x1 x3 level (set (set tail 6 answer) 5 status) before pending ram refl running
       (λ i past apart. get_or-set_other (set low 11 answer) 10 i status 0 (not_a0 a1 i (omega arith) apart) ∙ get_or-set_other low 11 i answer 0 (not_a1 i apart) ∙ other x1 x3 i past)
+
+  -- What is owed of the way back, wherever it stands: at the level in x3, with a status.
+  pub goes_back_at : (E : List ℕ → State → State → Type 0) (x1 x3 level status : ℕ) (before pending ram : List ℕ) → x3 % 256 ≡ level
+      → ((last : State) → slice_index last.core.registers a0 ≡ status → WentBack a0 (left level pending ram) (start before) last → E [] (start before) last)
+      → Owes 0 0 0 back_at 0 E (start before)
+      (record (masked (spread c)) { registers = 0 ∷ x1 ∷ x2 ∷ x3 ∷ 0x8000_0000 ∷ set tail 5 status; pending = pending; ram = ram })
+  goes_back_at E x1 x3 level status before pending ram running go = (
+    c.plevel,
+    refl,
+    refl,
+    (c.mepc, refl, refl, go (end x1 x3 (set tail 5 status) pending ram) refl (answered x1 x3 level status before pending ram running)),
+  )
+
+  -- the same at the level that runs
+  pub goes_back : (E : List ℕ → State → State → Type 0) (x1 x3 status : ℕ) (before pending ram : List ℕ) → c.ilevel < 256
+      → ((last : State) → slice_index last.core.registers a0 ≡ status → WentBack a0 (left c.ilevel pending ram) (start before) last → E [] (start before) last)
+      → Owes 0 0 0 back 0 E (start before)
+      (record (masked (spread c)) { registers = 0 ∷ x1 ∷ x2 ∷ x3 ∷ 0x8000_0000 ∷ set tail 5 status; pending = pending; ram = ram })
+  goes_back E x1 x3 status before pending ram low go =
+      (c.ilevel, refl, refl, goes_back_at E x1 c.ilevel c.ilevel status before pending ram (omega arith) go)
+
+  -- with a status and an answer
+  pub goes_back_with : (E : List ℕ → State → State → Type 0) (x1 x3 status answer : ℕ) (before pending ram : List ℕ) → c.ilevel < 256
+      → ((last : State) → slice_index last.core.registers a0 ≡ status → slice_index last.core.registers a1 ≡ answer
+      → WentBack a1 (left c.ilevel pending ram) (start before) last → E [] (start before) last)
+      → Owes 0 0 0 back 0 E (start before)
+      (record (masked (spread c)) { registers = 0 ∷ x1 ∷ x2 ∷ x3 ∷ 0x8000_0000 ∷ set (set tail 6 answer) 5 status; pending = pending; ram = ram })
+  goes_back_with E x1 x3 status answer before pending ram low go =
+      let went = answered_with x1 c.ilevel c.ilevel status answer before pending ram (omega arith) in
+      (c.ilevel, refl, refl, (c.plevel, refl, refl, (c.mepc, refl, refl, go (end x1 c.ilevel (set (set tail 6 answer) 5 status) pending ram) refl refl went)))

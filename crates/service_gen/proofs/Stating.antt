@@ -1,5 +1,5 @@
 -- The code of GetTaskState has its effect.
-use Rattle.std.proofs.Common.{◌≡◌, ℕ, ◌+◌, ◌<◌, ◌≤◌, List, [], ◌∷◌, ◌++◌, length, get_or, refl, ap, arith, ⊎_elim}
+use Rattle.std.proofs.Common.{◌≡◌, ℕ, ◌+◌, ◌<◌, ◌≤◌, List, [], ◌∷◌, ◌++◌, length, get_or, refl, sym, ap, subst, arith, ⊎_elim}
 use Rattle.std.specs.Prelude.{set, negsuc, nat_lt, ◌≢◌}
 use Rattle.std.proofs.lemmas.Bool.{cases_eq, cases_lt, eq-eqb, ne_eqb, lt-ltb}
 use Rattle.sloth_base.specs.Machine.{Core, State}
@@ -19,7 +19,7 @@ use Rattle.rv32_routine.proofs.Spread.{spread, spread_from}
 use Rattle.rv32_routine.proofs.Whole.{masked}
 use Rattle.service_gen.proofs.Busy.{bit_arrives}
 use Rattle.service_gen.proofs.Chaining.{lands}
-use Rattle.service_gen.proofs.Returning.{answered_with}
+use Rattle.service_gen.proofs.Returning.{goes_back_with}
 use Rattle.service_gen.proofs.Serving.{opens}
 use Rattle.service_gen.specs.Pieces.{asks_active, tells_active, asks_waiting, tells_resting, back}
 use Rattle.service_gen.specs.GetTaskState.{MayTellState, IsNumber, StateTold, TellsState}
@@ -69,28 +69,16 @@ module _ (offset task own : ℕ) (c : Core) (h : MayTellState offset task own (m
   enabled = get_or c.enabled task 0
 
   -- the way back, with the number in a1, where these lines were touched before
-  back_owe : (o : ℕ) (p before : List ℕ) (x x3 number : ℕ) (rest : List InstrKind) → IsNumber task own (record (spread c) { pending = p }) (before ++ []) number → Owes offset (offset + 4 + 92) o (back ++ rest) 0 (λ u. StateTold task own (before ++ u)) (st p) (record (masked (spread c)) { registers = 0 ∷ x ∷ x2 ∷ x3 ∷ 0x8000_0000 ∷ set (set tail 6 number) 5 E_OK; pending = p })
-  back_owe o p before x x3 number rest is =
-      let level = h.level in (
-        c.ilevel,
-        refl,
-        refl,
-        (
-          c.plevel,
-          refl,
-          refl,
-          (
-            c.mepc,
-            refl,
-            refl,
-            record {
-              status = refl;
-              number = is;
-              back = answered_with offset (masking ∷ body task) c h.goes_back x c.ilevel c.ilevel E_OK number p p c.ram (omega arith);
-            },
-          ),
-        ),
-      )
+  back_owe : (p before : List ℕ) (x x3 number : ℕ) → IsNumber task own (record (spread c) { pending = p }) (before ++ []) number
+      → Owes 0 0 0 back 0 (λ u. StateTold task own (before ++ u)) (st p)
+      (record (masked (spread c)) { registers = 0 ∷ x ∷ x2 ∷ x3 ∷ 0x8000_0000 ∷ set (set tail 6 number) 5 E_OK; pending = p })
+  back_owe p before x x3 number is =
+      goes_back_with offset (masking ∷ body task) c h.goes_back (λ u. StateTold task own (before ++ u)) x x3 E_OK number p p c.ram h.level
+      (λ last status answer went. record {
+        status = status;
+        number = subst (IsNumber task own (record (spread c) { pending = p }) (before ++ [])) (sym answer) is;
+        back = went;
+      })
 
   -- the task is neither Active nor does it wait: what its pending byte tells
   rests : (q : ℕ) (p : List ℕ) → word ≡ 0 → enabled ≡ 1 → get_or p task 0 ≡ q → q < 2 → IsNumber task own (record (spread c) { pending = p }) (task ∷ []) (difference32 3 q)
@@ -117,7 +105,7 @@ module _ (offset task own : ℕ) (c : Core) (h : MayTellState offset task own (m
               passed = 3;
               lands = lands (behind 3 o) 16 3 (omega arith) (omega arith) refl;
               when_taken = λ t. ⊎_elim
-                  (λ z. back_owe (behind 7 o) c.pending [] controller_base enabled 1 [] (waiting a z refl refl))
+                  (λ z. back_owe c.pending [] controller_base enabled 1 (waiting a z refl refl))
                   (λ ne. let f = ne_eqb enabled 0 ne in absurd (cc))
                   (cases_eq enabled 0);
               when_not = λ n.
@@ -133,7 +121,8 @@ module _ (offset task own : ℕ) (c : Core) (h : MayTellState offset task own (m
                           (
                             difference32 3 q,
                             refl,
-                            back_owe (behind 7 o) p (task ∷ []) controller_base q (difference32 3 q) [] (rests q p a e refl (bit_arrives lines c.pending task (omega arith) h.pending_bit)),
+                            back_owe p (task ∷ []) controller_base q (difference32 3 q)
+                                (rests q p a e refl (bit_arrives lines c.pending task (omega arith) h.pending_bit)),
                           ),
                         ),
                   );
@@ -165,7 +154,7 @@ module _ (offset task own : ℕ) (c : Core) (h : MayTellState offset task own (m
             (
               told v,
               refl,
-              back_owe (behind 4 o) c.pending [] x1 v (told v) (asks_waiting task ++ (tells_resting task ++ back)) number,
+              back_owe c.pending [] x1 v (told v) number,
             ),
           ),
         ),

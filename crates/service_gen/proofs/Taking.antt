@@ -14,7 +14,7 @@ use Rattle.rv32_routine.specs.Kernel.{masking}
 use Rattle.rv32_routine.specs.Owes.{Owes}
 use Rattle.rv32_routine.proofs.Spread.{spread, spread_from}
 use Rattle.rv32_routine.proofs.Whole.{masked}
-use Rattle.service_gen.proofs.Returning.{answered}
+use Rattle.service_gen.proofs.Returning.{goes_back_at}
 use Rattle.service_gen.proofs.Chaining.{lands}
 use Rattle.service_gen.proofs.Serving.{opens}
 use Rattle.service_gen.specs.Pieces.{takes, goes_on_at}
@@ -32,21 +32,9 @@ module _ (offset resource ceiling : ℕ) (small : ceiling < 256) (c : Core) (h :
   rest_owe o v below e = (
     E_OK,
     refl,
-    (
-      c.plevel,
-      refl,
-      refl,
-      (
-        c.mepc,
-        refl,
-        refl,
-        record {
-          touches = refl;
-          status = refl;
-          back = answered offset (masking ∷ body resource ceiling) c h.goes_back ceiling v (max c.ilevel ceiling) E_OK c.pending c.pending (with_word c.ram (saved resource) c.ilevel) (let f : v % 256 ≡ v = omega arith in f ∙ e);
-        },
-      ),
-    ),
+    goes_back_at offset (masking ∷ body resource ceiling) c h.goes_back (Taken resource ceiling) ceiling v (max c.ilevel ceiling) E_OK c.pending c.pending
+        (with_word c.ram (saved resource) c.ilevel) (let f : v % 256 ≡ v = omega arith in f ∙ e)
+        (λ last is went. record { touches = refl; status = is; back = went }),
   )
 
   body_owes : Owes offset (offset + 4 + 40) (offset + 4) (body resource ceiling) 0 (Taken resource ceiling) (at offset (spread c)) (masked (spread c))

@@ -11,7 +11,7 @@ use Rattle.rv32_routine.specs.Kernel.{masking}
 use Rattle.rv32_routine.specs.Owes.{Owes}
 use Rattle.rv32_routine.proofs.Spread.{spread}
 use Rattle.rv32_routine.proofs.Whole.{masked}
-use Rattle.service_gen.proofs.Returning.{answered_with}
+use Rattle.service_gen.proofs.Returning.{goes_back_with}
 use Rattle.service_gen.proofs.Serving.{opens}
 use Rattle.service_gen.specs.Pieces.{tells_own, back}
 use Rattle.service_gen.specs.GetTaskID.{MayTell, Told, TellsTask}
@@ -22,8 +22,7 @@ body = Lui 4 words_high ∷ (tells_own ++ back)
 module _ (offset task : ℕ) (c : Core) (h : MayTell offset task (masking ∷ body) c) where
   body_owes : Owes offset (offset + 4 + 32) (offset + 4) body 0 (Told task) (at offset (spread c)) (masked (spread c))
   body_owes =
-      let small = h.is_task in
-      let level = h.level in (
+      let small = h.is_task in (
         0x8000_0000,
         refl,
         (
@@ -37,27 +36,8 @@ module _ (offset task : ℕ) (c : Core) (h : MayTell offset task (masking ∷ bo
             (
               E_OK,
               refl,
-              (
-                c.ilevel,
-                refl,
-                refl,
-                (
-                  c.plevel,
-                  refl,
-                  refl,
-                  (
-                    c.mepc,
-                    refl,
-                    refl,
-                    record {
-                      touches = refl;
-                      status = refl;
-                      number = refl;
-                      back = answered_with offset (masking ∷ body) c h.goes_back (get_or c.registers 1 0) c.ilevel c.ilevel E_OK task c.pending c.pending c.ram (omega arith);
-                    },
-                  ),
-                ),
-              ),
+              goes_back_with offset (masking ∷ body) c h.goes_back (Told task) (get_or c.registers 1 0) (get_or c.registers 3 0) E_OK task c.pending c.pending
+                  c.ram h.level (λ last is answer went. record { touches = refl; status = is; number = answer; back = went }),
             ),
           ),
         ),

@@ -22,8 +22,7 @@ use Rattle.sim_relation.proofs.Changing.{change_stands}
 use Rattle.sim_relation.proofs.Parts.{by_task, word_other}
 use Rattle.sim_services.specs.Opening.{IsFollowed}
 use Rattle.sim_services.specs.Served.{IsServed}
-use Rattle.sim_services.proofs.Answered.{long_status, status_held}
-use Rattle.sim_services.proofs.GoesOn.{active, long_registers, held_registers, behind}
+use Rattle.sim_services.proofs.GoesOn.{active, behind_status}
 
 -- an element that is replaced twice
 pub set_twice : (l : List Task) (i : ℕ) (x y : Task) → set (set l i x) i y ≡ set l i y
@@ -76,11 +75,7 @@ module _ (b : Build) (state : State) (s : System) (t : ℕ) (called : Task) (ser
 
   before : Stands b middle answer
   before =
-      let long = long_registers b state s t called served is fits in
-      let held = held_registers b state s t called served is fits in
-      behind b state s t called served is fits followed middle left back.pc back.x2 (set (task s t).registers 5 status)
-      (long_status (task s t).registers state.core.registers end.core.registers long held status status_is)
-      (status_held (task s t).registers state.core.registers end.core.registers long held status status_is back.kept)
+      behind_status b state s t called served is fits followed middle (record { left = left; pc = back.pc; x2 = back.x2; kept = back.kept }) status status_is
 
   pub among : t < length s.tasks
   among = let v = is.stands.tidy.tasks in let h = (active b state s t called served is fits).declared in omega arith

@@ -1,5 +1,5 @@
 -- SetEvent is a step, and the relation stands behind it.
-use Rattle.std.proofs.Common.{◌≡◌, ℕ, ◌^◌, ◌<◌, List, [], ◌∷◌, length, set, refl, sym, ap, ◌∙◌, subst, arith, ⊎_elim, true}
+use Rattle.std.proofs.Common.{◌≡◌, ℕ, ◌^◌, ◌<◌, List, [], ◌∷◌, length, refl, sym, ap, ◌∙◌, subst, arith, ⊎_elim, true}
 use Rattle.std.specs.Prelude.{◌≢◌, ◌⊎◌, slice_index, slice_set, bit_and, bit_or, Contains}
 use Rattle.std.specs.List.{AllByRecursion}
 use Rattle.std.proofs.lemmas.Bool.{ltb-true}
@@ -8,7 +8,7 @@ use Rattle.std.proofs.lemmas.List.{get_or-set_same, get_or-set_other, length-set
 use Rattle.sloth_base.specs.Machine.{State}
 use Rattle.sloth_base.specs.Status.{E_OK, E_OS_STATE}
 use Rattle.sloth_base.specs.declared.service.Service.TheVariants as service
-use Rattle.sloth_region.specs.Layout.{cur, events, wait}
+use Rattle.sloth_region.specs.Layout.{events, wait}
 use Rattle.rv32_instr.specs.Ram.{word_at, with_word}
 use Rattle.rv32_expand.specs.Expansion.{mask_of}
 use Rattle.rv32_routine.proofs.Words.{word_below}
@@ -28,8 +28,7 @@ use Rattle.sim_relation.specs.Stands.{Stands, IsLineOf}
 use Rattle.sim_relation.proofs.Parts.{by_task}
 use Rattle.sim_services.specs.Laws.{MayGoOn}
 use Rattle.sim_services.specs.Served.{IsServed, Answers}
-use Rattle.sim_services.proofs.Answered.{long_status, status_held}
-use Rattle.sim_services.proofs.GoesOn.{long_registers, held_registers, behind, answers_so}
+use Rattle.sim_services.proofs.GoesOn.{answers_so, answers_status}
 use Rattle.sim_services.proofs.Raising.{looks, is_so, first_outcome, second_outcome}
 use Rattle.sim_events.specs.Laws.{MayHaveEvents}
 use Rattle.sim_events.proofs.Changed.{Changes, among, current, stands_changed}
@@ -92,14 +91,8 @@ module _ (b : Build) (state : State) (s : System) (t : ℕ) (own : Task) (object
   -- the task is Suspended
   not_set : HasNotSet object state end → Answers b s t service.SetEvent touched end
   not_set h =
-      let long = long_registers b state s t own service.SetEvent is fits in
-      let held = held_registers b state s t own service.SetEvent is fits in
-      answers_so b state s t own service.SetEvent is fits touched end object object touches names E_OS_STATE h.status refused
+      answers_status b state s t own service.SetEvent is fits touched end object object touches names goes_on.followed h.back E_OS_STATE h.status
       (outcome_at ∙ first_outcome (task s object).state (GoesOn E_OS_STATE refused) (GoesOn E_OK done) (is_so b state s k object declared h.suspended))
-      (behind b state s t own service.SetEvent is fits goes_on.followed end h.back.left h.back.pc h.back.x2 (set (task s t).registers 5 E_OS_STATE)
-      (long_status (task s t).registers state.core.registers end.core.registers long held E_OS_STATE h.status)
-      (status_held (task s t).registers state.core.registers end.core.registers long held E_OS_STATE h.status h.back.kept))
-      (ap (λ r. word_at r cur) h.back.left.ram)
 
   abbrev after : TaskState
   after = state_after (task s object).state now

@@ -27,78 +27,72 @@ use Rattle.sim_events.proofs.Cleared.{clears}
 use Rattle.sim_events.proofs.Setting.{sets_events}
 use Rattle.sim_events.proofs.Told.{tells_events}
 
-pub tells_stretches : (b : Build) (view : View) (arrivals : List Arrival) (count : ℕ) (state : State) (s : System) (t : ℕ)
-    → Fits b → IsSetting (setting_of b view arrivals) → 0 < count → Stands b state s
-    → OpensGoingOn b view (arrived arrivals count state) (with_admits (lines_at arrivals count) s) t service.GetEvent TellsEvents
-    → Stretches b view arrivals count state s
-tells_stretches b view arrivals count state s t fits setting after_boot stands o =
-    let n = arrived arrivals count state in
-    let s1 = with_admits (lines_at arrivals count) s in
-    let block = o.opens.block in
-    let object = o.opens.opening.block.call.object in
-    let declared = ltb-true object (length b.config.tasks) o.names in
-    let there = k b view arrivals count state s t service.GetEvent TellsEvents fits setting after_boot stands o.opens block.serves.masks in
-    going_on_stretches b view arrivals count state s t service.GetEvent TellsEvents fits setting after_boot stands o block.serves.masks
-    16 (omega arith) (λ place. EventsTold object)
-    (λ place can. block.serves.runs block.offset n.core (record {
-      goes_back = can.goes_back;
-      is_task = let f = fits.few_tasks in omega arith;
-      level = can.level;
-      active_bit = active_bit b n s1 there object declared;
-      pending_bit = there.lines.bits object declared;
-      enabled_bit = enabled_bit b n s1 there object declared;
-    }))
-    (λ place lines touched s2 end can may effect. tells_events b (state_arrive lines n) s2 t (task s1 t) object touched end fits may effect)
+module _ (b : Build) (view : View) (arrivals : List Arrival) (count : ℕ) (state : State) (s : System) (t : ℕ) (fits : Fits b)
+    (setting : IsSetting (setting_of b view arrivals)) (after_boot : 0 < count) (stands : Stands b state s) where
+  abbrev start : State
+  start = arrived arrivals count state
 
-pub clears_stretches : (b : Build) (view : View) (arrivals : List Arrival) (count : ℕ) (state : State) (s : System) (t : ℕ)
-    → Fits b → IsSetting (setting_of b view arrivals) → 0 < count → Stands b state s
-    → OpensWithMask b view (arrived arrivals count state) (with_admits (lines_at arrivals count) s) t service.ClearEvent (λ object. ClearsEvents)
-    → Stretches b view arrivals count state s
-clears_stretches b view arrivals count state s t fits setting after_boot stands o =
-    let n = arrived arrivals count state in
-    let s1 = with_admits (lines_at arrivals count) s in
-    let opening = o.goes_on.opens.opening in
-    let block = o.goes_on.opens.block in
-    let mask_is : slice_index n.core.registers mask_register ≡ opening.block.call.mask =
-    opening.block.mask (subst (λ v. length (mask_of v opening.block.call.mask) ≡ 2) (sym opening.calls) refl) in
-    going_on_stretches b view arrivals count state s t service.ClearEvent (λ object. ClearsEvents) fits setting after_boot stands o.goes_on block.serves.masks
-    15 (omega arith) (λ place. EventsCleared t)
-    (λ place can. block.serves.runs block.offset t n.core (record {
-      goes_back = can.goes_back;
-      level = can.level;
-      runs = can.current;
-      is_task = can.is_task;
-      is_word = subst (λ x. x < 2 ^ 32) (sym mask_is) o.is_word;
-    }))
-    (λ place lines touched s2 end can may effect. clears b (state_arrive lines n) s2 t (task s1 t) opening.block.call.object touched end fits may effect)
+  abbrev found : System
+  found = with_admits (lines_at arrivals count) s
 
-pub sets_stretches : (b : Build) (view : View) (arrivals : List Arrival) (count : ℕ) (state : State) (s : System) (t : ℕ)
-    → Fits b → IsSetting (setting_of b view arrivals) → 0 < count → Stands b state s
-    → OpensWithMask b view (arrived arrivals count state) (with_admits (lines_at arrivals count) s) t service.SetEvent SetsEvents
-    → Stretches b view arrivals count state s
-sets_stretches b view arrivals count state s t fits setting after_boot stands o =
-    let n = arrived arrivals count state in
-    let s1 = with_admits (lines_at arrivals count) s in
-    let opening = o.goes_on.opens.opening in
-    let block = o.goes_on.opens.block in
-    let object = opening.block.call.object in
-    let declared = ltb-true object (length b.config.tasks) o.goes_on.names in
-    let there = k b view arrivals count state s t service.SetEvent SetsEvents fits setting after_boot stands o.goes_on.opens block.serves.masks in
-    going_on_stretches b view arrivals count state s t service.SetEvent SetsEvents fits setting after_boot stands o.goes_on block.serves.masks
-    25 (omega arith) (λ place. EventsSet object)
-    (λ place can. block.serves.runs block.offset n.core (record {
-      goes_back = can.goes_back;
-      is_task = let f = fits.few_tasks in omega arith;
-      level = can.level;
-      active_bit = active_bit b n s1 there object declared;
-      pending_bit = there.lines.bits object declared;
-      enabled_bit = enabled_bit b n s1 there object declared;
-    }))
-    (λ place lines touched s2 end can may effect.
-    sets_events b (state_arrive lines n) s2 t (task s1 t) object opening.block.call.mask touched end fits
-    (record {
-      goes_on = may;
-      mask_is = ap (λ (c : Call). c.mask) (same_call b (state_arrive lines n) n t (task s1 t) service.SetEvent may.is_served.opening opening);
-      is_word = o.is_word;
-    })
-    effect)
+  pub tells_stretches : OpensGoingOn b view start found t service.GetEvent TellsEvents → Stretches b view arrivals count state s
+  tells_stretches o =
+      let block = o.opens.block in
+      let object = o.opens.opening.block.call.object in
+      let declared = ltb-true object (length b.config.tasks) o.names in
+      let there = k b view arrivals count state s t service.GetEvent TellsEvents fits setting after_boot stands o.opens block.serves.masks in
+      going_on_stretches b view arrivals count state s t service.GetEvent TellsEvents fits setting after_boot stands o block.serves.masks
+      16 (omega arith) (λ place. EventsTold object)
+      (λ place can. block.serves.runs block.offset start.core (record {
+        goes_back = can.goes_back;
+        is_task = let f = fits.few_tasks in omega arith;
+        level = can.level;
+        active_bit = active_bit b start found there object declared;
+        pending_bit = there.lines.bits object declared;
+        enabled_bit = enabled_bit b start found there object declared;
+      }))
+      (λ place lines touched s2 end can may effect. tells_events b (state_arrive lines start) s2 t (task found t) object touched end fits may effect)
+
+  pub clears_stretches : OpensWithMask b view start found t service.ClearEvent (λ object. ClearsEvents) → Stretches b view arrivals count state s
+  clears_stretches o =
+      let opening = o.goes_on.opens.opening in
+      let block = o.goes_on.opens.block in
+      let mask_is : slice_index start.core.registers mask_register ≡ opening.block.call.mask =
+      opening.block.mask (subst (λ v. length (mask_of v opening.block.call.mask) ≡ 2) (sym opening.calls) refl) in
+      going_on_stretches b view arrivals count state s t service.ClearEvent (λ object. ClearsEvents) fits setting after_boot stands o.goes_on block.serves.masks
+      15 (omega arith) (λ place. EventsCleared t)
+      (λ place can. block.serves.runs block.offset t start.core (record {
+        goes_back = can.goes_back;
+        level = can.level;
+        runs = can.current;
+        is_task = can.is_task;
+        is_word = subst (λ x. x < 2 ^ 32) (sym mask_is) o.is_word;
+      }))
+      (λ place lines touched s2 end can may effect.
+      clears b (state_arrive lines start) s2 t (task found t) opening.block.call.object touched end fits may effect)
+
+  pub sets_stretches : OpensWithMask b view start found t service.SetEvent SetsEvents → Stretches b view arrivals count state s
+  sets_stretches o =
+      let opening = o.goes_on.opens.opening in
+      let block = o.goes_on.opens.block in
+      let object = opening.block.call.object in
+      let declared = ltb-true object (length b.config.tasks) o.goes_on.names in
+      let there = k b view arrivals count state s t service.SetEvent SetsEvents fits setting after_boot stands o.goes_on.opens block.serves.masks in
+      going_on_stretches b view arrivals count state s t service.SetEvent SetsEvents fits setting after_boot stands o.goes_on block.serves.masks
+      25 (omega arith) (λ place. EventsSet object)
+      (λ place can. block.serves.runs block.offset start.core (record {
+        goes_back = can.goes_back;
+        is_task = let f = fits.few_tasks in omega arith;
+        level = can.level;
+        active_bit = active_bit b start found there object declared;
+        pending_bit = there.lines.bits object declared;
+        enabled_bit = enabled_bit b start found there object declared;
+      }))
+      (λ place lines touched s2 end can may effect.
+      sets_events b (state_arrive lines start) s2 t (task found t) object opening.block.call.mask touched end fits
+      (record {
+        goes_on = may;
+        mask_is = ap (λ (c : Call). c.mask) (same_call b (state_arrive lines start) start t (task found t) service.SetEvent may.is_served.opening opening);
+        is_word = o.is_word;
+      })
+      effect)

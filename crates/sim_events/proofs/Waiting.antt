@@ -1,5 +1,5 @@
 -- WaitEvent is a step, and the relation stands behind it.
-use Rattle.std.proofs.Common.{◌≡◌, ℕ, ◌+◌, ◌*◌, ◌%◌, ◌<◌, ◌≤◌, List, [], ◌∷◌, length, set, refl, sym, ap, ◌∙◌, subst, arith, ⊎_elim, inl, inr, Bool, true, false, cond}
+use Rattle.std.proofs.Common.{◌≡◌, ℕ, ◌+◌, ◌*◌, ◌%◌, ◌<◌, ◌≤◌, List, [], ◌∷◌, length, refl, sym, ap, ◌∙◌, subst, arith, ⊎_elim, inl, inr, Bool, true, false, cond}
 use Rattle.std.specs.Prelude.{slice_index, bit_and, Contains}
 use Rattle.std.specs.List.{AllByRecursion}
 use Rattle.std.proofs.lemmas.Bool.{ne_eqb, eq-eqb}
@@ -20,8 +20,7 @@ use Rattle.osek_machine.specs.declared.state.TaskState.TheVariants as mode
 use Rattle.osek_machine.specs.State.{Frame, Task, System, task, with_task}
 use Rattle.osek_machine.specs.Meaning.{going_on}
 use Rattle.osek_machine.specs.Services.{GoesOn, Leaves, waits, moved, answered, is_there}
-use Rattle.osek_machine.specs.Steps.{OsekStep, IsAt, settled}
-use Rattle.sim_induction.proofs.Stretched.{shows_left}
+use Rattle.osek_machine.specs.Steps.{settled}
 use Rattle.sim_relation.specs.Build.{Build, Fits}
 use Rattle.sim_relation.specs.Position.{FramesAt, thread_of}
 use Rattle.sim_relation.specs.Context.{RunsTask, Running, Rested, Resumes}
@@ -31,14 +30,14 @@ use Rattle.sim_relation.specs.Moves.{TaskLeave}
 use Rattle.sim_relation.proofs.Contexts.{context_below}
 use Rattle.sim_relation.proofs.Framing.{frames_kept}
 use Rattle.sim_relation.proofs.Leaving.{leave_stands}
+use Rattle.sim_relation.proofs.Machines.{left_whole}
 use Rattle.sim_relation.proofs.Parts.{this_task}
 use Rattle.sim_relation.proofs.Placed.{first_by_word, active_by_word}
 use Rattle.sim_relation.proofs.SavedRegisters.{registers_at, registers_small}
 use Rattle.sim_services.specs.Laws.{MayGoOn}
 use Rattle.sim_services.specs.Opening.{AtOpening}
 use Rattle.sim_services.specs.Served.{IsServed, Answers}
-use Rattle.sim_services.proofs.Answered.{long_status, status_held}
-use Rattle.sim_services.proofs.GoesOn.{active, free, frames_are, stood, long_registers, held_registers, behind, answers_so}
+use Rattle.sim_services.proofs.GoesOn.{active, free, frames_are, stood, answers_status, leaves_so}
 use Rattle.sim_events.specs.Laws.{MayWaitAt}
 use Rattle.sim_events.proofs.WaitRam.{WaitRam, wait_ram}
 
@@ -86,14 +85,8 @@ module _ (b : Build) (state : State) (s : System) (t : ℕ) (own : Task) (object
 
   stays : HasNotWaited t state end → Answers b s t service.WaitEvent touched end
   stays h =
-      let long = long_registers b state s t own service.WaitEvent is fits in
-      let held = held_registers b state s t own service.WaitEvent is fits in
-      answers_so b state s t own service.WaitEvent is fits touched end t t touches names E_OK h.status (answered E_OK t s)
+      answers_status b state s t own service.WaitEvent is fits touched end t t touches names goes_on.followed h.back E_OK h.status
       (ap (λ (c : Bool). cond c (Leaves waiting) (GoesOn E_OK (answered E_OK t s))) (ne_eqb (bit_and (task s t).events mask) 0 (λ e. h.one_set (set_is ∙ e))))
-      (behind b state s t own service.WaitEvent is fits goes_on.followed end h.back.left h.back.pc h.back.x2 (set (task s t).registers 5 E_OK)
-      (long_status (task s t).registers state.core.registers end.core.registers long held E_OK h.status)
-      (status_held (task s t).registers state.core.registers end.core.registers long held E_OK h.status h.back.kept))
-      (ap (λ r. word_at r cur) h.back.left.ram)
 
   -- ---- none is
 
@@ -195,17 +188,7 @@ module _ (b : Build) (state : State) (s : System) (t : ℕ) (own : Task) (object
           record {
             link = may.below;
             left = record { ram = refl; current = mem.current_word; link = mem.link_word; x2 = h.x2; loaded = h.loaded; pc = h.pc; level = h.left.running };
-            machine = record {
-              ram = mem.long ∙ sym f.ram;
-              registers = h.left.registers ∙ sym f.registers;
-              zero = h.left.zero ∙ sym f.zero;
-              pending = ap length h.left.pending;
-              enabled = ap length h.left.enabled ∙ length-set state.core.enabled t 0;
-              levels = h.left.levels;
-              controller = h.left.controller;
-              open_to_lines = h.left.opened;
-              previous = h.left.previous;
-            };
+            machine = left_whole b state end _ f h.left (mem.long ∙ sym f.ram) refl refl refl (length-set state.core.enabled t 0);
             own_line = own_line;
             own_bit = subst (λ (p : List ℕ). slice_index p t < 2) (sym h.left.pending) (k.lines.bits t here.declared);
             other_pending = λ l n. ap (λ q. slice_index q l) h.left.pending;
@@ -242,43 +225,11 @@ module _ (b : Build) (state : State) (s : System) (t : ℕ) (own : Task) (object
         let c : (task (settled waiting) t).state ≡ mode.Waiting mask = ap (λ (o : Task). o.state) (this_task s t after inside) in
         cc
 
-    abbrev is_at : IsAt b.app s t (op.Serve opening.block.call)
-    is_at = record {
-      active = here.active;
-      free = free b state s t own service.WaitEvent is fits;
-      frame = frame;
-      outer = opening.outer;
-      frames = frames_are b state s t own service.WaitEvent is fits;
-      inside = opening.inside;
-      next = opening.block.is;
-    }
-
-    step_is : OsekStep b.config b.app (event.Left t service.WaitEvent) s (settled waiting)
-    step_is = (
-      k.tidy.booted,
-      (
-        waiting,
-        record {
-          top = is.top;
-          call = opening.block.call;
-          at = is_at;
-          same = opening.calls;
-          names = refl;
-          is = ap (λ (c : Bool). cond c (Leaves waiting) (GoesOn E_OK (answered E_OK t s))) (eq-eqb (bit_and (task s t).events mask) 0 (sym set_is ∙ h.none_set));
-        },
-        refl,
-      ),
-    )
-
     leaves : Answers b s t service.WaitEvent touched end
-    leaves = record {
-      one = t;
-      other = t;
-      touches = touches;
-      after = settled waiting;
-      step_is = subst (λ what. OsekStep b.config b.app what s (settled waiting)) (sym (shows_left t service.WaitEvent end gone)) step_is;
-      stands = stands_waiting;
-    }
+    leaves =
+        leaves_so b state s t own service.WaitEvent is fits touched end t t touches names waiting
+        (ap (λ (c : Bool). cond c (Leaves waiting) (GoesOn E_OK (answered E_OK t s))) (eq-eqb (bit_and (task s t).events mask) 0 (sym set_is ∙ h.none_set)))
+        stands_waiting gone
 
   pub wait_answers : Answers b s t service.WaitEvent touched end
   wait_answers = ⊎_elim stays leaves effect.done

@@ -10,29 +10,9 @@ use Rattle.event_gen.specs.Calls.{ServesCall}
 -- a service has its code
 pub of_code : (s : Service) → service_of (code_of s) ≡ Some s
 of_code service.ActivateTask = refl
-of_code service.TerminateTask = refl
-of_code service.ChainTask = refl
-of_code service.Schedule = refl
-of_code service.GetTaskID = refl
-of_code service.GetTaskState = refl
-of_code service.GetResource = refl
-of_code service.ReleaseResource = refl
-of_code service.SetEvent = refl
-of_code service.ClearEvent = refl
-of_code service.GetEvent = refl
-of_code service.WaitEvent = refl
+of_code s = refl
 
 -- the code of a service has an instruction
 pub some_code : (s : Service) (object : ℕ) (levels : Levels) (code : List InstrKind) → ServesCall s object levels code → 0 < length code
-some_code service.ActivateTask object levels code h = let n = ap length h.masks.1 in omega (arith, n)
-some_code service.TerminateTask object levels code h = let n = ap length h.masks.1 in omega (arith, n)
-some_code service.ChainTask object levels code h = let n = ap length h.masks.1 in omega (arith, n)
-some_code service.GetTaskID object levels code h = let n = ap length h.masks.1 in omega (arith, n)
-some_code service.GetResource object levels code h = let n = ap length h.masks.1 in omega (arith, n)
-some_code service.ReleaseResource object levels code h = let n = ap length h.masks.1 in omega (arith, n)
 some_code service.Schedule object levels code h = let n = ap length h.masks.1 in omega (arith, n)
-some_code service.GetTaskState object levels code h = let n = ap length h.masks.1 in omega (arith, n)
-some_code service.SetEvent object levels code h = let n = ap length h.masks.1 in omega (arith, n)
-some_code service.ClearEvent object levels code h = let n = ap length h.masks.1 in omega (arith, n)
-some_code service.GetEvent object levels code h = let n = ap length h.masks.1 in omega (arith, n)
-some_code service.WaitEvent object levels code h = let n = ap length h.masks.1 in omega (arith, n)
+some_code s object levels code h = let n = ap length h.masks.1 in omega (arith, n)

@@ -25,7 +25,8 @@ use Rattle.sim_image.specs.Symbols.{HasSymbols, data_of}
 use Rattle.sim_image.specs.Zones.{IsInCode, RoomForCalls, build_of}
 
 -- blocks and symbols that lie in their zones were linked
-pub record IsLinkedIn (map : Map) (config : Config) (app : App) (stacks : Stacks) (size : ℕ) (blocks : List Block) (symbols : List Datum) (memory : List ℕ) : Type 0 where
+pub record IsLinkedIn (map : Map) (config : Config) (app : App) (stacks : Stacks) (size : ℕ)
+    (blocks : List Block) (symbols : List Datum) (memory : List ℕ) : Type 0 where
   pub zones : HasZones map config
   pub has_stacks : HasStacks config app stacks map
   pub calls_fit : RoomForCalls stacks config app

@@ -62,7 +62,8 @@ ZonesFit = (config : Config) (app : App) (map : Map) (stacks : Stacks) (back : �
 
 -- the parts of two tasks that may have something there at once are apart
 abbrev pub StacksAreApart : Type 0
-StacksAreApart = (config : Config) (app : App) (map : Map) (stacks : Stacks) (back : ℕ) (memory : List ℕ) → HasZones map config → HasStacks config app stacks map
+StacksAreApart = (config : Config) (app : App) (map : Map) (stacks : Stacks) (back : ℕ) (memory : List ℕ) → HasZones map config
+    → HasStacks config app stacks map
     → (t u : ℕ) → t < length config.tasks → u < length config.tasks → u ≢ t → MayMeet config app t u → AreApart (build_of config app map stacks back memory) t u
 
 -- every block of a list that is linked is placed
@@ -73,7 +74,8 @@ BlocksArePlaced = (config : Config) (app : App) (map : Map) (stacks : Stacks) (b
 
 -- every block can run wherever the bytes of code are those that were linked
 abbrev pub BlocksCanRun : Type 0
-BlocksCanRun = (config : Config) (app : App) (map : Map) (stacks : Stacks) (back : ℕ) (memory : List ℕ) (blocks : List Block) (core : Core) → HasZones map config
+BlocksCanRun = (config : Config) (app : App) (map : Map) (stacks : Stacks) (back : ℕ) (memory : List ℕ) (blocks : List Block) (core : Core)
+    → HasZones map config
     → HasStacks config app stacks map → RoomForCalls stacks config app → HasSymbols map app → back % 4 ≡ 0 → All (λ b. All InRange b.code) blocks
     → All (IsInCode map) blocks → All (BlockStands memory) blocks → All (λ b. 0 < length b.code) blocks → core.controller ≡ true
     → length core.registers ≡ 32 → slice_index core.registers 0 ≡ 0 → length core.pending ≡ 32

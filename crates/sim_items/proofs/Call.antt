@@ -32,6 +32,7 @@ use Rattle.sim_relation.specs.Build.{Build}
 use Rattle.sim_relation.specs.Position.{Position, Calling, AreWords, OuterAt, FramesAt, HasScratch, return_address, called_words, thread_of}
 use Rattle.sim_relation.specs.Stands.{Stands, IsActive}
 use Rattle.sim_relation.proofs.Framing.{frames_kept, frames_below}
+use Rattle.sim_relation.proofs.Machines.{kept_machine}
 use Rattle.sim_relation.proofs.Placed.{active_by_word}
 use Rattle.sim_relation.proofs.Room.{funcs_of, called_room}
 use Rattle.sim_items.specs.Place.{AtItem, InCall, HasInstructions, IsCall}
@@ -41,8 +42,9 @@ use Rattle.sim_items.proofs.Access.{IsPlaceOf, store_at, store_at_quiet, word_by
 use Rattle.sim_items.proofs.CallCode.{lowers, clears, links, stores_link, jumps_away, call_expands, call_size, at_word, behind_words, at_store, behind_link, at_jump, behind_store}
 use Rattle.sim_items.proofs.Distances.{arrives, jumps_to, IsInRam, item_in_ram}
 use Rattle.sim_items.proofs.InRam as code
-use Rattle.sim_items.proofs.Keeping.{same_keeps, part_keeps, part_data, words_from}
+use Rattle.sim_items.proofs.Keeping.{part_keeps, part_data, words_from}
 use Rattle.sim_items.proofs.Passing.{Passes, instruction_outside}
+use Rattle.sim_items.proofs.Scratch.{registers_pass}
 use Rattle.sim_items.proofs.Turning.{turns}
 use Rattle.sim_items.proofs.Outside as outside
 
@@ -139,46 +141,29 @@ module _ (b : Build) (view : View) (arrivals : List Arrival) (count : ℕ) (stat
       let f = now.fixed in
       let r = room in
       let back : place + 4 + 4 * words ≡ item.place = omega arith in
-      record {
-        machine = record {
-          ram = refl;
-          registers = length-set x 2 (0x8000_0000 + place);
-          zero = get_or-set_other x 2 0 (0x8000_0000 + place) 0 (λ q. omega arith);
-          pending = refl;
-          enabled = refl;
-          levels = refl;
-          controller = refl;
-          open_to_lines = f.open_to_lines;
-          previous = f.previous;
-        };
-        level = refl;
-        kept = same_keeps b n.core.ram s1 t;
-        data_stay = λ i d. refl;
-        registers = λ i l h. get_or-set_other x 2 i (0x8000_0000 + place) 0 (λ q. omega arith);
-        place = place;
-        x2 = get_or-set_same x 2 (0x8000_0000 + place) 0 (let l = f.registers in omega arith);
-        position = record {
-          frame = item.frame;
-          outer = item.outer;
-          frames = item.frames;
-          inside = item.inside;
-          here = inr (inr (inl (record {
-            free = item.free;
-            callee = callee;
-            is = call.is;
-            done = 1;
-            some = omega arith;
-            within = omega arith;
-            pc = omega arith;
-            frames = subst (λ p. FramesAt b n.core.ram item.frame item.outer p (b.top t)) (sym back) item.stood;
-            zeros = λ i l h. absurd (omega arith);
-            linked = λ h. absurd (omega arith);
-            stored = λ h. absurd (omega arith);
-          })));
-        };
-        room = omega arith;
-        aligned = let a = item.context.aligned in omega arith;
-      }
+      let value = 0x8000_0000 + place in
+      registers_pass b n s1 t now (offset + 4 * 1) (set x 2 value) (length-set x 2 value) (λ i l z. get_or-set_other x 2 i value 0 z) place
+      (get_or-set_same x 2 value 0 (let l = f.registers in omega arith))
+      (record {
+        frame = item.frame;
+        outer = item.outer;
+        frames = item.frames;
+        inside = item.inside;
+        here = inr (inr (inl (record {
+          free = item.free;
+          callee = callee;
+          is = call.is;
+          done = 1;
+          some = omega arith;
+          within = omega arith;
+          pc = omega arith;
+          frames = subst (λ p. FramesAt b n.core.ram item.frame item.outer p (b.top t)) (sym back) item.stood;
+          zeros = λ i l h. absurd (omega arith);
+          linked = λ h. absurd (omega arith);
+          stored = λ h. absurd (omega arith);
+        })));
+      })
+      (omega arith) (let a = item.context.aligned in omega arith)
 
   pub call_begins : GoesOutside b view arrivals (progress_in b) count state s
   call_begins =
@@ -283,21 +268,10 @@ module _ (b : Build) (view : View) (arrivals : List Arrival) (count : ℕ) (stat
 
     store_passes : (offset : ℕ) → Position b new t (task s2 t) (thread_of (at offset core_stored)) item.place → Passes b m (at offset core_stored) s2 t
     store_passes offset position =
-        let f = stands.fixed in
         let p = in_part in
         let keeps = part_keeps b here.fits ram s2 t is_active.declared (inl is_active.active) stands.apart spot value p.0 p.1 in
         record {
-          machine = record {
-            ram = keeps.long;
-            registers = refl;
-            zero = refl;
-            pending = refl;
-            enabled = refl;
-            levels = refl;
-            controller = refl;
-            open_to_lines = f.open_to_lines;
-            previous = f.previous;
-          };
+          machine = kept_machine b m stands.fixed (0x8000_0000 + offset) y new refl refl keeps.long;
           level = refl;
           kept = keeps;
           data_stay = part_data b here.fits ram s2 t is_active.declared (inl is_active.active) stands.apart spot value p.0 p.1;
@@ -396,30 +370,12 @@ module _ (b : Build) (view : View) (arrivals : List Arrival) (count : ℕ) (stat
   link_passes offset q e =
       let f = stands.fixed in
       let link = return_address b item.frame in
-      record {
-        machine = record {
-          ram = refl;
-          registers = length-set y 31 link;
-          zero = get_or-set_other y 31 0 link 0 (λ z. omega arith);
-          pending = refl;
-          enabled = refl;
-          levels = refl;
-          controller = refl;
-          open_to_lines = f.open_to_lines;
-          previous = f.previous;
-        };
-        level = refl;
-        kept = same_keeps b ram s2 t;
-        data_stay = λ i d. refl;
-        registers = λ i l h. get_or-set_other y 31 i link 0 (λ z. omega arith);
-        place = item.place;
-        x2 = get_or-set_other y 31 2 link 0 (λ z. omega arith) ∙ item.context.x2;
-        position = calling_at (at offset core_linked) (size + 2) (omega arith) (omega arith) q c.frames
-            (λ i in_size before. c.zeros i in_size (omega arith))
-            (λ h. get_or-set_same y 31 link 0 (let l = f.registers in omega arith)) (λ h. absurd (omega arith));
-        room = item.context.room;
-        aligned = item.context.aligned;
-      }
+      registers_pass b m s2 t stands offset (set y 31 link) (length-set y 31 link) (λ i l z. get_or-set_other y 31 i link 0 (λ q. omega arith)) item.place
+      (get_or-set_other y 31 2 link 0 (λ z. omega arith) ∙ item.context.x2)
+      (calling_at (at offset core_linked) (size + 2) (omega arith) (omega arith) q c.frames
+      (λ i in_size before. c.zeros i in_size (omega arith))
+      (λ h. get_or-set_same y 31 link 0 (let l = f.registers in omega arith)) (λ h. absurd (omega arith)))
+      item.context.room item.context.aligned
 
   link_goes : c.done ≡ size + 1 → GoesOutside b view arrivals (progress_in b) count state s
   link_goes e =

@@ -34,8 +34,8 @@ use Rattle.sim_items.proofs.Access.{IsPlaceOf, load_at, load_at_quiet, word_numb
 use Rattle.sim_items.proofs.CallCode.{call_size}
 use Rattle.sim_items.proofs.Distances.{jumps_to, IsInRam, item_in_ram}
 use Rattle.sim_items.proofs.InRam as code
-use Rattle.sim_items.proofs.Keeping.{same_keeps}
 use Rattle.sim_items.proofs.Passing.{Passes, instruction_outside}
+use Rattle.sim_items.proofs.Scratch.{registers_pass}
 use Rattle.sim_items.proofs.Turning.{turns}
 use Rattle.sim_items.proofs.Outside as outside
 
@@ -129,42 +129,24 @@ module _ (b : Build) (view : View) (arrivals : List Arrival) (count : ℕ) (stat
   passes : (offset : ℕ) → 0x8000_0000 + offset ≡ address + 4 → Passes b n (at offset core_now) s1 t
   passes offset e =
       let f = now.fixed in
-      record {
-        machine = record {
-          ram = refl;
-          registers = length-set x 31 link;
-          zero = get_or-set_other x 31 0 link 0 (λ q. omega arith);
-          pending = refl;
-          enabled = refl;
-          levels = refl;
-          controller = refl;
-          open_to_lines = f.open_to_lines;
-          previous = f.previous;
-        };
-        level = refl;
-        kept = same_keeps b n.core.ram s1 t;
-        data_stay = λ i d. refl;
-        registers = λ i l h. get_or-set_other x 31 i link 0 (λ q. omega arith);
-        place = item.place;
-        x2 = get_or-set_other x 31 2 link 0 (λ q. omega arith) ∙ item.context.x2;
-        position = record {
-          frame = item.frame;
-          outer = item.outer;
-          frames = item.frames;
-          inside = item.inside;
-          here = inr (inr (inr (record {
-            free = item.free;
-            is = back.is;
-            caller = caller;
-            rest = rest;
-            called_by = called_by;
-            linked = get_or-set_same x 31 link 0 (let l = f.registers in omega arith);
-            here = inl (e, item.stood);
-          })));
-        };
-        room = item.context.room;
-        aligned = item.context.aligned;
-      }
+      registers_pass b n s1 t now offset (set x 31 link) (length-set x 31 link) (λ i l z. get_or-set_other x 31 i link 0 (λ q. omega arith)) item.place
+      (get_or-set_other x 31 2 link 0 (λ q. omega arith) ∙ item.context.x2)
+      (record {
+        frame = item.frame;
+        outer = item.outer;
+        frames = item.frames;
+        inside = item.inside;
+        here = inr (inr (inr (record {
+          free = item.free;
+          is = back.is;
+          caller = caller;
+          rest = rest;
+          called_by = called_by;
+          linked = get_or-set_same x 31 link 0 (let l = f.registers in omega arith);
+          here = inl (e, item.stood);
+        })));
+      })
+      item.context.room item.context.aligned
 
   pub return_begins : GoesOutside b view arrivals (progress_in b) count state s
   return_begins =
@@ -252,42 +234,24 @@ module _ (b : Build) (view : View) (arrivals : List Arrival) (count : ℕ) (stat
     raise_passes offset e =
         let f = stands.fixed in
         let value = 0x8000_0000 + up in
-        record {
-          machine = record {
-            ram = refl;
-            registers = length-set y 2 value;
-            zero = get_or-set_other y 2 0 value 0 (λ q. omega arith);
-            pending = refl;
-            enabled = refl;
-            levels = refl;
-            controller = refl;
-            open_to_lines = f.open_to_lines;
-            previous = f.previous;
-          };
-          level = refl;
-          kept = same_keeps b ram s2 t;
-          data_stay = λ i d. refl;
-          registers = λ i l h. get_or-set_other y 2 i value 0 (λ q. omega arith);
-          place = up;
-          x2 = get_or-set_same y 2 value 0 (let l = f.registers in omega arith);
-          position = record {
-            frame = item.frame;
-            outer = item.outer;
-            frames = item.frames;
-            inside = item.inside;
-            here = inr (inr (inr (record {
-              free = r.free;
-              is = r.is;
-              caller = r.caller;
-              rest = r.rest;
-              called_by = r.called_by;
-              linked = get_or-set_other y 2 31 value 0 (λ q. omega arith) ∙ r.linked;
-              here = inr (e, caller_stands);
-            })));
-          };
-          room = let l = item.context.room in omega arith;
-          aligned = let a = item.context.aligned in omega arith;
-        }
+        registers_pass b m s2 t stands offset (set y 2 value) (length-set y 2 value) (λ i l z. get_or-set_other y 2 i value 0 z) up
+        (get_or-set_same y 2 value 0 (let l = f.registers in omega arith))
+        (record {
+          frame = item.frame;
+          outer = item.outer;
+          frames = item.frames;
+          inside = item.inside;
+          here = inr (inr (inr (record {
+            free = r.free;
+            is = r.is;
+            caller = r.caller;
+            rest = r.rest;
+            called_by = r.called_by;
+            linked = get_or-set_other y 2 31 value 0 (λ q. omega arith) ∙ r.linked;
+            here = inr (e, caller_stands);
+          })));
+        })
+        (let l = item.context.room in omega arith) (let a = item.context.aligned in omega arith)
 
     raise_goes : m.pc ≡ from + 4 → GoesOutside b view arrivals (progress_in b) count state s
     raise_goes pc =

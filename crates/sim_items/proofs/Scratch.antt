@@ -1,15 +1,36 @@
--- An instruction of an expansion that writes x30 or x31 alone.
-use Rattle.std.proofs.Common.{◌≡◌, ℕ, ◌<◌, List, length, refl, ◌∙◌, arith, inl}
-use Rattle.std.specs.Prelude.{◌⊎◌, slice_index}
+-- An instruction of an expansion that writes registers alone.
+use Rattle.std.proofs.Common.{◌≡◌, ℕ, ◌+◌, ◌%◌, ◌<◌, ◌≤◌, List, length, refl, ◌∙◌, arith, inl}
+use Rattle.std.specs.Prelude.{◌⊎◌, ◌≢◌, slice_index}
 use Rattle.sloth_base.specs.Machine.{State}
+use Rattle.sloth_region.specs.Layout.{context_bytes}
 use Rattle.rv32_routine.specs.Place.{at}
 use Rattle.osek_machine.specs.State.{System, task}
 use Rattle.sim_relation.specs.Build.{Build}
-use Rattle.sim_relation.specs.Position.{InExpansion, AtBlock, thread_of}
+use Rattle.sim_relation.specs.Position.{Position, InExpansion, AtBlock, thread_of}
 use Rattle.sim_relation.specs.Stands.{Stands}
+use Rattle.sim_relation.proofs.Machines.{kept_machine}
 use Rattle.sim_items.specs.Place.{AtItem}
 use Rattle.sim_items.proofs.Keeping.{same_keeps}
 use Rattle.sim_items.proofs.Passing.{Passes}
+
+-- it writes no register of task code but x2
+pub registers_pass : (b : Build) (n : State) (s : System) (t : ℕ) → Stands b n s → (offset : ℕ) (registers : List ℕ)
+    → length registers ≡ length n.core.registers → ((i : ℕ) → i < 30 → i ≢ 2 → slice_index registers i ≡ slice_index n.core.registers i)
+    → (place : ℕ) → slice_index registers 2 ≡ 0x8000_0000 + place
+    → Position b n.core.ram t (task s t) (thread_of (at offset (record n.core { registers = registers }))) place
+    → b.low t + context_bytes ≤ place → place % 4 ≡ 0 → Passes b n (at offset (record n.core { registers = registers })) s t
+registers_pass b n s t now offset registers long same place x2 position room aligned = record {
+  machine = kept_machine b n now.fixed (0x8000_0000 + offset) registers n.core.ram long (same 0 (omega arith) (λ e. omega arith)) refl;
+  level = refl;
+  kept = same_keeps b n.core.ram s t;
+  data_stay = λ i d. refl;
+  registers = λ i l h. same i h (λ e. omega arith);
+  place = place;
+  x2 = x2;
+  position = position;
+  room = room;
+  aligned = aligned;
+}
 
 -- the registers of task code, x0 and x2 stay
 pub record SameRegisters (old new : List ℕ) : Type 0 where
@@ -20,32 +41,12 @@ pub scratch_passes : (b : Build) (n : State) (s : System) (t : ℕ) → Stands b
     → InExpansion b (task s t) item.frame (thread_of (at offset (record n.core { registers = registers }))) ⊎ AtBlock b item.frame (thread_of (at offset (record n.core { registers = registers })))
     → Passes b n (at offset (record n.core { registers = registers })) s t
 scratch_passes b n s t now item offset registers r stands_at =
-    let f = now.fixed in
-    record {
-      machine = record {
-        ram = refl;
-        registers = r.long;
-        zero = r.same 0 (omega arith);
-        pending = refl;
-        enabled = refl;
-        levels = refl;
-        controller = refl;
-        open_to_lines = f.open_to_lines;
-        previous = f.previous;
-      };
-      level = refl;
-      kept = same_keeps b n.core.ram s t;
-      data_stay = λ i d. refl;
-      registers = λ i l h. r.same i h;
-      place = item.place;
-      x2 = r.same 2 (omega arith) ∙ item.context.x2;
-      position = record {
-        frame = item.frame;
-        outer = item.outer;
-        frames = item.frames;
-        inside = item.inside;
-        here = inl (record { free = item.free; frames = item.stood; here = stands_at });
-      };
-      room = item.context.room;
-      aligned = item.context.aligned;
-    }
+    registers_pass b n s t now offset registers r.long (λ i l m. r.same i l) item.place (r.same 2 (omega arith) ∙ item.context.x2)
+    (record {
+      frame = item.frame;
+      outer = item.outer;
+      frames = item.frames;
+      inside = item.inside;
+      here = inl (record { free = item.free; frames = item.stood; here = stands_at });
+    })
+    item.context.room item.context.aligned

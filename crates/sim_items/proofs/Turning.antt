@@ -19,6 +19,7 @@ use Rattle.sim_relation.specs.Moves.{moved_to, TaskStep}
 use Rattle.sim_relation.specs.Position.{FramesAt, thread_of}
 use Rattle.sim_relation.specs.Stands.{Stands, IsActive}
 use Rattle.sim_relation.proofs.AtItem.{position_first}
+use Rattle.sim_relation.proofs.Machines.{kept_machine}
 use Rattle.sim_relation.proofs.Placed.{first_by_word, active_by_word}
 use Rattle.sim_relation.proofs.TaskSteps.{task_steps}
 use Rattle.sim_items.specs.Laws.{RunsItem}
@@ -50,17 +51,7 @@ module _ (b : Build) (state : State) (s : System) (t : ℕ) (fits : Fits b) (k :
 
     task_step : TaskStep b state next s t own_now s.symbols
     task_step = record {
-      machine = record {
-        ram = refl;
-        registers = refl;
-        zero = refl;
-        pending = refl;
-        enabled = refl;
-        levels = refl;
-        controller = refl;
-        open_to_lines = k.fixed.open_to_lines;
-        previous = k.fixed.previous;
-      };
+      machine = kept_machine b state k.fixed next.pc state.core.registers state.core.ram refl refl refl;
       level = refl;
       low = λ i x y. refl;
       code = λ i h. refl;

@@ -356,7 +356,7 @@ module _ (b : Build) (image : Image) (kernel : Kernel b image) where
                 stretch (states_stretches b view arrivals count state s t kernel.fits setting after_boot stands (opens_on service.GetTaskState TellsState is refl block))
             served levels are service.GetResource is block =
                 let level = slice_index levels.ceiling object in
-                stretch (takes_stretches b view arrivals count state s t level kernel.fits setting after_boot stands (record {
+                stretch (takes_stretches b view arrivals count state s t kernel.fits setting after_boot stands level (record {
                   goes_on = opens_on service.GetResource (λ o. Takes o level) is refl block;
                   may = may_have b (rules b image kernel t) levels are s1 t a.call steady.valid active.declared is_at is;
                 }))

@@ -24,3 +24,4 @@ pub mod AtItem
 pub mod Codes
 pub mod SavedRegisters
 pub mod Placed
+pub mod Machines

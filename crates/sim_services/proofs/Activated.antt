@@ -1,5 +1,5 @@
 -- ActivateTask is a step, and the relation stands behind it.
-use Rattle.std.proofs.Common.{◌≡◌, ℕ, ◌<◌, ◌≤◌, List, [], ◌∷◌, length, set, refl, sym, ap, ◌∙◌, subst, arith, ⊎_elim, true}
+use Rattle.std.proofs.Common.{◌≡◌, ℕ, ◌<◌, ◌≤◌, List, [], ◌∷◌, length, refl, sym, ap, ◌∙◌, subst, arith, ⊎_elim, true}
 use Rattle.std.specs.Prelude.{slice_index, Contains}
 use Rattle.std.specs.List.{AllByRecursion}
 use Rattle.std.proofs.lemmas.Bool.{ltb-true}
@@ -21,8 +21,7 @@ use Rattle.sim_relation.specs.Stands.{Stands}
 use Rattle.sim_relation.proofs.Parts.{by_task}
 use Rattle.sim_services.specs.Served.{IsServed, Answers}
 use Rattle.sim_services.specs.Laws.{MayGoOn}
-use Rattle.sim_services.proofs.Answered.{long_status, status_held}
-use Rattle.sim_services.proofs.GoesOn.{active, long_registers, held_registers, behind, answers_so}
+use Rattle.sim_services.proofs.GoesOn.{active, answers_so, behind_status}
 use Rattle.sim_services.proofs.Raising.{looks, is_so, readied, stayed, first_outcome, second_outcome}
 
 module _ (b : Build) (state : State) (s : System) (t : ℕ) (own : Task) (object : ℕ) (touched : List ℕ) (end : State) (fits : Fits b)
@@ -70,11 +69,9 @@ module _ (b : Build) (state : State) (s : System) (t : ℕ) (own : Task) (object
 
     before : Stands b middle after
     before =
-        let long = long_registers b state s t own service.ActivateTask is fits in
-        let held = held_registers b state s t own service.ActivateTask is fits in
-        behind b state s t own service.ActivateTask is fits may.followed middle left effect.back.pc effect.back.x2 (set (task s t).registers 5 status)
-        (long_status (task s t).registers state.core.registers end.core.registers long held status status_is)
-        (status_held (task s t).registers state.core.registers end.core.registers long held status status_is effect.back.kept)
+        let back = effect.back in
+        behind_status b state s t own service.ActivateTask is fits may.followed middle
+        (record { left = left; pc = back.pc; x2 = back.x2; kept = back.kept }) status status_is
 
     among : t < length s.tasks
     among = let v = k.tidy.tasks in let h = (active b state s t own service.ActivateTask is fits).declared in omega arith

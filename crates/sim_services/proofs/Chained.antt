@@ -1,5 +1,5 @@
 -- ChainTask is a step, and the relation stands behind it.
-use Rattle.std.proofs.Common.{◌≡◌, ℕ, ◌+◌, ◌<◌, ◌≤◌, List, [], ◌∷◌, Bool, length, set, refl, sym, ap, ◌∙◌, subst, arith, ⊎_elim, true, false, cond}
+use Rattle.std.proofs.Common.{◌≡◌, ℕ, ◌+◌, ◌<◌, ◌≤◌, List, [], ◌∷◌, Bool, length, refl, sym, ap, ◌∙◌, subst, arith, ⊎_elim, true, false, cond}
 use Rattle.std.specs.Prelude.{◌≢◌, ◌==◌, Contains}
 use Rattle.std.specs.List.{AllByRecursion}
 use Rattle.std.proofs.lemmas.Bool.{ltb-true, eq-eqb, ne_eqb}
@@ -20,9 +20,8 @@ use Rattle.sim_relation.specs.Stands.{Stands}
 use Rattle.sim_relation.proofs.Parts.{other_task}
 use Rattle.sim_services.specs.Served.{IsServed, Answers}
 use Rattle.sim_services.specs.Laws.{MayEnd, MayChainTo}
-use Rattle.sim_services.proofs.Answered.{long_status, status_held}
-use Rattle.sim_services.proofs.Ending.{ended_stands, ended_own, elsewhere, leaves_so}
-use Rattle.sim_services.proofs.GoesOn.{active, long_registers, held_registers, behind, answers_so}
+use Rattle.sim_services.proofs.Ending.{ended_stands, ended_own, elsewhere}
+use Rattle.sim_services.proofs.GoesOn.{active, answers_status, leaves_so}
 use Rattle.sim_services.proofs.Raising.{looks, is_so, readied, first_outcome, second_outcome}
 
 module _ (b : Build) (state : State) (s : System) (t : ℕ) (own : Task) (object place : ℕ) (touched : List ℕ) (end : State) (fits : Fits b)
@@ -91,7 +90,7 @@ module _ (b : Build) (state : State) (s : System) (t : ℕ) (own : Task) (object
         (answer_is : outcome service.ChainTask is.opening.block.call.object is.opening.block.call.mask t s ≡ Leaves (activated (ended t s) u)) where
       ends_so : Answers b s t service.ChainTask touched end
       ends_so =
-          leaves_so b state s t own service.ChainTask place (t ∷ []) middle fits may_end h.ended touched end u t touches names (activated (ended t s) u) answer_is
+          leaves_so b state s t own service.ChainTask is fits touched end u t touches names (activated (ended t s) u) answer_is
           (subst (λ x. Stands b x (settled (activated (ended t s) u))) (sym raised) (readied b middle after over u in_range few asleep)) gone
 
     pub chains : Answers b s t service.ChainTask touched end
@@ -112,16 +111,10 @@ module _ (b : Build) (state : State) (s : System) (t : ℕ) (own : Task) (object
 
   pub refuses : HasNotChained object t touched state end → Answers b s t service.ChainTask touched end
   refuses h =
-      let long = long_registers b state s t own service.ChainTask is fits in
-      let held = held_registers b state s t own service.ChainTask is fits in
-      answers_so b state s t own service.ChainTask is fits touched end object object
+      answers_status b state s t own service.ChainTask is fits touched end object object
       (subst (AllByRecursion (Contains (object ∷ object ∷ []))) (sym h.touches) ((0, (omega arith), refl), tt))
-      names E_OS_LIMIT h.status (answered E_OS_LIMIT t s)
+      names may.goes_on.followed h.back E_OS_LIMIT h.status
       (of_other h.other ∙ second_outcome (task s object).state other_first other_second (λ e. h.not_suspended (looks b state s k object declared e)))
-      (behind b state s t own service.ChainTask is fits may.goes_on.followed end h.back.left h.back.pc h.back.x2 (set (task s t).registers 5 E_OS_LIMIT)
-      (long_status (task s t).registers state.core.registers end.core.registers long held E_OS_LIMIT h.status)
-      (status_held (task s t).registers state.core.registers end.core.registers long held E_OS_LIMIT h.status h.back.kept))
-      (ap (λ r. word_at r cur) h.back.left.ram)
 
 pub chain_answers : (b : Build) (state : State) (s : System) (t : ℕ) (own : Task) (object place : ℕ) (touched : List ℕ) (end : State) → Fits b
     → MayChainTo b state s t own object place → Chained object t place touched state end → Answers b s t service.ChainTask touched end

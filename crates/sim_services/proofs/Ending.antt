@@ -1,6 +1,6 @@
 -- Where a service ends its caller, the relation stands behind it.
-use Rattle.std.proofs.Common.{◌≡◌, ℕ, ◌+◌, ◌<◌, List, [], ◌∷◌, length, refl, sym, ap, ◌∙◌, subst, arith, false, true}
-use Rattle.std.specs.Prelude.{slice_index, Contains}
+use Rattle.std.proofs.Common.{◌≡◌, ℕ, ◌+◌, ◌<◌, List, [], ◌∷◌, length, refl, sym, ap, ◌∙◌, subst, arith, false}
+use Rattle.std.specs.Prelude.{slice_index}
 use Rattle.std.proofs.lemmas.List.{get_or-set_same, get_or-set_other, length-set}
 use Rattle.sloth_base.specs.declared.event.Event.TheVariants as event
 use Rattle.sloth_base.specs.declared.service.Service.{Service}
@@ -12,24 +12,22 @@ use Rattle.service_gen.specs.TerminateTask.{Terminated}
 use Rattle.osek_machine.specs.declared.state.TaskState.TheVariants as mode
 use Rattle.osek_machine.specs.State.{Task, System, task, zero_registers}
 use Rattle.osek_machine.specs.Priority.{is_active}
-use Rattle.osek_machine.specs.Services.{ended, is_there, Leaves, outcome}
-use Rattle.osek_machine.specs.Steps.{OsekStep, IsAt, settled}
+use Rattle.osek_machine.specs.Services.{ended}
+use Rattle.osek_machine.specs.Steps.{settled}
 use Rattle.sloth_base.specs.declared.app.Op.TheVariants as op
-use Rattle.std.specs.List.{AllByRecursion}
 use Rattle.sim_induction.proofs.Passing.{not_suspended}
-use Rattle.sim_induction.proofs.Stretched.{shows_left}
 use Rattle.sim_relation.specs.Build.{Build, Fits}
 use Rattle.sim_relation.specs.Context.{RunsTask, Running}
 use Rattle.sim_relation.specs.ServiceWords.{ServiceWords, HeldWords, base_priority}
 use Rattle.sim_relation.specs.Stands.{Stands, IsActive, AreActive, IsLineOf}
 use Rattle.sim_relation.specs.Moves.{TaskLeave}
+use Rattle.sim_relation.proofs.Machines.{left_whole}
 use Rattle.sim_relation.proofs.Parts.{this_task, line_active}
 use Rattle.sim_relation.proofs.Placed.{first_by_word, active_by_word}
 use Rattle.sim_relation.proofs.Tops.{falling_head}
 use Rattle.sim_relation.proofs.Leaving.{leave_stands}
 use Rattle.sim_relation.proofs.TaskSteps.{active_resumes}
 use Rattle.sim_services.specs.Opening.{AtOpening}
-use Rattle.sim_services.specs.Served.{Answers}
 use Rattle.sim_services.specs.Laws.{MayEnd}
 use Rattle.sim_services.proofs.EndRam.{EndRam, end_ram}
 
@@ -109,17 +107,7 @@ module _ (b : Build) (state : State) (s : System) (t : ℕ) (called : Task) (ser
         record {
           link = may.below;
           left = record { ram = refl; current = mem.current_word; link = mem.link_word; x2 = eff.x2; loaded = eff.loaded; pc = eff.pc; level = eff.left.running };
-          machine = record {
-            ram = mem.long ∙ sym f.ram;
-            registers = eff.left.registers ∙ sym f.registers;
-            zero = eff.left.zero ∙ sym f.zero;
-            pending = ap length eff.left.pending ∙ length-set state.core.pending t 0;
-            enabled = ap length eff.left.enabled;
-            levels = eff.left.levels;
-            controller = eff.left.controller;
-            open_to_lines = eff.left.opened;
-            previous = eff.left.previous;
-          };
+          machine = left_whole b state end _ f eff.left (mem.long ∙ sym f.ram) refl refl (length-set state.core.pending t 0) refl;
           own_line = own_line;
           own_bit = let zero = not_pending in omega arith;
           other_pending = λ l n. ap (λ q. slice_index q l) eff.left.pending ∙ get_or-set_other state.core.pending t l 0 0 n;
@@ -158,46 +146,3 @@ module _ (b : Build) (state : State) (s : System) (t : ℕ) (called : Task) (ser
   -- the task does not run any more
   pub elsewhere : word_at end.core.ram cur ≡ t + 1 → ⊥
   elsewhere now = not_suspended (task next t).state (active_by_word b end next t ended_stands now).active (ap (λ (o : Task). o.state) ended_own)
-
-  -- the service leaves, whatever it did besides
-  module _ (lines : List ℕ) (last : State) (one other : ℕ) (touches : AllByRecursion (Contains (one ∷ other ∷ [])) lines)
-      (names : is_there b.config called.held served opening.block.call.object ≡ true) (after : System)
-      (answer_is : outcome served opening.block.call.object opening.block.call.mask t s ≡ Leaves after)
-      (stands : Stands b last (settled after)) (gone : word_at last.core.ram cur ≡ t + 1 → ⊥) where
-    abbrev is_at : IsAt b.app s t (op.Serve opening.block.call)
-    is_at = record {
-      active = active.active;
-      free = ap (λ (o : Task). o.owed) may.is_served.own_is ∙ opening.free;
-      frame = opening.frame;
-      outer = opening.outer;
-      frames = ap (λ (o : Task). o.frames) may.is_served.own_is ∙ opening.frames;
-      inside = opening.inside;
-      next = opening.block.is;
-    }
-
-    step_is : OsekStep b.config b.app (event.Left t served) s (settled after)
-    step_is = (
-      k.tidy.booted,
-      (
-        after,
-        record {
-          top = may.is_served.top;
-          call = opening.block.call;
-          at = is_at;
-          same = opening.calls;
-          names = ap (λ (o : Task). is_there b.config o.held served opening.block.call.object) may.is_served.own_is ∙ names;
-          is = answer_is;
-        },
-        refl,
-      ),
-    )
-
-    pub leaves_so : Answers b s t served lines last
-    leaves_so = record {
-      one = one;
-      other = other;
-      touches = touches;
-      after = settled after;
-      step_is = subst (λ what. OsekStep b.config b.app what s (settled after)) (sym (shows_left t served last gone)) step_is;
-      stands = stands;
-    }

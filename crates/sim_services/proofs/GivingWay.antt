@@ -9,28 +9,25 @@ use Rattle.sloth_base.specs.declared.config.TaskDecl.{TaskDecl}
 use Rattle.sloth_base.specs.declared.service.Service.TheVariants as service
 use Rattle.sloth_base.specs.Machine.{State}
 use Rattle.sloth_base.specs.PriorityLevels.{level_of}
-use Rattle.sloth_region.specs.Layout.{cur, below_word}
+use Rattle.sloth_region.specs.Layout.{cur}
 use Rattle.rv32_instr.specs.Ram.{word_at}
 use Rattle.service_gen.specs.Schedule.{Yielded}
 use Rattle.osek_machine.specs.State.{Task, System, task, with_task, declaration}
 use Rattle.osek_machine.specs.Meaning.{going_on}
-use Rattle.osek_machine.specs.Priority.{current_priority, greatest, ceiling, highest, is_active}
+use Rattle.osek_machine.specs.Priority.{current_priority, greatest, ceiling, highest}
 use Rattle.osek_machine.specs.Services.{answers, is_there, moved}
 use Rattle.sim_relation.specs.Build.{Build, Fits}
-use Rattle.sim_relation.specs.Context.{RunsTask, Running}
-use Rattle.sim_relation.specs.DataStands.{DataStands}
-use Rattle.sim_relation.specs.Moves.{moved_to, TaskMove}
+use Rattle.sim_relation.specs.Context.{RunsTask}
+use Rattle.sim_relation.specs.Moves.{moved_to}
 use Rattle.sim_relation.specs.Position.{FramesAt, Position, thread_of}
-use Rattle.sim_relation.specs.ServiceWords.{ServiceWords, HeldWords, base_priority}
+use Rattle.sim_relation.specs.ServiceWords.{HeldWords, base_priority}
 use Rattle.sim_relation.specs.Stands.{Stands, IsActive}
 use Rattle.sim_relation.proofs.Fresh.{start_priority}
-use Rattle.sim_relation.proofs.Placed.{first_by_word}
-use Rattle.sim_relation.proofs.TaskMoves.{task_moves}
-use Rattle.sim_relation.proofs.TaskSteps.{active_resumes, resumes_active}
 use Rattle.sim_services.specs.Opening.{AtOpening}
 use Rattle.sim_services.specs.Served.{IsServed, Answers}
 use Rattle.sim_services.specs.Laws.{MayGoOn, MayGiveWay}
 use Rattle.sim_services.proofs.GoesOn.{active, frames_are, stood, long_registers, held_registers, answers_so}
+use Rattle.sim_services.proofs.OtherLevel.{at_other_level}
 
 -- the priority of a task that holds nothing and has no internal resource
 plain_priority : (b : Build) (d : TaskDecl) (own : Task) → own.held ≡ [] → own.raised ≡ false → current_priority b.config d own ≡ d.priority
@@ -87,85 +84,43 @@ module _ (b : Build) (state : State) (s : System) (t : ℕ) (called : Task) (obj
   at_ram : (P : List ℕ → Type 0) → P state.core.ram → P end.core.ram
   at_ram P h = subst P (sym effect.left.ram) h
 
-  own_words : ServiceWords b end.core.ram t own_now
-  own_words =
-      let w = k.words t here.declared in
-      let a : is_active own.state ≡ true = ap is_active here.active in
-      at_ram (λ r. ServiceWords b r t own_now) (record {
-        activity = w.activity;
-        event_mask = w.event_mask;
-        wait_mask = w.wait_mask;
-        resumption = resumes_active b state.core.ram t own_now (is_active own_now.state) own_now.frames a
-            (active_resumes b state.core.ram t own (is_active own.state) own.frames a w.resumption);
-        held = subst (λ x. HeldWords b state.core.ram (base_priority b t own_now) x) (sym holds_nothing) tt;
-      })
-
-  module _ (below : List ℕ) (stack_is : k.stack ≡ t ∷ below) where
-    run : RunsTask b state s t below
-    run = subst (Running b state s) stack_is k.running
-
-    position : Position b end.core.ram t own_now (thread_of end) run.place
-    position =
-        record {
-          frame = going_on opening.frame;
-          outer = opening.outer;
-          frames = ap moved (frames_are b state s t called service.Schedule is fits);
-          inside = may.followed.more;
-          here = inr (inl (record {
-            owes = refl;
-            frames = at_ram (λ r. FramesAt b r (going_on opening.frame) opening.outer run.place (b.top t))
-                (stood b state s t called service.Schedule is fits run.place run.context.position);
-            pc = effect.pc ∙ sym way.back;
-            returns = effect.kept 31 (omega arith) (λ e. absurd (omega arith)) (λ e. absurd (omega arith)) ∙ opening.block.returns ∙ sym may.followed.adjacent;
-            level = effect.level ∙ run.level ∙ ap (level_of b.config) (start_priority b.config t own holds_nothing raised);
-          }));
-        }
-
-    move : TaskMove b state end s t own_now s.symbols
-    move = record {
-      machine = record {
-        ram = ap length effect.left.ram;
-        registers = effect.left.registers ∙ sym k.fixed.registers;
-        zero = effect.left.zero ∙ sym k.fixed.zero;
-        pending = effect.left.pending;
-        enabled = effect.left.enabled;
-        levels = effect.left.levels;
-        controller = effect.left.controller;
-        open_to_lines = effect.left.opened;
-        previous = effect.left.previous;
-      };
-      active = here.active;
-      level = effect.left.running ∙ k.lines.levels t here.declared
-          ∙ ap (level_of b.config) (sym (plain_priority b (declaration b.config t) own_now holds_nothing refl));
-      current = ap (λ r. word_at r cur) effect.left.ram;
-      link = ap (λ r. word_at r below_word) effect.left.ram;
-      idle = λ i x y. ap (λ r. slice_index r i) effect.left.ram;
-      code = λ i x. ap (λ r. slice_index r i) effect.left.ram;
-      others = λ u l n a i x y. ap (λ r. slice_index r i) effect.left.ram;
-      own_words = own_words;
-      other_words = λ u l n. at_ram (λ r. ServiceWords b r u (task s u)) (k.words u l);
-      tidy = record {
-        registers = length-set own.registers 5 E_OK ∙ long;
-        at_rest = λ a. let c = ap is_active here.active in cc;
-        asleep = λ a. let c = here.active in cc;
-        few = (k.tidy.each t here.declared).few;
-      };
-      place = run.place;
-      context = record {
-        x2 = effect.x2 ∙ run.context.x2;
-        registers = same;
-        position = position;
-        room = run.context.room;
-        aligned = run.context.aligned;
-      };
-      data_stands = at_ram (λ r. DataStands b r s.symbols) k.data_stands;
-    }
-
-    moves : Stands b end (moved_to s t own_now s.symbols)
-    moves = task_moves b state end s k t below stack_is own_now s.symbols move
+  position : (below : List ℕ) (run : RunsTask b state s t below) → Position b end.core.ram t own_now (thread_of end) run.place
+  position below run =
+      record {
+        frame = going_on opening.frame;
+        outer = opening.outer;
+        frames = ap moved (frames_are b state s t called service.Schedule is fits);
+        inside = may.followed.more;
+        here = inr (inl (record {
+          owes = refl;
+          frames = at_ram (λ r. FramesAt b r (going_on opening.frame) opening.outer run.place (b.top t))
+              (stood b state s t called service.Schedule is fits run.place run.context.position);
+          pc = effect.pc ∙ sym way.back;
+          returns = effect.kept 31 (omega arith) (λ e. absurd (omega arith)) (λ e. absurd (omega arith)) ∙ opening.block.returns ∙ sym may.followed.adjacent;
+          level = effect.level ∙ run.level ∙ ap (level_of b.config) (start_priority b.config t own holds_nothing raised);
+        }));
+      }
 
   stands : Stands b end (moved_to s t own_now s.symbols)
-  stands = let f = first_by_word b state s t k.stack k.running opening.current in moves f.0 f.1
+  stands =
+      at_other_level b state s k fits t opening.current 0 own_now (slice_index state.core.levels t) state.core.ram end
+      (record {
+        left = effect.left;
+        x2 = effect.x2;
+        active = here.active;
+        events = refl;
+        long = length-set own.registers 5 E_OK ∙ long;
+        same = same;
+        words = subst (λ x. HeldWords b state.core.ram (base_priority b t own_now) x) (sym holds_nothing) tt;
+        few = (k.tidy.each t here.declared).few;
+        ram_long = refl;
+        high = λ i h. refl;
+        named = λ p a n. refl;
+        others = λ u r l n i. refl;
+        level_is = λ below run. k.lines.levels t here.declared
+            ∙ ap (level_of b.config) (sym (plain_priority b (declaration b.config t) own_now holds_nothing refl));
+        position = position;
+      })
 
   pub gives_way : Answers b s t service.Schedule touched end
   gives_way =

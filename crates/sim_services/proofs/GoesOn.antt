@@ -1,5 +1,5 @@
 -- Where a service goes back to its caller, the task stands at the item behind it.
-use Rattle.std.proofs.Common.{◌≡◌, ℕ, ◌+◌, ◌<◌, List, [], ◌∷◌, length, refl, sym, ap, ◌∙◌, subst, false, true}
+use Rattle.std.proofs.Common.{◌≡◌, ℕ, ◌+◌, ◌<◌, List, [], ◌∷◌, length, set, refl, sym, ap, ◌∙◌, subst, false, true}
 use Rattle.std.specs.Prelude.{slice_index, Contains}
 use Rattle.std.specs.List.{AllByRecursion}
 use Rattle.sloth_base.specs.declared.app.Op.TheVariants as op
@@ -7,14 +7,16 @@ use Rattle.sloth_base.specs.declared.event.Event.TheVariants as event
 use Rattle.sloth_base.specs.declared.service.Service.{Service}
 use Rattle.sloth_base.specs.Machine.{State}
 use Rattle.sloth_base.specs.Named.{operation}
+use Rattle.sloth_base.specs.Status.{E_OK}
 use Rattle.sloth_region.specs.Layout.{cur}
 use Rattle.rv32_instr.specs.Ram.{word_at}
 use Rattle.rv32_routine.specs.Kernel.{LeftAs}
+use Rattle.service_gen.specs.Back.{WentBack, a0, a1}
 use Rattle.osek_machine.specs.State.{Frame, Task, System, task}
 use Rattle.osek_machine.specs.Meaning.{going_on}
-use Rattle.osek_machine.specs.Services.{moved, is_there, GoesOn, outcome}
-use Rattle.osek_machine.specs.Steps.{OsekStep, IsAt, settled}
-use Rattle.sim_induction.proofs.Stretched.{shows_call}
+use Rattle.osek_machine.specs.Services.{moved, is_there, Outcome, GoesOn, Leaves, outcome, answered, answered_with}
+use Rattle.osek_machine.specs.Steps.{OsekStep, Serves, settled}
+use Rattle.sim_induction.proofs.Stretched.{shows_call, shows_left}
 use Rattle.sim_relation.specs.Build.{Build, Fits}
 use Rattle.sim_relation.specs.Context.{RunsTask, Running}
 use Rattle.sim_relation.specs.DataStands.{DataStands}
@@ -23,10 +25,12 @@ use Rattle.sim_relation.specs.Position.{FramesAt, Position, thread_of}
 use Rattle.sim_relation.specs.Stands.{Stands, IsActive}
 use Rattle.sim_relation.proofs.AtItem.{position_first}
 use Rattle.sim_relation.proofs.Framing.{position_elim}
+use Rattle.sim_relation.proofs.Machines.{left_same}
 use Rattle.sim_relation.proofs.Placed.{first_by_word, active_by_word}
 use Rattle.sim_relation.proofs.TaskSteps.{task_steps}
 use Rattle.sim_services.specs.Opening.{AtOpening, IsFollowed}
 use Rattle.sim_services.specs.Served.{IsServed, Answers}
+use Rattle.sim_services.proofs.Answered.{long_status, status_held, long_both, both_held}
 
 module _ (b : Build) (state : State) (s : System) (t : ℕ) (called : Task) (served : Service) (is : IsServed b state s t called served) (fits : Fits b) where
   abbrev k : Stands b state s
@@ -100,17 +104,7 @@ module _ (b : Build) (state : State) (s : System) (t : ℕ) (called : Task) (ser
 
       task_step : TaskStep b state end s t own_now s.symbols
       task_step = record {
-        machine = record {
-          ram = ap length left.ram;
-          registers = left.registers ∙ sym k.fixed.registers;
-          zero = left.zero ∙ sym k.fixed.zero;
-          pending = left.pending;
-          enabled = left.enabled;
-          levels = left.levels;
-          controller = left.controller;
-          open_to_lines = left.opened;
-          previous = left.previous;
-        };
+        machine = left_same b state end _ k.fixed left (ap length left.ram) refl refl refl refl;
         level = left.running;
         low = λ i x y. at_ram i;
         code = λ i h. at_ram i;
@@ -138,46 +132,76 @@ module _ (b : Build) (state : State) (s : System) (t : ℕ) (called : Task) (ser
     pub behind : Stands b end (moved_to s t own_now s.symbols)
     behind = let f = first_by_word b state s t k.stack k.running opening.current in stands_behind f.0 f.1
 
-  -- the service answers this status
+  -- the relation stands behind a status
+  pub behind_status : IsFollowed b frame.func frame.item → (end : State) → WentBack a0 state.core state end → (status : ℕ)
+      → slice_index end.core.registers a0 ≡ status → Stands b end (settled (answered status t s))
+  behind_status followed end back status status_is =
+      behind followed end back.left back.pc back.x2 (set own.registers 5 status)
+      (long_status own.registers state.core.registers end.core.registers long_registers held_registers status status_is)
+      (status_held own.registers state.core.registers end.core.registers long_registers held_registers status status_is back.kept)
+
   module _ (touched : List ℕ) (end : State) (one other : ℕ) (touches : AllByRecursion (Contains (one ∷ other ∷ [])) touched)
-      (names : is_there b.config called.held served opening.block.call.object ≡ true) (status : ℕ) (status_is : slice_index end.core.registers 10 ≡ status)
-      (after : System) (answer_is : outcome served opening.block.call.object opening.block.call.mask t s ≡ GoesOn status after)
-      (stands : Stands b end (settled after)) (current : word_at end.core.ram cur ≡ word_at state.core.ram cur) where
-    abbrev is_at : IsAt b.app s t (op.Serve opening.block.call)
-    is_at = record {
-      active = active.active;
-      free = free;
-      frame = frame;
-      outer = opening.outer;
-      frames = frames_are;
-      inside = opening.inside;
-      next = opening.block.is;
+      (names : is_there b.config called.held served opening.block.call.object ≡ true) where
+    -- the call has this outcome
+    serves : (answer : Outcome) → outcome served opening.block.call.object opening.block.call.mask t s ≡ answer → Serves b.config b.app t served s answer
+    serves answer answer_is = record {
+      top = is.top;
+      call = opening.block.call;
+      at = record {
+        active = active.active;
+        free = free;
+        frame = frame;
+        outer = opening.outer;
+        frames = frames_are;
+        inside = opening.inside;
+        next = opening.block.is;
+      };
+      same = opening.calls;
+      names = ap (λ (o : Task). is_there b.config o.held served opening.block.call.object) is.own_is ∙ names;
+      is = answer_is;
     }
 
-    step_is : OsekStep b.config b.app (event.Call t served status) s (settled after)
-    step_is = (
-      k.tidy.booted,
-      (
-        after,
-        record {
-          top = is.top;
-          call = opening.block.call;
-          at = is_at;
-          same = opening.calls;
-          names = ap (λ (o : Task). is_there b.config o.held served opening.block.call.object) is.own_is ∙ names;
-          is = answer_is;
-        },
-        refl,
-      ),
-    )
-
-    pub answers_so : Answers b s t served touched end
-    answers_so = record {
+    -- the service answers this status
+    pub answers_so : (status : ℕ) → slice_index end.core.registers a0 ≡ status → (after : System)
+        → outcome served opening.block.call.object opening.block.call.mask t s ≡ GoesOn status after → Stands b end (settled after)
+        → word_at end.core.ram cur ≡ word_at state.core.ram cur → Answers b s t served touched end
+    answers_so status status_is after answer_is stands current = record {
       one = one;
       other = other;
       touches = touches;
       after = settled after;
       step_is = subst (λ what. OsekStep b.config b.app what s (settled after))
-          (sym (shows_call t served end (current ∙ opening.current) ∙ ap (λ (v : ℕ). event.Call t served v) status_is)) step_is;
+          (sym (shows_call t served end (current ∙ opening.current) ∙ ap (λ (v : ℕ). event.Call t served v) status_is))
+          (k.tidy.booted, (after, serves (GoesOn status after) answer_is, refl));
+      stands = stands;
+    }
+
+    -- it answers this status and does nothing else
+    pub answers_status : IsFollowed b frame.func frame.item → WentBack a0 state.core state end → (status : ℕ) → slice_index end.core.registers a0 ≡ status
+        → outcome served opening.block.call.object opening.block.call.mask t s ≡ GoesOn status (answered status t s) → Answers b s t served touched end
+    answers_status followed back status status_is answer_is =
+        answers_so status status_is (answered status t s) answer_is (behind_status followed end back status status_is) (ap (λ r. word_at r cur) back.left.ram)
+
+    -- it answers a number besides
+    pub answers_number : IsFollowed b frame.func frame.item → WentBack a1 state.core state end → slice_index end.core.registers a0 ≡ E_OK
+        → (number : ℕ) → slice_index end.core.registers a1 ≡ number
+        → outcome served opening.block.call.object opening.block.call.mask t s ≡ GoesOn E_OK (answered_with number t s) → Answers b s t served touched end
+    answers_number followed back status_is number number_is answer_is =
+        answers_so E_OK status_is (answered_with number t s) answer_is
+        (behind followed end back.left back.pc back.x2 (set (set own.registers 5 E_OK) 6 number)
+        (long_both own.registers state.core.registers end.core.registers long_registers held_registers E_OK status_is number number_is back.kept)
+        (both_held own.registers state.core.registers end.core.registers long_registers held_registers E_OK status_is number number_is back.kept))
+        (ap (λ r. word_at r cur) back.left.ram)
+
+    -- its caller leaves
+    pub leaves_so : (after : System) → outcome served opening.block.call.object opening.block.call.mask t s ≡ Leaves after → Stands b end (settled after)
+        → (word_at end.core.ram cur ≡ t + 1 → ⊥) → Answers b s t served touched end
+    leaves_so after answer_is stands gone = record {
+      one = one;
+      other = other;
+      touches = touches;
+      after = settled after;
+      step_is = subst (λ what. OsekStep b.config b.app what s (settled after)) (sym (shows_left t served end gone))
+          (k.tidy.booted, (after, serves (Leaves after) answer_is, refl));
       stands = stands;
     }

@@ -85,128 +85,108 @@ module _ (b : Build) (view : View) (arrivals : List Arrival) (count : ℕ) (stat
       most short (Effect found.0) (runs found.0 found.1)
       (λ lines touched s2 end is effect. law found.0 lines touched s2 end found.1 (may_go_on lines s2 is) effect)
 
-pub tells_stretches : (b : Build) (view : View) (arrivals : List Arrival) (count : ℕ) (state : State) (s : System) (t : ℕ)
-    → Fits b → IsSetting (setting_of b view arrivals) → 0 < count → Stands b state s
-    → OpensGoingOn b view (arrived arrivals count state) (with_admits (lines_at arrivals count) s) t service.GetTaskID (λ object. TellsTask)
-    → Stretches b view arrivals count state s
-tells_stretches b view arrivals count state s t fits setting after_boot stands o =
-    let n = arrived arrivals count state in
-    let own = task (with_admits (lines_at arrivals count) s) t in
-    let block = o.opens.block in
-    going_on_stretches b view arrivals count state s t service.GetTaskID (λ object. TellsTask) fits setting after_boot stands o block.serves.masks
-    8 (omega arith) (λ place. Told t)
-    (λ place can. block.serves.runs block.offset t n.core (record { goes_back = can.goes_back; level = can.level; runs = can.current; is_task = can.is_task }))
-    (λ place lines touched s2 end can may effect. tells b (state_arrive lines n) s2 t own o.opens.opening.block.call.object touched end fits may effect)
+module _ (b : Build) (view : View) (arrivals : List Arrival) (count : ℕ) (state : State) (s : System) (t : ℕ) (fits : Fits b)
+    (setting : IsSetting (setting_of b view arrivals)) (after_boot : 0 < count) (stands : Stands b state s) where
+  abbrev start : State
+  start = arrived arrivals count state
 
-pub states_stretches : (b : Build) (view : View) (arrivals : List Arrival) (count : ℕ) (state : State) (s : System) (t : ℕ)
-    → Fits b → IsSetting (setting_of b view arrivals) → 0 < count → Stands b state s
-    → OpensGoingOn b view (arrived arrivals count state) (with_admits (lines_at arrivals count) s) t service.GetTaskState TellsState
-    → Stretches b view arrivals count state s
-states_stretches b view arrivals count state s t fits setting after_boot stands o =
-    let n = arrived arrivals count state in
-    let s1 = with_admits (lines_at arrivals count) s in
-    let block = o.opens.block in
-    let object = o.opens.opening.block.call.object in
-    let declared = ltb-true object (length b.config.tasks) o.names in
-    let there = k b view arrivals count state s t service.GetTaskState TellsState fits setting after_boot stands o.opens block.serves.masks in
-    going_on_stretches b view arrivals count state s t service.GetTaskState TellsState fits setting after_boot stands o block.serves.masks
-    23 (omega arith) (λ place. StateTold object t)
-    (λ place can. block.serves.runs block.offset t n.core (record {
-      goes_back = can.goes_back;
-      level = can.level;
-      runs = can.current;
-      is_own = can.is_task;
-      is_task = let f = fits.few_tasks in omega arith;
-      active_bit = active_bit b n s1 there object declared;
-      pending_bit = there.lines.bits object declared;
-      enabled_bit = enabled_bit b n s1 there object declared;
-    }))
-    (λ place lines touched s2 end can may effect. tells_state b (state_arrive lines n) s2 t (task s1 t) object touched end fits may effect)
+  abbrev found : System
+  found = with_admits (lines_at arrivals count) s
 
-pub activates_stretches : (b : Build) (view : View) (arrivals : List Arrival) (count : ℕ) (state : State) (s : System) (t : ℕ)
-    → Fits b → IsSetting (setting_of b view arrivals) → 0 < count → Stands b state s
-    → OpensGoingOn b view (arrived arrivals count state) (with_admits (lines_at arrivals count) s) t service.ActivateTask Activates
-    → Stretches b view arrivals count state s
-activates_stretches b view arrivals count state s t fits setting after_boot stands o =
-    let n = arrived arrivals count state in
-    let s1 = with_admits (lines_at arrivals count) s in
-    let block = o.opens.block in
-    let object = o.opens.opening.block.call.object in
-    let declared = ltb-true object (length b.config.tasks) o.names in
-    let there = k b view arrivals count state s t service.ActivateTask Activates fits setting after_boot stands o.opens block.serves.masks in
-    going_on_stretches b view arrivals count state s t service.ActivateTask Activates fits setting after_boot stands o block.serves.masks
-    16 (omega arith) (λ place. Activated object)
-    (λ place can. block.serves.runs block.offset n.core (record {
-      goes_back = can.goes_back;
-      is_task = let f = fits.few_tasks in omega arith;
-      level = can.level;
-      active_bit = active_bit b n s1 there object declared;
-      pending_bit = there.lines.bits object declared;
-      enabled_bit = enabled_bit b n s1 there object declared;
-    }))
-    (λ place lines touched s2 end can may effect. activates b (state_arrive lines n) s2 t (task s1 t) object touched end fits may effect)
+  pub tells_stretches : OpensGoingOn b view start found t service.GetTaskID (λ object. TellsTask) → Stretches b view arrivals count state s
+  tells_stretches o =
+      let block = o.opens.block in
+      going_on_stretches b view arrivals count state s t service.GetTaskID (λ object. TellsTask) fits setting after_boot stands o block.serves.masks
+      8 (omega arith) (λ place. Told t)
+      (λ place can. block.serves.runs block.offset t start.core
+      (record { goes_back = can.goes_back; level = can.level; runs = can.current; is_task = can.is_task }))
+      (λ place lines touched s2 end can may effect.
+      tells b (state_arrive lines start) s2 t (task found t) o.opens.opening.block.call.object touched end fits may effect)
 
-pub chain_stretches : (b : Build) (view : View) (arrivals : List Arrival) (count : ℕ) (state : State) (s : System) (t : ℕ)
-    → Fits b → IsSetting (setting_of b view arrivals) → 0 < count → Stands b state s
-    → OpensChainTask b view (arrived arrivals count state) (with_admits (lines_at arrivals count) s) t
-    → Stretches b view arrivals count state s
-chain_stretches b view arrivals count state s t fits setting after_boot stands o =
-    let n = arrived arrivals count state in
-    let s1 = with_admits (lines_at arrivals count) s in
-    let block = o.goes_on.opens.block in
-    let object = o.goes_on.opens.opening.block.call.object in
-    let declared = ltb-true object (length b.config.tasks) o.goes_on.names in
-    let there = k b view arrivals count state s t service.ChainTask Chains fits setting after_boot stands o.goes_on.opens block.serves.masks in
-    going_on_stretches b view arrivals count state s t service.ChainTask Chains fits setting after_boot stands o.goes_on block.serves.masks
-    68 (omega arith) (λ place. Chained object t place)
-    (λ place can. block.serves.runs block.offset t place n.core (record {
-      goes_back = can.goes_back;
-      level = can.level;
-      runs = can.current;
-      is_own = can.is_task;
-      is_task = let f = fits.few_tasks in omega arith;
-      below = can.below;
-      active_bit = active_bit b n s1 there object declared;
-      pending_bit = there.lines.bits object declared;
-      enabled_bit = enabled_bit b n s1 there object declared;
-    }))
-    (λ place lines touched s2 end can may effect.
-    chain_answers b (state_arrive lines n) s2 t (task s1 t) object place touched end fits
-    (record { goes_on = may; holds_nothing = o.holds_nothing; below = can.below.is }) effect)
+  pub states_stretches : OpensGoingOn b view start found t service.GetTaskState TellsState → Stretches b view arrivals count state s
+  states_stretches o =
+      let block = o.opens.block in
+      let object = o.opens.opening.block.call.object in
+      let declared = ltb-true object (length b.config.tasks) o.names in
+      let there = k b view arrivals count state s t service.GetTaskState TellsState fits setting after_boot stands o.opens block.serves.masks in
+      going_on_stretches b view arrivals count state s t service.GetTaskState TellsState fits setting after_boot stands o block.serves.masks
+      23 (omega arith) (λ place. StateTold object t)
+      (λ place can. block.serves.runs block.offset t start.core (record {
+        goes_back = can.goes_back;
+        level = can.level;
+        runs = can.current;
+        is_own = can.is_task;
+        is_task = let f = fits.few_tasks in omega arith;
+        active_bit = active_bit b start found there object declared;
+        pending_bit = there.lines.bits object declared;
+        enabled_bit = enabled_bit b start found there object declared;
+      }))
+      (λ place lines touched s2 end can may effect. tells_state b (state_arrive lines start) s2 t (task found t) object touched end fits may effect)
 
-pub takes_stretches : (b : Build) (view : View) (arrivals : List Arrival) (count : ℕ) (state : State) (s : System) (t level : ℕ)
-    → Fits b → IsSetting (setting_of b view arrivals) → 0 < count → Stands b state s
-    → OpensGetResource b view (arrived arrivals count state) (with_admits (lines_at arrivals count) s) t level
-    → Stretches b view arrivals count state s
-takes_stretches b view arrivals count state s t level fits setting after_boot stands o =
-    let n = arrived arrivals count state in
-    let s1 = with_admits (lines_at arrivals count) s in
-    let block = o.goes_on.opens.block in
-    let object = o.goes_on.opens.opening.block.call.object in
-    going_on_stretches b view arrivals count state s t service.GetResource (λ object. Takes object level) fits setting after_boot stands o.goes_on block.serves.masks
-    10 (omega arith) (λ place. Taken object level)
-    (λ place can. block.serves.runs block.offset n.core
-    (record { goes_back = can.goes_back; is_resource = let l = o.may.is_resource in omega arith; level = can.level }))
-    (λ place lines touched s2 end can may effect. takes b (state_arrive lines n) s2 t (task s1 t) object level touched end fits may o.may effect)
+  pub activates_stretches : OpensGoingOn b view start found t service.ActivateTask Activates → Stretches b view arrivals count state s
+  activates_stretches o =
+      let block = o.opens.block in
+      let object = o.opens.opening.block.call.object in
+      let declared = ltb-true object (length b.config.tasks) o.names in
+      let there = k b view arrivals count state s t service.ActivateTask Activates fits setting after_boot stands o.opens block.serves.masks in
+      going_on_stretches b view arrivals count state s t service.ActivateTask Activates fits setting after_boot stands o block.serves.masks
+      16 (omega arith) (λ place. Activated object)
+      (λ place can. block.serves.runs block.offset start.core (record {
+        goes_back = can.goes_back;
+        is_task = let f = fits.few_tasks in omega arith;
+        level = can.level;
+        active_bit = active_bit b start found there object declared;
+        pending_bit = there.lines.bits object declared;
+        enabled_bit = enabled_bit b start found there object declared;
+      }))
+      (λ place lines touched s2 end can may effect. activates b (state_arrive lines start) s2 t (task found t) object touched end fits may effect)
 
-pub releases_stretches : (b : Build) (view : View) (arrivals : List Arrival) (count : ℕ) (state : State) (s : System) (t : ℕ)
-    → Fits b → IsSetting (setting_of b view arrivals) → 0 < count → Stands b state s
-    → OpensGoingOn b view (arrived arrivals count state) (with_admits (lines_at arrivals count) s) t service.ReleaseResource Releases
-    → Stretches b view arrivals count state s
-releases_stretches b view arrivals count state s t fits setting after_boot stands o =
-    let n = arrived arrivals count state in
-    let s1 = with_admits (lines_at arrivals count) s in
-    let block = o.opens.block in
-    let object = o.opens.opening.block.call.object in
-    let there = k b view arrivals count state s t service.ReleaseResource Releases fits setting after_boot stands o.opens block.serves.masks in
-    let here = active_by_word b n s1 t there o.opens.opening.current in
-    let among = (popped b n s1 there t here.declared object o.names).among in
-    going_on_stretches b view arrivals count state s t service.ReleaseResource Releases fits setting after_boot stands o block.serves.masks
-    6 (omega arith) (λ place. Released object)
-    (λ place can. block.serves.runs block.offset n.core
-    (record {
-      goes_back = can.goes_back;
-      is_resource = let l = (there.tidy.each t here.declared).few object among in omega arith;
-      level = saved_few b n s1 there t here.declared object o.names fits.few_tasks;
-    }))
-    (λ place lines touched s2 end can may effect. releases b (state_arrive lines n) s2 t (task s1 t) object touched end fits may effect)
+  pub chain_stretches : OpensChainTask b view start found t → Stretches b view arrivals count state s
+  chain_stretches o =
+      let block = o.goes_on.opens.block in
+      let object = o.goes_on.opens.opening.block.call.object in
+      let declared = ltb-true object (length b.config.tasks) o.goes_on.names in
+      let there = k b view arrivals count state s t service.ChainTask Chains fits setting after_boot stands o.goes_on.opens block.serves.masks in
+      going_on_stretches b view arrivals count state s t service.ChainTask Chains fits setting after_boot stands o.goes_on block.serves.masks
+      68 (omega arith) (λ place. Chained object t place)
+      (λ place can. block.serves.runs block.offset t place start.core (record {
+        goes_back = can.goes_back;
+        level = can.level;
+        runs = can.current;
+        is_own = can.is_task;
+        is_task = let f = fits.few_tasks in omega arith;
+        below = can.below;
+        active_bit = active_bit b start found there object declared;
+        pending_bit = there.lines.bits object declared;
+        enabled_bit = enabled_bit b start found there object declared;
+      }))
+      (λ place lines touched s2 end can may effect.
+      chain_answers b (state_arrive lines start) s2 t (task found t) object place touched end fits
+      (record { goes_on = may; holds_nothing = o.holds_nothing; below = can.below.is }) effect)
+
+  pub takes_stretches : (level : ℕ) → OpensGetResource b view start found t level → Stretches b view arrivals count state s
+  takes_stretches level o =
+      let block = o.goes_on.opens.block in
+      let object = o.goes_on.opens.opening.block.call.object in
+      going_on_stretches b view arrivals count state s t service.GetResource (λ object. Takes object level) fits setting after_boot stands o.goes_on
+      block.serves.masks 10 (omega arith) (λ place. Taken object level)
+      (λ place can. block.serves.runs block.offset start.core
+      (record { goes_back = can.goes_back; is_resource = let l = o.may.is_resource in omega arith; level = can.level }))
+      (λ place lines touched s2 end can may effect. takes b (state_arrive lines start) s2 t (task found t) object level touched end fits may o.may effect)
+
+  pub releases_stretches : OpensGoingOn b view start found t service.ReleaseResource Releases → Stretches b view arrivals count state s
+  releases_stretches o =
+      let block = o.opens.block in
+      let object = o.opens.opening.block.call.object in
+      let there = k b view arrivals count state s t service.ReleaseResource Releases fits setting after_boot stands o.opens block.serves.masks in
+      let here = active_by_word b start found t there o.opens.opening.current in
+      let among = (popped b start found there t here.declared object o.names).among in
+      going_on_stretches b view arrivals count state s t service.ReleaseResource Releases fits setting after_boot stands o block.serves.masks
+      6 (omega arith) (λ place. Released object)
+      (λ place can. block.serves.runs block.offset start.core
+      (record {
+        goes_back = can.goes_back;
+        is_resource = let l = (there.tidy.each t here.declared).few object among in omega arith;
+        level = saved_few b start found there t here.declared object o.names fits.few_tasks;
+      }))
+      (λ place lines touched s2 end can may effect. releases b (state_arrive lines start) s2 t (task found t) object touched end fits may effect)

@@ -1,13 +1,13 @@
 -- GetResource and ReleaseResource are steps, and the relation stands behind them.
-use Rattle.std.proofs.Common.{◌≡◌, ℕ, ◌%◌, ◌<◌, ◌≤◌, List, [], ◌∷◌, ◌++◌, length, set, refl, sym, ap, ◌∙◌, subst, arith, ⊎_elim, inl, inr, true, false, max}
-use Rattle.std.specs.Prelude.{◌≢◌, ◌⊎◌, Contains}
+use Rattle.std.proofs.Common.{◌≡◌, ℕ, ◌%◌, ◌<◌, ◌≤◌, List, [], ◌∷◌, ◌++◌, length, refl, sym, ap, ◌∙◌, subst, arith, ⊎_elim, inl, inr, true, false, max}
+use Rattle.std.specs.Prelude.{◌≢◌, ◌⊎◌, slice_index, Contains}
 use Rattle.std.specs.List.{AllByRecursion}
 use Rattle.std.proofs.lemmas.Bool.{cases_Bool, or_cases, eqb-true}
 use Rattle.sloth_base.specs.Status.{E_OK}
 use Rattle.sloth_base.specs.PriorityLevels.{level_of}
 use Rattle.sloth_base.specs.declared.service.Service.TheVariants as service
 use Rattle.sloth_base.specs.Machine.{State}
-use Rattle.sloth_region.specs.Layout.{cur, saved}
+use Rattle.sloth_region.specs.Layout.{cur, saved, idle_context}
 use Rattle.rv32_instr.specs.Ram.{word_at, with_word}
 use Rattle.rv32_routine.proofs.Words.{word_at-same, get_or-with_word, length-with_word}
 use Rattle.service_gen.specs.GetResource.{Taken}
@@ -31,8 +31,8 @@ use Rattle.sim_services.specs.Served.{IsServed, Answers}
 use Rattle.sim_services.specs.Laws.{MayGoOn, MayHaveResource}
 use Rattle.sim_services.proofs.Answered.{long_status, status_held}
 use Rattle.sim_services.proofs.GoesOn.{active, long_registers, held_registers, answers_so}
-use Rattle.sim_services.proofs.GoesOnHolding.{Holds, behind_holding}
 use Rattle.sim_services.proofs.HeldLevels.{with_held, current_is, with_one_more, words_push, Popped, words_pop, holds_at_least}
+use Rattle.sim_services.proofs.OtherLevel.{AtOtherLevel, at_other_level, position_behind}
 
 is_mode : (m : TaskState) → is_active m ≡ true → m ≡ mode.Active
 is_mode mode.Suspended e = cc
@@ -89,6 +89,9 @@ module _ (b : Build) (state : State) (s : System) (t : ℕ) (called : Task) (obj
   abbrev held_now : List ℕ
   held_now = own.held ++ object ∷ []
 
+  abbrev own_now : Task
+  own_now = record (answers E_OK own) { held = held_now }
+
   abbrev base : ℕ
   base = base_priority b t own
 
@@ -133,24 +136,30 @@ module _ (b : Build) (state : State) (s : System) (t : ℕ) (called : Task) (obj
       let f = first_by_word b state s t k.stack k.running is.opening.current in
       named (saved q) (omega arith) (λ e. other_holder b state s k t f.0 f.1 object may.below u q l n i (omega arith))
 
-  holds : Holds b state s t object held_now (set own.registers 5 E_OK) (max state.core.ilevel level) new end
+  high : (i : ℕ) → idle_context ≤ i → slice_index new i ≡ slice_index old i
+  high i h = let l = may.is_resource in get_or-with_word old (saved object) state.core.ilevel i (inr (omega arith))
+
+  holds : AtOtherLevel b state s t object own_now (max state.core.ilevel level) new end
   holds =
       let long = long_registers b state s t called service.GetResource is fits in
       let same = held_registers b state s t called service.GetResource is fits in
-      let l = may.is_resource in
       record {
         left = effect.back.left;
-        pc = effect.back.pc;
         x2 = effect.back.x2;
+        active = here.active;
+        events = refl;
         long = long_status own.registers state.core.registers end.core.registers long same E_OK effect.status;
         same = status_held own.registers state.core.registers end.core.registers long same E_OK effect.status effect.back.kept;
-        level_is = ap (λ x. max x level) runs_at ∙ may.is_level (with_held b base own.held) ∙ sym (ap (level_of b.config) (with_one_more b base own.held object));
         words = words;
         few = few;
         ram_long = length-with_word old (saved object) state.core.ilevel;
-        high = λ i h. get_or-with_word old (saved object) state.core.ilevel i (inr (omega arith));
+        high = high;
         named = named;
         others = others;
+        level_is = λ below run. ap (λ x. max x level) runs_at ∙ may.is_level (with_held b base own.held)
+            ∙ sym (ap (level_of b.config) (current_is b t own_now ∙ with_one_more b base own.held object));
+        position = position_behind b state s t called service.GetResource is fits on.followed end effect.back.pc new effect.back.left.ram
+            high own_now refl refl;
       }
 
   pub takes : Answers b s t service.GetResource touched end
@@ -158,9 +167,9 @@ module _ (b : Build) (state : State) (s : System) (t : ℕ) (called : Task) (obj
       answers_so b state s t called service.GetResource is fits touched end t t
       (subst (AllByRecursion (Contains (t ∷ t ∷ []))) (sym effect.touches) tt)
       (subst (λ o. is_there b.config called.held service.GetResource o ≡ true) (sym on.object_is) on.names)
-      E_OK effect.status (with_task s t (record (answers E_OK own) { held = own.held ++ (object ∷ []) }))
+      E_OK effect.status (with_task s t own_now)
       (ap (λ o. GoesOn E_OK (with_task s t (record (answers E_OK own) { held = own.held ++ (o ∷ []) }))) on.object_is)
-      (behind_holding b state s t called service.GetResource is fits on.followed object held_now (set own.registers 5 E_OK) (max state.core.ilevel level) new end holds)
+      (at_other_level b state s k fits t is.opening.current object own_now (max state.core.ilevel level) new end holds)
       (ap (λ r. word_at r cur) effect.back.left.ram ∙ named cur (omega arith) (λ e. omega arith))
 
 module _ (b : Build) (state : State) (s : System) (k : Stands b state s) (t : ℕ) (declared : t < length b.config.tasks) (r : ℕ) (last : is_last r (task s t).held ≡ true) where
@@ -181,29 +190,35 @@ module _ (b : Build) (state : State) (s : System) (t : ℕ) (called : Task) (obj
   abbrev releasing : Task
   releasing = task s t
 
+  abbrev released : Task
+  released = record (answers E_OK releasing) { held = without_last releasing.held }
+
   releaser : IsActive b s t
   releaser = active b state s t called service.ReleaseResource release_is fits
 
   pop : Popped b state.core.ram (base_priority b t releasing) releasing.held object
   pop = popped b state s release_is.stands t releaser.declared object (ap (λ (o : Task). is_last object o.held) release_is.own_is ∙ on.names)
 
-  releases_to : Holds b state s t object (without_last releasing.held) (set releasing.registers 5 E_OK) (word_at state.core.ram (saved object)) state.core.ram end
+  releases_to : AtOtherLevel b state s t object released (word_at state.core.ram (saved object)) state.core.ram end
   releases_to =
       let long = long_registers b state s t called service.ReleaseResource release_is fits in
       let same = held_registers b state s t called service.ReleaseResource release_is fits in
       record {
         left = effect.back.left;
-        pc = effect.back.pc;
         x2 = effect.back.x2;
+        active = releaser.active;
+        events = refl;
         long = long_status releasing.registers state.core.registers end.core.registers long same E_OK effect.status;
         same = status_held releasing.registers state.core.registers end.core.registers long same E_OK effect.status effect.back.kept;
-        level_is = pop.level;
         words = pop.words;
         few = λ q i. (release_is.stands.tidy.each t releaser.declared).few q (in-without_last q releasing.held i);
         ram_long = refl;
         high = λ i h. refl;
         named = λ p a n. refl;
         others = λ u q l n i. refl;
+        level_is = λ below run. pop.level ∙ sym (ap (level_of b.config) (current_is b t released));
+        position = position_behind b state s t called service.ReleaseResource release_is fits on.followed end effect.back.pc state.core.ram effect.back.left.ram
+            (λ i h. refl) released refl refl;
       }
 
   pub releases : Answers b s t service.ReleaseResource touched end
@@ -211,7 +226,7 @@ module _ (b : Build) (state : State) (s : System) (t : ℕ) (called : Task) (obj
       answers_so b state s t called service.ReleaseResource release_is fits touched end t t
       (subst (AllByRecursion (Contains (t ∷ t ∷ []))) (sym effect.touches) tt)
       (subst (λ o. is_there b.config called.held service.ReleaseResource o ≡ true) (sym on.object_is) on.names)
-      E_OK effect.status (with_task s t (record (answers E_OK releasing) { held = without_last releasing.held })) refl
-      (behind_holding b state s t called service.ReleaseResource release_is fits on.followed object (without_last releasing.held) (set releasing.registers 5 E_OK)
-      (word_at state.core.ram (saved object)) state.core.ram end releases_to)
+      E_OK effect.status (with_task s t released) refl
+      (at_other_level b state s release_is.stands fits t release_is.opening.current object released (word_at state.core.ram (saved object))
+      state.core.ram end releases_to)
       (ap (λ r. word_at r cur) effect.back.left.ram)

@@ -10,7 +10,7 @@ pub mod Activated
 pub mod Raising
 pub mod Chained
 pub mod Ending
-pub mod GoesOnHolding
+pub mod OtherLevel
 pub mod HeldLevels
 pub mod Holding
 pub mod StateTold

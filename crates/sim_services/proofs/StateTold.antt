@@ -1,12 +1,11 @@
 -- GetTaskState is a step, and the relation stands behind it.
-use Rattle.std.proofs.Common.{◌≡◌, ℕ, ◌<◌, List, [], ◌∷◌, length, set, refl, sym, ap, ◌∙◌, subst, arith, true, cond}
+use Rattle.std.proofs.Common.{◌≡◌, ℕ, ◌<◌, List, [], ◌∷◌, length, refl, sym, ap, ◌∙◌, subst, arith, true, cond}
 use Rattle.std.specs.Prelude.{slice_index, Contains, ◌==◌}
 use Rattle.std.specs.List.{AllByRecursion}
 use Rattle.std.proofs.lemmas.Bool.{eq-eqb, ne_eqb, ltb-true}
-use Rattle.sloth_base.specs.Status.{E_OK}
 use Rattle.sloth_base.specs.declared.service.Service.TheVariants as service
 use Rattle.sloth_base.specs.Machine.{State}
-use Rattle.sloth_region.specs.Layout.{active, cur}
+use Rattle.sloth_region.specs.Layout.{active}
 use Rattle.rv32_instr.specs.Ram.{word_at}
 use Rattle.service_gen.specs.Back.{a1}
 use Rattle.service_gen.specs.GetTaskState.{IsNumber, StateTold}
@@ -14,14 +13,13 @@ use Rattle.service_gen.specs.GetTaskState.IsNumber.{running, preempted, waiting,
 use Rattle.osek_machine.specs.declared.state.TaskState.{TaskState}
 use Rattle.osek_machine.specs.declared.state.TaskState.TheVariants as mode
 use Rattle.osek_machine.specs.State.{Task, System, task}
-use Rattle.osek_machine.specs.Services.{is_there, answered_with, outcome, state_number}
+use Rattle.osek_machine.specs.Services.{is_there, outcome, state_number}
 use Rattle.sim_relation.specs.Build.{Build, Fits}
 use Rattle.sim_relation.specs.ServiceWords.{active_word}
 use Rattle.sim_relation.specs.Stands.{Stands, IsLineOf}
 use Rattle.sim_services.specs.Served.{Answers}
 use Rattle.sim_services.specs.Laws.{MayGoOn}
-use Rattle.sim_services.proofs.Answered.{long_both, both_held}
-use Rattle.sim_services.proofs.GoesOn.{long_registers, held_registers, behind, answers_so}
+use Rattle.sim_services.proofs.GoesOn.{answers_number}
 
 -- the number of an Active task's state
 active_number : (m : TaskState) (word own object number : ℕ) → word ≡ active_word m → word ≡ 1 → number ≡ cond (object == own) 0 2 → number ≡ state_number own object m
@@ -95,14 +93,7 @@ tells_state b state s t own object touched end fits may told =
     let declared = ltb-true object (length b.config.tasks) may.names in
     let number = state_number t object (task s object).state in
     let number_at : slice_index end.core.registers a1 ≡ number = number_is b state s is.stands t object declared touched (slice_index end.core.registers a1) told.number in
-    let long = long_registers b state s t own service.GetTaskState is fits in
-    let held = held_registers b state s t own service.GetTaskState is fits in
-    answers_so b state s t own service.GetTaskState is fits touched end object object
+    answers_number b state s t own service.GetTaskState is fits touched end object object
     (touches b state s is.stands t object declared touched (slice_index end.core.registers a1) told.number)
     (subst (λ o. is_there b.config own.held service.GetTaskState o ≡ true) (sym may.object_is) may.names)
-    E_OK told.status (answered_with number t s) (ap (λ o. outcome service.GetTaskState o is.opening.block.call.mask t s) may.object_is)
-    (behind b state s t own service.GetTaskState is fits may.followed end told.back.left told.back.pc told.back.x2
-    (set (set (task s t).registers 5 E_OK) 6 number)
-    (long_both (task s t).registers state.core.registers end.core.registers long held E_OK told.status number number_at told.back.kept)
-    (both_held (task s t).registers state.core.registers end.core.registers long held E_OK told.status number number_at told.back.kept))
-    (ap (λ r. word_at r cur) told.back.left.ram)
+    may.followed told.back told.status number number_at (ap (λ o. outcome service.GetTaskState o is.opening.block.call.mask t s) may.object_is)

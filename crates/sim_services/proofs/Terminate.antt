@@ -10,12 +10,13 @@ use Rattle.osek_machine.specs.Services.{ended}
 use Rattle.sim_relation.specs.Build.{Build, Fits}
 use Rattle.sim_services.specs.Served.{Answers}
 use Rattle.sim_services.specs.Laws.{MayEnd}
-use Rattle.sim_services.proofs.Ending.{ended_stands, elsewhere, leaves_so}
+use Rattle.sim_services.proofs.Ending.{ended_stands, elsewhere}
+use Rattle.sim_services.proofs.GoesOn.{leaves_so}
 
 pub terminate_ends : (b : Build) (state : State) (s : System) (t : ℕ) (own : Task) (place : ℕ) (touched : List ℕ) (end : State) → Fits b
     → MayEnd b state s t own service.TerminateTask place → Terminated t place touched state end → Answers b s t service.TerminateTask touched end
 terminate_ends b state s t own place touched end fits may effect =
-    leaves_so b state s t own service.TerminateTask place touched end fits may effect touched end t t
+    leaves_so b state s t own service.TerminateTask may.is_served fits touched end t t
     (subst (AllByRecursion (Contains (t ∷ t ∷ []))) (sym effect.touches) ((0, (omega arith), refl), tt))
     refl (ended t s) refl (ended_stands b state s t own service.TerminateTask place touched end fits may effect)
     (elsewhere b state s t own service.TerminateTask place touched end fits may effect)

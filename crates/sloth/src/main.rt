@@ -9,20 +9,6 @@ use std::env::Env;
 use std::io::ErrorKind;
 use std::process::ExitCode;
 
-fn code(status: Status) -> u8 {
-    match status {
-        Status::Done => 0,
-        Status::Usage => 1,
-        Status::Refused => 2,
-        Status::ReadFault => 3,
-        Status::WriteFault => 4,
-        Status::NoMemory => 5,
-        Status::TooLong => 6,
-        Status::Stopped => 7,
-        Status::NotAnImage => 8,
-    }
-}
-
 // The words without the program's own name, or how the program ends without them: a word that is not UTF-8 is none of a command's.
 fn words(rt: &(impl Env + AllocGlobal)) -> Result<Vec<String>, Status> {
     let mut words = Vec::new(rt.alloc());
@@ -42,10 +28,10 @@ fn words(rt: &(impl Env + AllocGlobal)) -> Result<Vec<String>, Status> {
 fn main(rt: HostRuntime) -> ExitCode {
     let words = match words(&rt) {
         Ok(words) => words,
-        Err(status) => return ExitCode::from(code(status)),
+        Err(status) => return ExitCode::from(status.code()),
     };
     let mut files = FileStore::new(&rt);
     let mut out = OutSink::new(&rt);
     let status = sloth_top(rt.alloc(), words.as_slice(), &mut files, &mut out);
-    ExitCode::from(code(status))
+    ExitCode::from(status.code())
 }

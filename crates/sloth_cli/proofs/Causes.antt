@@ -11,9 +11,9 @@ use Rattle.sloth_io.specs.Sink.{Output}
 use Rattle.sloth_io.specs.Store.{Files, KeepsFiles, fits}
 use Rattle.image_file.specs.ImageText.{image_bytes}
 use Rattle.sloth_source.specs.Texts.{Accepted}
-use Rattle.sloth_cli.specs.Command.{Command, Building, Builds, IsCommand, IsInLimit}
+use Rattle.command_line.specs.Command.{Command, Building, Builds, IsCommand, IsInLimit}
 use Rattle.sloth_cli.specs.Inputs.{AreRead}
-use Rattle.sloth_cli.specs.LastLine.{refusal_line, no_image_line}
+use Rattle.command_line.specs.LastLine.{refusal_line, no_image_line}
 use Rattle.sloth_cli.specs.declared.top.Status.{Status}
 use Rattle.sloth_cli.specs.declared.top.Status.TheVariants as status
 use Rattle.sloth_cli.specs.declared.failure.Failure.{Failure}

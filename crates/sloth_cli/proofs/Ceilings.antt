@@ -9,7 +9,7 @@ use Rattle.app_rules.specs.AppRange.{AppInRange}
 use Rattle.osek_blocking.proofs.Protocol.{keeps_protocol}
 use Rattle.sim_induction.specs.Sound.{Sound, events_of}
 use Rattle.sloth_source.specs.Texts.{Accepted}
-use Rattle.sloth_cli.specs.Command.{Run, IsInLimit}
+use Rattle.command_line.specs.Command.{Run, IsInLimit}
 use Rattle.sloth_cli.specs.Top.{RunsKeepProtocol, ShownKeepProtocol}
 
 -- accepted task code is well formed, and each run of its image is one of the abstract scheduler

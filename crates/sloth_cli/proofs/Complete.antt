@@ -18,8 +18,8 @@ use Rattle.image_file.specs.ImageText.{image_bytes}
 use Rattle.sloth_source.specs.Texts.{Accepted}
 use Rattle.sloth_source.proofs.Refusals.{one_refusal}
 use Rattle.sloth_source.proofs.Unique.{one_meaning, never_both}
-use Rattle.sloth_cli.specs.LastLine.{refusal_line}
-use Rattle.sloth_cli.specs.Command.{Building, Run, Builds, IsCommand, NoCommand}
+use Rattle.command_line.specs.LastLine.{refusal_line}
+use Rattle.command_line.specs.Command.{Building, Run, Builds, IsCommand, NoCommand}
 use Rattle.sloth_cli.specs.Inputs.{input_limit, AreRead}
 use Rattle.sloth_cli.specs.ImageFiles.{IsNoImage}
 use Rattle.sloth_cli.specs.declared.top.Status.{Status}
@@ -27,7 +27,7 @@ use Rattle.sloth_cli.specs.declared.top.Status.TheVariants as status
 use Rattle.sloth_cli.specs.Top.{World, arrivals_named, inputs_of, FirstUnread, AreInputs, HoldsArrivals, AreThere, IsFailedRead, IsLongRead}
 use Rattle.sloth_cli.specs.Top.{CommandDone, CommandRefused, CommandUnwritten, CommandStopped, names_of, done_text, IsRefusal, IsRefused, IsAccepted, IsImageOf, Requires, Puts, Took, BrokeOff, EndsAs, Answers}
 use Rattle.sloth_cli.specs.Top.{AnswersUsage, AnswersRefused, ReadsWork, WritesWork, HasSpace, PutsWork, CallsWork, TellsUsage, TellsRefused, IsComplete}
-use Rattle.sloth_cli.proofs.Commands.{one-command}
+use Rattle.command_line.proofs.Commands.{one-command}
 
 pub stays : (a b : ℕ) → Stays a b → Rose a b → ⊥
 stays a b s r =

@@ -8,17 +8,17 @@ use Rattle.sloth_io.specs.Store.{Files, Holds}
 use Rattle.sloth_io.proofs.Gains.{gains-gains, gains-nil, part-behind}
 use Rattle.image_file.specs.ImageText.{ImageText}
 use Rattle.trace_text.specs.Listing.{listing}
-use Rattle.sloth_cli.specs.Command.{Execution, Executes}
+use Rattle.command_line.specs.Command.{Execution, Executes}
 use Rattle.sloth_cli.specs.Inputs.{input_limit, AreRead}
 use Rattle.sloth_cli.specs.ImageFiles.{AreExecInputs, IsRunnable, IsExecuted, IsListed, exec_text}
 use Rattle.sloth_cli.specs.ImageAnswers.{end_status}
-use Rattle.sloth_cli.specs.Runner.{run_end}
+use Rattle.sloth_runner.specs.Runner.{run_end}
 use Rattle.sloth_cli.specs.Top.{world, FilesStay, Took}
 use Rattle.sloth_cli.specs.Failures.{LoadFailed, LinesFailed, Ends, CommandFailed, IsPerformed}
 use Rattle.sloth_cli.specs.declared.failure.Failure.{Failure}
 use Rattle.sloth_cli.specs.declared.failure.Failure.TheVariants as failure
-use Rattle.sloth_cli.specs.declared.runner.RunEnd.{RunEnd}
-use Rattle.sloth_cli.specs.declared.runner.RunEnd.TheVariants as ends
+use Rattle.sloth_runner.specs.declared.runner.RunEnd.{RunEnd}
+use Rattle.sloth_runner.specs.declared.runner.RunEnd.TheVariants as ends
 
 -- ---- texts of two parts
 

@@ -15,19 +15,19 @@ use Rattle.image_file.proofs.Unique.{image-unique}
 use Rattle.trace_text.specs.ArrivalsText.{ArrivalsFault, arrivals_in}
 use Rattle.trace_text.specs.Listing.{listing}
 use Rattle.sloth_source.proofs.Least.{one_least}
-use Rattle.sloth_cli.specs.Command.{Command, Execution, Builds, Executes, Lists, Samples, IsCommand}
+use Rattle.command_line.specs.Command.{Command, Execution, Builds, Executes, Lists, Samples, IsCommand}
 use Rattle.sloth_cli.specs.Inputs.{input_limit, AreRead}
 use Rattle.sloth_cli.specs.ImageFiles.{IsInput, AreExecInputs, ReadsImageFile, IsRunnable, IsExecuted, IsNoImage, exec_text}
 use Rattle.sloth_cli.specs.ImageAnswers.{end_status, LinesWork, AnswersNoImage, AnswersFault, TellsFault, TellsNoImage, TellsExecRefused, TellsExecuted, TellsListed}
-use Rattle.sloth_cli.specs.LastLine.{no_image_line, refusal_line}
-use Rattle.sloth_cli.specs.Runner.{run_end}
+use Rattle.command_line.specs.LastLine.{no_image_line, refusal_line}
+use Rattle.sloth_runner.specs.Runner.{run_end}
 use Rattle.sloth_cli.specs.Top.{World, inputs_of, FirstUnread, IsFailedRead, IsLongRead, Requires, Puts, Took, EndsAs, Answers, AnswersRefused, ReadsWork, PutsWork}
 use Rattle.sloth_cli.specs.Top.{CommandDone, CommandRefused, CommandUnwritten, CommandStopped}
-use Rattle.sloth_cli.specs.declared.runner.RunEnd.{RunEnd}
-use Rattle.sloth_cli.specs.declared.runner.RunEnd.TheVariants as ends
+use Rattle.sloth_runner.specs.declared.runner.RunEnd.{RunEnd}
+use Rattle.sloth_runner.specs.declared.runner.RunEnd.TheVariants as ends
 use Rattle.sloth_cli.specs.declared.top.Status.{Status}
 use Rattle.sloth_cli.specs.declared.top.Status.TheVariants as status
-use Rattle.sloth_cli.proofs.Commands.{one-command}
+use Rattle.command_line.proofs.Commands.{one-command}
 use Rattle.sloth_cli.proofs.Complete.{told, not-missing, not-long, of-arrivals, counted-put, stands}
 
 -- ---- the inputs that are told

@@ -1,5 +1,5 @@
 -- Calls of a store and a sink in memory that do not fail.
-use Rattle.std.proofs.Common.{◌≡◌, ◌≤◌, ◌+◌, inr, ℕ, List, [], length, Some, refl, sym, subst}
+use Rattle.std.proofs.Common.{◌≡◌, inr, ℕ, List, [], Some, refl, sym, subst}
 use Rattle.std.specs.Prelude.{IsTrue, codes}
 use Rattle.sloth_base.specs.declared.config.Config.{Config}
 use Rattle.sloth_base.specs.declared.app.App.{App}
@@ -8,22 +8,51 @@ use Rattle.sloth_io.specs.MemStore.{is_sure, shown as store_shown}
 use Rattle.sloth_io.specs.MemSink.{taken_by, told_space, shown as sink_shown}
 use Rattle.sloth_io.specs.declared.mem_store.MemStore.{MemStore}
 use Rattle.sloth_io.specs.declared.mem_sink.MemSink.{MemSink}
-use Rattle.sloth_cli.specs.Command.{Building}
+use Rattle.command_line.specs.Command.{Building}
+use Rattle.sloth_cli.specs.Samples.{sample_arrivals, sample_text}
 use Rattle.sloth_cli.specs.Top.{World, world, HasSpace, CallsWork, done_text}
-use Rattle.sloth_cli.specs.InMemory.{AreEnough}
+use Rattle.sloth_cli.specs.ImageAnswers.{LinesWork}
+use Rattle.sloth_cli.specs.SampleAnswers.{SampleWorks}
+use Rattle.sloth_cli.specs.InMemory.{HasRoom, NoneFails, AreEnough, AreEnoughForLines, AreEnoughForSample}
+
+-- a store without failing calls is sure
+sure-of : (store : MemStore) (sink : MemSink) → NoneFails store sink → IsTrue (is_sure store.fails.items)
+sure-of store sink none = subst (λ (f : List ℕ). IsTrue (is_sure f)) (sym none.store_calls) refl
 
 -- a sink without failing calls tells its space
-room : (sink : MemSink) (text : List ℕ) → sink.fails.items ≡ [] → length (taken_by sink) + length text ≤ sink.buffer.space
+room : (store : MemStore) (sink : MemSink) (text : List ℕ) → NoneFails store sink → HasRoom sink text
     → HasSpace (Some (taken_by sink)) (told_space sink.buffer.space sink.fails.items) text
-room sink text none enough = subst (λ (f : List (ℕ × ℕ)). HasSpace (Some (taken_by sink)) (told_space sink.buffer.space f) text) (sym none) enough
+room store sink text none enough =
+    subst (λ (f : List (ℕ × ℕ)). HasSpace (Some (taken_by sink)) (told_space sink.buffer.space f) text) (sym none.sink_calls) enough
 
 pub calls-work : (store : MemStore) (sink : MemSink) (c : Building) (config : Config) (app : App) (arrivals : List Arrival) (new : World)
     → AreEnough store sink c config app arrivals → CallsWork c config app arrivals (world (store_shown store) (sink_shown sink)) new
 calls-work store sink c config app arrivals new enough =
-    let sure : IsTrue (is_sure store.fails.items) = subst (λ (f : List ℕ). IsTrue (is_sure f)) (sym enough.store_calls) refl in
+    let none = enough.calls in
+    let sure = sure-of store sink none in
     record {
       reads = inr sure;
       write = λ image is. inr (sure, enough.file image is);
-      lines = λ image is. inr (room sink (done_text image arrivals c.run) enough.sink_calls (enough.lines image is));
-      last_line = inr (room sink (codes "no memory\n") enough.sink_calls enough.last_line);
+      lines = λ image is. inr (room store sink (done_text image arrivals c.run) none (enough.lines image is));
+      last_line = inr (room store sink (codes "no memory\n") none none.last_line);
+    }
+
+pub lines-work : (store : MemStore) (sink : MemSink) (text : List ℕ) (new : World)
+    → AreEnoughForLines store sink text → LinesWork (world (store_shown store) (sink_shown sink)) new text
+lines-work store sink text new enough =
+    let none = enough.calls in
+    record {
+      reads = inr (sure-of store sink none);
+      lines = inr (room store sink text none enough.lines);
+      last_line = inr (room store sink (codes "no memory\n") none none.last_line);
+    }
+
+pub sample-works : (store : MemStore) (sink : MemSink) (seed : ℕ) (img : List ℕ) (config : Config) (app : App) (new : World)
+    → AreEnoughForSample store sink seed img config app → SampleWorks seed img config app (world (store_shown store) (sink_shown sink)) new
+sample-works store sink seed img config app new enough =
+    let none = enough.calls in
+    record {
+      write = λ image is. inr (sure-of store sink none, enough.file image is);
+      lines = λ image is. inr (room store sink (sample_text image (sample_arrivals seed)) none (enough.lines image is));
+      last_line = inr (room store sink (codes "no memory\n") none none.last_line);
     }

@@ -1,15 +1,6 @@
 mod Ceilings
-mod Bounded
-mod Draining
-mod Turning
-mod Running
-mod Tallying
-mod LineByLine
 mod Listed
-mod Summed
-mod Kept
 mod Causes
-mod Commands
 mod Complete
 mod ImageCauses
 mod ImageComplete

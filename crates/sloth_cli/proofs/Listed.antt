@@ -4,7 +4,7 @@ use Rattle.std.proofs.Math.Numerals.{add-one}
 use Rattle.sloth_base.specs.declared.image.Image.{Image}
 use Rattle.sloth_io.specs.Sink.{Output, gains, GainsPart}
 use Rattle.trace_text.specs.Listing.{first_lines, line_at}
-use Rattle.sloth_cli.proofs.LineByLine.{took-no-lines, took-one-more, broke-at}
+use Rattle.sloth_runner.proofs.LineByLine.{took-no-lines, took-one-more, broke-at}
 
 -- a line with its LF
 abbrev pub ended : Image → ℕ → List ℕ

@@ -10,8 +10,8 @@ use Rattle.sloth_io.specs.Sink.{Output}
 use Rattle.sloth_io.specs.Store.{Files}
 use Rattle.image_file.specs.ImageText.{image_bytes}
 use Rattle.sloth_source.specs.Texts.{Accepted}
-use Rattle.sloth_cli.specs.Command.{Samples}
-use Rattle.sloth_cli.specs.Runner.{run_end, end_of}
+use Rattle.command_line.specs.Command.{Samples}
+use Rattle.sloth_runner.proofs.Whole.{whole-run}
 use Rattle.sloth_cli.specs.Samples.{sample_oil, sample_source, sample_arrivals, sample_text}
 use Rattle.sloth_cli.specs.Top.{World, world, IsImageOf, IsWritten, IsSampled, Took}
 use Rattle.sloth_cli.specs.Failures.{SampleFailed, PerformFailed, CommandFailed, IsPerformed}
@@ -29,51 +29,53 @@ generate-ends failure.WriteFile files sink seed img h = absurd h
 generate-ends failure.Put files sink seed img h = absurd h
 generate-ends (failure.NotAnImage fault) files sink seed img h = absurd h
 
--- an image was built of the generated texts, and these are the arrivals of its run
-pub record IsGenerated (seed : ℕ) (image : Image) (arrivals : List Arrival) : Type 0 where
+-- an image was built of the generated texts, and the generated arrivals are of its tasks
+pub record IsGenerated (seed : ℕ) (image : Image) : Type 0 where
   pub config : Config
   pub app : App
   pub accepted : Accepted sample_oil (sample_source seed) config app
   pub is_image : IsImageOf config app image
-  pub arrivals_are : arrivals ≡ sample_arrivals seed (length config.tasks)
-  pub in_range : AreArrivals (length config.tasks) arrivals
+  pub in_range : AreArrivals (length config.tasks) (sample_arrivals seed)
 
 pub generated : (seed : ℕ) (config : Config) (app : App) (image : Image) (arrivals : List Arrival) → Accepted sample_oil (sample_source seed) config app
-    → IsImageOf config app image → arrivals ≡ sample_arrivals seed (length config.tasks) → AreArrivals (length config.tasks) arrivals
-    → IsGenerated seed image arrivals
-generated seed config app image arrivals accepted is_image are in_range =
-    record { config = config; app = app; accepted = accepted; is_image = is_image; arrivals_are = are; in_range = in_range }
+    → IsImageOf config app image → arrivals ≡ sample_arrivals seed → AreArrivals (length config.tasks) arrivals → IsGenerated seed image
+generated seed config app image arrivals accepted is_image are in_range = record {
+  config = config;
+  app = app;
+  accepted = accepted;
+  is_image = is_image;
+  in_range = subst (λ A. AreArrivals (length config.tasks) A) are in_range;
+}
 
-sampled : (old new : Files) (seed : ℕ) (img : List ℕ) (image : Image) (arrivals : List Arrival) → IsGenerated seed image arrivals
-    → IsWritten old new img (image_bytes image) → IsSampled old new seed img (sample_text image arrivals)
-sampled old new seed img image arrivals is written = record {
+sampled : (old new : Files) (seed : ℕ) (img : List ℕ) (image : Image) → IsGenerated seed image
+    → IsWritten old new img (image_bytes image) → IsSampled old new seed img (sample_text image (sample_arrivals seed))
+sampled old new seed img image is written = record {
   config = is.config;
   app = is.app;
   image = image;
-  arrivals = arrivals;
   accepted = is.accepted;
-  arrivals_are = is.arrivals_are;
   is_image = is.is_image;
   written = written;
   text_is = refl;
-  whole = ap end_of (is.is_image.sound.each arrivals 1000000 is.in_range (omega arith)).whole;
-  protocol = is.is_image.protocol arrivals 1000000 is.in_range (omega arith);
+  whole = whole-run is.config is.app image (sample_arrivals seed) 1000000 is.is_image.sound is.in_range (omega arith);
+  protocol = is.is_image.protocol (sample_arrivals seed) 1000000 is.in_range (omega arith);
 }
 
-pub sample-failed : (f : Failure) (old : Files) (sink : Output) (new : World) (seed : ℕ) (img : List ℕ) (image : Image) (arrivals : List Arrival)
-    → IsGenerated seed image arrivals → PerformFailed f (world old sink) new img (image_bytes image) (sample_text image arrivals)
+pub sample-failed : (f : Failure) (old : Files) (sink : Output) (new : World) (seed : ℕ) (img : List ℕ) (image : Image)
+    → IsGenerated seed image → PerformFailed f (world old sink) new img (image_bytes image) (sample_text image (sample_arrivals seed))
     → CommandFailed f (world old sink) new (Samples seed img)
-sample-failed failure.NoMemory old sink new seed img image arrivals is h = h
-sample-failed failure.WriteFile old sink new seed img image arrivals is h =
+sample-failed failure.NoMemory old sink new seed img image is h = h
+sample-failed failure.WriteFile old sink new seed img image is h =
     (record { config = is.config; app = is.app; image = image; accepted = is.accepted; is_image = is.is_image; failed = h.0; others = h.1 }, h.2)
-sample-failed failure.Put old sink new seed img image arrivals is h =
-    (status.Done, sample_text image arrivals, sampled old new.files seed img image arrivals is h.0, h.1)
-sample-failed (failure.Refused r) old sink new seed img image arrivals is h = absurd h
-sample-failed failure.ReadFault old sink new seed img image arrivals is h = absurd h
-sample-failed failure.TooLong old sink new seed img image arrivals is h = absurd h
-sample-failed (failure.NotAnImage fault) old sink new seed img image arrivals is h = absurd h
+sample-failed failure.Put old sink new seed img image is h =
+    (status.Done, sample_text image (sample_arrivals seed), sampled old new.files seed img image is h.0, h.1)
+sample-failed (failure.Refused r) old sink new seed img image is h = absurd h
+sample-failed failure.ReadFault old sink new seed img image is h = absurd h
+sample-failed failure.TooLong old sink new seed img image is h = absurd h
+sample-failed (failure.NotAnImage fault) old sink new seed img image is h = absurd h
 
-pub sample-done : (old new : Files) (sink out : Output) (seed : ℕ) (img : List ℕ) (image : Image) (arrivals : List Arrival)
-    → IsGenerated seed image arrivals → IsWritten old new img (image_bytes image) → Took sink out (sample_text image arrivals)
+pub sample-done : (old new : Files) (sink out : Output) (seed : ℕ) (img : List ℕ) (image : Image)
+    → IsGenerated seed image → IsWritten old new img (image_bytes image) → Took sink out (sample_text image (sample_arrivals seed))
     → IsPerformed status.Done (world old sink) (world new out) (Samples seed img)
-sample-done old new sink out seed img image arrivals is written took = (sample_text image arrivals, sampled old new seed img image arrivals is written, took)
+sample-done old new sink out seed img image is written took =
+    (sample_text image (sample_arrivals seed), sampled old new seed img image is written, took)

@@ -9,16 +9,16 @@ use Rattle.image_file.specs.ImageText.{image_bytes}
 use Rattle.sloth_source.specs.Texts.{Accepted, FirstRefusal}
 use Rattle.sloth_source.proofs.Refusals.{one_refusal}
 use Rattle.sloth_source.proofs.Unique.{one_meaning, never_both}
-use Rattle.sloth_cli.specs.Command.{Command, Samples, IsCommand}
+use Rattle.command_line.specs.Command.{Command, Samples, IsCommand}
 use Rattle.sloth_cli.specs.ImageFiles.{IsNoImage}
-use Rattle.sloth_cli.specs.LastLine.{refusal_line}
+use Rattle.command_line.specs.LastLine.{refusal_line}
 use Rattle.sloth_cli.specs.Samples.{sample_oil, sample_source, sample_arrivals, sample_text}
 use Rattle.sloth_cli.specs.SampleAnswers.{SampleWorks, TellsSampleRefused, TellsSampled}
 use Rattle.sloth_cli.specs.Top.{World, IsFailedRead, IsLongRead, Requires, Puts, Took, EndsAs, Answers, AnswersRefused, PutsWork}
 use Rattle.sloth_cli.specs.Top.{CommandDone, CommandRefused, CommandUnwritten, CommandStopped}
 use Rattle.sloth_cli.specs.declared.top.Status.{Status}
 use Rattle.sloth_cli.specs.declared.top.Status.TheVariants as status
-use Rattle.sloth_cli.proofs.Commands.{one-command}
+use Rattle.command_line.proofs.Commands.{one-command}
 use Rattle.sloth_cli.proofs.Complete.{counted-put, stands, image-of, no-failed-write}
 
 module _ (words : List (List ℕ)) (old new : World) (answer : Status) (seed : ℕ) (img : List ℕ) (is : IsCommand words (Samples seed img)) where
@@ -54,9 +54,7 @@ module _ (words : List (List ℕ)) (old new : World) (answer : Status) (seed : �
       let d = subst (λ x. CommandDone old.files new.files x text) (one-command words q.0 (Samples seed img) q.1 is) q.2 in
       let same = one_meaning sample_oil (sample_source seed) d.config config d.app app d.accepted accepted in
       let lines = works.lines d.image (image-of config d.config app d.app d.image same d.is_image) in
-      let arrivals_are = d.arrivals_are ∙ ap (λ (k : Config). sample_arrivals seed (length k.tasks)) same.0 in
-      let text_is = d.text_is ∙ ap (λ (xs : List Arrival). sample_text d.image xs) arrivals_are in
-      inl (stands status.Done answer words old new text (subst (λ x. PutsWork old.sink new.sink x) (sym text_is) lines) q p)
+      inl (stands status.Done answer words old new text (subst (λ x. PutsWork old.sink new.sink x) (sym d.text_is) lines) q p)
   sampled-by status.NoMemory text config app accepted works q p =
       inr (stands status.NoMemory answer words old new text (subst (λ x. PutsWork old.sink new.sink x) (sym q.2) works.last_line) q p)
   sampled-by status.Refused text config app accepted works q p =

@@ -14,10 +14,10 @@ use Rattle.image_file.specs.Faults.{Faulty}
 use Rattle.image_file.specs.declared.fault.ImageError.{ImageError}
 use Rattle.image_file.specs.declared.fault.ImageError.TheVariants as image_error
 use Rattle.sloth_source.specs.Texts.{FirstRefusal}
-use Rattle.sloth_cli.specs.Command.{Command}
+use Rattle.command_line.specs.Command.{Command}
 use Rattle.sloth_cli.specs.Inputs.{input_limit}
 use Rattle.sloth_cli.specs.ImageFiles.{IsNoImage}
-use Rattle.sloth_cli.specs.LastLine.{refusal_line, no_image_line}
+use Rattle.command_line.specs.LastLine.{refusal_line, no_image_line}
 use Rattle.sloth_cli.specs.Samples.{sample_oil, sample_source}
 use Rattle.sloth_cli.specs.Top.{World, FirstUnread, IsFailedRead, IsLongRead, IsRefusal, FilesStay, IsWritten, Took, BrokeOff, Puts}
 use Rattle.sloth_cli.specs.Top.{CommandDone, CommandRefused, CommandUnwritten, CommandStopped}

@@ -9,14 +9,14 @@ use Rattle.image_file.specs.Faults.{Faulty}
 use Rattle.image_file.specs.declared.fault.ImageFault.{ImageFault}
 use Rattle.trace_text.specs.ArrivalsText.{ArrivalsFault}
 use Rattle.trace_text.specs.Listing.{listing}
-use Rattle.sloth_cli.specs.Command.{Command, Execution, Executes, Lists, IsCommand}
+use Rattle.command_line.specs.Command.{Command, Execution, Executes, Lists, IsCommand}
 use Rattle.sloth_cli.specs.Inputs.{AreRead}
 use Rattle.sloth_cli.specs.ImageFiles.{IsInput, AreExecInputs, ReadsImageFile, exec_text}
-use Rattle.sloth_cli.specs.LastLine.{no_image_line}
-use Rattle.sloth_cli.specs.Runner.{run_end}
+use Rattle.command_line.specs.LastLine.{no_image_line}
+use Rattle.sloth_runner.specs.Runner.{run_end}
 use Rattle.sloth_cli.specs.Top.{World, Took, EndsAs, IsBrokenOff, AnswersRefused, ReadsWork, PutsWork}
-use Rattle.sloth_cli.specs.declared.runner.RunEnd.{RunEnd}
-use Rattle.sloth_cli.specs.declared.runner.RunEnd.TheVariants as ends
+use Rattle.sloth_runner.specs.declared.runner.RunEnd.{RunEnd}
+use Rattle.sloth_runner.specs.declared.runner.RunEnd.TheVariants as ends
 use Rattle.sloth_cli.specs.declared.top.Status.{Status}
 use Rattle.sloth_cli.specs.declared.top.Status.TheVariants as status
 

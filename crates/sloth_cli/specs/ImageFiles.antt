@@ -12,12 +12,12 @@ use Rattle.image_file.specs.declared.fault.ImageFault.{ImageFault}
 use Rattle.trace_text.specs.ArrivalsText.{ArrivalsFault}
 use Rattle.trace_text.specs.Listing.{listing}
 use Rattle.trace_text.specs.declared.print.Form.TheVariants as form
-use Rattle.sloth_cli.specs.Command.{Command, Execution, Builds, Executes, Lists, Samples}
+use Rattle.command_line.specs.Command.{Command, Execution, Builds, Executes, Lists, Samples}
 use Rattle.sloth_cli.specs.Inputs.{input_limit, AreRead}
-use Rattle.sloth_cli.specs.LastLine.{stopped_line}
-use Rattle.sloth_cli.specs.Runner.{run_text, run_end}
-use Rattle.sloth_cli.specs.declared.runner.RunEnd.{RunEnd}
-use Rattle.sloth_cli.specs.declared.runner.RunEnd.TheVariants as ends
+use Rattle.command_line.specs.LastLine.{stopped_line}
+use Rattle.sloth_runner.specs.Runner.{run_text, run_end}
+use Rattle.sloth_runner.specs.declared.runner.RunEnd.{RunEnd}
+use Rattle.sloth_runner.specs.declared.runner.RunEnd.TheVariants as ends
 
 -- ---- the inputs
 

@@ -1,9 +1,4 @@
-pub mod Runner
-pub mod Tally
-pub mod Command
-pub mod Words
 pub mod Inputs
-pub mod LastLine
 pub mod ImageFiles
 pub mod Samples
 pub mod Top
@@ -11,3 +6,4 @@ pub mod ImageAnswers
 pub mod SampleAnswers
 pub mod Failures
 pub mod InMemory
+pub mod Statuses

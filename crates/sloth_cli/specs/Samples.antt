@@ -1,5 +1,5 @@
 -- What `sample` generates from a seed, and what it shows.
-use Rattle.std.specs.Prelude.{ℕ, List, filter, nat_lt}
+use Rattle.std.specs.Prelude.{ℕ, List}
 use Rattle.sloth_base.specs.declared.event.Arrival.{Arrival}
 use Rattle.sloth_base.specs.declared.image.Image.{Image}
 use Rattle.app_gen.specs.Load.{arrivals}
@@ -16,9 +16,9 @@ sample_oil = oil_text 30
 abbrev pub sample_source : ℕ → List ℕ
 sample_source seed = source_text seed 30
 
--- its arrivals, each of a line that one of so many tasks has
-abbrev pub sample_arrivals : ℕ → ℕ → List Arrival
-sample_arrivals seed tasks = filter (λ a. nat_lt a.line tasks) (arrivals seed 30)
+-- its arrivals
+abbrev pub sample_arrivals : ℕ → List Arrival
+sample_arrivals seed = arrivals seed 30
 
 -- what is put: the summary of what is observed of the image's run of 1,000,000 instructions with these arrivals
 unfoldable pub sample_text : Image → List Arrival → List ℕ

@@ -20,13 +20,13 @@ use Rattle.image_file.specs.declared.fault.ImageFault.{ImageFault}
 use Rattle.rv32_instr.specs.declared.stop.Stop.{Stop}
 use Rattle.sloth_source.specs.Texts.{Accepted, FirstRefusal}
 use Rattle.trace_text.specs.ArrivalsText.{ArrivalsFault}
-use Rattle.sloth_cli.specs.Command.{Command, Building, Run, Builds, Executes, Lists, Samples, IsCommand, NoCommand}
+use Rattle.command_line.specs.Command.{Command, Building, Run, Builds, Executes, Lists, Samples, IsCommand, NoCommand}
 use Rattle.sloth_cli.specs.Inputs.{input_limit, AreRead}
 use Rattle.sloth_cli.specs.ImageFiles.{IsExecuted, IsExecRefused, IsListed, IsNoImage}
-use Rattle.sloth_cli.specs.LastLine.{refusal_line, built_line, no_image_line}
-use Rattle.sloth_cli.specs.Runner.{run_text, run_end}
+use Rattle.command_line.specs.LastLine.{refusal_line, built_line, no_image_line}
+use Rattle.sloth_runner.specs.Runner.{run_text, run_end}
 use Rattle.sloth_cli.specs.Samples.{sample_oil, sample_source, sample_arrivals, sample_text}
-use Rattle.sloth_cli.specs.declared.runner.RunEnd.TheVariants as ends
+use Rattle.sloth_runner.specs.declared.runner.RunEnd.TheVariants as ends
 use Rattle.sloth_cli.specs.declared.top.Status.{Status}
 use Rattle.sloth_cli.specs.declared.top.Status.TheVariants as status
 
@@ -139,7 +139,7 @@ pub record IsImageOf (config : Config) (app : App) (image : Image) : Type 0 wher
   pub sound : Sound config app image
   -- so a Ready task is blocked by one lower task at most, and resources are held by one task at a time
   pub protocol : RunsKeepProtocol config app image
-  -- the items of the task code stand in the image, each behind its mark
+  -- the items of the task code stand in the image, each with its mark on its last instruction
   pub items : ItemsInPlace image config app
   -- its numbers and names are those of an image file
   pub format : InFormat image
@@ -173,7 +173,7 @@ pub record IsRefused (old : Files) (c : Building) (refusal : Refusal) : Type 0 w
   pub is : IsRefusal oil src arr refusal
 
 -- the inputs are accepted, the write of the image's file failed, and no other file has changed
-pub record IsFailedWrite (old new : Files) (c : Building) : Type 0 where
+pub record IsUnwrittenBuild (old new : Files) (c : Building) : Type 0 where
   pub config : Config
   pub app : App
   pub arrivals : List Arrival
@@ -189,16 +189,14 @@ pub record IsSampled (old new : Files) (seed : ℕ) (img text : List ℕ) : Type
   pub config : Config
   pub app : App
   pub image : Image
-  pub arrivals : List Arrival
   pub accepted : Accepted sample_oil (sample_source seed) config app
-  pub arrivals_are : arrivals ≡ sample_arrivals seed (length config.tasks)
   pub is_image : IsImageOf config app image
   pub written : IsWritten old new img (image_bytes image)
-  pub text_is : text ≡ sample_text image arrivals
+  pub text_is : text ≡ sample_text image (sample_arrivals seed)
   -- so all its instructions are run
-  pub whole : run_end image arrivals 1000000 ≡ ends.Whole
+  pub whole : run_end image (sample_arrivals seed) 1000000 ≡ ends.Whole
   -- and the events that are counted keep the priority ceiling protocol
-  pub protocol : KeepsCeilingProtocol config app (events_of image arrivals 1000000)
+  pub protocol : KeepsCeilingProtocol config app (events_of image (sample_arrivals seed) 1000000)
 
 -- the generated texts are accepted, the write of the image's file failed, and no other file has changed
 pub record IsUnwrittenSample (old new : Files) (seed : ℕ) (img : List ℕ) : Type 0 where
@@ -226,7 +224,7 @@ CommandRefused old (Samples seed img) refusal = FirstRefusal sample_oil (sample_
 
 -- its file was to be written, and the write failed
 abbrev pub CommandUnwritten : Files → Files → Command → Type 0
-CommandUnwritten old new (Builds b) = IsFailedWrite old new b
+CommandUnwritten old new (Builds b) = IsUnwrittenBuild old new b
 CommandUnwritten old new (Executes e) = ⊥
 CommandUnwritten old new (Lists img) = ⊥
 CommandUnwritten old new (Samples seed img) = IsUnwrittenSample old new seed img

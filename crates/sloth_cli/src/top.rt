@@ -5,26 +5,25 @@ ghost use Rattle.sloth_base.specs.ImageRange.{InFormat};
 ghost use Rattle.sloth_io.specs.Store.{KeepsFiles};
 ghost use Rattle.image_file.specs.ImageText.{image_bytes};
 ghost use Rattle.sloth_source.specs.Texts.{Accepted};
-ghost use Rattle.sloth_cli.specs.Command.{words_of, Builds, IsInLimit, KeepsLimit};
-ghost use Rattle.sloth_cli.specs.Words.{building_of, command_of, run_of};
+ghost use Rattle.command_line.specs.Command.{words_of, Builds, IsInLimit, KeepsLimit};
+ghost use Rattle.command_line.specs.Words.{building_of, command_of, run_of};
 ghost use Rattle.sloth_cli.specs.Inputs.{input_limit, AreRead};
-ghost use Rattle.sloth_cli.specs.LastLine.{built_line};
-ghost use Rattle.sloth_cli.specs.Runner.{run_text};
+ghost use Rattle.command_line.specs.LastLine.{built_line};
+ghost use Rattle.sloth_runner.specs.Runner.{run_text};
 ghost use Rattle.sloth_cli.specs.Top.{world, arrivals_named, inputs_of, names_of, AreInputs, HoldsArrivals, IsImageOf, IsWritten, done_text};
 ghost use Rattle.sloth_cli.specs.Top.{Took, Puts, Answers, TellsUsage, TellsRefused, IsComplete};
 ghost use Rattle.sloth_cli.specs.ImageAnswers.{TellsFault, TellsNoImage, TellsExecRefused, TellsExecuted, TellsListed};
 ghost use Rattle.sloth_cli.specs.SampleAnswers.{TellsSampleRefused, TellsSampled};
 ghost use Rattle.sloth_cli.specs.Failures.{ReadFailed, JudgeFailed, PerformFailed, CommandFailed, Finished, IsPerformed};
-ghost use Rattle.sloth_cli.specs.declared.top.Status.TheVariants.{Done as IsDone};
+ghost use Rattle.sloth_cli.specs.declared.top.Status.TheVariants.{Done as DoneStatus};
 
-use crate::command::{BuildWords, CommandWords, RunWords, command};
 use crate::failure::Failure;
 use crate::image_commands::{execute, list};
 use crate::inputs::fetch;
-use crate::last_line::{built_line, no_image_line, refusal_line};
-use crate::runner::Runner;
 use crate::sample_command::sample_run;
-use image_file::write::write_image;
+use command_line::command::{BuildWords, CommandWords, RunWords, command};
+use command_line::last_line::{built_line, no_image_line, refusal_line};
+use image_file::write_image;
 use sloth_base::app::App;
 use sloth_base::config::Config;
 use sloth_base::event::Arrival;
@@ -32,6 +31,7 @@ use sloth_base::image::Image;
 use sloth_build::{Built, build};
 use sloth_io::sink::Sink;
 use sloth_io::store::Store;
+use sloth_runner::runner::Runner;
 use std::alloc::Global;
 use trace_text::read_arrivals;
 
@@ -47,6 +47,27 @@ pub enum Status {
     TooLong,
     Stopped,
     NotAnImage,
+}
+
+impl Status {
+    ghost use Rattle.sloth_cli.specs.Statuses.{exit_status};
+
+    /// The exit status of the process, 0 to 8.
+    pub fn code(self) -> u8
+        ensures { result ≡ exit_status self }
+    {
+        match self {
+            Status::Done => 0,
+            Status::Usage => 1,
+            Status::Refused => 2,
+            Status::ReadFault => 3,
+            Status::WriteFault => 4,
+            Status::NoMemory => 5,
+            Status::TooLong => 6,
+            Status::Stopped => 7,
+            Status::NotAnImage => 8,
+        }
+    }
 }
 
 // The texts that are built from, and the arrivals.
@@ -204,7 +225,7 @@ fn attempt<F: Store, S: Sink>(
     c: &BuildWords,
 ) -> Result<(), Failure>
     requires { IsInLimit (run_of c.now.run) }
-    ensures done { OnOk result (IsPerformed IsDone
+    ensures done { OnOk result (IsPerformed DoneStatus
         (world (F.seen files.old) (S.seen out.old)) (world (F.seen files.new) (S.seen out.new)) (Builds (building_of c.now))) }
     ensures err { IfErr result (λ failure. CommandFailed failure
         (world (F.seen files.old) (S.seen out.old)) (world (F.seen files.new) (S.seen out.new)) (Builds (building_of c.now))) }

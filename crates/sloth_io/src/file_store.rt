@@ -28,6 +28,13 @@ impl<'a, R: Files> FileStore<'a, R> {
             failed_writes: 0,
         }
     }
+
+    /// How many reads have failed.
+    pub fn failed_reads(&self) -> u64
+        ensures { result ≡ (shown self.now).failed_reads }
+    {
+        self.failed_reads
+    }
 }
 
 // Reads to the end of the file, or until more bytes than the limit were taken. A read of nothing is the end.

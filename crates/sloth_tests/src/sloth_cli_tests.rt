@@ -7,8 +7,7 @@ use sloth_base::list::List;
 use sloth_base::memory::NoMemory;
 use sloth_base::name::Name;
 use sloth_build::{Built, build};
-use sloth_cli::runner::{RunEnd, Runner};
-use sloth_cli::{Status, sloth_top};
+use sloth_cli::{RunEnd, Runner, Status, sloth_top};
 use sloth_io::mem_sink::MemSink;
 use sloth_io::mem_store::{MemFile, MemStore};
 use std::alloc::{AllocError, Global};
@@ -48,6 +47,10 @@ const ACCESSES: &[u8] =
 // One task waits for an event, which the other one sets.
 const WAITING: &[u8] =
     b"task High\nWaitEvent E\nClearEvent E\nTerminateTask\nend\ntask Main\nSetEvent High, E\nTerminateTask\nend\n";
+
+// A task activates one of higher priority.
+const ACTIVATING: &[u8] =
+    b"task Low\nli t0, 1\nActivateTask High\naddi t0, t0, 1\nTerminateTask\nend\ntask High\nli t1, 7\nTerminateTask\nend\n";
 
 // Boot, the task's entry, its item, its end, and the idle loop.
 const LINES: &[u8] =
@@ -171,12 +174,29 @@ fn texts_refused_as_a_whole(rt: HostRuntime) -> Result<(), Fail> {
         ),
     ];
     for (oil, status, text) in rows {
-        let words = words(rt.alloc(), "order", "9")?;
-        let mut files = store(rt.alloc(), oil, SRC, b"", &[])?;
+        let words = words(rt.alloc(), "order", "5000")?;
+        let mut files = store(rt.alloc(), oil, ACTIVATING, b"", &[])?;
         let mut out = MemSink::new(rt.alloc(), 200, &[])?;
         let ended = sloth_top(rt.alloc(), words.as_slice(), &mut files, &mut out);
         assert_eq!(rt; ended, status);
         assert_eq!(rt; out.taken(), text);
+        assert!(rt; !is_image_written(&files));
+    }
+    Ok(())
+}
+
+// No words, and those of `run` without the number of instructions.
+#[test]
+fn words_of_no_command(rt: HostRuntime) -> Result<(), Fail> {
+    let oil = oil(rt.alloc(), MAIN)?;
+    let rows: [&[&str]; 2] = [&[], &["run", "p.oil", "p.src", "p.arr", "p.img"]];
+    for texts in rows {
+        let words = words_of(rt.alloc(), texts)?;
+        let mut files = store(rt.alloc(), oil.as_slice(), SRC, b"", &[])?;
+        let mut out = MemSink::new(rt.alloc(), 200, &[])?;
+        let ended = sloth_top(rt.alloc(), words.as_slice(), &mut files, &mut out);
+        assert_eq!(rt; ended, Status::Usage);
+        assert_eq!(rt; out.taken(), b"usage\n".as_slice());
         assert!(rt; !is_image_written(&files));
     }
     Ok(())

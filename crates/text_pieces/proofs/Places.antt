@@ -1,9 +1,10 @@
 -- Places of names among lists of names.
-use Rattle.std.proofs.Common.{◌≡◌, ◌∙◌, ⊎_elim, ℕ, zero, suc, take, ◌<◌, ◌≤◌, ◌+◌, Bool, true, false, cond, Some, None, Option, List, [], ◌∷◌, ◌++◌, length, refl, ap, sym, arith, true≢false}
-use Rattle.std.specs.Prelude.{◌||◌, not, nat_lt, if◌then◌else◌, position, is_some}
-use Rattle.std.specs.List.{list_any, position_or_len}
+use Rattle.std.proofs.Common.{◌≡◌, ◌∙◌, ⊎_elim, ℕ, zero, suc, take, ◌<◌, ◌≤◌, ◌+◌, Bool, true, false, cond, Some, None, Option, List, [], ◌∷◌, ◌++◌, length, get_or, refl, ap, sym, arith, true≢false}
+use Rattle.std.specs.Prelude.{◌≢◌, ◌||◌, not, nat_lt, if◌then◌else◌, position, is_some}
+use Rattle.std.specs.List.{AllPairs, list_any, position_or_len}
 use Rattle.std.specs.Str.{bytes_eq}
 use Rattle.std.proofs.lemmas.Bool.{cases_lt, lt-ltb, le-ltb}
+use Rattle.std.proofs.lemmas.List.Sums.{position_or_len_is}
 use Rattle.std.proofs.lemmas.Slice.Eq.{bytes_eq-Decides}
 
 -- the place behind one more
@@ -93,3 +94,18 @@ any_take p (suc k) (x ∷ xs) = by (p x) (any_take p k xs) ∙ sym (ap (λ o. be
     by : (b : Bool) → list_any p (take k xs) ≡ below (position p xs) k → (b || list_any p (take k xs)) ≡ below (if b then Some 0 else further (position p xs)) (suc k)
     by true e = sym (lt-ltb 0 (suc k) (omega arith))
     by false e = e ∙ sym (below_further (position p xs) k)
+
+-- Where names differ, the place of a name is the one at which it stands.
+pub position_at : (names : List (List ℕ)) → AllPairs (λ one other. one ≢ other) names → (i : ℕ) (d : List ℕ) → i < length names
+    → position (bytes_eq (get_or names i d)) names ≡ Some i
+position_at names differ i d h =
+    let name = get_or names i d in
+    let at =
+    position_or_len_is (bytes_eq name) names i d (omega (arith, h)) (λ k l. earlier k l (bytes_eq name (get_or names k d)) refl)
+    (λ l. (bytes_eq-Decides name name).1 refl)
+    in
+    ap (λ n. cond (nat_lt n (length names)) (Some n) None) at ∙ ap (λ b. cond b (Some i) None) (lt-ltb i (length names) h)
+  where
+    earlier : (k : ℕ) → k < i → (b : Bool) → bytes_eq (get_or names i d) (get_or names k d) ≡ b → bytes_eq (get_or names i d) (get_or names k d) ≡ false
+    earlier k l true e = absurd (differ k i d l h (sym ((bytes_eq-Decides (get_or names i d) (get_or names k d)).0 e)))
+    earlier k l false e = e

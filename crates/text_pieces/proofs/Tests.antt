@@ -1,7 +1,8 @@
 -- Tests, and what passes them in a list or in a set.
-use Rattle.std.proofs.Common.{◌≡◌, ◌∙◌, ⊎_elim, ◌⊎◌, inl, inr, Bool, true, false, cond, List, [], ◌∷◌, ◌++◌, refl, ap, sym, true≢false}
-use Rattle.std.specs.Prelude.{◌||◌, ◌&&◌, not}
+use Rattle.std.proofs.Common.{◌≡◌, ◌∙◌, ⊎_elim, ◌⊎◌, inl, inr, Bool, true, false, cond, List, [], ◌∷◌, ◌++◌, map, refl, ap, sym, true≢false}
+use Rattle.std.specs.Prelude.{◌||◌, ◌&&◌, not, All, filter}
 use Rattle.std.specs.List.{list_any}
+use Rattle.std.proofs.lemmas.List.Elements.{All-nil, All-cons, All-map, All-filter, filter_passes}
 use Rattle.std.proofs.lemmas.List.Folds.{list_any-append}
 use Rattle.indexmap.specs.IndexSet.{insert_key}
 
@@ -76,6 +77,15 @@ module _ {X : Type 0} (p q : X → Bool) where
 pub any_none : {X : Type 0} (p : X → Bool) → ((x : X) → p x ≡ false) → (xs : List X) → list_any p xs ≡ false
 any_none p f [] = refl
 any_none p f (x ∷ xs) = ap (λ b. b || list_any p xs) (f x) ∙ any_none p f xs
+
+pub none_pass : {X : Type 0} (p : X → Bool) (xs : List X) → list_any p xs ≡ false → All (λ x. p x ≡ false) xs
+none_pass p [] e = All-nil (λ x. p x ≡ false)
+none_pass p (x ∷ xs) e = All-cons (λ x. p x ≡ false) x xs (or_left (p x) (list_any p xs) e) (none_pass p xs (or_right (p x) (list_any p xs) e))
+
+-- what holds of each that passes holds of all that are kept
+pub All-kept : {X Y : Type 0} (p : X → Bool) (f : X → Y) (P : Y → Type 0) (xs : List X) → All (λ x. p x ≡ true → P (f x)) xs
+    → All P (map f (filter p xs))
+All-kept p f P xs h = All-map P f (filter p xs) (λ k d l. All-filter p (λ x. p x ≡ true → P (f x)) xs h k d l (filter_passes p xs k d l))
 
 module _ {X : Type 0} (p : X → Bool) where
   pub any_push : (xs : List X) (x : X) → list_any p (xs ++ x ∷ []) ≡ (list_any p xs || p x)

@@ -1,20 +1,20 @@
 -- The event of a counted line is found.
-use Rattle.std.proofs.Common.{◌≡◌, ◌≢◌, ◌∙◌, ℕ, ◌<◌, ◌≤◌, ⊎_elim, Bool, true, false, List, [], ◌∷◌, ◌++◌, Option, Some, None, length, get_or, cond, arith, refl, sym, ap, subst, true≢false}
-use Rattle.std.specs.Prelude.{◌&&◌, decimal, codes, bytes_eq, position, unwrap_or, nat_lt}
-use Rattle.std.specs.List.{AllPairs}
-use Rattle.std.proofs.lemmas.Bool.{lt-ltb, le-ltb, cases_lt}
-use Rattle.std.proofs.lemmas.List.Sums.{position_or_len_is, list_all-from_AllPass}
+use Rattle.std.proofs.Common.{◌≡◌, ◌∙◌, ℕ, ◌<◌, ◌≤◌, ⊎_elim, Bool, true, false, List, [], ◌∷◌, ◌++◌, Option, Some, None, length, get_or, cond, arith, refl, sym, ap, subst, true≢false}
+use Rattle.std.specs.Prelude.{◌&&◌, decimal, codes, bytes_eq, position, unwrap_or}
+use Rattle.std.proofs.lemmas.Bool.{le-ltb, cases_lt}
+use Rattle.std.proofs.lemmas.List.Sums.{list_all-from_AllPass}
 use Rattle.std.proofs.lemmas.Option.{none-some, same_Some, slice_get-get_or, slice_get_past}
 use Rattle.std.proofs.lemmas.Slice.Eq.{bytes_eq-Decides}
-use Rattle.sloth_base.specs.ImageRange.{AreNames, IsName, IsWord as IsNameWord, begins_word, continues_word}
+use Rattle.sloth_base.specs.ImageRange.{AreNames, IsName, IsWord, begins_word, continues_word}
 use Rattle.sloth_base.specs.declared.event.Event.{Event}
 use Rattle.sloth_base.specs.declared.event.Event.TheVariants as event
 use Rattle.sloth_base.specs.declared.event.Stamped.{Stamped}
 use Rattle.sloth_base.specs.declared.service.Service.{Service}
 use Rattle.sloth_base.specs.declared.service.Service.TheVariants as service
 use Rattle.text_pieces.specs.Bytes.{has}
+use Rattle.text_pieces.proofs.Places.{position_at}
 use Rattle.asm_lines.proofs.Cuts.{lacks, has_in, before_is, behind_is}
-use Rattle.trace_text.specs.EventLines.{IsPlace, IsTaskNumber, HasNumbers, IsLineOf, IsWord, counted_line}
+use Rattle.trace_text.specs.EventLines.{IsPlace, IsTaskNumber, HasNumbers, IsLineOf, Has32Bits, counted_line}
 use Rattle.trace_text.specs.EventsRead.{◌>>=◌, first_word, other_words, number, place, task_number, service_named, run_in, call_in, left_in, more_in, is_single, single_in, of_task, event_in, stamped_in, word_of}
 use Rattle.trace_text.specs.Lines.{name_of, service_text, event_text}
 use Rattle.trace_text.proofs.Digits.{decimal_lacks, number_back}
@@ -55,24 +55,12 @@ is_not_dash name h = by (bytes_eq name (codes "-")) refl
     by : (b : Bool) → bytes_eq name (codes "-") ≡ b → bytes_eq name (codes "-") ≡ false
     by false e = e
     by true e =
-        let P : List ℕ → Type 0 = λ t. IsNameWord t in
-        let w : IsNameWord (codes "-") = subst P ((bytes_eq-Decides name (codes "-")).0 e) h.word in
+        let P : List ℕ → Type 0 = λ t. IsWord t in
+        let w : IsWord (codes "-") = subst P ((bytes_eq-Decides name (codes "-")).0 e) h.word in
         absurd (true≢false (sym w.0))
 
 word_is : (n : ℕ) → n < 0x1_0000_0000 → word_of n ≡ Some n
 word_is n h = let t = le-ltb 4294967295 n (omega (arith, h)) in ap (λ b. cond b None (Some n)) t
-
--- Where names differ, the place of a name is the one at which it stands.
-position_at : (names : List (List ℕ)) → AllPairs (λ one other. one ≢ other) names → (i : ℕ) → i < length names
-    → position (bytes_eq (get_or names i [])) names ≡ Some i
-position_at names differ i h =
-    let name = get_or names i [] in
-    let at = position_or_len_is (bytes_eq name) names i [] (omega (arith, h)) (λ k l. earlier k l (bytes_eq name (get_or names k [])) refl) (λ l. (bytes_eq-Decides name name).1 refl) in
-    ap (λ n. cond (nat_lt n (length names)) (Some n) None) at ∙ ap (λ b. cond b (Some i) None) (lt-ltb i (length names) h)
-  where
-    earlier : (k : ℕ) → k < i → (b : Bool) → bytes_eq (get_or names i []) (get_or names k []) ≡ b → bytes_eq (get_or names i []) (get_or names k []) ≡ false
-    earlier k l true e = absurd (differ k i [] l h (sym ((bytes_eq-Decides (get_or names i []) (get_or names k [])).0 e)))
-    earlier k l false e = e
 
 module _ (names : List (List ℕ)) (named : AreNames names) where
   inside : (i : ℕ) → i < length names → name_of names i ≡ get_or names i []
@@ -88,7 +76,7 @@ module _ (names : List (List ℕ)) (named : AreNames names) where
   unfolding place
   place_back i h =
       ap (λ w. position (bytes_eq w) names >>= word_of) (inside i h.inside)
-      ∙ (ap (λ o. o >>= word_of) (position_at names named.distinct i h.inside) ∙ word_is i h.word)
+      ∙ (ap (λ o. o >>= word_of) (position_at names named.distinct i [] h.inside) ∙ word_is i h.word)
 
   place_lacks : (i : ℕ) → IsPlace (length names) i → has 32 (name_of names i) ≡ false
   place_lacks i h = name_lacks (name_of names i) (is_name i h.inside)
@@ -274,7 +262,7 @@ module _ (tasks functions : List (List ℕ)) (named : AreNames tasks) (known : A
   )
 
   pub reread : (text line : List ℕ) (found : Stamped) → Some found ≡ stamped_in tasks functions text → line ≡ counted_line tasks functions found
-      → bytes_eq line text ≡ true → IsWord found.stamp.from → IsWord found.stamp.at → HasNumbers (length tasks) (length functions) found.event
+      → bytes_eq line text ≡ true → Has32Bits found.stamp.from → Has32Bits found.stamp.at → HasNumbers (length tasks) (length functions) found.event
       → IsReading text (Some found)
   reread text line found s l t p q n e = (
     λ h.

@@ -2,5 +2,4 @@ pub mod Appends
 pub mod Digits
 pub mod EventsBack
 pub mod Kept
-mod Marked
 pub mod Reading

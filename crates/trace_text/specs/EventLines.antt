@@ -7,17 +7,17 @@ use Rattle.trace_text.specs.Lines.{counts_text, event_text}
 use Rattle.trace_text.specs.declared.print.Form.TheVariants as form
 
 -- a number of 32 bits
-abbrev pub IsWord : ℕ → Type 0
-IsWord n = n < 0x1_0000_0000
+abbrev pub Has32Bits : ℕ → Type 0
+Has32Bits n = n < 0x1_0000_0000
 
 -- the number of one of so many names
 pub record IsPlace (count n : ℕ) : Type 0 where
-  pub word : IsWord n
+  pub word : Has32Bits n
   pub inside : n < count
 
 -- the number of one of so many tasks, or 4,294,967,295, which is that of no task
 pub record IsTaskNumber (count n : ℕ) : Type 0 where
-  pub word : IsWord n
+  pub word : Has32Bits n
   pub names : (n < count) ⊎ (n ≡ 4294967295)
 
 -- the numbers in an event, with so many tasks and functions
@@ -26,8 +26,8 @@ HasNumbers tasks functions event.Boot = Unit {0}
 HasNumbers tasks functions (event.Admit t) = IsTaskNumber tasks t
 HasNumbers tasks functions (event.Enter t) = IsTaskNumber tasks t
 HasNumbers tasks functions (event.Run t function item result) =
-    IsTaskNumber tasks t × IsPlace functions function × IsWord item × IsWord result
-HasNumbers tasks functions (event.Call t called status) = IsTaskNumber tasks t × IsWord status
+    IsTaskNumber tasks t × IsPlace functions function × Has32Bits item × Has32Bits result
+HasNumbers tasks functions (event.Call t called status) = IsTaskNumber tasks t × Has32Bits status
 HasNumbers tasks functions (event.Left t called) = IsTaskNumber tasks t
 HasNumbers tasks functions (event.Back t) = IsTaskNumber tasks t
 HasNumbers tasks functions event.Idle = Unit {0}
@@ -39,7 +39,7 @@ counted_line tasks functions e = counts_text form.Counted e ++ event_text tasks 
 
 -- the text is the counted line of an event whose numbers name tasks and functions, or no task
 pub record IsLineOf (tasks functions : List (List ℕ)) (e : Stamped) (text : List ℕ) : Type 0 where
-  pub from : IsWord e.stamp.from
-  pub at : IsWord e.stamp.at
+  pub from : Has32Bits e.stamp.from
+  pub at : Has32Bits e.stamp.at
   pub numbers : HasNumbers (length tasks) (length functions) e.event
   pub prints : text ≡ counted_line tasks functions e

@@ -41,11 +41,3 @@ text_after image form after_idle events = lines_of image form (printed form afte
 -- the text of a run's events in a form
 abbrev pub text_in : Image → Form → List Stamped → List ℕ
 text_in image form events = text_after image form false events
-
--- the counted text, and the bare one
-abbrev pub text_of : Image → List Stamped → List ℕ
-text_of image events = text_in image form.Counted events
-
--- the lines of events without their counts
-abbrev pub order_text : Image → List Stamped → List ℕ
-order_text image events = text_in image form.Bare events

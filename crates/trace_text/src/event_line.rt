@@ -2,7 +2,7 @@
 ghost use Rattle.std.specs.Prelude.{◌≡◌, ℕ, ◌↔◌, Some, IfSome, length};
 ghost use Rattle.sloth_base.specs.ImageRange.{AreNames};
 ghost use Rattle.sloth_base.specs.declared.event.Stamped.{Stamped as AnyEvent};
-ghost use Rattle.trace_text.specs.EventLines.{HasNumbers, IsLineOf, IsPlace, IsTaskNumber, IsWord, counted_line};
+ghost use Rattle.trace_text.specs.EventLines.{HasNumbers, IsLineOf, IsPlace, IsTaskNumber, Has32Bits, counted_line};
 ghost use Rattle.trace_text.specs.EventsRead.{call_in, event_in, is_single, left_in, more_in, number, of_task, place};
 ghost use Rattle.trace_text.specs.EventsRead.{run_in, service_named, single_in, stamped_in, task_number};
 
@@ -25,7 +25,7 @@ const GREATEST: u64 = 4_294_967_295;
 #[tactic(auto, unfolding(crate::specs::EventsRead::number))]
 fn number(word: &[u8]) -> Option<u32>
     ensures number { result ≡ number word.now }
-    ensures small { IfSome result (λ n. IsWord n) }
+    ensures small { IfSome result (λ n. Has32Bits n) }
 {
     let n = value(word, 10);
     if n > GREATEST {
@@ -198,8 +198,8 @@ fn event_in(tasks: &[Name], functions: &[Name], text: &[u8]) -> Option<Event>
 #[tactic(auto, unfolding(crate::specs::EventsRead::stamped_in))]
 fn stamped_in(tasks: &[Name], functions: &[Name], text: &[u8]) -> Option<Stamped>
     ensures event { result ≡ stamped_in tasks.now functions.now text.now }
-    ensures from { IfSome result (λ e. IsWord e.stamp.from) }
-    ensures at { IfSome result (λ e. IsWord e.stamp.at) }
+    ensures from { IfSome result (λ e. Has32Bits e.stamp.from) }
+    ensures at { IfSome result (λ e. Has32Bits e.stamp.at) }
     ensures numbers { IfSome result (λ e. HasNumbers (length tasks.now) (length functions.now) e.event) }
 {
     let from = number(before(text, b' '))?;

@@ -4,12 +4,13 @@ use Rattle.sloth_base.specs.declared.config.TaskDecl.{TaskDecl}
 use Rattle.sloth_region.specs.declared.extent.Extent.{Extent}
 use Rattle.mem_map.specs.Run.{end_of}
 use Rattle.mem_map.specs.Plan.{code_end, items_at, symbol_bytes}
-use Rattle.mem_map.proofs.Planned.{sizes_small, code_short, items_above, counts_few, symbols_few, symbols_short, ends_are}
+use Rattle.mem_map.proofs.Planned.{AreEnds, sizes_small, code_short, items_above, counts_few, symbols_few, symbols_short, ends_are}
 use Rattle.mem_map.proofs.Mapped.{addressed, zoned}
 use Rattle.mem_map.specs.Run.{room_for}
 use Rattle.mem_map.specs.Stacks.{first_own}
 use Rattle.mem_map.proofs.StackNumbers.{few_stacks}
 use Rattle.mem_map.proofs.StackParts.{ArePlaced, part, shared_some, fit, placed}
+use Rattle.mem_map.proofs.planning.make_map.Goals.{In_ok-symbols, In_ok-zones}
 use Rattle.mem_map.proofs.planning.make_map.Goals as goal
 
 -- ---- what is called
@@ -46,23 +47,27 @@ plan_symbols-requires-clause-fits c =
 
 -- ---- where the zones end
 
+ends : (c : In_ok-symbols)
+    → AreEnds c.args.config.now c.args.app.now c.args.sizes.now c.args.wanted.now c.args.stacks.now c.requires c.told-wanted c.in_ok-code.code.end
+    c.in_ok-symbols.symbols.end
+ends c =
+    let e = c.in_ok-code.ensures.end ∙ ap (λ (l : List TaskDecl). code_end (length l) c.args.wanted.now c.args.sizes.now) c.items-declared.ensures in
+    ends_are _ _ _ _ _ c.requires c.told-wanted _ _ e c.in_ok-symbols.ensures.end
+
 pub overflow_sub-code : goal.overflow_sub-code
 overflow_sub-code c =
-    let e = c.in_ok-code.ensures.end ∙ ap (λ (l : List TaskDecl). code_end (length l) c.args.wanted.now c.args.sizes.now) c.items-declared.ensures in
-    let h = ends_are _ _ _ _ _ c.requires c.told-wanted _ _ e c.in_ok-symbols.ensures.end in
+    let h = ends (goal.at.overflow_sub-code c).In_ok-symbols in
     let some = h.some in
     omega (arith, some)
 
 pub overflow_add-symbols : goal.overflow_add-symbols
 overflow_add-symbols c =
-    let e = c.in_ok-code.ensures.end ∙ ap (λ (l : List TaskDecl). code_end (length l) c.args.wanted.now c.args.sizes.now) c.items-declared.ensures in
-    let h = ends_are _ _ _ _ _ c.requires c.told-wanted _ _ e c.in_ok-symbols.ensures.end in
+    let h = ends (goal.at.overflow_add-symbols c).In_ok-symbols in
     record { fits = h.fits }
 
 pub overflow_sub-symbols : goal.overflow_sub-symbols
 overflow_sub-symbols c =
-    let e = c.in_ok-code.ensures.end ∙ ap (λ (l : List TaskDecl). code_end (length l) c.args.wanted.now c.args.sizes.now) c.items-declared.ensures in
-    let h = ends_are _ _ _ _ _ c.requires c.told-wanted _ _ e c.in_ok-symbols.ensures.end in
+    let h = ends (goal.at.overflow_sub-symbols c).In_ok-symbols in
     let below = h.below in
     omega (arith, below)
 
@@ -86,10 +91,11 @@ plan_zones-requires-clause-few c =
     let same = ap (λ (l : List ℕ). length l) c.deref.ensures.value in
     omega (arith, few, tasks, count, least, same)
 
-pub task_parts-requires-clause-fit : goal.task_parts-requires-clause-fit
-task_parts-requires-clause-fit c =
-    fit _ _ _ c.requires.needs _ c.in_ok-lengths.lengths.items c.in_ok-zones.zones.extents c.in_ok-zones.zones.stacks
-    (record {
+are_placed : (c : In_ok-zones)
+    → ArePlaced c.args.config.now c.args.stacks.now c.items-declared.result.now c.in_ok-lengths.lengths.items c.in_ok-zones.zones.extents
+    c.in_ok-zones.zones.stacks
+are_placed c =
+    record {
       declared_is = c.items-declared.ensures;
       are = c.in_ok-lengths.ensures;
       words = c.in_ok-zones.zones.words;
@@ -99,26 +105,27 @@ task_parts-requires-clause-fit c =
       apart = c.in_ok-zones.ensures.apart;
       lens = c.in_ok-zones.ensures.stacks ∙ c.deref.ensures.value;
       aligned = c.in_ok-zones.ensures.stacks_aligned;
-    })
+    }
+
+pub task_parts-requires-clause-fit : goal.task_parts-requires-clause-fit
+task_parts-requires-clause-fit c =
+    fit _ _ _ c.requires.needs _ c.in_ok-lengths.lengths.items c.in_ok-zones.zones.extents c.in_ok-zones.zones.stacks
+    (are_placed (goal.at.task_parts-requires-clause-fit c).In_ok-zones)
     _ c.items.ensures _ c.items-2.ensures
 
 pub plan_zones-requires-clause-some : goal.plan_zones-requires-clause-some
 plan_zones-requires-clause-some c =
-    let e = c.in_ok-code.ensures.end ∙ ap (λ (l : List TaskDecl). code_end (length l) c.args.wanted.now c.args.sizes.now) c.items-declared.ensures in
-    let h = ends_are _ _ _ _ _ c.requires c.told-wanted _ _ e c.in_ok-symbols.ensures.end in
+    let h = ends (goal.at.plan_zones-requires-clause-some c).In_ok-symbols in
     let some = h.some in
     let below = h.below in
     (omega (arith, some), omega (arith, below), subst (All (λ len. 1 ≤ len)) (sym c.deref.ensures.value) c.in_ok-lengths.ensures.some)
 
 pub plan_zones-requires-clause-words : goal.plan_zones-requires-clause-words
-plan_zones-requires-clause-words c =
-    let e = c.in_ok-code.ensures.end ∙ ap (λ (l : List TaskDecl). code_end (length l) c.args.wanted.now c.args.sizes.now) c.items-declared.ensures in
-    (ends_are _ _ _ _ _ c.requires c.told-wanted _ _ e c.in_ok-symbols.ensures.end).even
+plan_zones-requires-clause-words c = (ends (goal.at.plan_zones-requires-clause-words c).In_ok-symbols).even
 
 pub plan_zones-requires-clause-room : goal.plan_zones-requires-clause-room
 plan_zones-requires-clause-room c =
-    let e = c.in_ok-code.ensures.end ∙ ap (λ (l : List TaskDecl). code_end (length l) c.args.wanted.now c.args.sizes.now) c.items-declared.ensures in
-    let h = (ends_are _ _ _ _ _ c.requires c.told-wanted _ _ e c.in_ok-symbols.ensures.end).room in
+    let h = (ends (goal.at.plan_zones-requires-clause-room c).In_ok-symbols).room in
     let few = c.requires.in_range.configuration.few_tasks in
     let tasks = ap (λ (l : List TaskDecl). length l) c.items-declared.ensures in
     let short = c.in_ok-lengths.ensures.room in
@@ -139,30 +146,15 @@ returns-clause-addresses c =
 
 pub returns-clause-zones : goal.returns-clause-zones
 returns-clause-zones c =
-    let tasks = ap (λ (l : List TaskDecl). length l) c.items-declared.ensures in
     let e = c.in_ok-code.ensures.end ∙ ap (λ (l : List TaskDecl). code_end (length l) c.args.wanted.now c.args.sizes.now) c.items-declared.ensures in
     zoned _ _ _ _ _ c.requires c.told-wanted _
     c.in_ok-zones.zones.code c.in_ok-zones.zones.data c.in_ok-code.code.end c.in_ok-symbols.symbols.end
     (record { all = c.in_ok-zones.zones.stacks; extents = c.in_ok-zones.ensures.extents; code_is = c.in_ok-zones.ensures.code; data_is = c.in_ok-zones.ensures.data_zone; code_end_is = e; data_end_is = c.in_ok-symbols.ensures.end })
-    (addressed _ _ _ _ _ c.requires c.told-wanted _
-    c.in_ok-zones.zones.code c.in_ok-zones.zones.data c.in_ok-code.code.end c.in_ok-symbols.symbols.end
-    (record { all = c.in_ok-zones.zones.stacks; extents = c.in_ok-zones.ensures.extents; code_is = c.in_ok-zones.ensures.code; data_is = c.in_ok-zones.ensures.data_zone; code_end_is = e; data_end_is = c.in_ok-symbols.ensures.end })
-    _ tasks c.idle_at.ensures c.handlers-handlers.ensures.lines c.handlers-handlers.ensures.prologues c.handlers-handlers.ensures.unused
-    c.in_ok-code.ensures.services c.in_ok-code.ensures.items c.in_ok-first.ensures c.in_ok-symbols.ensures.starts)
+    (returns-clause-addresses c)
     c.in_ok-zones.ensures.words c.in_ok-zones.ensures.apart
 
 pub returns-clause-stacks : goal.returns-clause-stacks
 returns-clause-stacks c =
     placed _ _ _ c.requires.needs _ c.in_ok-lengths.lengths.items c.in_ok-zones.zones.extents c.in_ok-zones.zones.stacks
-    (record {
-      declared_is = c.items-declared.ensures;
-      are = c.in_ok-lengths.ensures;
-      words = c.in_ok-zones.zones.words;
-      code = c.in_ok-zones.zones.code;
-      data_extent = c.in_ok-zones.zones.data;
-      extents_are = c.in_ok-zones.ensures.extents;
-      apart = c.in_ok-zones.ensures.apart;
-      lens = c.in_ok-zones.ensures.stacks ∙ c.deref.ensures.value;
-      aligned = c.in_ok-zones.ensures.stacks_aligned;
-    })
+    (are_placed (goal.at.returns-clause-stacks c).In_ok-zones)
     _ c.items.ensures _ c.items-2.ensures _ c.in_ok-parts.ensures (ap (λ (l : List Extent). drop 3 l) c.in_ok-zones.ensures.extents)

@@ -1,13 +1,30 @@
-use Rattle.std.proofs.Common.{◌-◌, sym, subst, IfOk}
+use Rattle.std.proofs.Common.{◌≡◌, ◌≤◌, ◌-◌, length, sym, ap, subst, arith}
 use Rattle.prologue_gen.specs.Places.{DoesEnter}
+use Rattle.prologue_gen.proofs.BothKinds.{code, does_enter, size}
+use Rattle.prologue_gen.proofs.prologue_block.code_of.Goals.{In_ok-start_anew}
 use Rattle.prologue_gen.proofs.prologue_block.code_of.Goals as goal
 
-pub returns-then-extended-clause-enters : goal.returns-then-extended-clause-enters
-returns-then-extended-clause-enters c =
-    subst (λ b. IfOk c.extended_code.result (λ code. DoesEnter b c.args.task c.args.level c.args.first (c.args.frame - 0x8000_0000) c.args.words code.items))
-    (sym c.if-extended.true) c.extended_code.ensures
+made : (c : In_ok-start_anew)
+    → (length c.start_anew.new.code.items ≤ 256)
+    × DoesEnter c.args.extended c.args.task c.args.level c.args.first (c.args.frame - 0x8000_0000) c.args.words c.start_anew.new.code.items
+made c =
+    let extended = c.args.extended in
+    let task = c.args.task in
+    let level = c.args.level in
+    let frame = c.args.frame in
+    let words = c.args.words in
+    let first = c.args.first in
+    let small = c.requires.small in
+    let e : c.start_anew.new.code.items ≡ code extended task level frame words first =
+    rw (c.in_ok-start_anew.ensures, c.in_ok-take_up.ensures, c.in_ok-mark_active.ensures, c.in_ok-save_context.ensures, c.new-code.ensures.items)
+    in
+    let enters = does_enter extended task level first frame words small.0 small.1 c.ranges.first.fits small.2 c.requires.in_ram in
+    let n = (size extended task level first (frame - 0x8000_0000) words (code extended task level frame words first) enters).1 in
+    let same = ap length e in
+    (omega (arith, n, same, small.2), subst (DoesEnter extended task level first (frame - 0x8000_0000) words) (sym e) enters)
 
-pub returns-else-extended-clause-enters : goal.returns-else-extended-clause-enters
-returns-else-extended-clause-enters c =
-    subst (λ b. IfOk c.code.result (λ code. DoesEnter b c.args.task c.args.level c.args.first (c.args.frame - 0x8000_0000) c.args.words code.items))
-    (sym c.if-extended.false) c.code.ensures
+pub returns-clause-size : goal.returns-clause-size
+returns-clause-size c = (made (goal.at.returns-clause-size c).In_ok-start_anew).0
+
+pub returns-clause-enters : goal.returns-clause-enters
+returns-clause-enters c = (made (goal.at.returns-clause-enters c).In_ok-start_anew).1

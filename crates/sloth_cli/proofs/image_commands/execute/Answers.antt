@@ -1,5 +1,5 @@
 use Rattle.std.proofs.lemmas.Result.{err_from_is_err_and}
-use Rattle.sloth_cli.specs.Words.{execution_of}
+use Rattle.command_line.specs.Words.{execution_of}
 use Rattle.sloth_cli.proofs.ImageCauses.{runnable, exec-done, exec-failed}
 use Rattle.sloth_cli.proofs.image_commands.execute.Goals as goal
 

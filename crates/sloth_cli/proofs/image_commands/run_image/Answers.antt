@@ -1,7 +1,7 @@
 use Rattle.std.proofs.lemmas.Result.{err_from_is_err_and}
 use Rattle.trace_text.specs.declared.print.Form.TheVariants as form
 use Rattle.sloth_cli.specs.ImageFiles.{end_line}
-use Rattle.sloth_cli.specs.Runner.{run_text, run_end}
+use Rattle.sloth_runner.specs.Runner.{run_text, run_end}
 use Rattle.sloth_cli.proofs.ImageCauses.{took-both, broke-first, broke-second}
 use Rattle.sloth_cli.proofs.image_commands.run_image.Goals as goal
 

@@ -1,13 +1,8 @@
-use Rattle.std.proofs.Common.{◌≡◌, ◌∙◌, ℕ, List, length, ap, sym, subst, filter, nat_lt}
-use Rattle.std.proofs.lemmas.List.{length-map}
-use Rattle.sloth_base.specs.declared.config.TaskDecl.{TaskDecl}
+use Rattle.std.proofs.Common.{◌∙◌, ℕ, List, sym, subst}
 use Rattle.sloth_base.specs.Arrivals.{AreArrivals}
-use Rattle.sloth_base.specs.declared.event.Arrival.{Arrival}
-use Rattle.app_gen.specs.Load.{arrivals}
-use Rattle.sloth_cli.specs.Samples.{sample_arrivals}
-use Rattle.sloth_cli.specs.Top.{names_of}
+use Rattle.sloth_source.specs.OilText.{OilText}
+use Rattle.app_tasks.proofs.Declared.{thirty-tasks}
 use Rattle.sloth_cli.proofs.Ceilings.{runs-keep}
-use Rattle.sloth_cli.proofs.Kept.{kept-arrivals}
 use Rattle.sloth_cli.proofs.sample_command.generate.Goals as goal
 
 pub returns-clause-image : goal.returns-clause-image
@@ -21,19 +16,12 @@ returns-clause-image c =
       names = built.tasks;
     }
 
+-- the text that is built declares 30 tasks
 pub returns-clause-in_range : goal.returns-clause-in_range
 returns-clause-in_range c =
-    let tasks = length c.in_ok-config.field-0.config.tasks in
-    let image = c.in_ok-config.image-is in
-    let listed = c.items-4.ensures in
-    let names = c.in_ok-config.ensures.tasks in
-    let same : length c.items-4.result.now ≡ length (names_of c.in_ok-config.field-0.config) = cc in
-    let count : length c.items-4.result.now ≡ tasks = same ∙ length-map c.in_ok-config.field-0.config.tasks (λ (t : TaskDecl). t.name) in
-    let kept : c.in_ok-arrivals.arrivals.items ≡ sample_arrivals c.args.seed tasks =
-    c.in_ok-arrivals.ensures
-    ∙ ap (λ (n : ℕ). filter (λ (a : Arrival). nat_lt a.line n) c.items-3.result.now) count
-    ∙ ap (λ (xs : List Arrival). filter (λ (a : Arrival). nat_lt a.line tasks) xs) (c.items-3.ensures ∙ c.in_ok-texts.ensures.arrivals) in
-    let P : List Arrival → Type 0 = AreArrivals 30 in
-    let Q : List Arrival → Type 0 = AreArrivals tasks in
-    let all = subst P c.in_ok-texts.ensures.arrivals c.in_ok-texts.ensures.in_range in
-    subst Q (sym kept) (kept-arrivals 30 tasks (arrivals c.args.seed 30) all)
+    let config = c.in_ok-config.field-0.config in
+    let configuration = c.in_ok-config.ensures.accepted.configuration in
+    let P : List ℕ → Type 0 = λ text. OilText text config in
+    let Q : ℕ → Type 0 = λ tasks. AreArrivals tasks c.in_ok-oil.field-0.arrivals in
+    let declared = thirty-tasks config (subst P (c.items.ensures ∙ c.in_ok-oil.ensures.oil) configuration) in
+    subst Q (sym declared) c.in_ok-oil.ensures.in_range

@@ -1,4 +1,4 @@
-use Rattle.sloth_cli.specs.Words.{command_of}
+use Rattle.command_line.specs.Words.{command_of}
 use Rattle.sloth_cli.proofs.Causes.{finished, answered}
 use Rattle.sloth_cli.proofs.top.answer.Goals as goal
 

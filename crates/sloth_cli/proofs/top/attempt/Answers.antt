@@ -1,6 +1,6 @@
 use Rattle.std.proofs.lemmas.Result.{err_from_is_err_and, IfErr-weaker}
-use Rattle.sloth_cli.specs.Command.{Builds}
-use Rattle.sloth_cli.specs.Words.{building_of}
+use Rattle.command_line.specs.Command.{Builds}
+use Rattle.command_line.specs.Words.{building_of}
 use Rattle.sloth_cli.proofs.Causes.{read-ends, judge-ends, perform-ends, built-of, done, both-ok}
 use Rattle.sloth_cli.proofs.top.attempt.Goals as goal
 

@@ -1,7 +1,7 @@
 use Rattle.std.proofs.Common.{rules, sym, ◌∙◌, Ok, Err}
 use Rattle.std.proofs.lemmas.Option.{slice_get-get_or}
 use Rattle.std.proofs.lemmas.List.Sorted.{answers_always}
-use Rattle.trace_text.proofs.Marked.{searched}
+use Rattle.observe.proofs.Places.{searched}
 use Rattle.trace_text.proofs.listing.mark_on.Goals as goal
 
 -- the closure gives a mark's address

@@ -1,0 +1,237 @@
+//! The words of a command.
+ghost use Rattle.std.specs.Prelude.{◌≡◌, ◌≤◌, ℕ, List, IfSome, IfNone, decimal, length, codes, true};
+ghost use Rattle.trace_text.specs.declared.print.Form.{Form as AnyForm};
+ghost use Rattle.command_line.specs.Command.{Command, Execution, Executes, IsCommand, NoCommand, word_of, words_of};
+ghost use Rattle.command_line.specs.Words.{command_of, execution_of};
+
+use itoa::Buffer;
+use trace_text::print::Form;
+
+/// How an image is run.
+#[derive(Clone, Copy)]
+pub struct RunWords<'a> {
+    /// How the events are printed: `run` counts, `order` does not.
+    pub form: Form,
+    pub arr: &'a str,
+    /// The number of instructions, 0 to 1,000,000.
+    pub n: u32,
+}
+
+/// The words `build OIL SRC IMG`, `run OIL SRC ARR IMG N`, or `order OIL SRC ARR IMG N`.
+#[derive(Clone, Copy)]
+pub struct BuildWords<'a> {
+    pub oil: &'a str,
+    pub src: &'a str,
+    pub img: &'a str,
+    /// How the image is run, if it is.
+    pub run: Option<RunWords<'a>>,
+}
+
+/// The words `exec IMG ARR N`.
+#[derive(Clone, Copy)]
+pub struct ExecWords<'a> {
+    pub img: &'a str,
+    pub arr: &'a str,
+    /// The number of instructions, 0 to 1,000,000.
+    pub n: u32,
+}
+
+/// The words of a command.
+#[derive(Clone, Copy)]
+pub enum CommandWords<'a> {
+    Build(BuildWords<'a>),
+    Exec(ExecWords<'a>),
+    /// `list IMG`: the image file.
+    List(&'a str),
+    /// `sample SEED IMG`
+    Sample { seed: u32, img: &'a str },
+}
+
+// A word of 32 bits in decimal digits, without sign and without a leading zero.
+fn number(word: &str) -> Option<u32>
+    ensures some { IfSome result (λ n. (word.now ≡ decimal n) × (n ≤ 4294967295)) }
+    ensures none { IfNone result ((n : ℕ) → n ≤ 4294967295 → word.now ≡ decimal n → ⊥) }
+{
+    let Ok(n) = word.parse::<u32>() else {
+        return None;
+    };
+    let mut buffer = Buffer::new();
+    if buffer.format(n) == word {
+        return Some(n);
+    }
+    None
+}
+
+// A number of instructions, in the same form.
+fn instructions(word: &str) -> Option<u32>
+    ensures some { IfSome result (λ n. (word.now ≡ decimal n) × (n ≤ 1000000)) }
+    ensures none { IfNone result ((n : ℕ) → n ≤ 1000000 → word.now ≡ decimal n → ⊥) }
+{
+    match number(word) {
+        None => None,
+        Some(n) => {
+            if n > 1_000_000 {
+                return None;
+            }
+            Some(n)
+        }
+    }
+}
+
+// The form that the first word asks for.
+fn form(word: &str) -> Option<Form>
+    ensures some { IfSome result (λ form. word.now ≡ word_of form) }
+    ensures none { IfNone result ((form : AnyForm) → word.now ≡ word_of form → ⊥) }
+{
+    if word == "run" {
+        return Some(Form::Counted);
+    }
+    if word == "order" {
+        return Some(Form::Bare);
+    }
+    None
+}
+
+// Whether the first word asks for an image alone.
+fn is_build(word: &str) -> bool
+    ensures yes { result ≡ true → word.now ≡ codes "build" }
+    ensures no { word.now ≡ codes "build" → result ≡ true }
+{
+    word == "build"
+}
+
+// Whether it asks for a run of an image file.
+fn is_exec(word: &str) -> bool
+    ensures yes { result ≡ true → word.now ≡ codes "exec" }
+    ensures no { word.now ≡ codes "exec" → result ≡ true }
+{
+    word == "exec"
+}
+
+// Whether it asks for the listing of an image file.
+fn is_list(word: &str) -> bool
+    ensures yes { result ≡ true → word.now ≡ codes "list" }
+    ensures no { word.now ≡ codes "list" → result ≡ true }
+{
+    word == "list"
+}
+
+// Whether it asks for a generated application.
+fn is_sample(word: &str) -> bool
+    ensures yes { result ≡ true → word.now ≡ codes "sample" }
+    ensures no { word.now ≡ codes "sample" → result ≡ true }
+{
+    word == "sample"
+}
+
+// The command of two words.
+fn list_command(words: &[String]) -> Option<CommandWords<'_>>
+    requires { length words.now ≡ 2 }
+    ensures some { IfSome result (λ c. IsCommand (words_of words.now) (command_of c)) }
+    ensures none { IfNone result (NoCommand (words_of words.now)) }
+{
+    if !is_list(words[0].as_str()) {
+        return None;
+    }
+    Some(CommandWords::List(words[1].as_str()))
+}
+
+// The command of three words.
+fn sample_command(words: &[String]) -> Option<CommandWords<'_>>
+    requires { length words.now ≡ 3 }
+    ensures some { IfSome result (λ c. IsCommand (words_of words.now) (command_of c)) }
+    ensures none { IfNone result (NoCommand (words_of words.now)) }
+{
+    if !is_sample(words[0].as_str()) {
+        return None;
+    }
+    match number(words[1].as_str()) {
+        None => None,
+        Some(seed) => Some(CommandWords::Sample {
+            seed,
+            img: words[2].as_str(),
+        }),
+    }
+}
+
+// The run of an image file that four words ask for.
+fn exec_words(words: &[String]) -> Option<ExecWords<'_>>
+    requires { length words.now ≡ 4 }
+    ensures some { IfSome result (λ e. IsCommand (words_of words.now) (Executes (execution_of e))) }
+    ensures none { IfNone result ((e : Execution) → IsCommand (words_of words.now) (Executes e) → ⊥) }
+{
+    if !is_exec(words[0].as_str()) {
+        return None;
+    }
+    match instructions(words[3].as_str()) {
+        None => None,
+        Some(n) => Some(ExecWords {
+            img: words[1].as_str(),
+            arr: words[2].as_str(),
+            n,
+        }),
+    }
+}
+
+// The command of four words: `build` or `exec`.
+fn image_command(words: &[String]) -> Option<CommandWords<'_>>
+    requires { length words.now ≡ 4 }
+    ensures some { IfSome result (λ c. IsCommand (words_of words.now) (command_of c)) }
+    ensures none { IfNone result (NoCommand (words_of words.now)) }
+{
+    if is_build(words[0].as_str()) {
+        return Some(CommandWords::Build(BuildWords {
+            oil: words[1].as_str(),
+            src: words[2].as_str(),
+            img: words[3].as_str(),
+            run: None,
+        }));
+    }
+    match exec_words(words) {
+        None => None,
+        Some(e) => Some(CommandWords::Exec(e)),
+    }
+}
+
+// The command of six words.
+fn run_command(words: &[String]) -> Option<CommandWords<'_>>
+    requires { length words.now ≡ 6 }
+    ensures some { IfSome result (λ c. IsCommand (words_of words.now) (command_of c)) }
+    ensures none { IfNone result (NoCommand (words_of words.now)) }
+{
+    let Some(form) = form(words[0].as_str()) else {
+        return None;
+    };
+    match instructions(words[5].as_str()) {
+        None => None,
+        Some(n) => Some(CommandWords::Build(BuildWords {
+            oil: words[1].as_str(),
+            src: words[2].as_str(),
+            img: words[4].as_str(),
+            run: Some(RunWords {
+                form,
+                arr: words[3].as_str(),
+                n,
+            }),
+        })),
+    }
+}
+
+/// The command of these words, if they are one's.
+pub fn command(words: &[String]) -> Option<CommandWords<'_>>
+    ensures some { IfSome result (λ c. IsCommand (words_of words.now) (command_of c)) }
+    ensures none { IfNone result (NoCommand (words_of words.now)) }
+{
+    match words.len() {
+        2 => list_command(words),
+        3 => sample_command(words),
+        4 => image_command(words),
+        6 => run_command(words),
+        _ => None,
+    }
+}
+
+/// Words are those of one command at most.
+pub fn one_command()
+    ensures { (words : List (List ℕ)) (one other : Command) → IsCommand words one → IsCommand words other → one ≡ other }
+{}

@@ -1,0 +1,5 @@
+//! The program's words, and the lines that say why a command ended.
+#![tactic(auto)]
+
+pub mod command;
+pub mod last_line;

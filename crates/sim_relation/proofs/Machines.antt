@@ -1,0 +1,55 @@
+-- What code leaves of the machine, where its lines' levels and the controller stay.
+use Rattle.std.proofs.Common.{◌≡◌, ℕ, List, length, refl, sym, ap, ◌∙◌}
+use Rattle.std.specs.Prelude.{slice_index}
+use Rattle.sloth_base.specs.Machine.{Core, State}
+use Rattle.rv32_routine.specs.Kernel.{LeftAs}
+use Rattle.sim_relation.specs.Build.{Build}
+use Rattle.sim_relation.specs.Stands.{Fixed}
+use Rattle.sim_relation.specs.Moves.{SameMachine, WholeMachine}
+
+-- registers and RAM have changed alone, and x0 is as it was
+pub kept_machine : (b : Build) (old : State) → Fixed b old.core → (pc : ℕ) (registers ram : List ℕ) → length registers ≡ length old.core.registers
+    → slice_index registers 0 ≡ slice_index old.core.registers 0 → length ram ≡ length old.core.ram
+    → SameMachine old (record { pc = pc; core = record old.core { registers = registers; ram = ram } })
+kept_machine b old f pc registers ram long zero long_ram = record {
+  ram = long_ram;
+  registers = long;
+  zero = zero;
+  pending = refl;
+  enabled = refl;
+  levels = refl;
+  controller = refl;
+  open_to_lines = f.open_to_lines;
+  previous = f.previous;
+}
+
+-- a routine leaves the machine as in this core, but for RAM
+module _ (b : Build) (old now : State) (core : Core) (f : Fixed b old.core) (left : LeftAs core now.core) (ram : length now.core.ram ≡ length old.core.ram)
+    (levels : core.levels ≡ old.core.levels) (controller : core.controller ≡ old.core.controller) where
+  -- its lines are as they were
+  pub left_same : core.pending ≡ old.core.pending → core.enabled ≡ old.core.enabled → SameMachine old now
+  left_same pending enabled = record {
+    ram = ram;
+    registers = left.registers ∙ sym f.registers;
+    zero = left.zero ∙ sym f.zero;
+    pending = left.pending ∙ pending;
+    enabled = left.enabled ∙ enabled;
+    levels = left.levels ∙ levels;
+    controller = left.controller ∙ controller;
+    open_to_lines = left.opened;
+    previous = left.previous;
+  }
+
+  -- its lines may have changed
+  pub left_whole : length core.pending ≡ length old.core.pending → length core.enabled ≡ length old.core.enabled → WholeMachine old now
+  left_whole pending enabled = record {
+    ram = ram;
+    registers = left.registers ∙ sym f.registers;
+    zero = left.zero ∙ sym f.zero;
+    pending = ap length left.pending ∙ pending;
+    enabled = ap length left.enabled ∙ enabled;
+    levels = left.levels ∙ levels;
+    controller = left.controller ∙ controller;
+    open_to_lines = left.opened;
+    previous = left.previous;
+  }

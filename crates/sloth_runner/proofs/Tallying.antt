@@ -1,0 +1,108 @@
+-- The numbers of events of each kind.
+use Rattle.std.proofs.Common.{◌≡◌, ◌∙◌, ⊎_elim, ℕ, suc, ◌+◌, ◌<◌, ◌≤◌, ◌^◌, List, [], ◌∷◌, ◌++◌, length, get_or, set, length-append, append_assoc, append-nil, arith, sym, ap, subst}
+use Rattle.std.specs.Prelude.{◌==◌, cond, slice_index}
+use Rattle.std.specs.List.{All}
+use Rattle.std.proofs.lemmas.List.{ext_get_or, get_or-set_same, get_or-set_other, length-set}
+use Rattle.std.proofs.lemmas.List.Sums.{sum_by-append, count_by-le-length}
+use Rattle.std.proofs.lemmas.List.FromFn.{get_or-map-range_with_len}
+use Rattle.std.proofs.lemmas.Bool.Decides.{eqb_tells}
+use Rattle.sloth_base.specs.declared.event.Event.{Event}
+use Rattle.sloth_base.specs.declared.event.Event.TheVariants as event
+use Rattle.sloth_base.specs.declared.event.Stamped.{Stamped}
+use Rattle.trace_text.specs.Summary.{kind_of, count_of_kind, counts_of}
+use Rattle.observe.specs.Progress.{remaining}
+use Rattle.sim_induction.specs.Sound.{events_of}
+use Rattle.sloth_runner.specs.Tally.{counted_one, counted}
+use Rattle.sloth_runner.specs.Runner.{Advanced, Adds, Ran, image_of, given, count_of}
+use Rattle.sloth_runner.specs.declared.runner.Runner.{Runner}
+use Rattle.sloth_runner.proofs.Running.{adds-at}
+use Rattle.sloth_runner.proofs.Turning.{advanced-adds}
+use Rattle.sloth_runner.proofs.Bounded.{few-events}
+
+-- the number of a kind
+at : (events : List Stamped) (kind d : ℕ) → kind < 9 → get_or (counts_of events) kind d ≡ count_of_kind events kind
+at events kind d h = get_or-map-range_with_len (count_of_kind events) 0 9 kind kind d h (omega arith)
+
+-- one event more
+one-of : (events : List Stamped) (e : Stamped) (kind : ℕ) → count_of_kind (events ++ e ∷ []) kind ≡ count_of_kind events kind + cond (kind_of e.event == kind) 1 0
+one-of events e kind =
+    let one : 0 + cond (kind_of e.event == kind) 1 0 ≡ cond (kind_of e.event == kind) 1 0 = omega arith in
+    sum_by-append (λ (x : Stamped). cond (kind_of x.event == kind) 1 0) events (e ∷ []) ∙ ap (λ k. count_of_kind events kind + k) one
+
+kind-below : (e : Event) → kind_of e < 9
+kind-below event.Boot = omega arith
+kind-below (event.Admit task) = omega arith
+kind-below (event.Enter task) = omega arith
+kind-below (event.Run task function item result) = omega arith
+kind-below (event.Call task service status) = omega arith
+kind-below (event.Left task service) = omega arith
+kind-below (event.Back task) = omega arith
+kind-below event.Idle = omega arith
+kind-below event.Stray = omega arith
+
+one-more : (events : List Stamped) (e : Stamped) → counted_one (counts_of events) e ≡ counts_of (events ++ e ∷ [])
+one-more events e =
+    let k = kind_of e.event in
+    let below = kind-below e.event in
+    let old = counts_of events in
+    let v = slice_index old k + 1 in
+    ext_get_or 0 (set old k v) (counts_of (events ++ e ∷ [])) (length-set old k v) (λ i h.
+    let size = length-set old k v in
+    let inside : i < 9 = omega (arith, size, h) in
+    let new = sym (one-of events e i) ∙ sym (at (events ++ e ∷ []) i 0 inside) in
+    ⊎_elim
+    (λ yes. ap (λ j. get_or (set old k v) j 0) (sym yes.1) ∙ get_or-set_same old k v 0 below ∙ ap (λ x. x + 1) (at events k 0 below)
+    ∙ ap (λ j. count_of_kind events j + 1) yes.1 ∙ sym (ap (λ b. count_of_kind events i + cond b 1 0) yes.0) ∙ new)
+    (λ no. let same : count_of_kind events i ≡ count_of_kind events i + 0 = omega arith in
+    get_or-set_other old k i v 0 (λ q. no.1 (sym q)) ∙ at events i 0 inside ∙ same ∙ sym (ap (λ b. count_of_kind events i + cond b 1 0) no.0) ∙ new)
+    (eqb_tells k i))
+
+counted-counts : (events more : List Stamped) → counted (counts_of events) more ≡ counts_of (events ++ more)
+counted-counts events [] = ap counts_of (sym (append-nil events))
+counted-counts events (e ∷ rest) =
+    ap (λ counts. counted counts rest) (one-more events e) ∙ counted-counts (events ++ e ∷ []) rest ∙ ap counts_of (append_assoc events (e ∷ []) rest)
+
+-- each number is that of some events, and small where they are few
+counts-small : (events : List Stamped) (more most : ℕ) → length events + more < most → All (λ number. number + more < most) (counts_of events)
+counts-small events more most h k d l =
+    let is = at events k d l in
+    let few = count_by-le-length (λ (e : Stamped). kind_of e.event == k) events in omega (arith, is, few, h)
+
+-- one number grows by one, and one event less is left
+room-more : (counts : List ℕ) (k more most : ℕ) → k < length counts → All (λ number. number + suc more < most) counts
+    → All (λ number. number + more < most) (set counts k (slice_index counts k + 1))
+room-more counts k more most below h i d l =
+    let v = slice_index counts k + 1 in
+    let size = length-set counts k v in
+    let P : ℕ → Type 0 = λ number. number + more < most in
+    let here = h k 0 below in
+    ⊎_elim
+    (λ yes. subst P (sym (ap (λ j. get_or (set counts k v) j d) (sym yes.1) ∙ get_or-set_same counts k v d below)) (omega (arith, here)))
+    (λ no. let there = h i d (omega (arith, l, size)) in subst P (sym (get_or-set_other counts k i v d (λ q. no.1 (sym q)))) (omega (arith, there)))
+    (eqb_tells k i)
+
+pub next-room : (counts : List ℕ) (k : ℕ) (before after : List Stamped) (e : Stamped) → k < length counts → before ≡ e ∷ after
+    → All (λ number. number + length before < 2 ^ 32) counts → All (λ number. number + length after < 2 ^ 32) (set counts k (slice_index counts k + 1))
+next-room counts k before after e below head h =
+    let P : List Stamped → Type 0 = λ es. All (λ number. number + length es < 2 ^ 32) counts in
+    room-more counts k (length after) (2 ^ 32) below (subst P head h)
+
+-- the events of an instruction that was done, in terms of what the run began with
+pub adds-of : (r0 r p : Runner) (k : ℕ) → Ran r0 r k → Advanced r p → given p ≡ given r → Adds (image_of r0) (given r0) k (remaining p.observer)
+adds-of r0 r p k ran advanced same =
+    adds-at (image_of r) (image_of r0) (given r) (given r0) (count_of r) k (remaining p.observer) ran.image ran.arrivals ran.count (advanced-adds r p ran.running advanced same)
+
+-- there is room for them
+pub room-of : (r0 r p : Runner) (k : ℕ) → Ran r0 r k → Advanced r p → given p ≡ given r → length (given r0) ≤ 100000 → k < 1000000
+    → All (λ number. number + length (remaining p.observer) < 2 ^ 32) (counts_of (events_of (image_of r0) (given r0) k))
+room-of r0 r p k ran advanced same few short =
+    let adds = ap length (adds-of r0 r p k ran advanced same) in
+    let all = few-events (image_of r0) (given r0) (k + 1) in
+    let both = length-append (events_of (image_of r0) (given r0) k) (remaining p.observer) in
+    counts-small (events_of (image_of r0) (given r0) k) (length (remaining p.observer)) (2 ^ 32) (omega (arith, adds, all, both, few, short))
+
+-- the numbers behind an instruction
+pub counts-behind : (r0 r p : Runner) (k : ℕ) → Ran r0 r k → Advanced r p → given p ≡ given r
+    → counted (counts_of (events_of (image_of r0) (given r0) k)) (remaining p.observer) ≡ counts_of (events_of (image_of r0) (given r0) (k + 1))
+counts-behind r0 r p k ran advanced same =
+    counted-counts (events_of (image_of r0) (given r0) k) (remaining p.observer) ∙ ap counts_of (sym (adds-of r0 r p k ran advanced same))

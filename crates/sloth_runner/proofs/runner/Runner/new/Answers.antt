@@ -1,0 +1,32 @@
+use Rattle.std.proofs.Common.{sym, ◌∙◌, ap, refl, subst, arith, length, Some}
+use Rattle.sloth_base.specs.Machine.{State}
+use Rattle.sloth_base.specs.Arrivals.{AreArrivals}
+use Rattle.observe.specs.Progress.{from}
+use Rattle.observe.proofs.Moments.{from-later}
+use Rattle.rv32_machine.specs.Run.{run_from, after_from}
+use Rattle.sloth_runner.proofs.Turning.{weaker, controller-lines, first-fed}
+use Rattle.sloth_runner.proofs.runner.Runner.new.Goals as goal
+
+pub new-requires-clause-ordered : goal.new-requires-clause-ordered
+new-requires-clause-ordered c = weaker 1 0 c.args.arrivals.now (omega arith) c.requires.arrivals.ordered
+
+pub returns-clause-fresh : goal.returns-clause-fresh
+unfolding run_from after_from
+returns-clause-fresh c =
+    let o = c.in_ok-observer.observer in
+    let e = c.in_ok-observer.ensures in (
+      record {
+        format = c.requires.format;
+        arrivals = subst (λ B. AreArrivals (length c.args.image.now.tasks) B) (sym e.arrivals) c.requires.arrivals;
+        lines = controller-lines _ c.args.arrivals.now c.requires.format.few_tasks c.requires.arrivals.lines_of_tasks;
+        view = e.view;
+        after = ap (λ (m : State). Some m) (sym c.in_ok-machine.ensures.state);
+        fed = first-fed o c.args.image.now e.fed;
+        drained = e.drained;
+        coming = sym (ap (from 0) e.arrivals ∙ from-later 0 0 c.args.arrivals.now (weaker 1 0 c.args.arrivals.now (omega arith) c.requires.arrivals.ordered) (omega arith));
+        count = refl;
+        executed = c.in_ok-machine.ensures.count;
+        expected = e.expected;
+      },
+      refl,
+    )

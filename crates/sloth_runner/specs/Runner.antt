@@ -1,0 +1,168 @@
+-- A runner, between two instructions of its run.
+use Rattle.std.specs.Prelude.{ℕ, ◌≡◌, ◌+◌, ◌<◌, List, All, length, [], ◌∷◌, ◌++◌, Option, Some, None, Bool, false}
+use Rattle.sloth_base.specs.Machine.{State}
+use Rattle.sloth_base.specs.ImageRange.{InFormat}
+use Rattle.sloth_base.specs.Arrivals.{AreArrivals}
+use Rattle.sloth_base.specs.declared.image.Image.{Image}
+use Rattle.sloth_base.specs.declared.event.Arrival.{Arrival}
+use Rattle.sloth_base.specs.declared.event.Stamped.{Stamped}
+use Rattle.sloth_base.specs.declared.step.Step.{Step}
+use Rattle.sloth_io.specs.Sink.{Output, gains, GainsPart}
+use Rattle.trace_text.specs.Texts.{text_after, text_in, ends_idle}
+use Rattle.trace_text.specs.declared.print.Form.{Form}
+use Rattle.observe.specs.Observe.{view_of_image}
+use Rattle.observe.specs.Progress.{Fed, remaining, view_of, arrivals_of, expected_of, from, behind}
+use Rattle.observe.specs.declared.observer.Observer.{Observer}
+use Rattle.sim_induction.specs.Sound.{events_of}
+use Rattle.rv32_machine.specs.Start.{start}
+use Rattle.rv32_machine.specs.Advance.{Goes, Halts}
+use Rattle.rv32_machine.specs.State.{state}
+use Rattle.rv32_machine.specs.declared.machine.Machine.{Machine}
+use Rattle.rv32_machine.specs.declared.sloth.SlothBus.{SlothBus}
+use Rattle.sloth_base.specs.Take.{entered}
+use Rattle.rv32_instr.specs.declared.stop.Stop.{Stop}
+use Rattle.rv32_machine.specs.Run.{Stopping, moment, arrived, run, steps_of, state_after, stop_of}
+use Rattle.sloth_runner.specs.declared.runner.Printer.{Printer}
+use Rattle.sloth_runner.specs.declared.runner.Runner.{Runner}
+use Rattle.sloth_runner.specs.declared.runner.RunEnd.{RunEnd}
+use Rattle.sloth_runner.specs.declared.runner.RunEnd.TheVariants as ends
+
+-- ---- what a run of an image shows
+
+-- the steps of n instructions
+abbrev pub run_steps : Image → List Arrival → ℕ → List Step
+run_steps image arrivals n = steps_of (run n arrivals (start image))
+
+-- the text of their events
+abbrev pub run_text : Image → List Arrival → Form → ℕ → List ℕ
+run_text image arrivals form n = text_in image form (events_of image arrivals n)
+
+-- the end of a run that stops so, if it stops
+abbrev pub end_of : Option Stopping → RunEnd
+end_of None = ends.Whole
+end_of (Some stopping) = ends.Stopped stopping.pc stopping.stop
+
+-- how it ends: whole, or at an instruction that stops
+abbrev pub run_end : Image → List Arrival → ℕ → RunEnd
+run_end image arrivals n = end_of (stop_of n arrivals (start image))
+
+-- ---- a printer
+
+-- the lines that a printer puts of these events
+abbrev pub lines_of : Printer → List Stamped → List ℕ
+lines_of printer events = text_after printer.image.now printer.form printer.after_idle events
+
+-- all finished events were handed out
+abbrev pub HandsOut : Observer → Observer → Type 0
+HandsOut old new = (steps : List Step) (events : List Stamped) → Fed old steps events → Fed new steps (events ++ remaining old)
+
+-- on the way from one observer to another some of them were handed out
+pub record HandingOut (o0 o : Observer) : Type 0 where
+  pub view : view_of o ≡ view_of o0
+  pub arrivals : arrivals_of o ≡ arrivals_of o0
+  pub expected : expected_of o ≡ expected_of o0
+  pub fed : (steps : List Step) (events : List Stamped) → Fed o0 steps events
+      → (front : List Stamped) × Fed o steps front × (front ++ remaining o ≡ events ++ remaining o0)
+
+-- and their lines were put
+pub record Draining (image : Image) (form : Form) (idle : Bool) (o0 : Observer) (last : Bool) (o : Observer) (t0 t : Output) : Type 0 where
+  pub done : List ℕ
+  pub taken : t ≡ gains t0 done
+  pub text : text_after image form idle (remaining o0) ≡ done ++ text_after image form last (remaining o)
+  pub ends : ends_idle idle (remaining o0) ≡ ends_idle last (remaining o)
+  pub hands : HandingOut o0 o
+
+-- ---- a runner
+
+-- the state of its machine
+abbrev pub sloth_state : Machine SlothBus → State
+sloth_state machine = state (λ bus. bus) machine
+
+-- the image that it runs
+abbrev pub image_of : Runner → Image
+image_of runner = runner.image.now
+
+-- the arrivals that it was given
+abbrev pub given : Runner → List Arrival
+given runner = arrivals_of runner.observer
+
+-- how many instructions are done
+abbrev pub count_of : Runner → ℕ
+count_of runner = runner.count
+
+-- each line is one of the controller's 32
+abbrev pub AreLines : List Arrival → Type 0
+AreLines arrivals = All (λ arrival. arrival.line < 32) arrivals
+
+-- k instructions are done, and all their finished events were handed out
+pub record HasDone (runner : Runner) (image : Image) (k : ℕ) : Type 0 where
+  pub format : InFormat image
+  pub arrivals : AreArrivals (length image.tasks) (given runner)
+  pub lines : AreLines runner.coming.now
+  pub view : view_of runner.observer ≡ view_of_image image
+  pub after : state_after k (given runner) (start image) ≡ Some (sloth_state runner.machine)
+  pub fed : Fed runner.observer (run_steps image (given runner) k) (events_of image (given runner) k)
+  pub drained : remaining runner.observer ≡ []
+  pub coming : runner.coming.now ≡ from k (given runner)
+  pub count : runner.count ≡ k
+  pub executed : runner.machine.count ≡ k
+  pub expected : expected_of runner.observer ≡ k
+
+-- between two instructions
+abbrev pub IsRunning : Runner → Type 0
+IsRunning runner = HasDone runner runner.image.now runner.count
+
+-- it has run nothing
+abbrev pub IsFresh : Runner → Type 0
+IsFresh runner = IsRunning runner × (runner.count ≡ 0)
+
+-- these are the events that the instruction of count k adds
+abbrev pub Adds : Image → List Arrival → ℕ → List Stamped → Type 0
+Adds image arrivals k events = events_of image arrivals (k + 1) ≡ events_of image arrivals k ++ events
+
+-- an instruction was done, and its step fed to the observer, which has its events
+pub record Advanced (old new : Runner) : Type 0 where
+  pub step : Step
+  pub goes : moment (given old) (count_of old) (sloth_state old.machine) ≡ Goes step (sloth_state new.machine)
+  pub fed : (steps : List Step) (events : List Stamped) → Fed old.observer steps events → Fed new.observer (steps ++ step ∷ []) events
+  pub view : view_of new.observer ≡ view_of old.observer
+  pub expected : expected_of new.observer ≡ expected_of old.observer + 1
+  pub coming : new.coming.now ≡ behind old.count old.coming.now
+  pub lines : AreLines new.coming.now
+  pub count : count_of new ≡ count_of old + 1
+  pub executed : new.machine.count ≡ old.machine.count + 1
+
+-- an instruction was done, and its events' lines were put
+pub record Went (old new : Runner) (before after : Printer) (t u : Output) : Type 0 where
+  pub running : IsRunning new
+  pub count : count_of new ≡ count_of old + 1
+  pub events : List Stamped
+  pub adds : Adds (image_of old) (given old) (count_of old) events
+  pub taken : u ≡ gains t (text_after (image_of old) before.form before.after_idle events)
+  pub idle : after.after_idle ≡ ends_idle before.after_idle events
+
+-- they were put in part
+pub record Broke (old : Runner) (before : Printer) (t u : Output) : Type 0 where
+  pub events : List Stamped
+  pub adds : Adds (image_of old) (given old) (count_of old) events
+  pub taken : GainsPart t u (text_after (image_of old) before.form before.after_idle events)
+
+-- the next instruction stops, and the run ends so
+abbrev pub Halted : Runner → RunEnd → Type 0
+Halted old end = (stop : Stop) × (moment (given old) (count_of old) (sloth_state old.machine) ≡ Halts stop)
+    × (end ≡ ends.Stopped (entered (arrived (given old) (count_of old) (sloth_state old.machine))).pc stop)
+
+-- k instructions were done since the runner was fresh
+pub record Ran (r0 r : Runner) (k : ℕ) : Type 0 where
+  pub running : IsRunning r
+  pub count : count_of r ≡ k
+  pub image : image_of r ≡ image_of r0
+  pub arrivals : given r ≡ given r0
+
+-- and the lines of their events were put
+pub record Running (r0 r : Runner) (form : Form) (printer : Printer) (t0 t : Output) (k : ℕ) : Type 0 where
+  pub ran : Ran r0 r k
+  pub taken : t ≡ gains t0 (run_text (image_of r0) (given r0) form k)
+  pub idle : printer.after_idle ≡ ends_idle false (events_of (image_of r0) (given r0) k)
+  pub form_is : printer.form ≡ form
+  pub printed : printer.image.now ≡ image_of r0

@@ -1,0 +1,210 @@
+//! Runs an image, and prints what is observed.
+ghost use Rattle.std.specs.Prelude.{◌≡◌, ◌<◌, ◌≤◌, ◌∷◌, [], OnOk, OnErr, map, IfOk, IfSome, IfNone, OnSome, length};
+ghost use Rattle.sloth_base.specs.ImageRange.{InFormat};
+ghost use Rattle.sloth_base.specs.Arrivals.{AreArrivals};
+ghost use Rattle.sloth_base.specs.Arrive.{state_arrive};
+ghost use Rattle.sloth_io.specs.Sink.{gains, GainsPart};
+ghost use Rattle.trace_text.specs.Texts.{ends_idle, is_idle};
+ghost use Rattle.observe.specs.Progress.{remaining, view_of, arrivals_of, expected_of, here};
+ghost use Rattle.sloth_runner.specs.Runner.{AreLines, sloth_state, lines_of, HandsOut};
+
+use observe::observer::Observer;
+use rv32_machine::{Machine, SlothBus, Stop};
+use sloth_base::event::{Arrival, Event, Stamped};
+use sloth_base::image::Image;
+use sloth_base::memory::NoMemory;
+use sloth_io::sink::{Sink, SinkFault};
+use std::alloc::Global;
+use trace_text::print::{Form, print};
+
+/// How a run ended: after all its instructions, or before an instruction at `pc` that the machine stops at.
+#[derive(Clone, Copy, Debug, PartialEq, Eq)]
+pub enum RunEnd {
+    Whole,
+    Stopped { pc: u32, stop: Stop },
+}
+
+// Prints events in a form, and knows whether the last one was an idle.
+#[derive(Clone, Copy)]
+struct Printer<'a> {
+    image: &'a Image,
+    form: Form,
+    after_idle: bool,
+}
+
+fn is_idle(event: &Event) -> bool
+    ensures { result ≡ is_idle event.now }
+{
+    matches!(event, Event::Idle)
+}
+
+impl<'a> Printer<'a> {
+    // Puts the line of an event. In the bare form an idle directly behind an idle has none.
+    fn put<S: Sink>(&mut self, event: &Stamped, out: &mut S) -> Result<(), SinkFault>
+        requires { InFormat self.old.image.now }
+        ensures ok { OnOk result (S.seen out.new ≡ gains (S.seen out.old) (lines_of self.old (event.now ∷ []))) }
+        ensures err { OnErr result (GainsPart (S.seen out.old) (S.seen out.new) (lines_of self.old (event.now ∷ []))) }
+        ensures after_idle { self.new.after_idle ≡ is_idle event.now.event }
+        ensures image { self.new.image.now ≡ self.old.image.now }
+        ensures form { self.new.form ≡ self.old.form }
+    {
+        let after_idle = self.after_idle;
+        let idle = is_idle(&event.event);
+        self.after_idle = idle;
+        if self.form == Form::Bare && after_idle && idle {
+            return Ok(());
+        }
+        let mut line = print(event, self.form, self.image);
+        line.push(b"\n");
+        out.put(line.bytes())
+    }
+
+    // Puts the lines of all finished events.
+    fn drain<S: Sink>(&mut self, observer: &mut Observer, out: &mut S) -> Result<(), SinkFault>
+        requires { InFormat self.old.image.now }
+        ensures ok { OnOk result (S.seen out.new ≡ gains (S.seen out.old) (lines_of self.old (remaining observer.old))) }
+        ensures err { OnErr result (GainsPart (S.seen out.old) (S.seen out.new) (lines_of self.old (remaining observer.old))) }
+        ensures after_idle { OnOk result (self.new.after_idle ≡ ends_idle self.old.after_idle (remaining observer.old)) }
+        ensures image { self.new.image.now ≡ self.old.image.now }
+        ensures form { self.new.form ≡ self.old.form }
+        ensures drained { OnOk result (remaining observer.new ≡ []) }
+        ensures fed { OnOk result (HandsOut observer.old observer.new) }
+        ensures view { view_of observer.new ≡ view_of observer.old }
+        ensures arrivals { arrivals_of observer.new ≡ arrivals_of observer.old }
+        ensures expected { expected_of observer.new ≡ expected_of observer.old }
+    {
+        while let Some(event) = observer.next() {
+            self.put(&event, out)?;
+        }
+        Ok(())
+    }
+}
+
+// How many arrivals at the front are of this moment or an earlier one.
+fn passing(coming: &[Arrival], count: u32) -> usize
+    ensures { result ≡ length (here count coming.now) }
+{
+    coming
+        .iter()
+        .take_while(|arrival| arrival.at <= count)
+        .count()
+}
+
+// The lines of these arrivals become pending.
+fn arrive(machine: &mut Machine<SlothBus>, arrivals: &[Arrival])
+    requires { AreLines arrivals.now }
+    ensures state { sloth_state machine.new ≡ state_arrive (map (λ arrival. arrival.line) arrivals.now) (sloth_state machine.old) }
+    ensures count { machine.new.count ≡ machine.old.count }
+{
+    for arrival in arrivals {
+        machine.arrive(arrival.line);
+    }
+}
+
+/// An image in its run. It keeps the image and the arrivals, lent.
+#[derive(Drop)]
+pub struct Runner<'a> {
+    image: &'a Image,
+    machine: Machine<SlothBus>,
+    pub(crate) observer: Observer<'a>,
+    // The arrivals of the next moment and of later ones.
+    coming: &'a [Arrival],
+    pub(crate) count: u32,
+}
+
+impl<'a> Runner<'a> {
+    ghost use Rattle.sloth_runner.specs.Runner.{IsFresh, IsRunning, Advanced, Went, Broke, Halted, image_of, count_of, given, run_text, run_end};
+
+    /// A runner that has run nothing, with all memory of a run.
+    pub fn new(
+        alloc: Global,
+        image: &'a Image,
+        arrivals: &'a [Arrival],
+    ) -> Result<Runner<'a>, NoMemory>
+        requires format { InFormat image.now }
+        requires arrivals { AreArrivals (length image.now.tasks) arrivals.now }
+        ensures fresh { IfOk result IsFresh }
+        ensures image { IfOk result (λ runner. image_of runner ≡ image.now) }
+        ensures arrivals { IfOk result (λ runner. given runner ≡ arrivals.now) }
+    {
+        let machine = Machine::starting(alloc, image)?;
+        let observer = Observer::new(alloc, image, arrivals)?;
+        Ok(Runner {
+            image,
+            machine,
+            observer,
+            coming: arrivals,
+            count: 0,
+        })
+    }
+
+    // One instruction, unless the machine stops at it. Its finished events are left with the observer.
+    pub(crate) fn advance(&mut self) -> Option<RunEnd>
+        requires few { count_of self.old < 1000000 }
+        requires running { IsRunning self.old }
+        ensures went { IfNone result (Advanced self.old self.new) }
+        ensures halted { IfSome result (Halted self.old) }
+        ensures image { image_of self.new ≡ image_of self.old }
+        ensures arrivals { given self.new ≡ given self.old }
+    {
+        let (here, behind) = self.coming.split_at(passing(self.coming, self.count));
+        self.coming = behind;
+        arrive(&mut self.machine, here);
+        let pc = self.machine.next_pc();
+        let step = match self.machine.step() {
+            Err(stop) => return Some(RunEnd::Stopped { pc, stop }),
+            Ok(step) => step,
+        };
+        self.count += 1;
+        self.observer.feed(&step);
+        None
+    }
+
+    // One instruction: the machine stops, or its events' lines are put.
+    fn turn<S: Sink>(
+        &mut self,
+        printer: &mut Printer,
+        out: &mut S,
+    ) -> Result<Option<RunEnd>, SinkFault>
+        requires few { count_of self.old < 1000000 }
+        requires running { IsRunning self.old }
+        requires printer { printer.old.image.now ≡ image_of self.old }
+        ensures went { IfOk result (λ end. IfNone end
+            (Went self.old self.new printer.old printer.new (S.seen out.old) (S.seen out.new))) }
+        ensures halted { IfOk result (λ end. IfSome end (Halted self.old)) }
+        ensures untold { IfOk result (λ end. OnSome end (S.seen out.new ≡ S.seen out.old)) }
+        ensures broke { OnErr result (Broke self.old printer.old (S.seen out.old) (S.seen out.new)) }
+        ensures image { image_of self.new ≡ image_of self.old }
+        ensures arrivals { given self.new ≡ given self.old }
+        ensures form { printer.new.form ≡ printer.old.form }
+        ensures printed { printer.new.image.now ≡ printer.old.image.now }
+    {
+        if let Some(end) = self.advance() {
+            return Ok(Some(end));
+        }
+        printer.drain(&mut self.observer, out)?;
+        Ok(None)
+    }
+
+    /// Runs n instructions, at most 1,000,000, and puts the line of each event.
+    pub fn run<S: Sink>(&mut self, n: u32, form: Form, out: &mut S) -> Result<RunEnd, SinkFault>
+        requires fresh { IsFresh self.old }
+        requires few { n ≤ 1000000 }
+        ensures text { OnOk result (S.seen out.new ≡ gains (S.seen out.old) (run_text (image_of self.old) (given self.old) form n)) }
+        ensures end { IfOk result (λ end. end ≡ run_end (image_of self.old) (given self.old) n) }
+        ensures broke { OnErr result
+            (GainsPart (S.seen out.old) (S.seen out.new) (run_text (image_of self.old) (given self.old) form n)) }
+    {
+        let mut printer = Printer {
+            image: self.image,
+            form,
+            after_idle: false,
+        };
+        while self.count < n {
+            if let Some(end) = self.turn(&mut printer, out)? {
+                return Ok(end);
+            }
+        }
+        Ok(RunEnd::Whole)
+    }
+}
