@@ -1,5 +1,5 @@
 -- Calls of a store and a sink in memory that do not fail.
-use Rattle.std.proofs.Common.{◌≡◌, inr, ℕ, List, [], Some, refl, sym, subst}
+use Rattle.std.proofs.Common.{inr, ℕ, List, Some, refl, sym, subst}
 use Rattle.std.specs.Prelude.{IsTrue, codes}
 use Rattle.sloth_base.specs.declared.config.Config.{Config}
 use Rattle.sloth_base.specs.declared.app.App.{App}

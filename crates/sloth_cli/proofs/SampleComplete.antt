@@ -3,16 +3,15 @@ use Rattle.std.proofs.Common.{◌≡◌, ◌∙◌, inl, inr, ℕ, List, length,
 use Rattle.std.specs.Prelude.{◌⊎◌}
 use Rattle.sloth_base.specs.declared.config.Config.{Config}
 use Rattle.sloth_base.specs.declared.app.App.{App}
-use Rattle.sloth_base.specs.declared.event.Arrival.{Arrival}
 use Rattle.sloth_base.specs.declared.refusal.Refusal.{Refusal}
 use Rattle.image_file.specs.ImageText.{image_bytes}
 use Rattle.sloth_source.specs.Texts.{Accepted, FirstRefusal}
 use Rattle.sloth_source.proofs.Refusals.{one_refusal}
 use Rattle.sloth_source.proofs.Unique.{one_meaning, never_both}
-use Rattle.command_line.specs.Command.{Command, Samples, IsCommand}
+use Rattle.command_line.specs.Command.{Samples, IsCommand}
 use Rattle.sloth_cli.specs.ImageFiles.{IsNoImage}
 use Rattle.command_line.specs.LastLine.{refusal_line}
-use Rattle.sloth_cli.specs.Samples.{sample_oil, sample_source, sample_arrivals, sample_text}
+use Rattle.sloth_cli.specs.Samples.{sample_oil, sample_source}
 use Rattle.sloth_cli.specs.SampleAnswers.{SampleWorks, TellsSampleRefused, TellsSampled}
 use Rattle.sloth_cli.specs.Top.{World, IsFailedRead, IsLongRead, Requires, Puts, Took, EndsAs, Answers, AnswersRefused, PutsWork}
 use Rattle.sloth_cli.specs.Top.{CommandDone, CommandRefused, CommandUnwritten, CommandStopped}

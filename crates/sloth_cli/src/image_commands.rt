@@ -9,7 +9,7 @@ ghost use Rattle.trace_text.specs.Listing.{listing};
 ghost use Rattle.command_line.specs.Command.{Executes, Lists};
 ghost use Rattle.command_line.specs.Words.{execution_of};
 ghost use Rattle.sloth_cli.specs.Inputs.{input_limit, AreRead};
-ghost use Rattle.sloth_cli.specs.ImageFiles.{AreExecInputs, IsInput, end_line, exec_text};
+ghost use Rattle.sloth_cli.specs.ImageFiles.{AreExecInputs, end_line, exec_text};
 ghost use Rattle.sloth_cli.specs.ImageAnswers.{end_status};
 ghost use Rattle.sloth_runner.specs.Runner.{run_end};
 ghost use Rattle.sloth_cli.specs.Top.{world, inputs_of, Took};
