@@ -5,8 +5,9 @@ use Rattle.std.proofs.lemmas.List.Elements.{All-nil, All-cons}
 use Rattle.std.proofs.lemmas.List.FromFn.{length-map-range_with_len, map-range_with_len_more}
 use Rattle.sloth_base.specs.Arrivals.{AreArrivals, NeverFalls}
 use Rattle.sloth_base.specs.declared.event.Arrival.{Arrival}
+use Rattle.sloth_base.proofs.Owners.{task_owned}
 use Rattle.app_gen.specs.Draws.{draw, next_draw}
-use Rattle.app_gen.specs.Load.{high_bits, gap, moment_before, line_of, arrival, first_arrivals}
+use Rattle.app_gen.specs.Load.{high_bits, gap, moment_before, line_of, arrival, first_arrivals, owners_of}
 
 pub gap_short : (x k : ℕ) → gap x k ≤ 900
 unfolding gap
@@ -52,14 +53,14 @@ module _ (x n : ℕ) where
   unfolding first_arrivals line_of
   lines_below h count = all_of (λ a. a.line < n) 0 count (λ i l. omega (arith, h))
 
-  pub are_arrivals : 1 ≤ n → (count : ℕ) → count ≤ 1000 → AreArrivals n (first_arrivals x n count)
+  pub are_arrivals : 1 ≤ n → (count : ℕ) → count ≤ 1000 → AreArrivals (owners_of n) (first_arrivals x n count)
   unfolding first_arrivals
   are_arrivals h count few =
       record {
         few = let l = length-map-range_with_len (arrival x n) 0 count in omega (arith, l, few);
         moments_in_range = all_of (λ a. a.at ≤ 1000000) 0 count (λ i l. let m = moment_bound x i in let g = gap_short x i in omega (arith, m, g, l, few));
         ordered = let f = at_least x 0 in never_falls 0 count 1 (omega (arith, f));
-        lines_of_tasks = lines_below h count;
+        lines_owned = λ k d l. task_owned (owners_of n) _ (lines_below h count k d l);
       }
 
   arrivals_more : (k : ℕ) → first_arrivals x n (k + 1) ≡ first_arrivals x n k ++ arrival x n k ∷ []

@@ -2,6 +2,7 @@
 use Rattle.std.specs.Prelude.{ℕ, zero, suc, ◌+◌, ◌-◌, ◌*◌, ◌/◌, ◌%◌, List, map}
 use Rattle.std.specs.List.{range_with_len}
 use Rattle.sloth_base.specs.declared.event.Arrival.{Arrival}
+use Rattle.sloth_base.specs.declared.lines.Owners.{Owners}
 use Rattle.app_gen.specs.Draws.{draw}
 
 -- a draw without its low 16 bits, which repeat early
@@ -32,3 +33,7 @@ first_arrivals x n count = map (arrival x n) (range_with_len 0 count)
 -- All arrivals. Their draws go on from those of the source, which are n - 1.
 abbrev pub arrivals : ℕ → ℕ → List Arrival
 arrivals seed n = first_arrivals (draw seed (n - 1)) n 1000
+
+-- the owners of lines where there are so many tasks
+abbrev pub owners_of : ℕ → Owners
+owners_of tasks = record { tasks = tasks }

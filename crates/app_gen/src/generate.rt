@@ -3,7 +3,7 @@ ghost use Rattle.std.specs.Prelude.{◌≡◌, ◌≤◌, All, IfOk, length};
 ghost use Rattle.sloth_base.specs.Arrivals.{AreArrivals};
 ghost use Rattle.app_gen.specs.Oil.{oil_text};
 ghost use Rattle.app_gen.specs.Source.{source_text};
-ghost use Rattle.app_gen.specs.Load.{arrivals};
+ghost use Rattle.app_gen.specs.Load.{arrivals, owners_of};
 
 use crate::application::Sample;
 use crate::draws::Draws;
@@ -23,7 +23,7 @@ pub fn sample(alloc: Global, seed: u32, tasks: u32) -> Result<Sample, NoMemory>
     ensures arrivals { IfOk result (λ sample. sample.arrivals ≡ arrivals seed tasks) }
     ensures short_oil { IfOk result (λ sample. length sample.oil ≤ 4194304) }
     ensures short_src { IfOk result (λ sample. length sample.src ≤ 4194304) }
-    ensures in_range { IfOk result (λ sample. AreArrivals tasks sample.arrivals) }
+    ensures in_range { IfOk result (λ sample. AreArrivals (owners_of tasks) sample.arrivals) }
     ensures early { IfOk result (λ sample. All (λ arrival. arrival.at ≤ 901000) sample.arrivals) }
 {
     let mut draws = Draws::from_seed(seed);

@@ -7,7 +7,7 @@ use Rattle.rv32_instr.specs.declared.InstrKind.TheVariants.{Beq, Lui, Lw, Sw, Sb
 use Rattle.rv32_routine.specs.Pieces.{past, saves}
 use Rattle.service_gen.specs.Pieces.{own_active, own_events, raises, back}
 
--- x3 := 12 times `cur` behind the service words, where the running task's words end; x4 holds 0x80000000
+-- x3 := 12 times `cur` behind the service words, where the running task's words end; x4 holds the base of memory
 abbrev pub finds_own : List InstrKind
 finds_own = Lw 3 4 (pos cur) ∷ Slli 1 3 3 ∷ Slli 3 3 2 ∷ Add 3 3 1 ∷ Add 3 3 4 ∷ []
 
@@ -49,7 +49,7 @@ own_wait = pos 0
 
 -- its word of its own context, where 4 times `cur` tells the place
 abbrev pub own_resume : ℤ
-own_resume = pos 628
+own_resume = pos (resume 0 - 4)
 
 -- the enable byte of its line, where `cur` tells the place
 abbrev pub own_enabled : ℤ

@@ -2,6 +2,7 @@
 use Rattle.std.specs.Prelude.{ℕ, ◌+◌, ◌*◌, ◌%◌, ◌≡◌, ◌≢◌, ◌<◌, ◌≤◌, ◌⊎◌, List, [], ◌∷◌, length, slice_index, slice_set, bit_and}
 use Rattle.sloth_base.specs.Machine.{Core, State}
 use Rattle.sloth_base.specs.Status.{E_OK}
+use Rattle.sloth_base.specs.MemoryMap.{memory_base}
 use Rattle.sloth_region.specs.Layout.{cur, active, events, wait, resume, below_word, idle_context, context_bytes, context_level, context_cur, context_below}
 use Rattle.rv32_instr.specs.declared.InstrKind.{InstrKind}
 use Rattle.rv32_instr.specs.Ram.{word_at, with_word, with_words}
@@ -20,7 +21,7 @@ pub record MayWait (offset task place own : ℕ) (code : List InstrKind) (core :
   pub runs : word_at core.ram cur ≡ task + 1
   pub is_task : task < 30
   pub below : IsBelow place core
-  pub x2 : slice_index core.registers 2 ≡ 0x8000_0000 + (own + context_bytes)
+  pub x2 : slice_index core.registers 2 ≡ memory_base + (own + context_bytes)
   pub aligned : own % 4 ≡ 0
   pub behind : idle_context ≤ own
   pub inside : own + context_bytes ≤ 0x20_0000
@@ -45,7 +46,7 @@ rested_ram core task = with_word (with_word core.ram (active task) 0) (wait task
 abbrev pub kept_ram : Core → ℕ → ℕ → List ℕ
 kept_ram core task own =
     with_word (with_word (with_words (rested_ram core task) (own + 4 * 5) (registers_from 27 5 core.registers)) own (slice_index core.registers 31))
-    (resume task) (0x8000_0000 + own)
+    (resume task) (memory_base + own)
 
 -- the core in which the task waits, and in which what is below runs, by the words of its context
 abbrev pub waiting_core : ℕ → ℕ → ℕ → Core → Core
@@ -61,7 +62,7 @@ pub record HasWaited (task place own : ℕ) (start end : State) : Type 0 where
   pub none_set : set_of task start.core ≡ 0
   pub left : LeftAs (waiting_core task place own start.core) end.core
   pub pc : end.pc ≡ word_at start.core.ram place
-  pub x2 : slice_index end.core.registers 2 ≡ 0x8000_0000 + (place + context_bytes)
+  pub x2 : slice_index end.core.registers 2 ≡ memory_base + (place + context_bytes)
   pub loaded : (i : ℕ) → 5 ≤ i → i < 32 → slice_index end.core.registers i ≡ word_at start.core.ram (place + 4 * i)
 
 -- what WaitEvent does

@@ -29,7 +29,7 @@ pub fn code(alloc: Global, task: u8) -> Result<Vec<Instr>, AllocError>
     Ok(code)
 }
 
-/// a1 := the task's events, with the status E_OK. x4 holds 0x80000000.
+/// a1 := the task's events, with the status E_OK. x4 holds the base of memory.
 fn tell(code: &mut Vec<Instr>, task: u8) -> Result<(), AllocError>
     requires { task < 30 }
     ensures { OnOk result (code.new.items ≡ code.old.items ++ tells_events task) }

@@ -9,7 +9,7 @@ use sloth_base::service::E_OS_STATE;
 use sloth_region::layout::CUR;
 use std::alloc::AllocError;
 
-/// x3 := the place of the running task's words: they stand there and directly before. x4 holds 0x80000000.
+/// x3 := the place of the running task's words: they stand there and directly before. x4 holds the base of memory.
 pub fn find_own(code: &mut Vec<Instr>) -> Result<(), AllocError>
     ensures { OnOk result (code.new.items ≡ code.old.items ++ finds_own) }
 {

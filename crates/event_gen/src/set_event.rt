@@ -39,7 +39,7 @@ pub fn code(alloc: Global, task: u8) -> Result<Vec<Instr>, AllocError>
     Ok(code)
 }
 
-/// Adds the events of the mask in x30 to the task's, which stay in x3, with the status E_OK. x4 holds 0x80000000.
+/// Adds the events of the mask in x30 to the task's, which stay in x3, with the status E_OK. x4 holds the base of memory.
 fn add_events(code: &mut Vec<Instr>, task: u8) -> Result<(), AllocError>
     requires { task < 30 }
     ensures { OnOk result (code.new.items ≡ code.old.items ++ adds_events task) }
@@ -53,7 +53,7 @@ fn add_events(code: &mut Vec<Instr>, task: u8) -> Result<(), AllocError>
     emit(code, &added)
 }
 
-/// Goes on behind what wakes the task where it waits for none of the events in x3. x4 holds 0x80000000.
+/// Goes on behind what wakes the task where it waits for none of the events in x3. x4 holds the base of memory.
 fn ask_awaited(code: &mut Vec<Instr>, task: u8) -> Result<(), AllocError>
     requires { task < 30 }
     ensures { OnOk result (code.new.items ≡ code.old.items ++ asks_awaited task) }

@@ -12,14 +12,14 @@ use rv32_routine::emit::{emit, past, save};
 use rv32_routine::pieces::leave;
 use service_gen::pieces::{BACK, OWN_ACTIVE, OWN_EVENTS, go_back, open};
 use sloth_base::service::E_OK;
-use sloth_region::layout::{CONTEXT_BYTES, CONTEXT_PC, CONTROLLER_HIGH, CUR};
+use sloth_region::layout::{CONTEXT_BYTES, CONTEXT_PC, CONTROLLER_HIGH, CUR, RESUME_WORDS};
 use std::alloc::{AllocError, Global};
 
 /// The events that the running task waits for, from 12 * `cur` behind the service words.
 const OWN_WAIT: i32 = 0;
 
 /// The address of its own context, from 4 * `cur` behind the service words, as `cur` is its number and 1 more.
-const OWN_RESUME: i32 = 628;
+const OWN_RESUME: i32 = RESUME_WORDS - 4;
 
 /// The enable byte of its line, from `cur` behind the controller's address.
 const OWN_ENABLED: i32 = 31;
@@ -77,7 +77,7 @@ fn save_own(code: &mut Vec<Instr>) -> Result<(), AllocError>
     save(code, 5, 32, X1)
 }
 
-/// The context at x1 is the running task's own, with the address in x31 to go on at. x4 holds 0x80000000.
+/// The context at x1 is the running task's own, with the address in x31 to go on at. x4 holds the base of memory.
 fn keep(code: &mut Vec<Instr>) -> Result<(), AllocError>
     ensures { OnOk result (code.new.items ≡ code.old.items ++ keeps) }
 {

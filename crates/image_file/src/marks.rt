@@ -8,6 +8,7 @@ ghost use Rattle.sloth_base.specs.declared.image.MarkKind.{MarkKind as KindOfMar
 use crate::fault::{ImageError, ImageFault};
 use crate::numbers::{u16_at, u32_at};
 use sloth_base::image::{Mark, MarkKind};
+use sloth_base::memory_map::MEMORY_BASE;
 use std::alloc::Global;
 
 /// So many marks from `at` on, of an image of so many functions and bytes of memory.
@@ -74,8 +75,8 @@ fn is_mark(mark: &Mark, funcs: usize, size: usize) -> bool
     ensures { Decides result (IsMark funcs size mark.now) }
 {
     mark.address % 4 == 0
-        && mark.address >= 0x8000_0000
-        && mark.address as usize - 0x8000_0000 < size
+        && mark.address >= MEMORY_BASE
+        && mark.address as usize - (MEMORY_BASE as usize) < size
         && are_fields(mark, funcs)
 }
 

@@ -32,6 +32,7 @@ use Rattle.service_gen.specs.Block.{opening, back_mark, further_marks}
 use Rattle.event_gen.specs.Calls.{ServesCall}
 use Rattle.service_gen.specs.Schedule.{way_back}
 use Rattle.sloth_base.specs.Arithmetic.{sum32}
+use Rattle.sloth_base.specs.Blocks.{block_number, block_code, block_object}
 use Rattle.vector_gen.specs.Boot.{Boots}
 use Rattle.vector_gen.specs.Idle.{Idles, idle_mark}
 use Rattle.vector_gen.specs.Vectors.{AreJumps}
@@ -155,10 +156,10 @@ module _ (config : Config) (app : App) (levels : Levels) (wanted : List Bool) (m
       let b : Block = get_or served k d in
       let P : List Mark → Type 0 = λ marks. All (λ (m : Mark). (m.address % 4 ≡ 0) × AreFields (length app.funcs) m.kind m.a m.b m.c) marks in
       let n : ℕ = get_or numbers k 0 in
-      let code = there services (n / 40) h.service h.is in
+      let code = there services (block_code n) h.service h.is in
       let at = h.at in
       let even = blocks_even n in
-      subst P (sym h.marks) (All-cons (λ (m : Mark). (m.address % 4 ≡ 0) × AreFields (length app.funcs) m.kind m.a m.b m.c) (opening b.at (n / 40)) (further_marks h.service b.at)
+      subst P (sym h.marks) (All-cons (λ (m : Mark). (m.address % 4 ≡ 0) × AreFields (length app.funcs) m.kind m.a m.b m.c) (opening b.at (block_code n)) (further_marks h.service b.at)
       (omega (arith, at, even), (omega (arith, code), refl, refl))
       (by_further (λ (m : Mark). (m.address % 4 ≡ 0) × AreFields (length app.funcs) m.kind m.a m.b m.c) h.service b.at (omega (arith, at, even), (refl, refl, refl))))
     where
@@ -194,23 +195,23 @@ module _ (config : Config) (app : App) (levels : Levels) (wanted : List Bool) (m
       (ServesCall call.service call.object levels)
   has_service func item call is e =
       let c = may.calls func item call is e in
-      let number : ℕ = code_of call.service * 40 + call.object in
+      let number : ℕ = block_number call.service call.object in
       let small = c.0 in
       let r = found (IsService levels map) 0 wanted served number c.1 serve in
       let same : 0 + number ≡ number = omega arith in
       let h : IsService levels map number r.0 = subst (λ n. IsService levels map n r.0) same r.2 in
-      let code : number / 40 ≡ code_of call.service = omega (arith, small) in
-      let object : number % 40 ≡ call.object = omega (arith, small) in
+      let code : block_code number ≡ code_of call.service = omega (arith, small) in
+      let object : block_object number ≡ call.object = omega (arith, small) in
       let its : h.service ≡ call.service = some_same h.service call.service (sym h.is ∙ ap service_of code ∙ of_code call.service) in
       let place : r.0.at ≡ block_address map.places call.service call.object = h.at in
-      let P : Service → Type 0 = λ s. ServesCall s (number % 40) levels r.0.code in
+      let P : Service → Type 0 = λ s. ServesCall s (block_object number) levels r.0.code in
       let Q : ℕ → Type 0 = λ n. ServesCall call.service n levels r.0.code in
       record {
         block = r.0;
         among = in_served r.0 r.1;
         at = place;
         marks_are =
-            h.marks ∙ ap (λ v. opening r.0.at (number / 40) ∷ further_marks v r.0.at) its
+            h.marks ∙ ap (λ v. opening r.0.at (block_code number) ∷ further_marks v r.0.at) its
             ∙ ap (λ n. opening r.0.at n ∷ further_marks call.service r.0.at) code ∙ ap (λ n. opening n (code_of call.service) ∷ further_marks call.service n) place;
         does = subst Q object (subst P its h.serves);
       }
@@ -266,7 +267,7 @@ module _ (config : Config) (app : App) (levels : Levels) (wanted : List Bool) (m
       (λ k d l. without (get_or starts k d) (each k d l).marks)
       (zip_all (IsService levels map) (MarksAreOfItems app map.places) (wanted_from 0 wanted) served
       (λ n b h. subst (All (IsOwnMark app map.places)) (sym h.marks)
-      (All-cons (IsOwnMark app map.places) (opening b.at (n / 40)) (further_marks h.service b.at) tt (by_further (IsOwnMark app map.places) h.service b.at tt))) serve)
+      (All-cons (IsOwnMark app map.places) (opening b.at (block_code n)) (further_marks h.service b.at) tt (by_further (IsOwnMark app map.places) h.service b.at tt))) serve)
       (subst (All (MarksAreOfItems app map.places)) (sym items) items_own)
 
   -- ---- the format of images

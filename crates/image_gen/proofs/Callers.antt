@@ -10,8 +10,8 @@ use Rattle.sloth_base.specs.declared.app.Func.{Func}
 use Rattle.sloth_base.specs.declared.app.Item.{Item}
 use Rattle.sloth_base.specs.declared.app.Op.{Op}
 use Rattle.sloth_base.specs.declared.app.Op.TheVariants as op
-use Rattle.sloth_base.specs.ServiceCodes.{code_of}
 use Rattle.sloth_base.specs.Named.{function, missing, item_of, no_item, operation}
+use Rattle.sloth_base.specs.Blocks.{block_count, block_number}
 use Rattle.rv32_expand.specs.InPlace.{IsItem}
 use Rattle.image_gen.specs.Wanted.{calls, is_called_by, is_wanted}
 
@@ -22,11 +22,11 @@ pub record Caller (app : App) (number : ℕ) : Type 0 where
   pub is_item : IsItem app func item
   pub call : Call
   pub is : operation app func item ≡ op.Serve call
-  pub numbered : code_of call.service * 40 + call.object ≡ number
+  pub numbered : block_number call.service call.object ≡ number
 
 -- an operation that calls it is a call of that number
-call_of : (number : ℕ) (o : Op) → calls number o ≡ true → (call : Call) × (o ≡ op.Serve call) × (code_of call.service * 40 + call.object ≡ number)
-call_of number (op.Serve call) is = (call, refl, eqb-true (code_of call.service * 40 + call.object) number is)
+call_of : (number : ℕ) (o : Op) → calls number o ≡ true → (call : Call) × (o ≡ op.Serve call) × (block_number call.service call.object ≡ number)
+call_of number (op.Serve call) is = (call, refl, eqb-true (block_number call.service call.object) number is)
 call_of number (op.Alu kind rd rs1 rs2) is = absurd cc
 call_of number (op.AluImm kind rd rs1 imm) is = absurd cc
 call_of number (op.Lui rd imm) is = absurd cc
@@ -67,16 +67,16 @@ caller number app is =
 
 -- what an item calls is wanted
 pub called : (app : App) (func item : ℕ) (call : Call) → IsItem app func item → operation app func item ≡ op.Serve call
-    → is_wanted (code_of call.service * 40 + call.object) app ≡ true
+    → is_wanted (block_number call.service call.object) app ≡ true
 called app func item call is e =
-    let number : ℕ = code_of call.service * 40 + call.object in
+    let number : ℕ = block_number call.service call.object in
     list_any_at (is_called_by number) app.funcs func missing is.declared
     (list_any_at (λ (item : Item). calls number item.op) (function app func).items item no_item is.inside (ap (calls number) e ∙ eq-eqb number number refl))
 
 -- a number that is marked has a caller
-pub marked : (app : App) (wanted : List Bool) → length wanted ≡ 512 → ((number : ℕ) → number < 512 → get_or wanted number false ≡ is_wanted number app)
+pub marked : (app : App) (wanted : List Bool) → length wanted ≡ block_count → ((number : ℕ) → number < block_count → get_or wanted number false ≡ is_wanted number app)
     → (number : ℕ) → get_or wanted number false ≡ true → Caller app number
 marked app wanted all are number is = ⊎_elim
     (λ below. caller number app (sym (are number below) ∙ is))
     (λ past. absurd (let none = get_or-eq_default wanted false {n = number} (omega (arith, all, past)) in cc))
-    (cases_lt number 512)
+    (cases_lt number block_count)

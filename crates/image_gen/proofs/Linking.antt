@@ -37,8 +37,8 @@ use Rattle.sim_image.proofs.Housed.{blocks_are_in, blocks_are_in_code, marks_dif
 use Rattle.image_gen.specs.Gathered.{MayGenerate, IsGathered, IsImageOf, IsPlanned}
 use Rattle.image_gen.proofs.AllCode.{even_at, zip_all}
 use Rattle.image_gen.proofs.Planning.{called_with}
-use Rattle.sloth_base.specs.ServiceCodes.{code_of}
 use Rattle.sloth_base.specs.declared.service.Service.TheVariants as service
+use Rattle.sloth_base.specs.Blocks.{block_number}
 use Rattle.rv32_expand.specs.Expansion.{block_address}
 use Rattle.event_gen.specs.Calls.{IsCalledWith}
 use Rattle.service_gen.specs.Schedule.{way_back}
@@ -141,8 +141,8 @@ module _ (config : Config) (app : App) (levels : Levels) (wanted : List Bool) (m
 
   way_even : way % 4 ≡ 0
   way_even =
-      let even = even_at map.places.blocks (code_of service.Schedule * 40 + 0) may.planned.zones.blocks_aligned in
-      let is : block_address map.places service.Schedule 0 ≡ get_or map.places.blocks (code_of service.Schedule * 40 + 0) 0 = refl in
+      let even = even_at map.places.blocks (block_number service.Schedule 0) may.planned.zones.blocks_aligned in
+      let is : block_address map.places service.Schedule 0 ≡ get_or map.places.blocks (block_number service.Schedule 0) 0 = refl in
       omega (arith, even, is)
 
   built : IsBuiltBy config app levels map h.stacks way h.size h.blocks h.symbols image

@@ -12,6 +12,7 @@ use Rattle.sloth_base.specs.declared.config.Config.{Config}
 use Rattle.sloth_base.specs.declared.places.Levels.{Levels}
 use Rattle.sloth_base.specs.declared.service.Service.{Service}
 use Rattle.sloth_base.specs.declared.service.Service.TheVariants as service
+use Rattle.sloth_base.specs.Blocks.{block_objects, block_count, block_number, block_code, block_object}
 use Rattle.sloth_region.specs.declared.map.Map.{Map}
 use Rattle.app_rules.specs.AppRange.{AreOperands, IsOp}
 use Rattle.app_rules.specs.WellFormed.{WellFormed}
@@ -103,12 +104,12 @@ room_for_calls config app stacks needs t declared func outer calls = let fits = 
 
 -- ---- all of it
 
-module _ (config : Config) (app : App) (stacks : Stacks) (may : MayBuild config app stacks) (wanted : List Bool) (all : length wanted ≡ 512)
-    (are : (number : ℕ) → number < 512 → get_or wanted number false ≡ is_wanted number app) where
+module _ (config : Config) (app : App) (stacks : Stacks) (may : MayBuild config app stacks) (wanted : List Bool) (all : length wanted ≡ block_count)
+    (are : (number : ℕ) → number < block_count → get_or wanted number false ≡ is_wanted number app) where
   block_of : (number : ℕ) → (c : Caller app number) → IsCalledWith c.call.service c.call.object
   block_of number c = called_with config app may.well_formed c.func c.item c.call c.is_item c.is
 
-  objects : (number : ℕ) → get_or wanted number false ≡ true → number % 40 ≤ 32
+  objects : (number : ℕ) → get_or wanted number false ≡ true → block_object number ≤ 32
   objects number is =
       let c = marked app wanted all are number is in
       let small = small_object c.call.service c.call.object (block_of number c) in
@@ -121,16 +122,16 @@ module _ (config : Config) (app : App) (stacks : Stacks) (may : MayBuild config 
       let has = block_of number c in
       let small = small_object c.call.service c.call.object has in
       let n = c.numbered in
-      let code : number / 40 ≡ code_of c.call.service = omega (arith, small, n) in
-      let object : number % 40 ≡ c.call.object = omega (arith, small, n) in
+      let code : block_code number ≡ code_of c.call.service = omega (arith, small, n) in
+      let object : block_object number ≡ c.call.object = omega (arith, small, n) in
       record { service = c.call.service; is = ap service_of code ∙ of_code c.call.service; called_with = subst (IsCalledWith c.call.service) (sym object) has }
 
   calls : (func item : ℕ) (call : Call) → IsItem app func item → operation app func item ≡ op.Serve call
-      → (call.object < 40) × (get_or wanted (code_of call.service * 40 + call.object) false ≡ true)
+      → (call.object < block_objects) × (get_or wanted (block_number call.service call.object) false ≡ true)
   calls func item call is e =
       let small = small_object call.service call.object (called_with config app may.well_formed func item call is e) in
       let code = small_code call.service in
-      (omega (arith, small), are (code_of call.service * 40 + call.object) (omega (arith, small, code)) ∙ called app func item call is e)
+      (omega (arith, small), are (block_number call.service call.object) (omega (arith, small, code)) ∙ called app func item call is e)
 
   pub may_plan : (sizes : List ℕ) → AreSizes app sizes → MayPlan config app sizes wanted stacks
   may_plan sizes sized = record {

@@ -30,6 +30,7 @@ use Rattle.event_gen.specs.Calls.{ServesCall}
 use Rattle.service_gen.specs.Schedule.{way_back}
 use Rattle.rv32_routine.specs.Kernel.{masking}
 use Rattle.sloth_base.specs.Arithmetic.{sum32}
+use Rattle.sloth_base.specs.Blocks.{block_count, block_code, block_object}
 use Rattle.mem_map.specs.Plan.{item_bytes, items_at, prologue_extent, service_bytes, service_extents, services_at}
 use Rattle.mem_map.specs.Run.{extents_of, starts}
 use Rattle.mem_map.specs.Zones.{nowhere}
@@ -160,12 +161,12 @@ module _ (config : Config) (app : App) (levels : Levels) (wanted : List Bool) (m
 
   -- ---- services
 
-  blocks_long : length map.places.blocks ≡ 512
+  blocks_long : length map.places.blocks ≡ block_count
   blocks_long =
       ap length may.planned.addresses.blocks ∙ length_starts (services_at (length config.tasks)) (prelude.map service_bytes wanted) ∙ length-map wanted service_bytes
       ∙ may.planned.all_numbers
 
-  service_room : (number : ℕ) (block : Block) → number < 512 → IsService levels map number block
+  service_room : (number : ℕ) (block : Block) → number < block_count → IsService levels map number block
       → FitsRoom (record { base = slice_index map.places.blocks number; len = service_bytes true }) block
   service_room number block l h =
       let at = h.at in
@@ -183,7 +184,7 @@ module _ (config : Config) (app : App) (levels : Levels) (wanted : List Bool) (m
       let items = end_above (items_at (length config.tasks) wanted) (prelude.map item_bytes may.planned.sizes) in
       let last = end_of_code config app map may.planned.stacks 0 [] may.planned.zones in
       let even = may.planned.zones.blocks_aligned number 0 (omega (arith, long, l)) in
-      let marks = service_marks h.service (number % 40) levels block.code block.at (number / 40) (omega (arith, at, is, below, few, items, end, last)) h.serves in
+      let marks = service_marks h.service (block_object number) levels block.code block.at (block_code number) (omega (arith, at, is, below, few, items, end, last)) h.serves in
       let own = sym h.marks in
       record {
         at = at;
@@ -195,7 +196,7 @@ module _ (config : Config) (app : App) (levels : Levels) (wanted : List Bool) (m
         marks = subst (All (λ (m : Mark). (block.at ≤ m.address) × (m.address < block.at + 4 * length block.code))) own marks.own;
       }
 
-  services_fit_from : (n : ℕ) (addresses : List ℕ) (rest : List Bool) (blocks : List Block) → length addresses ≡ length rest → n + length rest ≡ 512
+  services_fit_from : (n : ℕ) (addresses : List ℕ) (rest : List Bool) (blocks : List Block) → length addresses ≡ length rest → n + length rest ≡ block_count
       → ((k : ℕ) → k < length rest → get_or addresses k 0 ≡ slice_index map.places.blocks (n + k)) → AllZip (IsService levels map) (wanted_from n rest) blocks
       → FitRooms (service_extents addresses rest) blocks
   services_fit_from n [] [] blocks e all same h = fit_none blocks h

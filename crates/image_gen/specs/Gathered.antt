@@ -3,13 +3,14 @@ use Rattle.std.specs.Prelude.{ℕ, ◌+◌, ◌*◌, ◌%◌, ◌<◌, ◌≤◌
 use Rattle.std.specs.List.Sorted.{IsPermutation, IsStrictlyIncreasing}
 use Rattle.sloth_base.specs.ImageRange.{AreFields}
 use Rattle.sloth_base.specs.Named.{declaration, operation}
-use Rattle.sloth_base.specs.ServiceCodes.{code_of}
 use Rattle.sloth_base.specs.declared.app.App.{App}
 use Rattle.sloth_base.specs.declared.app.Call.{Call}
 use Rattle.sloth_base.specs.declared.app.Op.TheVariants as op
 use Rattle.sloth_base.specs.declared.config.Config.{Config}
 use Rattle.sloth_base.specs.declared.image.Mark.{Mark}
 use Rattle.sloth_base.specs.declared.places.Levels.{Levels}
+use Rattle.sloth_base.specs.Blocks.{block_objects, block_count, block_number}
+use Rattle.sloth_base.specs.MemoryMap.{vectors_base}
 use Rattle.sloth_region.specs.declared.map.Map.{Map}
 use Rattle.sloth_region.specs.Region.{FollowWithin}
 use Rattle.app_rules.specs.WellFormed.{WellFormed}
@@ -34,14 +35,14 @@ use Rattle.image_gen.specs.Services.{AreServed}
 pub record IsPlanned (config : Config) (app : App) (wanted : List Bool) (map : Map) : Type 0 where
   pub sizes : List ℕ
   pub are_sizes : AreSizes app sizes
-  pub all_numbers : length wanted ≡ 512
+  pub all_numbers : length wanted ≡ block_count
   pub zones : HasZones map config
   pub stacks : Stacks
   pub has_stacks : HasStacks config app stacks map
   pub calls_fit : RoomForCalls stacks config app
   pub addresses : HasAddresses config app sizes wanted map
   pub reach : (line : ℕ) → line < 32 → IsNear (slice_index map.handlers line)
-  pub code_follows : FollowWithin 0x8000_0400 (code_end (length config.tasks) wanted sizes) (code_extents map (length config.tasks) wanted sizes)
+  pub code_follows : FollowWithin vectors_base (code_end (length config.tasks) wanted sizes) (code_extents map (length config.tasks) wanted sizes)
   pub data_follows : FollowWithin (code_end (length config.tasks) wanted sizes) (data_end app (code_end (length config.tasks) wanted sizes))
       (data_extents map app)
   pub agree : AgreeWithSizes app map.places
@@ -55,7 +56,7 @@ pub record MayGenerate (config : Config) (app : App) (levels : Levels) (wanted :
   pub small : (levels.top < 32) × ((t : ℕ) → slice_index levels.task t < 32)
   pub served : AreServed wanted
   pub calls : (func item : ℕ) (call : Call) → IsItem app func item → operation app func item ≡ op.Serve call
-      → (call.object < 40) × (get_or wanted (code_of call.service * 40 + call.object) false ≡ true)
+      → (call.object < block_objects) × (get_or wanted (block_number call.service call.object) false ≡ true)
   pub planned : IsPlanned config app wanted map
 
 -- the marks of a block are as the format of images wants them

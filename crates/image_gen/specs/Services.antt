@@ -4,12 +4,13 @@ use Rattle.std.specs.List.{AllZip}
 use Rattle.sloth_base.specs.ServiceCodes.{service_of}
 use Rattle.sloth_base.specs.declared.places.Levels.{Levels}
 use Rattle.sloth_base.specs.declared.service.Service.{Service}
+use Rattle.sloth_base.specs.Blocks.{block_code, block_object}
 use Rattle.sloth_region.specs.declared.map.Map.{Map}
 use Rattle.rv32_instr.specs.declared.block.Block.{Block}
 use Rattle.service_gen.specs.Block.{opening, further_marks}
 use Rattle.event_gen.specs.Calls.{IsCalledWith, ServesCall}
 
--- the wanted ones, the first of which has this number; a number is service code * 40 + object
+-- the wanted ones, the first of which has this number; a number is a place in the table of blocks
 abbrev pub wanted_from : ℕ → List Bool → List ℕ
 wanted_from number [] = []
 wanted_from number (true ∷ wanted) = number ∷ wanted_from (number + 1) wanted
@@ -18,8 +19,8 @@ wanted_from number (false ∷ wanted) = wanted_from (number + 1) wanted
 -- the number is that of a service with an object
 pub record IsServed (number : ℕ) : Type 0 where
   pub service : Service
-  pub is : service_of (number / 40) ≡ Some service
-  pub called_with : IsCalledWith service (number % 40)
+  pub is : service_of (block_code number) ≡ Some service
+  pub called_with : IsCalledWith service (block_object number)
 
 -- so is that of each wanted one
 abbrev pub AreServed : List Bool → Type 0
@@ -28,11 +29,11 @@ AreServed wanted = (number : ℕ) → get_or wanted number false ≡ true → Is
 -- the code of a service by its number
 pub record IsService (levels : Levels) (map : Map) (number : ℕ) (block : Block) : Type 0 where
   pub service : Service
-  pub is : service_of (number / 40) ≡ Some service
+  pub is : service_of (block_code number) ≡ Some service
   pub at : block.at ≡ slice_index map.places.blocks number
-  pub marks : block.marks ≡ opening block.at (number / 40) ∷ further_marks service block.at
+  pub marks : block.marks ≡ opening block.at (block_code number) ∷ further_marks service block.at
   pub few : length block.code ≤ 256
-  pub serves : ServesCall service (number % 40) levels block.code
+  pub serves : ServesCall service (block_object number) levels block.code
 
 -- the code of the wanted ones, in the order of their numbers
 abbrev pub AreServices : Levels → Map → List Bool → List Block → Type 0

@@ -1,16 +1,16 @@
 -- Which code of services task code needs.
 use Rattle.std.specs.Prelude.{ℕ, ◌+◌, ◌*◌, ◌==◌, Bool, false}
 use Rattle.std.specs.List.{list_any}
-use Rattle.sloth_base.specs.ServiceCodes.{code_of}
 use Rattle.sloth_base.specs.declared.app.App.{App}
 use Rattle.sloth_base.specs.declared.app.Func.{Func}
 use Rattle.sloth_base.specs.declared.app.Item.{Item}
 use Rattle.sloth_base.specs.declared.app.Op.{Op}
 use Rattle.sloth_base.specs.declared.app.Op.TheVariants as op
+use Rattle.sloth_base.specs.Blocks.{block_number}
 
--- an operation calls the service with its object that has this number: service code * 40 + object
+-- an operation calls the service with its object that has this place in the table of blocks
 abbrev pub calls : ℕ → Op → Bool
-calls number (op.Serve call) = code_of call.service * 40 + call.object == number
+calls number (op.Serve call) = block_number call.service call.object == number
 calls number (op.Alu kind rd rs1 rs2) = false
 calls number (op.AluImm kind rd rs1 imm) = false
 calls number (op.Lui rd imm) = false

@@ -9,19 +9,19 @@ use rv32_instr::Block;
 use sloth_base::app::App;
 use sloth_base::config::Config;
 use sloth_base::memory::NoMemory;
-use sloth_base::places::Levels;
+use sloth_base::places::{BLOCK_COUNT, Levels};
 use sloth_region::map::Map;
 use std::alloc::Global;
 use vector_gen::{boot, idle, vectors};
 
 /// All blocks in the order of their addresses: the vector words, boot, the idle loop, the prologue of each task, each wanted
-/// service (by service code * 40 + object), and each item.
+/// service (by its place in the table of blocks), and each item.
 pub fn gather(
     alloc: Global,
     config: &Config,
     app: &App,
     levels: &Levels,
-    wanted: &[bool; 512],
+    wanted: &[bool; BLOCK_COUNT],
     map: &Map,
 ) -> Result<Vec<Block>, NoMemory>
     requires { MayGenerate config.now app.now levels.now wanted.now map.now }

@@ -1,5 +1,6 @@
 //! The image of task code.
 ghost use Rattle.std.specs.Prelude.{◌≡◌, ◌≤◌, ◌<◌, ◌+◌, IfOk, length};
+ghost use Rattle.sloth_base.specs.MemoryMap.{memory_base, memory_end};
 ghost use Rattle.sloth_base.specs.ImageRange.{InFormat};
 ghost use Rattle.rv32_expand.specs.InPlace.{ItemsInPlace};
 ghost use Rattle.sim_induction.specs.Sound.{Sound};
@@ -15,13 +16,11 @@ use sloth_base::app::App;
 use sloth_base::config::Config;
 use sloth_base::image::Image;
 use sloth_base::memory::NoMemory;
-use sloth_base::places::Levels;
+use sloth_base::memory_map::MEMORY_BASE;
+use sloth_base::places::{BLOCK_COUNT, Levels};
 use sloth_link::linking::{Linked, link};
 use sloth_region::map::Map;
 use std::alloc::Global;
-
-/// Where memory begins.
-const BASE: u32 = 0x8000_0000;
 
 /// The place of the zone of data among the extents.
 const DATA: usize = 2;
@@ -29,12 +28,12 @@ const DATA: usize = 2;
 // The bytes of the memory, up to the end of the zone of data.
 fn size(map: &Map) -> usize
     requires there { 2 < length map.now.extents }
-    requires above { 0x80000000 ≤ (data_zone map.now).base }
-    requires below { (data_zone map.now).base + (data_zone map.now).len ≤ 0x80200000 }
-    ensures { 0x80000000 + result ≡ (data_zone map.now).base + (data_zone map.now).len }
+    requires above { memory_base ≤ (data_zone map.now).base }
+    requires below { (data_zone map.now).base + (data_zone map.now).len ≤ memory_end }
+    ensures { memory_base + result ≡ (data_zone map.now).base + (data_zone map.now).len }
 {
     let data = map.extents.items()[DATA];
-    (data.base - BASE + data.len) as usize
+    (data.base - MEMORY_BASE + data.len) as usize
 }
 
 // The blocks and the data, linked.
@@ -43,7 +42,7 @@ fn linked(
     config: &Config,
     app: &App,
     levels: &Levels,
-    wanted: &[bool; 512],
+    wanted: &[bool; BLOCK_COUNT],
     map: &Map,
 ) -> Result<Linked, NoMemory>
     requires { MayGenerate config.now app.now levels.now wanted.now map.now }
@@ -55,14 +54,14 @@ fn linked(
     Ok(linked)
 }
 
-/// The image of well-formed task code, by the levels and the map, with the wanted services (by service code * 40 + object):
+/// The image of well-formed task code, by the levels and the map, with the wanted services (by their places in the table of blocks):
 /// every run of it is one of the abstract scheduler, and its items are in place.
 pub fn generate(
     alloc: Global,
     config: &Config,
     app: &App,
     levels: &Levels,
-    wanted: &[bool; 512],
+    wanted: &[bool; BLOCK_COUNT],
     map: &Map,
 ) -> Result<Image, NoMemory>
     requires { MayGenerate config.now app.now levels.now wanted.now map.now }

@@ -1,5 +1,6 @@
 //! The image of a configuration and its task code.
 ghost use Rattle.std.specs.Prelude.{◌≡◌, ◌<◌, ℕ, IfOk, false, get_or, length};
+ghost use Rattle.sloth_base.specs.Blocks.{block_count};
 ghost use Rattle.sloth_base.specs.ImageRange.{InFormat};
 ghost use Rattle.sloth_base.specs.Named.{declaration};
 ghost use Rattle.app_rules.specs.WellFormed.{WellFormed};
@@ -18,6 +19,7 @@ use sloth_base::app::App;
 use sloth_base::config::Config;
 use sloth_base::image::Image;
 use sloth_base::memory::NoMemory;
+use sloth_base::places::BLOCK_COUNT;
 use sloth_region::map::Map;
 use stack_bounds::stacks::Stacks;
 use std::alloc::Global;
@@ -27,11 +29,11 @@ fn planned(
     alloc: Global,
     config: &Config,
     app: &App,
-    wanted: &[bool; 512],
+    wanted: &[bool; BLOCK_COUNT],
     stacks: &Stacks,
 ) -> Result<Map, NoMemory>
     requires may_build { MayBuild config.now app.now stacks.now }
-    requires wanted { (number : ℕ) → number < 512 → get_or wanted.now number false ≡ is_wanted number app.now }
+    requires wanted { (number : ℕ) → number < block_count → get_or wanted.now number false ≡ is_wanted number app.now }
     ensures { IfOk result (λ map. IsPlanned config.now app.now wanted.now map) }
 {
     let sizes = sizes(alloc, app)?;

@@ -1,16 +1,16 @@
 //! The code of the services that are wanted.
 ghost use Rattle.std.specs.Prelude.{◌≡◌, ◌+◌, ◌*◌, ◌<◌, ◌≤◌, ◌∷◌, IfOk, length, slice_index};
+ghost use Rattle.sloth_base.specs.Blocks.{block_count, block_number};
 ghost use Rattle.sloth_base.specs.ServiceCodes.{code_of};
 ghost use Rattle.service_gen.specs.Block.{opening, further_marks};
 ghost use Rattle.event_gen.specs.Calls.{IsCalledWith, ServesCall};
 ghost use Rattle.image_gen.specs.Services.{IsServed, AreServed, IsService, AreServices};
 
 use crate::prologues::push;
-use crate::wanted::{NUMBERS, OBJECTS};
 use rv32_instr::Block;
 use sloth_base::config::Config;
 use sloth_base::memory::NoMemory;
-use sloth_base::places::Levels;
+use sloth_base::places::{BLOCK_COUNT, Levels, block_object, block_service};
 use sloth_base::service::Service;
 use sloth_region::map::Map;
 use std::alloc::Global;
@@ -25,7 +25,7 @@ fn called(
     map: &Map,
 ) -> Result<Block, NoMemory>
     requires { IsCalledWith service object }
-    ensures at { IfOk result (λ block. block.at ≡ slice_index map.now.places.blocks (code_of service * 40 + object)) }
+    ensures at { IfOk result (λ block. block.at ≡ slice_index map.now.places.blocks (block_number service object)) }
     ensures marks { IfOk result (λ block. block.marks ≡ opening block.at (code_of service) ∷ further_marks service block.at) }
     ensures few { IfOk result (λ block. length block.code ≤ 256) }
     ensures serves { IfOk result (λ block. ServesCall service object levels.now block.code) }
@@ -37,7 +37,7 @@ fn called(
     }
 }
 
-// The code of a service by its number.
+// The code of a service by its place.
 fn one(
     alloc: Global,
     number: usize,
@@ -46,20 +46,19 @@ fn one(
     map: &Map,
 ) -> Result<Block, NoMemory>
     requires served { IsServed number }
-    requires below { number < 512 }
+    requires below { number < block_count }
     ensures { IfOk result (IsService levels.now map.now number) }
 {
-    let object = (number % OBJECTS) as u32;
-    match Service::from_code((number / OBJECTS) as u8) {
-        Some(service) => called(alloc, service, object, config, levels, map),
+    match block_service(number) {
+        Some(service) => called(alloc, service, block_object(number), config, levels, map),
         None => unreachable!(),
     }
 }
 
-/// The code of each wanted service (by service code * 40 + object), in the order of these numbers.
+/// The code of each wanted service (by its place in the table of blocks), in the order of the table.
 pub fn services(
     alloc: Global,
-    wanted: &[bool; 512],
+    wanted: &[bool; BLOCK_COUNT],
     config: &Config,
     levels: &Levels,
     map: &Map,
@@ -68,7 +67,7 @@ pub fn services(
     ensures { IfOk result (λ blocks. AreServices levels.now map.now wanted.now blocks.items) }
 {
     let mut blocks = Vec::new(alloc);
-    for number in 0..NUMBERS {
+    for number in 0..BLOCK_COUNT {
         if wanted[number] {
             push(&mut blocks, one(alloc, number, config, levels, map)?)?;
         }

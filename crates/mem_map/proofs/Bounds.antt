@@ -9,6 +9,7 @@ use Rattle.sloth_base.specs.declared.app.App.{App}
 use Rattle.sloth_base.specs.declared.app.Func.{Func}
 use Rattle.sloth_base.specs.declared.app.Symbol.{Symbol}
 use Rattle.sloth_base.specs.declared.config.Config.{Config}
+use Rattle.sloth_base.specs.Blocks.{block_count, block_object}
 use Rattle.app_rules.specs.AppRange.{AppInRange}
 use Rattle.rv32_expand.specs.InPlace.{IsItem}
 use Rattle.rv32_expand.specs.Sizes.{AreSizes, items_before}
@@ -95,9 +96,9 @@ one_if false = 0
 -- how many of so many numbers from k on have an object that is at most 32
 allowed : ℕ → ℕ → ℕ
 allowed k zero = 0
-allowed k (suc n) = one_if (leb (k % 40) 32) + allowed (k + 1) n
+allowed k (suc n) = one_if (leb (block_object k) 32) + allowed (k + 1) n
 
-all_allowed : allowed 0 512 ≡ 428
+all_allowed : allowed 0 block_count ≡ 428
 unfolding allowed one_if
 all_allowed = refl
 
@@ -106,22 +107,22 @@ unfolding one_if
 is_one true n e h = refl
 is_one false n e h = let l = leb-false n 32 e in absurd (omega (arith, l, h))
 
-wanted_end : (from k : ℕ) (wanted : List Bool) → ((j : ℕ) → get_or wanted j false ≡ true → (k + j) % 40 ≤ 32)
+wanted_end : (from k : ℕ) (wanted : List Bool) → ((j : ℕ) → get_or wanted j false ≡ true → block_object (k + j) ≤ 32)
     → end_of from (map service_bytes wanted) ≤ from + 1024 * allowed k (length wanted)
 unfolding allowed
 wanted_end from k [] objects = omega arith
 wanted_end from k (true ∷ wanted) objects =
     let z : k + 0 ≡ k = omega arith in
-    let o = is_one (leb (k % 40) 32) (k % 40) refl (subst (λ (i : ℕ). i % 40 ≤ 32) z (objects 0 refl)) in
-    let r = wanted_end (from + 1024) (k + 1) wanted (λ j e. let s : k + suc j ≡ k + 1 + j = omega arith in subst (λ (i : ℕ). i % 40 ≤ 32) s (objects (suc j) e)) in
+    let o = is_one (leb (block_object k) 32) (block_object k) refl (subst (λ (i : ℕ). block_object i ≤ 32) z (objects 0 refl)) in
+    let r = wanted_end (from + 1024) (k + 1) wanted (λ j e. let s : k + suc j ≡ k + 1 + j = omega arith in subst (λ (i : ℕ). block_object i ≤ 32) s (objects (suc j) e)) in
     omega (arith, o, r)
 wanted_end from k (false ∷ wanted) objects =
-    let r = wanted_end (from + 0) (k + 1) wanted (λ j e. let s : k + suc j ≡ k + 1 + j = omega arith in subst (λ (i : ℕ). i % 40 ≤ 32) s (objects (suc j) e)) in
+    let r = wanted_end (from + 0) (k + 1) wanted (λ j e. let s : k + suc j ≡ k + 1 + j = omega arith in subst (λ (i : ℕ). block_object i ≤ 32) s (objects (suc j) e)) in
     omega (arith, r)
 
-pub services_end : (from : ℕ) (wanted : List Bool) → length wanted ≡ 512 → ((j : ℕ) → get_or wanted j false ≡ true → j % 40 ≤ 32)
+pub services_end : (from : ℕ) (wanted : List Bool) → length wanted ≡ block_count → ((j : ℕ) → get_or wanted j false ≡ true → block_object j ≤ 32)
     → end_of from (map service_bytes wanted) ≤ from + 438272
 services_end from wanted n objects =
-    let r = wanted_end from 0 wanted (λ j e. let s : j ≡ 0 + j = omega arith in subst (λ (i : ℕ). i % 40 ≤ 32) s (objects j e)) in
+    let r = wanted_end from 0 wanted (λ j e. let s : j ≡ 0 + j = omega arith in subst (λ (i : ℕ). block_object i ≤ 32) s (objects j e)) in
     let a = ap (allowed 0) n ∙ all_allowed in
     omega (arith, r, a)

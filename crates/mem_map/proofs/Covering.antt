@@ -15,6 +15,7 @@ use Rattle.sloth_base.specs.declared.config.Config.{Config}
 use Rattle.sloth_base.specs.declared.places.Places.{Places}
 use Rattle.sloth_base.specs.declared.service.Service.{Service}
 use Rattle.sloth_base.specs.declared.service.Service.TheVariants as service
+use Rattle.sloth_base.specs.Blocks.{block_count, block_number}
 use Rattle.app_rules.specs.AppRange.{AppInRange, AreOperands, IsResource, IsOp}
 use Rattle.rv32_expand.specs.Expansion.{item_address, block_address, is_long}
 use Rattle.rv32_expand.specs.InPlace.{IsItem}
@@ -84,7 +85,7 @@ pub record ArePlaced (app : App) (sizes : List ℕ) (wanted : List Bool) (places
   pub items : places.items ≡ starts items_from (map item_bytes sizes)
   pub symbols : places.symbols ≡ starts symbols_from (map symbol_bytes app.symbols)
   pub blocks : places.blocks ≡ starts services_from (map service_bytes wanted)
-  pub full : length wanted ≡ 512
+  pub full : length wanted ≡ block_count
   pub above : 0x8000_0400 ≤ services_from
   pub services_to : end_of services_from (map service_bytes wanted) ≤ items_from
   pub items_to : end_of items_from (map item_bytes sizes) ≤ symbols_from
@@ -171,7 +172,7 @@ module _ (config : Config) (app : App) (sizes : List ℕ) (wanted : List Bool) (
       let o = subst P e ((range.bodies func missing item.declared).items index no_item item.inside) in
       let few = object_few config call.service call.object call.mask range.configuration o in
       let code = code_few call.service in
-      let k : ℕ = code_of call.service * 40 + call.object in
+      let k : ℕ = block_number call.service call.object in
       let w = p.full in
       let m = length-map wanted service_bytes in
       let l : k < length (map service_bytes wanted) = omega (arith, few, code, w, m) in

@@ -3,6 +3,7 @@ use Rattle.std.proofs.Common.{◌≡◌, ◌≤◌, ◌<◌, ◌+◌, ◌-◌, �
 use Rattle.std.specs.Prelude.{All, map, slice_index}
 use Rattle.sloth_base.specs.declared.app.App.{App}
 use Rattle.sloth_base.specs.declared.config.Config.{Config}
+use Rattle.sloth_base.specs.Blocks.{block_count}
 use Rattle.sloth_region.specs.declared.extent.Extent.{Extent}
 use Rattle.sloth_region.specs.declared.map.Map.{Map}
 use Rattle.sloth_region.specs.Region.{AreApartWithin}
@@ -12,7 +13,7 @@ use Rattle.mem_map.specs.Zones.{code_zone, data_zone, all_stacks, nowhere, HasZo
 use Rattle.mem_map.specs.Plan.{MayPlan, HasAddresses, idle_at, prologue_at, services_at, items_at, code_end, service_bytes, item_bytes, symbol_bytes}
 use Rattle.mem_map.proofs.Planned.{few_tasks, services_above, items_above, symbols_above, items_all_even, blocks_all_even}
 
-module _ (config : Config) (app : App) (sizes : List ℕ) (wanted : List Bool) (stacks : Stacks) (may : MayPlan config app sizes wanted stacks) (full : length wanted ≡ 512) (plan : Map) where
+module _ (config : Config) (app : App) (sizes : List ℕ) (wanted : List Bool) (stacks : Stacks) (may : MayPlan config app sizes wanted stacks) (full : length wanted ≡ block_count) (plan : Map) where
   abbrev n : ℕ
   n = length config.tasks
 

@@ -4,6 +4,8 @@ use Rattle.std.specs.Prelude as prelude
 use Rattle.sloth_base.specs.declared.app.App.{App}
 use Rattle.sloth_base.specs.declared.app.Symbol.{Symbol}
 use Rattle.sloth_base.specs.declared.config.Config.{Config}
+use Rattle.sloth_base.specs.Blocks.{block_object}
+use Rattle.sloth_base.specs.MemoryMap.{vectors_base, boot_base}
 use Rattle.sloth_region.specs.declared.extent.Extent.{Extent}
 use Rattle.sloth_region.specs.declared.map.Map.{Map}
 use Rattle.sloth_region.specs.Region.{aligned}
@@ -44,7 +46,7 @@ symbol_bytes symbol = aligned (length symbol.bytes) 4
 
 -- the idle loop, behind boot
 abbrev pub idle_at : ℕ → ℕ
-idle_at tasks = 0x8000_0480 + boot_bytes tasks
+idle_at tasks = boot_base + boot_bytes tasks
 
 -- the prologue of a task
 abbrev pub prologue_at : (tasks task : ℕ) → ℕ
@@ -79,14 +81,14 @@ pub record HasAddresses (config : Config) (app : App) (sizes : List ℕ) (servic
   pub first : map.places.first ≡ starts 0 (prelude.map (λ f. length f.items) app.funcs)
   pub symbols : map.places.symbols ≡ starts (code_end (length config.tasks) services sizes) (prelude.map symbol_bytes app.symbols)
   -- the zone of code is all of this code, and the zone of data follows it
-  pub code_from : (code_zone map).base ≡ 0x8000_0400
+  pub code_from : (code_zone map).base ≡ vectors_base
   pub code_to : (code_zone map).base + (code_zone map).len ≡ code_end (length config.tasks) services sizes
   pub data_from : (data_zone map).base ≡ code_end (length config.tasks) services sizes
   pub data_to : (data_zone map).base + (data_zone map).len ≡ data_end app (code_end (length config.tasks) services sizes)
 
 -- code to which a vector word can jump
 abbrev pub IsNear : ℕ → Type 0
-IsNear address = (address % 4 ≡ 0) × (0x8000_0480 ≤ address) × (address < 0x8010_0400)
+IsNear address = (address % 4 ≡ 0) × (boot_base ≤ address) × (address < 0x8010_0400)
 
 -- ---- the extent of each piece, in the order of the addresses
 
@@ -104,7 +106,7 @@ service_extents (address ∷ addresses) (false ∷ services) = service_extents a
 -- vector words, boot, the idle loop, the prologues of so many tasks, the wanted services, the items of these sizes
 abbrev pub code_extents : Map → ℕ → List Bool → List ℕ → List Extent
 code_extents map tasks services sizes =
-    record { base = 0x8000_0400; len = 128 } ∷ record { base = 0x8000_0480; len = boot_bytes tasks } ∷ record { base = map.idle; len = idle_bytes }
+    record { base = vectors_base; len = 128 } ∷ record { base = boot_base; len = boot_bytes tasks } ∷ record { base = map.idle; len = idle_bytes }
     ∷ (prelude.map prologue_extent (take tasks map.handlers)
     ++ (service_extents map.places.blocks services ++ extents_of map.places.items (prelude.map item_bytes sizes)))
 
@@ -121,10 +123,10 @@ pub record AreNeeds (config : Config) (app : App) (stacks : Stacks) : Type 0 whe
   pub room : HaveRoom config app stacks.bounds
   pub parts : AreParts config app stacks
 
--- Task code in range with the sizes of its items, the services that are wanted (by service code * 40 + object), and what the tasks need of the stacks.
+-- Task code in range with the sizes of its items, the services that are wanted (by their places), and what the tasks need of the stacks.
 pub record MayPlan (config : Config) (app : App) (sizes : List ℕ) (services : List Bool) (stacks : Stacks) : Type 0 where
   pub in_range : AppInRange config app
   pub are_sizes : AreSizes app sizes
   -- the object of a wanted service is a task, a resource or RES_SCHEDULER: at most 32
-  pub objects : (number : ℕ) → get_or services number false ≡ true → number % 40 ≤ 32
+  pub objects : (number : ℕ) → get_or services number false ≡ true → block_object number ≤ 32
   pub needs : AreNeeds config app stacks

@@ -4,11 +4,11 @@ ghost use Rattle.mem_map.specs.Run.{starts, end_of};
 ghost use Rattle.mem_map.specs.Plan.{idle_at, prologue_at, service_bytes};
 
 use sloth_base::list::List;
+use sloth_base::memory_map::BOOT_BASE;
+use sloth_base::places::BLOCK_COUNT;
 use std::alloc::{AllocError, Global};
 
-/// Where boot stands, and its bytes: those that it has without a task, and those for each task.
-const BOOT: u32 = 0x8000_0480;
-
+/// The bytes of boot: those that it has without a task, and those for each task.
 const BOOT_LEN: u32 = 40;
 
 const ENTRY_LEN: u32 = 16;
@@ -24,7 +24,7 @@ pub fn idle_at(tasks: u32) -> u32
     requires { tasks ≤ 30 }
     ensures { result ≡ idle_at tasks }
 {
-    BOOT + BOOT_LEN + ENTRY_LEN * tasks
+    BOOT_BASE + BOOT_LEN + ENTRY_LEN * tasks
 }
 
 /// The address of a task's prologue, or behind all of them where `task` is the number of tasks.
@@ -54,19 +54,19 @@ pub fn handlers(tasks: u32) -> [u32; 32]
 /// The address of each service by its number, and the address behind the last one that is wanted.
 #[derive(Drop)]
 pub struct Services {
-    pub starts: [u32; 512],
+    pub starts: [u32; BLOCK_COUNT],
     pub end: u32,
 }
 
 /// The addresses of services, the first at `from`. One that is not wanted takes no room.
-pub fn place_services(from: u32, wanted: &[bool; 512]) -> Services
+pub fn place_services(from: u32, wanted: &[bool; BLOCK_COUNT]) -> Services
     requires { end_of from (map service_bytes wanted.now) < 4294967296 }
     ensures starts { result.starts ≡ starts from (map service_bytes wanted.now) }
     ensures end { result.end ≡ end_of from (map service_bytes wanted.now) }
 {
-    let mut starts = [0; 512];
+    let mut starts = [0; BLOCK_COUNT];
     let mut end = from;
-    for number in 0..512usize {
+    for number in 0..BLOCK_COUNT {
         starts[number] = end;
         if wanted[number] {
             end += SERVICE_LEN;

@@ -1,5 +1,6 @@
 //! The map of an image.
 ghost use Rattle.std.specs.Prelude.{ℕ, ◌≡◌, ◌≤◌, ◌<◌, ◌+◌, IfOk, All, length, map, slice_index};
+ghost use Rattle.sloth_base.specs.MemoryMap.{vectors_base};
 ghost use Rattle.sloth_region.specs.Region.{FollowWithin};
 ghost use Rattle.rv32_expand.specs.Sizes.{AgreeWithSizes, Covers};
 ghost use Rattle.mem_map.specs.Run.{starts, end_of};
@@ -15,20 +16,19 @@ use sloth_base::app::App;
 use sloth_base::config::Config;
 use sloth_base::list::List;
 use sloth_base::memory::NoMemory;
-use sloth_base::places::Places;
+use sloth_base::memory_map::VECTORS_BASE;
+use sloth_base::places::{BLOCK_COUNT, Places};
 use sloth_region::map::Map;
 use stack_bounds::stacks::Stacks;
 use std::alloc::{AllocError, Global};
 
-/// Where the code begins.
-const CODE: u32 = 0x8000_0400;
 /// The bytes behind the last symbol.
 const WORD: u32 = 4;
 
 /// The addresses of services and items, and the address behind the last item.
 #[derive(Drop)]
 struct Code {
-    services: [u32; 512],
+    services: [u32; BLOCK_COUNT],
     items: List<u32>,
     end: u32,
 }
@@ -38,7 +38,7 @@ fn plan_code(
     alloc: Global,
     tasks: u32,
     sizes: &[u32],
-    wanted: &[bool; 512],
+    wanted: &[bool; BLOCK_COUNT],
 ) -> Result<Code, AllocError>
     requires few_tasks { tasks ≤ 30 }
     requires small { All (λ size. size ≤ 36) sizes.now }
@@ -86,7 +86,7 @@ fn make_map(
     config: &Config,
     app: &App,
     sizes: &[u32],
-    wanted: &[bool; 512],
+    wanted: &[bool; BLOCK_COUNT],
     stacks: &Stacks,
 ) -> Result<Map, NoMemory>
     requires { MayPlan config.now app.now sizes.now wanted.now stacks.now }
@@ -102,7 +102,7 @@ fn make_map(
     let lengths = stack_lengths(alloc, declared, stacks)?;
     let zones = plan_zones(
         alloc,
-        code.end - CODE,
+        code.end - VECTORS_BASE,
         symbols.end + WORD - code.end,
         &lengths,
     )?;
@@ -131,7 +131,7 @@ fn make_map(
 }
 
 /// The map of an image: in this order the vector words, boot, the idle loop, a prologue for each task, the wanted services
-/// (by service code * 40 + object), all items (of so many instructions each), all symbols, the stack that all basic tasks share, and a
+/// (by their places in the table of blocks), all items (of so many instructions each), all symbols, the stack that all basic tasks share, and a
 /// stack for each extended task.
 /// There is room for all of them; only memory for the map itself may be missing.
 pub fn plan(
@@ -139,7 +139,7 @@ pub fn plan(
     config: &Config,
     app: &App,
     sizes: &[u32],
-    wanted: &[bool; 512],
+    wanted: &[bool; BLOCK_COUNT],
     stacks: &Stacks,
 ) -> Result<Map, NoMemory>
     requires { MayPlan config.now app.now sizes.now wanted.now stacks.now }
@@ -148,7 +148,7 @@ pub fn plan(
     ensures addresses { IfOk result (HasAddresses config.now app.now sizes.now wanted.now) }
     ensures reach { IfOk result (λ plan. (line : ℕ) → line < 32 → IsNear (slice_index plan.handlers line)) }
     ensures near { IfOk result (λ plan. code_end (length config.now.tasks) wanted.now sizes.now < 0x80100400) }
-    ensures code_follows { IfOk result (λ plan. FollowWithin 0x80000400 (code_end (length config.now.tasks) wanted.now sizes.now)
+    ensures code_follows { IfOk result (λ plan. FollowWithin vectors_base (code_end (length config.now.tasks) wanted.now sizes.now)
         (code_extents plan (length config.now.tasks) wanted.now sizes.now)) }
     ensures data_follows { IfOk result (λ plan. FollowWithin (code_end (length config.now.tasks) wanted.now sizes.now)
         (data_end app.now (code_end (length config.now.tasks) wanted.now sizes.now)) (data_extents plan app.now)) }

@@ -1,5 +1,6 @@
 //! The zones of an image, placed in one region.
 ghost use Rattle.std.specs.Prelude.{◌≡◌, ◌≤◌, ◌+◌, ◌%◌, ◌∷◌, IfOk, All, length, map};
+ghost use Rattle.sloth_base.specs.MemoryMap.{memory_end, vectors_base};
 ghost use Rattle.sloth_region.specs.Region.{AreApartWithin};
 ghost use Rattle.mem_map.specs.Run.{room_for};
 
@@ -44,10 +45,10 @@ pub fn plan_zones(
     requires few { length stack_lens.now ≤ 30 }
     requires room { 1024 + code_len + 3 + data_len + 3 + room_for 16 stack_lens.now ≤ 0x200000 }
     ensures extents { IfOk result (λ zones. zones.extents ≡ zones.words ∷ zones.code ∷ zones.data ∷ zones.stacks) }
-    ensures apart { IfOk result (λ zones. AreApartWithin 0x80000004 0x80200000 zones.extents) }
+    ensures apart { IfOk result (λ zones. AreApartWithin 0x80000004 memory_end zones.extents) }
     ensures words { IfOk result (λ zones. zones.words ≡ record { base = 0x80000004; len = 1020 }) }
-    ensures code { IfOk result (λ zones. zones.code ≡ record { base = 0x80000400; len = code_len }) }
-    ensures data_zone { IfOk result (λ zones. zones.data ≡ record { base = 0x80000400 + code_len; len = data_len }) }
+    ensures code { IfOk result (λ zones. zones.code ≡ record { base = vectors_base; len = code_len }) }
+    ensures data_zone { IfOk result (λ zones. zones.data ≡ record { base = vectors_base + code_len; len = data_len }) }
     ensures stacks { IfOk result (λ zones. map (λ e. e.len) zones.stacks ≡ stack_lens.now) }
     ensures stacks_aligned { IfOk result (λ zones. All (λ e. e.base % 16 ≡ 0) zones.stacks) }
 {

@@ -19,7 +19,7 @@ rows = view_from (
     ∷ record { address = 300; kind = kind.Idle; a = 0; b = 0; c = 0 }
     ∷ record { address = 400; kind = kind.Back; a = 0; b = 0; c = 0 }
     ∷ []
-    ) 2
+    ) (record { tasks = 2 })
 
 -- a step that takes no line, after which all registers hold 7
 abbrev went : ℕ → ℕ → Bool → Bool → ℕ → ℕ → Option ℕ → Step

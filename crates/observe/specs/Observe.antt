@@ -14,20 +14,24 @@ use Rattle.sloth_base.specs.declared.step.Step.{Step}
 use Rattle.sloth_base.specs.Arrivals.{moments}
 use Rattle.sloth_base.specs.ServiceCodes.{service_of}
 use Rattle.sloth_base.specs.Options.{is_number}
+use Rattle.sloth_base.specs.Owners.{line_kind, owners_named}
+use Rattle.sloth_base.specs.declared.lines.Owners.{Owners}
+use Rattle.sloth_base.specs.declared.lines.LineKind.{LineKind}
+use Rattle.sloth_base.specs.declared.lines.LineKind.TheVariants as line_of
 use Rattle.observe.specs.Pieces.{Piece, Outside, Stretch, pieces, cut_off}
 
--- what a run is observed by: the marks of the image, and its number of tasks
+-- what a run is observed by: the marks of the image, and the owners of lines
 pub record View : Type 0 where
   pub marks : List Mark
-  pub tasks : ℕ
+  pub owners : Owners
 
--- the view of these marks and this number of tasks
-abbrev pub view_from : List Mark → ℕ → View
-view_from marks tasks = record { marks = marks; tasks = tasks }
+-- the view of these marks and these owners
+abbrev pub view_from : List Mark → Owners → View
+view_from marks owners = record { marks = marks; owners = owners }
 
 -- what a run of an image is observed by
 abbrev pub view_of_image : Image → View
-view_of_image image = view_from image.marks (length image.tasks)
+view_of_image image = view_from image.marks (owners_named image)
 
 -- ---- tasks, services and marks
 
@@ -35,13 +39,19 @@ view_of_image image = view_from image.marks (length image.tasks)
 abbrev pub NO_TASK : ℕ
 NO_TASK = 4294967295
 
--- The task of the word at 0x80000000: that word is 0 where no task runs, and a task's number plus 1 where it does.
+-- The task of the first word of memory: that word is 0 where no task runs, and a task's number plus 1 where it does.
 abbrev pub task_of : ℕ → ℕ → ℕ
 task_of tasks cur = if nat_lt 0 cur && nat_le cur tasks then cur - 1 else NO_TASK
 
--- a task's line has the task's number
-abbrev pub task_of_line : ℕ → ℕ → ℕ
-task_of_line tasks line = if nat_lt line tasks then line else NO_TASK
+-- the event of a stretch that begins with the taking of a line, by what the line is for
+abbrev pub entry_event : LineKind → Event
+entry_event (line_of.Task t) = event.Enter t
+entry_event line_of.Unused = event.Enter NO_TASK
+
+-- the event of an arrival of a line, by what the line is for
+abbrev pub arrival_event : LineKind → Event
+arrival_event (line_of.Task t) = event.Admit t
+arrival_event line_of.Unused = event.Admit NO_TASK
 
 -- the mark on the instruction at this address
 abbrev pub mark_at : View → ℕ → Option Mark
@@ -58,14 +68,14 @@ stamp from at what = record { stamp = record { from = from; at = at }; event = w
 abbrev pub service_event : Option Service → View → Step → Step → Event
 service_event (Some called) view first last =
     if first.cur_before == last.cur_after
-    then event.Call (task_of view.tasks first.cur_before) called (slice_index last.regs 10)
-    else event.Left (task_of view.tasks first.cur_before) called
+    then event.Call (task_of view.owners.tasks first.cur_before) called (slice_index last.regs 10)
+    else event.Left (task_of view.owners.tasks first.cur_before) called
 service_event None view first last = event.Stray
 
 -- the event of a stretch that begins at this mark, which no line began
 abbrev pub marked_event : MarkKind → View → Mark → Step → Step → Event
 marked_event kind.Opening view mark first last = service_event (service_of mark.a) view first last
-marked_event kind.Back view mark first last = event.Back (task_of view.tasks first.cur_before)
+marked_event kind.Back view mark first last = event.Back (task_of view.owners.tasks first.cur_before)
 marked_event kind.Item view mark first last = event.Stray
 marked_event kind.Jump view mark first last = event.Stray
 marked_event kind.Idle view mark first last = event.Stray
@@ -77,7 +87,7 @@ unentered_event None view first last = event.Stray
 
 -- of a stretch after that of count 0
 abbrev pub later_event : Option ℕ → View → Step → Step → Event
-later_event (Some line) view first last = event.Enter (task_of_line view.tasks line)
+later_event (Some line) view first last = entry_event (line_kind view.owners line)
 later_event None view first last = unentered_event (mark_at view first.pc) view first last
 
 -- of a stretch with this first and this last step
@@ -86,7 +96,7 @@ stretch_event view first last = if first.count == 0 then event.Boot else later_e
 
 -- an instruction at an item mark runs the item, and the mark names the register of its result
 abbrev pub events_of_kind : MarkKind → View → Mark → Step → List Event
-events_of_kind kind.Item view mark step = event.Run (task_of view.tasks step.cur_before) mark.b mark.c (slice_index step.regs mark.a) ∷ []
+events_of_kind kind.Item view mark step = event.Run (task_of view.owners.tasks step.cur_before) mark.b mark.c (slice_index step.regs mark.a) ∷ []
 events_of_kind kind.Idle view mark step = event.Idle ∷ []
 events_of_kind kind.Jump view mark step = []
 events_of_kind kind.Opening view mark step = []
@@ -101,7 +111,7 @@ outside_events None view step = []
 
 -- the event of an arrival at its own moment
 abbrev pub admit : View → Arrival → Stamped
-admit view arrival = stamp arrival.at arrival.at (event.Admit (task_of_line view.tasks arrival.line))
+admit view arrival = stamp arrival.at arrival.at (arrival_event (line_kind view.owners arrival.line))
 
 -- the step, at that moment or later, loads the pending byte of the line or stores zero to it
 abbrev pub touches : ℕ → ℕ → Step → Bool

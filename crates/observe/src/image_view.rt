@@ -2,16 +2,17 @@
 
 use sloth_base::event::{Event, Stamp, Stamped};
 use sloth_base::image::{Mark, MarkKind};
+use sloth_base::lines::{LineKind, Owners};
 use sloth_base::numbers::Line;
 use sloth_base::service::Service;
 use sloth_base::step::Step;
 use std::marker::Model;
 
-/// The marks of an image and its number of tasks.
+/// The marks of an image and the owners of lines.
 #[derive(Drop)]
 pub struct ImageView<'a> {
     pub marks: &'a [Mark],
-    pub tasks: usize,
+    pub owners: Owners,
 }
 
 impl<'a> Model for ImageView<'a> {
@@ -20,14 +21,15 @@ impl<'a> Model for ImageView<'a> {
 
     ghost Value = { View };
 
-    ghost view = { λ image. view_from image.marks.now image.tasks };
+    ghost view = { λ image. view_from image.marks.now image.owners };
 
     ghost invariant = { λ image. AreAscending image.marks.now };
 }
 
 impl ImageView<'_> {
     ghost use Rattle.std.specs.Prelude.{◌≡◌, map, slice_index};
-    ghost use Rattle.observe.specs.Observe.{task_of, task_of_line, mark_at, service_event, marked_event, unentered_event, stretch_event, outside_events, stamp};
+    ghost use Rattle.observe.specs.Observe.{task_of, entry_event, arrival_event, mark_at, service_event, marked_event, unentered_event, stretch_event, outside_events, stamp};
+    ghost use Rattle.sloth_base.specs.Owners.{line_kind};
     ghost use Rattle.sloth_base.specs.ServiceCodes.{service_of};
     ghost use Rattle.observe.specs.Progress.{only};
 
@@ -44,25 +46,34 @@ impl ImageView<'_> {
         }
     }
 
-    // The task of the word at 0x80000000.
+    // The task of the first word of memory.
     fn task(&self, cur: u32) -> u32
-        ensures { result ≡ task_of self.now.tasks cur }
+        ensures { result ≡ task_of self.now.owners.tasks cur }
     {
-        if 0 < cur && cur as usize <= self.tasks {
+        if 0 < cur && cur as usize <= self.owners.tasks {
             cur - 1
         } else {
             u32::MAX
         }
     }
 
-    /// The task of a line, or 4,294,967,295.
-    pub fn task_of_line(&self, line: Line) -> u32
-        ensures { result ≡ task_of_line self.now.tasks line }
+    /// The event of an arrival of a line.
+    pub fn arrival_event(&self, line: Line) -> Event
+        ensures { result ≡ arrival_event (line_kind self.now.owners line) }
     {
-        if usize::from(line.0) < self.tasks {
-            u32::from(line.0)
-        } else {
-            u32::MAX
+        match self.owners.kind(line) {
+            LineKind::Task(task) => Event::Admit(task),
+            LineKind::Unused => Event::Admit(u32::MAX),
+        }
+    }
+
+    // The event of a stretch that begins with the taking of a line.
+    fn entry_event(&self, line: Line) -> Event
+        ensures { result ≡ entry_event (line_kind self.now.owners line) }
+    {
+        match self.owners.kind(line) {
+            LineKind::Task(task) => Event::Enter(task),
+            LineKind::Unused => Event::Enter(u32::MAX),
         }
     }
 
@@ -129,7 +140,7 @@ impl ImageView<'_> {
             return Event::Boot;
         }
         match first.entered {
-            Some(line) => Event::Enter(self.task_of_line(line)),
+            Some(line) => self.entry_event(line),
             None => self.unentered_event(first, last),
         }
     }

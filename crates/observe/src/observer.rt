@@ -6,8 +6,9 @@ ghost use Rattle.sloth_base.specs.ImageRange.{AreAscending};
 
 use crate::image_view::ImageView;
 use crate::touched::{skip_early, skip_late};
-use sloth_base::event::{Arrival, Event, Stamp, Stamped};
+use sloth_base::event::{Arrival, Stamp, Stamped};
 use sloth_base::image::Image;
+use sloth_base::lines::Owners;
 use sloth_base::memory::NoMemory;
 use sloth_base::step::Step;
 use std::alloc::Global;
@@ -57,9 +58,11 @@ impl<'a> Observer<'a> {
     {
         let none: &[Arrival] = &[];
         let marks = image.marks.items();
-        let tasks = image.tasks.items().len();
+        let owners = Owners {
+            tasks: image.tasks.items().len(),
+        };
         Ok(Observer {
-            view: ImageView { marks, tasks },
+            view: ImageView { marks, owners },
             arrivals,
             expected: 0,
             coming: arrivals,
@@ -248,6 +251,6 @@ fn admit(view: &ImageView, arrival: &Arrival) -> Stamped
             from: arrival.at,
             at: arrival.at,
         },
-        event: Event::Admit(view.task_of_line(arrival.line)),
+        event: view.arrival_event(arrival.line),
     }
 }

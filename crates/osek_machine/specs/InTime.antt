@@ -6,6 +6,8 @@ use Rattle.sloth_base.specs.declared.event.Event.{Event}
 use Rattle.sloth_base.specs.declared.event.Event.TheVariants as event
 use Rattle.sloth_base.specs.declared.event.Stamp.{Stamp}
 use Rattle.sloth_base.specs.declared.event.Stamped.{Stamped}
+use Rattle.sloth_base.specs.declared.config.Config.{Config}
+use Rattle.sloth_base.specs.Stretches.{Boots, stretch_limit, longest_stretch}
 
 -- the task that an event admits
 abbrev pub admitted_task : Event → Option ℕ
@@ -78,18 +80,18 @@ abbrev pub AdmitsAll : ℕ → List Arrival → List Stamped → Type 0
 AdmitsAll n arrivals events = (k t : ℕ) → k < n → admits_at k t events ≡ arrivals_at k t arrivals
 
 -- the longest stretch that the end may cut off: boot before there is a `boot`
-abbrev pub longest : List Stamped → ℕ
-longest [] = 400
-longest (e ∷ events) = cond (is_boot e.event) 160 (longest events)
+abbrev pub longest : Config → List Stamped → ℕ
+longest config [] = stretch_limit config Boots
+longest config (e ∷ events) = cond (is_boot e.event) (longest_stretch config) (longest config events)
 
 -- those from moment k on, which fall into the stretch that the end cuts off
-pub record LeavesOut (n : ℕ) (arrivals : List Arrival) (events : List Stamped) (k : ℕ) : Type 0 where
+pub record LeavesOut (config : Config) (n : ℕ) (arrivals : List Arrival) (events : List Stamped) (k : ℕ) : Type 0 where
   pub admits : AdmitsAll k arrivals events
   pub leaves : (moment t : ℕ) → k ≤ moment → admits_at moment t events ≡ 0
   pub first : (t : ℕ) × (0 < arrivals_at k t arrivals)
   pub inside : k < n
   pub behind : All (λ e. e.stamp.at < k) (others events)
-  pub short : n - k < longest events
+  pub short : n - k < longest config events
 
 -- ---- where an admit stands
 
@@ -117,8 +119,8 @@ KeepsOrder arrivals events =
     → IsSubsequence (map (λ e. (e.stamp.at, admitted_task e.event)) group) (map (λ a. (a.at, Some a.line)) arrivals)
 
 -- the events of `n` instructions stand where the arrivals allow
-pub record InTime (n : ℕ) (arrivals : List Arrival) (events : List Stamped) : Type 0 where
+pub record InTime (config : Config) (n : ℕ) (arrivals : List Arrival) (events : List Stamped) : Type 0 where
   pub stamped : All (IsStamped n) events
   pub placed : AllPairs IsOrdered events
   pub in_order : KeepsOrder arrivals events
-  pub admitted : AdmitsAll n arrivals events ⊎ ((k : ℕ) × LeavesOut n arrivals events k)
+  pub admitted : AdmitsAll n arrivals events ⊎ ((k : ℕ) × LeavesOut config n arrivals events k)

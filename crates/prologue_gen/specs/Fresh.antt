@@ -6,6 +6,7 @@ use Rattle.rv32_instr.specs.declared.InstrKind.{InstrKind}
 use Rattle.rv32_instr.specs.declared.InstrKind.TheVariants.{Jal}
 use Rattle.rv32_instr.specs.Ram.{word_at, with_word, with_words}
 use Rattle.sloth_base.specs.Arithmetic.{plus}
+use Rattle.sloth_base.specs.MemoryMap.{memory_base}
 use Rattle.rv32_routine.specs.Masked.{Masked, WithArrivals}
 use Rattle.rv32_routine.specs.Place.{at, InPlace}
 use Rattle.rv32_routine.specs.Pieces.{registers_from}
@@ -27,8 +28,8 @@ pub record MayEnter (offset task place frame words : ℕ) (code : List InstrKind
   pub previous : core.mpie ≡ true
   pub jump : ℤ
   pub vector_word : InPlace core.ram (vector task) (Jal 0 jump ∷ [])
-  pub to_code : plus (0x8000_0000 + vector task) jump ≡ 0x8000_0000 + offset
-  pub x2 : slice_index core.registers 2 ≡ 0x8000_0000 + (place + context_bytes)
+  pub to_code : plus (memory_base + vector task) jump ≡ memory_base + offset
+  pub x2 : slice_index core.registers 2 ≡ memory_base + (place + context_bytes)
   pub aligned : place % 4 ≡ 0
   pub behind : idle_context ≤ place
   pub inside : place + context_bytes ≤ 0x20_0000
@@ -46,14 +47,14 @@ with_context core place =
 -- the bytes in which the task runs: what it preempted has its context at `place`, and the words of its frame are zero
 abbrev pub with_active : List ℕ → ℕ → ℕ → ℕ → ℕ → List ℕ
 with_active ram task place frame words =
-    with_words (with_word (with_word (with_word ram below_word (0x8000_0000 + place)) cur (task + 1)) (active task) 1) frame (replicate words 0)
+    with_words (with_word (with_word (with_word ram below_word (memory_base + place)) cur (task + 1)) (active task) 1) frame (replicate words 0)
 
 -- The task runs at its level, Active, with x5 to x29 and the words of its frame zero, at its first item.
 pub record Entered (task level first place frame words : ℕ) (touched : List ℕ) (start end : State) : Type 0 where
   pub touches : touched ≡ []
   pub left : LeftAs (record start.core { ilevel = level; ram = with_active (with_context start.core place) task place frame words }) end.core
   pub pc : end.pc ≡ first
-  pub x2 : slice_index end.core.registers 2 ≡ 0x8000_0000 + frame
+  pub x2 : slice_index end.core.registers 2 ≡ memory_base + frame
   pub zeros : (i : ℕ) → 5 ≤ i → i < 30 → slice_index end.core.registers i ≡ 0
   pub kept : (i : ℕ) → 30 ≤ i → slice_index end.core.registers i ≡ slice_index start.core.registers i
 

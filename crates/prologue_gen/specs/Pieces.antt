@@ -8,7 +8,7 @@ use Rattle.sloth_base.specs.Arithmetic.{hi, lo}
 use Rattle.sloth_base.specs.Status.{E_OK}
 use Rattle.rv32_routine.specs.Pieces.{past, saves, restores, clears, clears_words}
 
--- what the CSRs say goes into the context at x1; leaves 0x80000000 in x4
+-- what the CSRs say goes into the context at x1; leaves the base of memory in x4
 abbrev pub saves_csrs : List InstrKind
 saves_csrs = Lui 4 words_high ∷ Csrrs 3 0 MEPC ∷ Sw 1 3 (pos context_pc) ∷ Csrrs 3 0 PLEVEL ∷ Sw 1 3 (pos context_level) ∷ []
 

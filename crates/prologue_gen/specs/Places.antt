@@ -7,6 +7,7 @@ use Rattle.sloth_base.specs.declared.config.Config.{Config}
 use Rattle.sloth_base.specs.declared.config.TaskDecl.{TaskDecl}
 use Rattle.sloth_base.specs.declared.places.Levels.{Levels}
 use Rattle.sloth_base.specs.declared.places.Places.{Places}
+use Rattle.sloth_base.specs.MemoryMap.{memory_base, memory_end}
 use Rattle.sloth_region.specs.declared.map.Map.{Map}
 use Rattle.sloth_region.specs.Layout.{context_bytes}
 use Rattle.rv32_instr.specs.declared.InstrKind.{InstrKind}
@@ -31,11 +32,11 @@ first_item places body = slice_index places.items (slice_index places.first body
 
 -- the offset of the frame of so many words that ends at an address
 abbrev pub frame_at : ℕ → ℕ → ℕ
-frame_at top words = top - 4 * words - 0x8000_0000
+frame_at top words = top - 4 * words - memory_base
 
 -- a part of a stack ends here: in RAM, with room for a context
 abbrev pub IsTop : ℕ → Type 0
-IsTop top = (0x8000_0000 + context_bytes ≤ top) × (top ≤ 0x8020_0000)
+IsTop top = (memory_base + context_bytes ≤ top) × (top ≤ memory_end)
 
 -- what the code of a prologue does, of an extended task or of a basic one
 abbrev pub DoesEnter : Bool → ℕ → ℕ → ℕ → ℕ → ℕ → List InstrKind → Type 0

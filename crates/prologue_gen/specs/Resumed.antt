@@ -7,6 +7,7 @@ use Rattle.rv32_instr.specs.declared.InstrKind.{InstrKind}
 use Rattle.rv32_instr.specs.declared.InstrKind.TheVariants.{Jal}
 use Rattle.rv32_instr.specs.Ram.{word_at, with_word}
 use Rattle.sloth_base.specs.Arithmetic.{plus}
+use Rattle.sloth_base.specs.MemoryMap.{memory_base}
 use Rattle.rv32_routine.specs.Masked.{Masked, WithArrivals}
 use Rattle.rv32_routine.specs.Place.{at, InPlace}
 use Rattle.rv32_routine.specs.Kernel.{CanRun, LeftAs}
@@ -25,13 +26,13 @@ pub record MayResume (offset task place own : ℕ) (code : List InstrKind) (core
   pub previous : core.mpie ≡ true
   pub jump : ℤ
   pub vector_word : InPlace core.ram (vector task) (Jal 0 jump ∷ [])
-  pub to_code : plus (0x8000_0000 + vector task) jump ≡ 0x8000_0000 + offset
-  pub x2 : slice_index core.registers 2 ≡ 0x8000_0000 + (place + context_bytes)
+  pub to_code : plus (memory_base + vector task) jump ≡ memory_base + offset
+  pub x2 : slice_index core.registers 2 ≡ memory_base + (place + context_bytes)
   pub aligned : place % 4 ≡ 0
   pub behind : idle_context ≤ place
   pub inside : place + context_bytes ≤ 0x20_0000
   pub apart : IsApartFrom offset (length code) place context_bytes
-  pub resumes : word_at core.ram (resume task) ≡ 0x8000_0000 + own
+  pub resumes : word_at core.ram (resume task) ≡ memory_base + own
   pub own_aligned : own % 4 ≡ 0
   pub own_behind : 1024 ≤ own
   pub own_inside : own + context_bytes ≤ 0x20_0000
@@ -41,7 +42,7 @@ pub record MayResume (offset task place own : ℕ) (code : List InstrKind) (core
 -- the bytes in which a task is the running one and Active, with the context of what it preempted at `place`
 abbrev pub with_entry : Core → ℕ → ℕ → List ℕ
 with_entry core task place =
-    with_word (with_word (with_word (with_context core place) below_word (0x8000_0000 + place)) cur (task + 1)) (active task) 1
+    with_word (with_word (with_word (with_context core place) below_word (memory_base + place)) cur (task + 1)) (active task) 1
 
 -- The task runs at its level, Active, as its context says, but for a0, which is the status of the service that waited; no
 -- context is kept for it any more.
@@ -49,7 +50,7 @@ pub record Resumed (task level place own : ℕ) (touched : List ℕ) (start end 
   pub touches : touched ≡ []
   pub left : LeftAs (record start.core { ilevel = level; ram = with_word (with_entry start.core task place) (resume task) 0 }) end.core
   pub pc : end.pc ≡ word_at start.core.ram own
-  pub x2 : slice_index end.core.registers 2 ≡ 0x8000_0000 + (own + context_bytes)
+  pub x2 : slice_index end.core.registers 2 ≡ memory_base + (own + context_bytes)
   pub status : slice_index end.core.registers 10 ≡ E_OK
   pub loaded : (i : ℕ) → 5 ≤ i → i < 32 → i ≢ 10 → slice_index end.core.registers i ≡ word_at start.core.ram (own + 4 * i)
 

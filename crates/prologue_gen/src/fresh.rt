@@ -24,7 +24,7 @@ pub fn save_context(code: &mut Vec<Instr>) -> Result<(), AllocError>
     Ok(())
 }
 
-/// What the CSRs say. Leaves 0x80000000 in x4.
+/// What the CSRs say. Leaves the base of memory in x4.
 fn save_csrs(code: &mut Vec<Instr>) -> Result<(), AllocError>
     ensures { OnOk result (code.new.items ≡ code.old.items ++ saves_csrs) }
 {
@@ -52,7 +52,7 @@ fn save_words(code: &mut Vec<Instr>) -> Result<(), AllocError>
     emit(code, &saved)
 }
 
-/// The task becomes the running one and Active, and is to run at this level. x4 holds 0x80000000.
+/// The task becomes the running one and Active, and is to run at this level. x4 holds the base of memory.
 pub fn mark_active(code: &mut Vec<Instr>, task: u32, level: u8) -> Result<(), AllocError>
     requires { (task < 30) × (level < 32) }
     ensures { OnOk result (code.new.items ≡ code.old.items ++ marks_active task level) }

@@ -1,5 +1,6 @@
 //! The block of a prologue.
 ghost use Rattle.std.specs.Prelude.{◌≡◌, ◌+◌, ◌-◌, ◌*◌, ◌<◌, ◌≤◌, ℕ, [], All, IfOk, slice_index, length};
+ghost use Rattle.sloth_base.specs.MemoryMap.{memory_base};
 ghost use Rattle.prologue_gen.specs.Places.{IsBody, IsTop, EntersTask, DoesEnter, frame_at};
 
 use crate::body::body_of;
@@ -86,7 +87,7 @@ fn entry(
 /// The address of a frame of so many words that ends at an address.
 fn frame_address(top: u32, words: u32) -> u32
     requires { IsTop top × (words ≤ 32) }
-    ensures { result ≡ 0x80000000 + frame_at top words }
+    ensures { result ≡ memory_base + frame_at top words }
 {
     top - 4 * words
 }
@@ -102,9 +103,9 @@ fn code_of(
     first: u32,
 ) -> Result<Vec<Instr>, AllocError>
     requires small { (task < 30) × (level < 32) × (words ≤ 32) }
-    requires in_ram { 0x80000000 ≤ frame }
+    requires in_ram { memory_base ≤ frame }
     ensures size { IfOk result (λ code. length code.items ≤ 256) }
-    ensures enters { IfOk result (λ code. DoesEnter extended task level first (frame - 0x80000000) words code.items) }
+    ensures enters { IfOk result (λ code. DoesEnter extended task level first (frame - memory_base) words code.items) }
 {
     let mut code = Vec::new(alloc);
     save_context(&mut code)?;

@@ -13,7 +13,7 @@ use std::alloc::AllocError;
 /// How many instructions take up a task's own context.
 const GOES_ON: u32 = 33;
 
-/// Takes up the context that is kept for an extended task; for a basic one none is kept. x4 holds 0x80000000.
+/// Takes up the context that is kept for an extended task; for a basic one none is kept. x4 holds the base of memory.
 pub fn take_up(code: &mut Vec<Instr>, extended: bool, task: u32) -> Result<(), AllocError>
     requires { task < 30 }
     ensures { OnOk result (code.new.items ≡ code.old.items ++ takes_up extended task) }
@@ -25,7 +25,7 @@ pub fn take_up(code: &mut Vec<Instr>, extended: bool, task: u32) -> Result<(), A
     Ok(())
 }
 
-/// x1 := the address of the task's own context; passes what takes it up where there is none. x4 holds 0x80000000.
+/// x1 := the address of the task's own context; passes what takes it up where there is none. x4 holds the base of memory.
 fn ask_kept(code: &mut Vec<Instr>, task: u32) -> Result<(), AllocError>
     requires { task < 30 }
     ensures { OnOk result (code.new.items ≡ code.old.items ++ asks_kept task) }
@@ -34,7 +34,7 @@ fn ask_kept(code: &mut Vec<Instr>, task: u32) -> Result<(), AllocError>
     emit(code, &asked)
 }
 
-/// The task goes on behind its wait, as its context at x1 says. x4 holds 0x80000000.
+/// The task goes on behind its wait, as its context at x1 says. x4 holds the base of memory.
 fn go_on(code: &mut Vec<Instr>, task: u32) -> Result<(), AllocError>
     requires { task < 30 }
     ensures { OnOk result (code.new.items ≡ code.old.items ++ goes_on task) }

@@ -1,6 +1,5 @@
 -- The instructions of each item. The last one, which commits the item, changes what task code sees; those before it use x30 and x31 alone.
 use Rattle.std.specs.Prelude.{ℕ, zero, suc, ◌+◌, ◌*◌, ℤ, pos, ◌-ℤ◌, neg_ℤ, Bool, true, false, if◌then◌else◌, nat_lt, nat_le, List, [], ◌∷◌, ◌++◌, length, get_or}
-use Rattle.sloth_base.specs.ServiceCodes.{code_of}
 use Rattle.sloth_base.specs.declared.app.App.{App}
 use Rattle.sloth_base.specs.Named.{function, label_of, operation}
 use Rattle.sloth_base.specs.declared.app.Call.{Call}
@@ -16,6 +15,7 @@ use Rattle.sloth_base.specs.declared.service.Service.{Service}
 use Rattle.sloth_base.specs.declared.service.Service.TheVariants as service
 use Rattle.sloth_base.specs.declared.places.Places.{Places}
 use Rattle.sloth_base.specs.Arithmetic.{hi, lo}
+use Rattle.sloth_base.specs.Blocks.{block_number}
 use Rattle.rv32_instr.specs.Access.{load, store}
 use Rattle.rv32_instr.specs.declared.InstrKind.{InstrKind}
 use Rattle.rv32_instr.specs.declared.InstrKind.TheVariants.{Lui, Auipc, Jal, Jalr, Beq, Bne, Blt, Bge, Bltu, Bgeu, Lw, Sw, Addi, Slti, Sltiu, Xori, Ori, Andi, Slli, Srli, Srai, Add, Sub, Sll, Slt, Sltu, Xor, Srl, Sra, Or, And}
@@ -33,7 +33,7 @@ symbol_address places symbol = get_or places.symbols symbol 0
 
 -- the address of the code of a service with its object
 abbrev pub block_address : Places → Service → ℕ → ℕ
-block_address places s object = get_or places.blocks (code_of s * 40 + object) 0
+block_address places s object = get_or places.blocks (block_number s object) 0
 
 -- how far it is from one address to another
 abbrev pub distance : ℕ → ℕ → ℤ

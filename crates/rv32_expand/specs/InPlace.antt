@@ -16,6 +16,7 @@ use Rattle.rv32_instr.specs.declared.InstrKind.{InstrKind}
 use Rattle.rv32_expand.specs.Long.{IsLeast}
 use Rattle.rv32_expand.specs.Expansion.{is_long, expansion, item_address}
 use Rattle.sloth_base.specs.Named.{operation, function}
+use Rattle.sloth_base.specs.MemoryMap.{memory_base}
 
 -- the register of an item's result: its destination, a store's source, or x0
 abbrev pub result_register : Op → ℕ
@@ -60,7 +61,7 @@ item_mark app places func index = mark_of (operation app func index) (last_addre
 -- the words of these instructions stand at an address, one after the other
 abbrev pub CodeAt : List ℕ → ℕ → List InstrKind → Type 0
 CodeAt memory address [] = Unit {0}
-CodeAt memory address (i ∷ rest) = (word_at memory (address - 0x8000_0000) ≡ Encode i) × CodeAt memory (address + 4) rest
+CodeAt memory address (i ∷ rest) = (word_at memory (address - memory_base) ≡ Encode i) × CodeAt memory (address + 4) rest
 
 -- an item of the task code
 pub record IsItem (app : App) (func index : ℕ) : Type 0 where
@@ -87,7 +88,7 @@ pub record ItemsInPlace (image : Image) (config : Config) (app : App) : Type 0 w
   pub code : (func index : ℕ) → IsItem app func index
       → CodeAt image.memory (item_address places func index) (expansion app places func index)
   pub inside : (func index : ℕ) → IsItem app func index
-      → (0x8000_0000 < item_address places func index + 1) × (last_address app places func index + 4 < 0x8000_0000 + length image.memory + 1)
+      → (memory_base < item_address places func index + 1) × (last_address app places func index + 4 < memory_base + length image.memory + 1)
   pub adjacent : (func index : ℕ) → IsItem app func index → IsItem app func (index + 1)
       → item_address places func (index + 1) ≡ item_address places func index + 4 * length (expansion app places func index)
   pub least : (func : ℕ) → func < length app.funcs → IsLeast app (function app func) (is_long places func)

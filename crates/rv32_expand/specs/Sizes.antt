@@ -10,6 +10,7 @@ use Rattle.sloth_base.specs.declared.places.Places.{Places}
 use Rattle.app_rules.specs.WellFormed.{WellFormed}
 use Rattle.rv32_expand.specs.Expansion.{item_address, symbol_address, block_address, expansion}
 use Rattle.sloth_base.specs.Named.{operation}
+use Rattle.sloth_base.specs.MemoryMap.{memory_base, memory_end}
 use Rattle.rv32_expand.specs.InPlace.{IsItem}
 use Rattle.rv32_expand.specs.Long.{Set, size_at, IsLeast}
 
@@ -40,7 +41,7 @@ IsVerified app = (config : Config) × WellFormed config app
 
 -- the address of a word of RAM
 abbrev pub IsWordAddress : ℕ → Type 0
-IsWordAddress address = (0x8000_0000 ≤ address) × (address < 0x8020_0000) × (address % 4 ≡ 0)
+IsWordAddress address = (memory_base ≤ address) × (address < memory_end) × (address % 4 ≡ 0)
 
 -- The addresses of items, symbols and blocks of services are those of words in RAM, and the code that jumps between them
 -- stands in less than 1 MiB from `low` on.

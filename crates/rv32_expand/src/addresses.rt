@@ -6,7 +6,7 @@ ghost use Rattle.rv32_expand.specs.Expansion.{distance, item_address, symbol_add
 use crate::long_branches::item_behind;
 use sloth_base::app::App;
 use sloth_base::numbers::SymId;
-use sloth_base::places::Places;
+use sloth_base::places::{Places, block_number};
 use sloth_base::service::Service;
 
 /// The address of an item of a function.
@@ -37,8 +37,7 @@ pub fn symbol_address(places: &Places, symbol: SymId) -> u32
 pub fn block_address(places: &Places, service: Service, object: u32) -> u32
     ensures { result ≡ block_address places.now service object }
 {
-    let index = service.code() as usize * 40 + object as usize;
-    match places.blocks.get(index) {
+    match places.blocks.get(block_number(service, object)) {
         Some(address) => *address,
         None => 0,
     }

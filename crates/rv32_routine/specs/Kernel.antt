@@ -40,7 +40,7 @@ takes_up =
     ∷ Lw 3 1 (pos context_cur) ∷ Sw 4 3 (pos cur) ∷ Lw 3 1 (pos context_below) ∷ Sw 4 3 (pos below_word)
     ∷ Addi 2 1 (pos context_bytes) ∷ []
 
--- x4 holds 0x80000000
+-- x4 holds the base of memory
 abbrev pub leave : List InstrKind
 leave = takes_up ++ (restores 27 5 1 ++ Mret ∷ [])
 

@@ -11,7 +11,7 @@ use sloth_region::layout::{
 };
 use std::alloc::AllocError;
 
-/// Goes back to what runs below, as its context says. x4 holds 0x80000000.
+/// Goes back to what runs below, as its context says. x4 holds the base of memory.
 pub fn leave(code: &mut Vec<Instr>) -> Result<(), AllocError>
     ensures { OnOk result (code.new.items ≡ code.old.items ++ leave) }
 {

@@ -8,7 +8,7 @@ use Rattle.rv32_instr.specs.declared.InstrKind.TheVariants.{Beq, Bgeu, Lui, Auip
 use Rattle.rv32_routine.specs.Kernel.{masking}
 use Rattle.rv32_routine.specs.Pieces.{past}
 
--- leaves 0x80000000 in x4
+-- leaves the base of memory in x4
 abbrev pub opens : List InstrKind
 opens = masking ∷ Lui 4 words_high ∷ []
 
@@ -24,13 +24,13 @@ own_active = negsuc 7
 abbrev pub own_events : ℤ
 own_events = negsuc 3
 
--- the end of the running task: its pending byte, its Active word and its events become 0; x4 holds 0x80000000
+-- the end of the running task: its pending byte, its Active word and its events become 0; x4 holds the base of memory
 abbrev pub ends : List InstrKind
 ends =
     Lw 3 4 (pos cur) ∷ Lui 1 controller_high ∷ Add 1 1 3 ∷ Sb 1 0 own_pending ∷ Slli 1 3 3 ∷ Slli 3 3 2 ∷ Add 3 3 1 ∷ Add 3 3 4
     ∷ Sw 3 0 own_active ∷ Sw 3 0 own_events ∷ []
 
--- rd := 1 where the task is not Suspended, else 0, by another register; the load of its pending byte is the fourth; x4 holds 0x80000000
+-- rd := 1 where the task is not Suspended, else 0, by another register; the load of its pending byte is the fourth; x4 holds the base of memory
 abbrev pub busy : ℕ → ℕ → ℕ → List InstrKind
 busy task rd other =
     Lui other controller_high ∷ Lbu rd other (pos (enabled_byte task)) ∷ Xori rd rd (pos 1) ∷ Lbu other other (pos (pending_byte task))
@@ -78,7 +78,7 @@ takes resource ceiling =
     Csrrs 3 0 ILEVEL ∷ Sw 4 3 (pos (saved resource)) ∷ Addi 1 0 (pos ceiling) ∷ Bgeu 3 1 (past (Addi 3 1 (pos 0) ∷ [])) ∷ Addi 3 1 (pos 0)
     ∷ []
 
--- a1 := 0 where the task runs, and 2 where it is preempted; x4 holds 0x80000000
+-- a1 := 0 where the task runs, and 2 where it is preempted; x4 holds the base of memory
 abbrev pub tells_active : ℕ → List InstrKind
 tells_active task = Lw 3 4 (pos cur) ∷ Addi 3 3 (negsuc task) ∷ Sltu 11 0 3 ∷ Slli 11 11 1 ∷ []
 
@@ -99,7 +99,7 @@ asks_waiting task =
 abbrev pub own_level : ℤ
 own_level = pos 63
 
--- leaves the level that runs in x30, and that of the running task's line for `mret`; x4 holds 0x80000000
+-- leaves the level that runs in x30, and that of the running task's line for `mret`; x4 holds the base of memory
 abbrev pub lowers : List InstrKind
 lowers =
     Csrrs 30 0 ILEVEL ∷ Lw 3 4 (pos cur) ∷ Lui 1 controller_high ∷ Add 1 1 3 ∷ Lbu 3 1 own_level ∷ Csrrw 0 3 PLEVEL ∷ []

@@ -2,6 +2,7 @@
 use Rattle.std.specs.Prelude.{ℕ, ◌+◌, ◌≡◌, ◌≢◌, ◌<◌, ◌≤◌, true, List, [], ◌∷◌, ◌++◌, length, slice_index}
 use Rattle.sloth_base.specs.Machine.{Core, State}
 use Rattle.sloth_base.specs.Status.{E_OK}
+use Rattle.sloth_base.specs.MemoryMap.{memory_base}
 use Rattle.sloth_region.specs.Layout.{cur}
 use Rattle.rv32_instr.specs.declared.InstrKind.{InstrKind}
 use Rattle.rv32_instr.specs.Ram.{word_at}
@@ -32,7 +33,7 @@ pub record MayYield (offset task : ℕ) (code : List InstrKind) (core : Core) : 
 pub record Yielded (offset task : ℕ) (touched : List ℕ) (start end : State) : Type 0 where
   pub touches : touched ≡ []
   pub left : LeftAs (record start.core { ilevel = slice_index start.core.levels task }) end.core
-  pub pc : end.pc ≡ 0x8000_0000 + (offset + way_back)
+  pub pc : end.pc ≡ memory_base + (offset + way_back)
   pub x2 : slice_index end.core.registers 2 ≡ slice_index start.core.registers 2
   pub status : slice_index end.core.registers a0 ≡ E_OK
   pub level : slice_index end.core.registers start_register ≡ start.core.ilevel

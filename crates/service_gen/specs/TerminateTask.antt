@@ -1,6 +1,7 @@
 -- TerminateTask (OSEK OS 2.2.3, section 13.2.3.2).
 use Rattle.std.specs.Prelude.{ℕ, ◌+◌, ◌*◌, ◌≡◌, ◌<◌, ◌≤◌, true, List, [], ◌∷◌, length, slice_index, slice_set}
 use Rattle.sloth_base.specs.Machine.{Core, State}
+use Rattle.sloth_base.specs.MemoryMap.{memory_base}
 use Rattle.sloth_region.specs.Layout.{cur, active, events, below_word, context_bytes, context_level, context_cur, context_below}
 use Rattle.rv32_instr.specs.declared.InstrKind.{InstrKind}
 use Rattle.rv32_instr.specs.Ram.{word_at, with_word}
@@ -34,7 +35,7 @@ pub record Terminated (task place : ℕ) (touched : List ℕ) (start end : State
   pub touches : touched ≡ task ∷ []
   pub left : LeftAs (ended_core task place start.core) end.core
   pub pc : end.pc ≡ word_at start.core.ram place
-  pub x2 : slice_index end.core.registers 2 ≡ 0x8000_0000 + (place + context_bytes)
+  pub x2 : slice_index end.core.registers 2 ≡ memory_base + (place + context_bytes)
   pub loaded : (i : ℕ) → 5 ≤ i → i < 32 → slice_index end.core.registers i ≡ word_at start.core.ram (place + 4 * i)
 
 -- Code of TerminateTask: its first instruction masks, and at most 49 more lead to the end of the task, whatever lines arrive.

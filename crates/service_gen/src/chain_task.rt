@@ -33,7 +33,7 @@ pub fn code(alloc: Global, task: u8) -> Result<Vec<Instr>, AllocError>
     Ok(code)
 }
 
-/// Goes on behind the refusal where the task is the caller. x4 holds 0x80000000.
+/// Goes on behind the refusal where the task is the caller. x4 holds the base of memory.
 fn ask(code: &mut Vec<Instr>, task: u8) -> Result<(), AllocError>
     requires { task < 30 }
     ensures { OnOk result (code.new.items ≡ code.old.items ++ asks task) }

@@ -23,7 +23,7 @@ pub fn code(alloc: Global, resource: u8, ceiling: u8) -> Result<Vec<Instr>, Allo
     Ok(code)
 }
 
-/// Saves the level that runs, and leaves the greater of it and the ceiling in x3. x4 holds 0x80000000.
+/// Saves the level that runs, and leaves the greater of it and the ceiling in x3. x4 holds the base of memory.
 fn take(code: &mut Vec<Instr>, resource: u8, ceiling: u8) -> Result<(), AllocError>
     requires { resource ≤ 32 }
     ensures { OnOk result (code.new.items ≡ code.old.items ++ takes resource ceiling) }

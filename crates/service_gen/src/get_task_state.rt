@@ -39,7 +39,7 @@ pub fn code(alloc: Global, task: u8) -> Result<Vec<Instr>, AllocError>
     Ok(code)
 }
 
-/// The status E_OK; goes on behind the first way back where the task is not Active. x4 holds 0x80000000.
+/// The status E_OK; goes on behind the first way back where the task is not Active. x4 holds the base of memory.
 fn ask_active(code: &mut Vec<Instr>, task: u8) -> Result<(), AllocError>
     requires { task < 30 }
     ensures { OnOk result (code.new.items ≡ code.old.items ++ asks_active task) }
@@ -52,7 +52,7 @@ fn ask_active(code: &mut Vec<Instr>, task: u8) -> Result<(), AllocError>
     emit(code, &asked)
 }
 
-/// a1 := 0 where the task runs, and 2 where it is preempted. x4 holds 0x80000000.
+/// a1 := 0 where the task runs, and 2 where it is preempted. x4 holds the base of memory.
 fn tell_active(code: &mut Vec<Instr>, task: u8) -> Result<(), AllocError>
     requires { task < 30 }
     ensures { OnOk result (code.new.items ≡ code.old.items ++ tells_active task) }

@@ -2,6 +2,7 @@
 #![tactic(auto)]
 
 ghost use Rattle.std.specs.Prelude.{◌≡◌, ◌+◌, ◌*◌, ◌<◌, ◌≤◌, [], ◌∷◌, IfOk, length, slice_index};
+ghost use Rattle.sloth_base.specs.Blocks.{block_number, block_objects};
 ghost use Rattle.sloth_base.specs.ServiceCodes.{code_of};
 ghost use Rattle.service_gen.specs.Block.{opening, back_mark, further_marks, HasBlock, Serves};
 
@@ -21,7 +22,7 @@ use sloth_base::config::Config;
 use sloth_base::image::{Mark, MarkKind};
 use sloth_base::list::List;
 use sloth_base::memory::NoMemory;
-use sloth_base::places::Levels;
+use sloth_base::places::{Levels, block_number};
 use sloth_base::service::Service;
 use sloth_region::map::Map;
 use std::alloc::{AllocError, Global};
@@ -37,14 +38,14 @@ pub fn block(
     map: &Map,
 ) -> Result<Block, NoMemory>
     requires { HasBlock service object }
-    ensures at { IfOk result (λ block. block.at ≡ slice_index map.now.places.blocks (code_of service * 40 + object)) }
+    ensures at { IfOk result (λ block. block.at ≡ slice_index map.now.places.blocks (block_number service object)) }
     ensures marks { IfOk result (λ block. block.marks ≡ opening block.at (code_of service) ∷ further_marks service block.at) }
     ensures size { IfOk result (λ block. length block.code ≤ 256) }
     ensures effect { IfOk result (λ block. Serves service object levels.now block.code) }
 {
-    let number = service.code();
-    let at = map.places.blocks[number as usize * 40 + small(service, object) as usize];
-    let code = code(alloc, service, small(service, object), levels)?;
+    let object = small(service, object);
+    let at = map.places.blocks[block_number(service, u32::from(object))];
+    let code = code(alloc, service, object, levels)?;
     let marks = marks(alloc, service, at)?;
     Ok(Block {
         at,
@@ -78,11 +79,11 @@ fn plain_mark(address: u32, kind: MarkKind, a: u8) -> Mark
     }
 }
 
-/// The object's number, which is below 40.
+/// The object's number.
 fn small(service: Service, object: u32) -> u8
     requires { HasBlock service object }
     ensures is { result ≡ object }
-    ensures below { result < 40 }
+    ensures below { result < block_objects }
 {
     match service {
         Service::ActivateTask => object as u8,

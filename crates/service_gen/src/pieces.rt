@@ -36,7 +36,7 @@ pub fn open(code: &mut Vec<Instr>) -> Result<(), AllocError>
     emit(code, &[csrrci(ZERO, MSTATUS, MIE), lui(X4, WORDS_HIGH)])
 }
 
-/// Ends the running task: its pending byte, its Active word and its events become 0. x4 holds 0x80000000.
+/// Ends the running task: its pending byte, its Active word and its events become 0. x4 holds the base of memory.
 pub fn end(code: &mut Vec<Instr>) -> Result<(), AllocError>
     ensures { OnOk result (code.new.items ≡ code.old.items ++ ends) }
 {
@@ -55,7 +55,7 @@ pub fn end(code: &mut Vec<Instr>) -> Result<(), AllocError>
     emit(code, &ended)
 }
 
-/// `rd` := 1 where the task isn't Suspended, else 0, by another register. x4 holds 0x80000000.
+/// `rd` := 1 where the task isn't Suspended, else 0, by another register. x4 holds the base of memory.
 pub fn look_at(code: &mut Vec<Instr>, task: u8, rd: Reg, other: Reg) -> Result<(), AllocError>
     requires { (task < 30) × (rd < 32) × (other < 32) }
     ensures { OnOk result (code.new.items ≡ code.old.items ++ busy task rd other) }

@@ -21,7 +21,7 @@ pub fn code(alloc: Global, resource: u8) -> Result<Vec<Instr>, AllocError>
     Ok(code)
 }
 
-/// To the level that was saved for the resource, with the status E_OK. x4 holds 0x80000000.
+/// To the level that was saved for the resource, with the status E_OK. x4 holds the base of memory.
 fn release(code: &mut Vec<Instr>, resource: u8) -> Result<(), AllocError>
     requires { resource ≤ 32 }
     ensures { OnOk result (code.new.items ≡ code.old.items ++ releases resource) }

@@ -32,7 +32,7 @@ pub fn code(alloc: Global) -> Result<Vec<Instr>, AllocError>
     Ok(code)
 }
 
-/// Leaves the level that runs in x30, and that of the running task's line for `mret`. x4 holds 0x80000000.
+/// Leaves the level that runs in x30, and that of the running task's line for `mret`. x4 holds the base of memory.
 fn lower(code: &mut Vec<Instr>) -> Result<(), AllocError>
     ensures { OnOk result (code.new.items ≡ code.old.items ++ lowers) }
 {

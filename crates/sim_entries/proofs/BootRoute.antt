@@ -5,16 +5,17 @@ use Rattle.sloth_base.specs.declared.event.Arrival.{Arrival}
 use Rattle.sloth_base.specs.declared.image.Image.{Image}
 use Rattle.sloth_base.specs.Machine.{State}
 use Rattle.sloth_base.specs.Arrive.{state_arrive}
+use Rattle.sloth_base.specs.Owners.{owners_in, IsOwned}
 use Rattle.rv32_machine.specs.Start.{start}
 use Rattle.rv32_routine.specs.Trace.{Trace, touched_lines, early, late}
 use Rattle.observe.specs.Observe.{View}
 use Rattle.vector_gen.specs.Boot.{Booted}
-use Rattle.sim_induction.specs.Admits.{Setting, IsSetting, AllBelow, lines_at, with_admits}
+use Rattle.sim_induction.specs.Admits.{IsSetting, lines_at, with_admits}
 use Rattle.sim_induction.specs.Laws.{BootLaw}
 use Rattle.sim_induction.proofs.Boot.{nothing_before}
 use Rattle.sim_induction.proofs.Routes.{Booting, booting}
-use Rattle.sim_induction.proofs.Schedule.{below_moments}
-use Rattle.sim_induction.proofs.Traces.{lines_before, below_trace}
+use Rattle.sim_induction.proofs.Schedule.{owned_at}
+use Rattle.sim_induction.proofs.Traces.{lines_before, lines_trace}
 use Rattle.sim_relation.specs.Build.{Build, Fits}
 use Rattle.sim_relation.specs.Placed.{setting_of}
 use Rattle.sim_relation.specs.Stands.{Stands}
@@ -28,9 +29,6 @@ use Rattle.sim_entries.proofs.Boot.{boots_law, ram_at}
 -- a stretch that touches no line has no early arrivals
 pub none_early : (trace : Trace) → touched_lines trace ≡ [] → early trace ≡ []
 none_early trace h = sym (lines_before 0 trace) ∙ ap (map (λ (a : Arrival). a.line)) (nothing_before 0 trace h)
-
-pub lines_below : (given : Setting) → IsSetting given → (k : ℕ) → AllBelow (length given.config.tasks) (lines_at given.arrivals k)
-lines_below given setting k = below_moments (length given.config.tasks) k (k + 1) given.arrivals setting.lines
 
 module _ (b : Build) (view : View) (arrivals : List Arrival) (setting : IsSetting (setting_of b view arrivals)) (image : Image) (fits : Fits b) (is : IsImage b image)
     (boot : BootStands b) where
@@ -68,7 +66,7 @@ module _ (b : Build) (view : View) (arrivals : List Arrival) (setting : IsSettin
       subst (λ x. Booted b.config.tasks boot.levels b.idle x first route.last) untouched
       (subst (λ x. Booted b.config.tasks boot.levels b.idle (touched_lines route.trace) (state_arrive x first) route.last) (none_early route.trace untouched) route.effect) in
       let law = boots_law b image boot.levels route.last fits is boot.ranks effect in
-      let in_range = below_trace (length b.config.tasks) (suc route.more) 0 (lines_at arrivals) first route.trace route.end (lines_below (setting_of b view arrivals) setting) route.steps in
+      let in_range = lines_trace (IsOwned (owners_in b.config)) (suc route.more) 0 (lines_at arrivals) first route.trace route.end (owned_at (setting_of b view arrivals) setting) route.steps in
       let few : length b.config.tasks ≤ 32 = let f = fits.few_tasks in omega arith in
       record {
         more = route.more;

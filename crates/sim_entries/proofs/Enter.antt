@@ -24,7 +24,7 @@ use Rattle.sim_relation.proofs.AtItem.{position_first}
 use Rattle.sim_relation.proofs.Parts.{rests}
 use Rattle.sim_relation.proofs.Tops.{falling_active}
 use Rattle.sim_relation.proofs.Entering.{entry_stands}
-use Rattle.sim_relation.proofs.Choice.{taken_declared, taken_ready, taken_top}
+use Rattle.sim_relation.proofs.Choice.{taken_ready, taken_top}
 use Rattle.sim_relation.proofs.Room.{first_room}
 use Rattle.sim_entries.specs.Range.{Sane}
 use Rattle.sim_entries.specs.Entries.{EntersAnew, StandsAlone, first_words}
@@ -42,16 +42,13 @@ there app f h =
     (cases_lt f (length app.funcs))
 
 module _ (b : Build) (state end : State) (s : System) (t place : ℕ) (fits : Fits b) (k : Stands b state s) (sane : Sane state)
-    (e : choose state.core ≡ Some t) (fresh : (task s t).frames ≡ []) (has_item : 0 < length (function b.app (body_of b.app.funcs t)).items) (alone : StandsAlone b s t)
+    (declared : t < length b.config.tasks) (e : choose state.core ≡ Some t) (fresh : (task s t).frames ≡ []) (has_item : 0 < length (function b.app (body_of b.app.funcs t)).items) (alone : StandsAlone b s t)
     (x2 : slice_index state.core.registers 2 ≡ 0x8000_0000 + (place + 128)) (effect : EntersAnew b t place state end) where
   few : length b.config.tasks ≤ 32
   few = let f = fits.few_tasks in omega arith
 
-  declared : t < length b.config.tasks
-  declared = taken_declared b state s k few t e
-
   ready : (task s t).state ≡ mode.Ready
-  ready = taken_ready b state s k few t e
+  ready = taken_ready b state s k few t declared e
 
   abbrev words : ℕ
   words = first_words b t
@@ -128,8 +125,8 @@ module _ (b : Build) (state end : State) (s : System) (t place : ℕ) (fits : Fi
   }
 
   stands : Stands b end (settled (with_task s t own))
-  stands = entry_stands b state end s k fits t e own place entry
+  stands = entry_stands b state end s k fits t declared e own place entry
 
   -- The entry is a step of the abstract machine, and the states stand.
   pub enter_law : OsekStep b.config b.app (event.Enter t) s (settled (entered b.config b.app t s)) × Stands b end (settled (entered b.config b.app t s))
-  enter_law = ((k.tidy.booted, taken_top b state s k few t e, ready, there b.app (body_of b.app.funcs t) has_item, refl), subst (λ x. Stands b end x) is_next stands)
+  enter_law = ((k.tidy.booted, taken_top b state s k few t declared e, ready, there b.app (body_of b.app.funcs t) has_item, refl), subst (λ x. Stands b end x) is_next stands)

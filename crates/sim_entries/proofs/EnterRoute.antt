@@ -9,6 +9,10 @@ use Rattle.sloth_base.specs.Machine.{Core, State}
 use Rattle.sloth_base.specs.Arrive.{state_arrive}
 use Rattle.sloth_base.specs.Choose.{choose}
 use Rattle.sloth_base.specs.Take.{take, line_to_take, enter, entered}
+use Rattle.sloth_base.specs.Owners.{owners_in, IsOwned}
+use Rattle.sloth_base.specs.Stretches.{Takes, later_beginning, stretch_limit}
+use Rattle.sloth_base.specs.declared.lines.Owners.{Owners}
+use Rattle.sloth_base.proofs.Stretches.{task_limit}
 use Rattle.rv32_instr.specs.Execute.{touched}
 use Rattle.rv32_machine.specs.Run.{arrived}
 use Rattle.rv32_routine.specs.Kernel.{CanRun}
@@ -32,12 +36,11 @@ use Rattle.std.specs.List.{AllByRecursion}
 use Rattle.sim_induction.proofs.Follow.{booted_admits}
 use Rattle.sim_induction.proofs.Routes.{Opens, Entering, entering, touches_parted, begins_entered, entered_event}
 use Rattle.sim_induction.proofs.StretchPiece.{stretch_advances}
-use Rattle.sim_induction.proofs.Traces.{below_trace}
+use Rattle.sim_induction.proofs.Traces.{lines_trace}
 use Rattle.sim_relation.specs.Build.{Build, Fits, start_level}
 use Rattle.sim_relation.specs.Placed.{setting_of}
 use Rattle.sim_relation.specs.Stands.{Stands}
 use Rattle.sim_relation.proofs.Arrive.{stands_arrived}
-use Rattle.sim_relation.proofs.Choice.{taken_declared}
 use Rattle.sim_relation.proofs.Framing.{frames_below}
 use Rattle.sim_relation.proofs.Parts.{rests}
 use Rattle.sim_relation.proofs.Placed.{placed_in, code_behind}
@@ -47,7 +50,8 @@ use Rattle.sim_relation.proofs.Room.{first_room}
 use Rattle.sim_entries.specs.Range.{Sane}
 use Rattle.sim_entries.specs.Entries.{StandsAlone, first_words}
 use Rattle.sim_entries.specs.Codes.{PrologueStands}
-use Rattle.sim_entries.proofs.BootRoute.{none_early, lines_below}
+use Rattle.sim_entries.proofs.BootRoute.{none_early}
+use Rattle.sim_induction.proofs.Schedule.{owned_at}
 use Rattle.sim_entries.proofs.Enter as anew
 use Rattle.sim_entries.proofs.Resume as again
 use Rattle.sim_entries.proofs.OwnContext.{HasOwn, own_context, own_apart}
@@ -69,15 +73,12 @@ module _ (b : Build) (view : View) (arrivals : List Arrival) (setting : IsSettin
   found = with_admits (lines_at arrivals count) s
 
   k : Stands b now found
-  k = stands_arrived b (lines_at arrivals count) state s few (lines_below (setting_of b view arrivals) setting count) stands
+  k = stands_arrived b (lines_at arrivals count) state s few (owned_at (setting_of b view arrivals) setting count) stands
 
   abbrev Stretches : Type 0
   Stretches = (next : State) × (trace : Trace) × (end : State) × StretchLaw (setting_of b view arrivals) (Stands b) count state s next trace end
 
-  module _ (sane : Sane now) (t : ℕ) (chosen : choose now.core ≡ Some t) where
-    declared : t < length b.config.tasks
-    declared = taken_declared b now found k few t chosen
-
+  module _ (sane : Sane now) (t : ℕ) (declared : t < length b.config.tasks) (chosen : choose now.core ≡ Some t) where
     taken : line_to_take now ≡ Some t
     taken = ap (λ v. cond v (choose now.core) None) k.fixed.open_to_lines ∙ chosen
 
@@ -89,7 +90,7 @@ module _ (b : Build) (view : View) (arrivals : List Arrival) (setting : IsSettin
 
     -- ---- code with this effect, which has such a law
 
-    module _ (most : ℕ) (short : most ≤ 159) (Effect : List ℕ → State → State → Type 0) (opens : Opens Effect)
+    module _ (most : ℕ) (short : suc most ≤ stretch_limit b.config (Takes t)) (Effect : List ℕ → State → State → Type 0) (opens : Opens Effect)
         (quiet : (lines : List ℕ) (from last : State) → Effect lines from last → lines ≡ [])
         (masked : Masked (suc most) (at (vector t) core) (WithArrivals Effect (at (vector t) core)))
         (law : (last : State) → Effect [] (take t now) last → OsekStep b.config b.app (event.Enter t) found after × Stands b last after) where
@@ -121,26 +122,26 @@ module _ (b : Build) (view : View) (arrivals : List Arrival) (setting : IsSettin
       enters : OsekStep b.config b.app (event.Enter t) found after × Stands b route.last after
       enters = law route.last effect
 
-      touches : IfSome (touched (entered now)) (Contains (0 ∷ 0 ∷ [])) × AllByRecursion (Contains (0 ∷ 0 ∷ [])) (touched_lines route.trace)
-      touches = touches_parted (0 ∷ 0 ∷ []) (touched (entered now)) (touched_lines route.trace) (subst (AllByRecursion (Contains (0 ∷ 0 ∷ []))) (sym untouched) tt)
+      touches : IfSome (touched (entered now)) (Contains []) × AllByRecursion (Contains []) (touched_lines route.trace)
+      touches = touches_parted [] (touched (entered now)) (touched_lines route.trace) (subst (AllByRecursion (Contains [])) (sym untouched) tt)
 
       stretch : StretchLaw (setting_of b view arrivals) (Stands b) count state s route.next route.trace route.end
       stretch =
-          let in_range = below_trace (length b.config.tasks) route.more (count + 1) (lines_at arrivals) route.next route.trace route.end (lines_below (setting_of b view arrivals) setting) route.steps in
+          let in_range = lines_trace (IsOwned (owners_in b.config)) route.more (count + 1) (lines_at arrivals) route.next route.trace route.end (owned_at (setting_of b view arrivals) setting) route.steps in
           record {
             finds = stands.fixed.open_to_lines;
             goes = route.goes;
             starts = begins_entered count now route.next t taken;
             more = route.more;
-            few = let f = route.few in omega arith;
+            few = let f = route.few in subst (λ o. suc route.more ≤ stretch_limit b.config (later_beginning o)) (sym taken) (omega arith);
             steps = route.steps;
             ends = route.ends;
-            one = 0;
-            other = 0;
+            lines = [];
+            few_lines = omega arith;
             touches_first = touches.0;
             touches = touches.1;
             what = event.Enter t;
-            what_is = λ last p q. entered_event view count now route.next last t late_count taken (let v = setting.tasks in let d = declared in omega arith);
+            what_is = λ last p q. entered_event view count now route.next last t late_count taken (let v = ap (λ (o : Owners). o.tasks) setting.owners in let d = declared in omega arith);
             after = after;
             step_is = subst (λ x. OsekStep b.config b.app (event.Enter t) (with_admits x found) after) (sym nothing_early) enters.0;
             passes = λ past h. tt;
@@ -175,8 +176,8 @@ module _ (b : Build) (view : View) (arrivals : List Arrival) (setting : IsSettin
       sizes : (0 < length prologue.code) × (length prologue.code ≤ 109 + words)
       sizes = kinds.size (declaration b.config t).extended t (start_level b t) first frame words prologue.code prologue.enters
 
-      short : 109 + words ≤ 159
-      short = let w = prologue.few_words in omega arith
+      short : suc (109 + words) ≤ stretch_limit b.config (Takes t)
+      short = let w = prologue.few_words in let l = task_limit b.config t declared in omega arith
 
       can_run : CanRun prologue.offset prologue.code core
       can_run = record {
@@ -228,13 +229,13 @@ module _ (b : Build) (view : View) (arrivals : List Arrival) (setting : IsSettin
             enters = may_enter;
             kept_none = rests b now.core.ram t (task found t) (is_active (task found t).state) (task found t).frames fresh (k.words t declared).resumption;
           })))
-          (λ last e. anew.enter_law b now last found t place fits k sane chosen fresh prologue.has_item alone spot_is.1 e)
+          (λ last e. anew.enter_law b now last found t place fits k sane declared chosen fresh prologue.has_item alone spot_is.1 e)
 
       -- ---- behind a wait
 
       module _ (some : (task found t).frames ≢ []) where
         abbrev has : HasOwn b now.core.ram t (task found t)
-        has = own_context b now found t fits k chosen some
+        has = own_context b now found t fits k declared chosen some
 
         may_resume : MayResume prologue.offset t place has.place prologue.code core
         may_resume =
@@ -263,7 +264,7 @@ module _ (b : Build) (view : View) (arrivals : List Arrival) (setting : IsSettin
               own_behind = omega arith;
               own_inside = omega arith;
               own_apart = ⊎_elim (λ (v : b.top t ≤ place). inl (omega arith)) (λ (v : place + 128 ≤ b.low t). inr (omega arith))
-                  (own_apart b now found t fits k chosen some place spot_is.1);
+                  (own_apart b now found t fits k declared chosen some place spot_is.1);
               returns = omega arith;
             }
 
@@ -272,7 +273,7 @@ module _ (b : Build) (view : View) (arrivals : List Arrival) (setting : IsSettin
             stretches (109 + words) short (Resumed t (start_level b t) place has.place) (λ lines from last e. e.left.opened) (λ lines from last e. e.touches)
             (subst (λ n. Masked n (at (vector t) core) (WithArrivals (Resumed t (start_level b t) place has.place) (at (vector t) core))) (omega arith)
             ((subst (λ (x : Bool). DoesEnter x t (start_level b t) first frame words prologue.code) extended prologue.enters).resumes prologue.offset place has.place core may_resume))
-            (λ last e. again.resume_law b now last found t place has.place fits k sane chosen some (anew.there b.app (body_of b.app.funcs t) prologue.has_item) spot_is.1 has.rested.link e)
+            (λ last e. again.resume_law b now last found t place has.place fits k sane declared chosen some (anew.there b.app (body_of b.app.funcs t) prologue.has_item) spot_is.1 has.rested.link e)
 
     -- Where the task is to start anew, the stretch is the event Enter, and the states at its end are related.
     pub enter_stretch : (task found t).frames ≡ [] → StandsAlone b found t → PrologueStands b t → Stretches

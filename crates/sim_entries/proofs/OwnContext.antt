@@ -12,7 +12,7 @@ use Rattle.sim_relation.specs.Context.{Rested, Resumes}
 use Rattle.sim_relation.specs.Stands.{Stands}
 use Rattle.sim_relation.proofs.Tops.{falling_active}
 use Rattle.sim_relation.proofs.Spot.{is_first, is_first_in, spot}
-use Rattle.sim_relation.proofs.Choice.{taken_declared, taken_ready}
+use Rattle.sim_relation.proofs.Choice.{taken_ready}
 
 -- a task that is not Active and has frames has its context at an offset
 pub record HasOwn (b : Build) (ram : List ℕ) (t : ℕ) (own : Task) : Type 0 where
@@ -27,15 +27,12 @@ own_by b ram t own true frames a e n h = cc
 own_by b ram t own false [] a e n h = absurd (n refl)
 own_by b ram t own false (frame ∷ outer) a e n h = record { frame = frame; outer = outer; frames = e; place = h.0; rested = h.1 }
 
-module _ (b : Build) (state : State) (s : System) (t : ℕ) (fits : Fits b) (k : Stands b state s) (e : choose state.core ≡ Some t) (some : (task s t).frames ≢ []) where
+module _ (b : Build) (state : State) (s : System) (t : ℕ) (fits : Fits b) (k : Stands b state s) (declared : t < length b.config.tasks) (e : choose state.core ≡ Some t) (some : (task s t).frames ≢ []) where
   few : length b.config.tasks ≤ 32
   few = let f = fits.few_tasks in omega arith
 
-  declared : t < length b.config.tasks
-  declared = taken_declared b state s k few t e
-
   ready : (task s t).state ≡ mode.Ready
-  ready = taken_ready b state s k few t e
+  ready = taken_ready b state s k few t declared e
 
   pub own_context : HasOwn b state.core.ram t (task s t)
   own_context = own_by b state.core.ram t (task s t) (is_active (task s t).state) (task s t).frames (ap is_active ready) refl some (k.words t declared).resumption

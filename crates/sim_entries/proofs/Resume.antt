@@ -26,7 +26,7 @@ use Rattle.sim_relation.proofs.AtItem.{rested_context}
 use Rattle.sim_relation.proofs.Contexts.{context_same}
 use Rattle.sim_relation.proofs.Parts.{word_other}
 use Rattle.sim_relation.proofs.Entering.{entry_stands}
-use Rattle.sim_relation.proofs.Choice.{taken_declared, taken_ready, taken_top}
+use Rattle.sim_relation.proofs.Choice.{taken_ready, taken_top}
 use Rattle.sim_relation.proofs.Room.{first_room}
 use Rattle.sim_entries.specs.Range.{Sane}
 use Rattle.sim_entries.specs.Entries.{EntersBehindWait}
@@ -35,20 +35,17 @@ use Rattle.sim_entries.proofs.OwnContext.{HasOwn, own_context, own_apart}
 use Rattle.sim_entries.proofs.Saving.{preempted, cleared, saved, is_saved, entry_ram, entry_machine}
 
 module _ (b : Build) (state end : State) (s : System) (t place own : ℕ) (fits : Fits b) (k : Stands b state s) (sane : Sane state)
-    (e : choose state.core ≡ Some t) (some : (task s t).frames ≢ []) (has_body : HasBody b.app t)
+    (declared : t < length b.config.tasks) (e : choose state.core ≡ Some t) (some : (task s t).frames ≢ []) (has_body : HasBody b.app t)
     (x2 : slice_index state.core.registers 2 ≡ 0x8000_0000 + (place + 128)) (link : word_at state.core.ram (resume t) ≡ 0x8000_0000 + own)
     (effect : EntersBehindWait b t place own state end) where
   few : length b.config.tasks ≤ 32
   few = let f = fits.few_tasks in omega arith
 
-  declared : t < length b.config.tasks
-  declared = taken_declared b state s k few t e
-
   few30 : t < 30
   few30 = let g = fits.few_tasks in let l = declared in omega arith
 
   ready : (task s t).state ≡ mode.Ready
-  ready = taken_ready b state s k few t e
+  ready = taken_ready b state s k few t declared e
 
   abbrev has : HasOwn b state.core.ram t (task s t)
   has = own_context b state s t fits k e some
@@ -151,4 +148,4 @@ module _ (b : Build) (state end : State) (s : System) (t place own : ℕ) (fits 
   -- The entry is a step of the abstract machine, and the states stand.
   pub resume_law : OsekStep b.config b.app (event.Enter t) s (settled (entered b.config b.app t s)) × Stands b end (settled (entered b.config b.app t s))
   resume_law =
-      ((k.tidy.booted, taken_top b state s k few t e, ready, has_body, refl), subst (λ x. Stands b end x) is_next (entry_stands b state end s k fits t e after place entry))
+      ((k.tidy.booted, taken_top b state s k few t declared e, ready, has_body, refl), subst (λ x. Stands b end x) is_next (entry_stands b state end s k fits t declared e after place entry))

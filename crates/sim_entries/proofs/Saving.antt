@@ -16,7 +16,6 @@ use Rattle.sim_relation.specs.Stands.{Stands}
 use Rattle.sim_relation.specs.Entry.{EntryRam, EntryMachine}
 use Rattle.sim_relation.proofs.SavedRegisters.{registers_at, registers_small}
 use Rattle.sim_relation.proofs.Spot.{Spot, spot}
-use Rattle.sim_relation.proofs.Choice.{taken_declared}
 use Rattle.sim_entries.specs.Range.{Sane}
 use Rattle.sim_entries.proofs.Spot.{zeros_small, context_words, words_small}
 use Rattle.sim_entries.proofs.EntryRam.{stored, IsStored, is_stored}
@@ -37,12 +36,12 @@ abbrev pub saved : State → (t place frame words : ℕ) → List ℕ
 saved state t place frame words = stored state.core.ram (preempted state) (registers_from 27 5 state.core.registers) (cleared words) place t frame
 
 module _ (b : Build) (state : State) (s : System) (t place : ℕ) (fits : Fits b) (k : Stands b state s) (sane : Sane state)
-    (e : choose state.core ≡ Some t) (x2 : slice_index state.core.registers 2 ≡ 0x8000_0000 + (place + 128)) where
+    (declared : t < length b.config.tasks) (x2 : slice_index state.core.registers 2 ≡ 0x8000_0000 + (place + 128)) where
   few : length b.config.tasks ≤ 32
   few = let f = fits.few_tasks in omega arith
 
   few30 : t < 30
-  few30 = let g = fits.few_tasks in let l = taken_declared b state s k few t e in omega arith
+  few30 = let g = fits.few_tasks in let l = declared in omega arith
 
   sp : Spot b s k.stack place
   sp = spot b state s k.stack place fits k.apart k.active.falling x2 k.running
@@ -60,7 +59,7 @@ module _ (b : Build) (state : State) (s : System) (t place : ℕ) (fits : Fits b
   module _ (frame words : ℕ) (from : b.low t ≤ frame) (to : frame + 4 * words ≤ b.top t) (apart : (place + 128 ≤ frame) ⊎ (frame + 4 * words ≤ place)) where
     pub is_saved : IsStored old (preempted state) rest (cleared words) place t frame (saved state t place frame words)
     is_saved =
-        let l = taken_declared b state s k few t e in
+        let l = declared in
         let y = fits.from t l in
         let z = fits.to t l in
         let n = cleared_long words in

@@ -5,6 +5,7 @@ use Rattle.rv32_instr.specs.declared.InstrKind.TheVariants.{Jal}
 use Rattle.sloth_base.specs.Arithmetic.{plus}
 use Rattle.osek_machine.specs.State.{body_of}
 use Rattle.sloth_base.specs.Named.{function}
+use Rattle.sloth_base.specs.MemoryMap.{memory_base}
 use Rattle.vector_gen.specs.Boot.{Boots}
 use Rattle.prologue_gen.specs.Fresh.{vector}
 use Rattle.sim_relation.specs.Build.{Build}
@@ -29,6 +30,6 @@ pub record PrologueStands (b : Build) (t : ℕ) : Type 0 where
   pub placed : IsPlaced b offset code
   pub jump : ℤ
   pub vector_word : IsPlaced b (vector t) (Jal 0 jump ∷ [])
-  pub to_code : plus (0x8000_0000 + vector t) jump ≡ 0x8000_0000 + offset
+  pub to_code : plus (memory_base + vector t) jump ≡ memory_base + offset
   pub few_words : first_words b t ≤ 32
   pub has_item : 0 < length (function b.app (body_of b.app.funcs t)).items

@@ -3,6 +3,7 @@ use Rattle.std.specs.Prelude.{ℕ, ◌+◌, ◌<◌, ◌≡◌, List, length, sl
 use Rattle.std.specs.List.{slice_get}
 use Rattle.sloth_base.specs.declared.app.Func.{Func}
 use Rattle.sloth_base.specs.declared.places.Levels.{Levels}
+use Rattle.sloth_base.specs.MemoryMap.{memory_base}
 use Rattle.sloth_region.specs.declared.map.Map.{Map}
 use Rattle.rv32_instr.specs.declared.InstrKind.{InstrKind}
 use Rattle.osek_machine.specs.State.{body_of}
@@ -16,7 +17,7 @@ pub record IsBuiltFrom (b : Build) (levels : Levels) (map : Map) : Type 0 where
   pub places : b.places ≡ map.places
   pub idle : b.idle ≡ map.idle
   -- each task's part of the stacks ends where the map says
-  pub tops : (t : ℕ) → t < length b.config.tasks → 0x8000_0000 + b.top t ≡ slice_index map.tops t
+  pub tops : (t : ℕ) → t < length b.config.tasks → memory_base + b.top t ≡ slice_index map.tops t
   pub ranks : AreLevelsOf b levels.task
   pub highest : levels.top ≡ length b.config.tasks
 

@@ -13,6 +13,7 @@ use Rattle.rv32_routine.specs.Trace.{Trace}
 use Rattle.observe.specs.Observe.{View}
 use Rattle.osek_machine.specs.State.{System, HasBody, task, declaration, body_of, opening}
 use Rattle.sloth_base.specs.Named.{function}
+use Rattle.sloth_base.specs.MemoryMap.{memory_base}
 use Rattle.osek_machine.specs.Services.{entered}
 use Rattle.osek_machine.specs.Steps.{OsekStep, settled}
 use Rattle.sim_induction.specs.Admits.{IsSetting, lines_at, with_admits}
@@ -30,15 +31,15 @@ use Rattle.sim_entries.specs.Codes.{BootStands, PrologueStands}
 -- Where a task's line is the one taken and the task is to start anew, its prologue is the event Enter, whatever ran.
 abbrev pub EnterLaw : Type 0
 EnterLaw = (b : Build) (state end : State) (s : System) (t place : ℕ) → Fits b → Stands b state s → Sane state
-    → choose state.core ≡ Some t → (task s t).frames ≡ [] → 0 < length (function b.app (body_of b.app.funcs t)).items → StandsAlone b s t
-    → slice_index state.core.registers 2 ≡ 0x8000_0000 + (place + context_bytes) → EntersAnew b t place state end
+    → t < length b.config.tasks → choose state.core ≡ Some t → (task s t).frames ≡ [] → 0 < length (function b.app (body_of b.app.funcs t)).items → StandsAlone b s t
+    → slice_index state.core.registers 2 ≡ memory_base + (place + context_bytes) → EntersAnew b t place state end
     → OsekStep b.config b.app (event.Enter t) s (settled (entered b.config b.app t s)) × Stands b end (settled (entered b.config b.app t s))
 
 -- Where a task's line is the one taken and a context is kept for the task, its prologue is the event Enter, whatever ran.
 abbrev pub ResumeLaw : Type 0
 ResumeLaw = (b : Build) (state end : State) (s : System) (t place own : ℕ) → Fits b → Stands b state s → Sane state
-    → choose state.core ≡ Some t → (task s t).frames ≢ [] → HasBody b.app t
-    → slice_index state.core.registers 2 ≡ 0x8000_0000 + (place + context_bytes) → word_at state.core.ram (resume t) ≡ 0x8000_0000 + own
+    → t < length b.config.tasks → choose state.core ≡ Some t → (task s t).frames ≢ [] → HasBody b.app t
+    → slice_index state.core.registers 2 ≡ memory_base + (place + context_bytes) → word_at state.core.ram (resume t) ≡ memory_base + own
     → EntersBehindWait b t place own state end
     → OsekStep b.config b.app (event.Enter t) s (settled (entered b.config b.app t s)) × Stands b end (settled (entered b.config b.app t s))
 
@@ -58,13 +59,13 @@ BootStretch = (b : Build) (view : View) (arrivals : List Arrival) (image : Image
 -- Where the line that is taken at a count is that of a task that is to start anew, its prologue is a stretch.
 abbrev pub EnterStretch : Type 0
 EnterStretch = (b : Build) (view : View) (arrivals : List Arrival) (count t : ℕ) (state : State) (s : System) → IsSetting (setting_of b view arrivals)
-    → Fits b → 0 < count → Stands b state s → Sane (arrived arrivals count state) → choose (arrived arrivals count state).core ≡ Some t
+    → Fits b → 0 < count → Stands b state s → Sane (arrived arrivals count state) → t < length b.config.tasks → choose (arrived arrivals count state).core ≡ Some t
     → (task (with_admits (lines_at arrivals count) s) t).frames ≡ [] → StandsAlone b (with_admits (lines_at arrivals count) s) t → PrologueStands b t
     → (next : State) × (trace : Trace) × (end : State) × StretchLaw (setting_of b view arrivals) (Stands b) count state s next trace end
 
 -- Where it is that of an extended task that is to go on behind its wait, so is its prologue.
 abbrev pub ResumeStretch : Type 0
 ResumeStretch = (b : Build) (view : View) (arrivals : List Arrival) (count t : ℕ) (state : State) (s : System) → IsSetting (setting_of b view arrivals)
-    → Fits b → 0 < count → Stands b state s → Sane (arrived arrivals count state) → choose (arrived arrivals count state).core ≡ Some t
+    → Fits b → 0 < count → Stands b state s → Sane (arrived arrivals count state) → t < length b.config.tasks → choose (arrived arrivals count state).core ≡ Some t
     → (task (with_admits (lines_at arrivals count) s) t).frames ≢ [] → (declaration b.config t).extended ≡ true → PrologueStands b t
     → (next : State) × (trace : Trace) × (end : State) × StretchLaw (setting_of b view arrivals) (Stands b) count state s next trace end

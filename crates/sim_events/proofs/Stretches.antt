@@ -7,6 +7,7 @@ use Rattle.sloth_base.specs.declared.event.Arrival.{Arrival}
 use Rattle.sloth_base.specs.declared.service.Service.TheVariants as service
 use Rattle.sloth_base.specs.Arrive.{state_arrive}
 use Rattle.sloth_base.specs.Machine.{State}
+use Rattle.sim_services.proofs.Touching.{touches_none, touches_one}
 use Rattle.rv32_expand.specs.Expansion.{mask_of}
 use Rattle.rv32_machine.specs.Run.{arrived}
 use Rattle.observe.specs.Observe.{View}
@@ -42,7 +43,7 @@ module _ (b : Build) (view : View) (arrivals : List Arrival) (count : ℕ) (stat
       let declared = ltb-true object (length b.config.tasks) o.names in
       let there = k b view arrivals count state s t service.GetEvent TellsEvents fits setting after_boot stands o.opens block.serves.masks in
       going_on_stretches b view arrivals count state s t service.GetEvent TellsEvents fits setting after_boot stands o block.serves.masks
-      16 (omega arith) (λ place. EventsTold object)
+      16 (omega arith) (λ place. EventsTold object) (λ place touched from to e. touches_one b object touched declared e.touches)
       (λ place can. block.serves.runs block.offset start.core (record {
         goes_back = can.goes_back;
         is_task = let f = fits.few_tasks in omega arith;
@@ -60,7 +61,7 @@ module _ (b : Build) (view : View) (arrivals : List Arrival) (count : ℕ) (stat
       let mask_is : slice_index start.core.registers mask_register ≡ opening.block.call.mask =
       opening.block.mask (subst (λ v. length (mask_of v opening.block.call.mask) ≡ 2) (sym opening.calls) refl) in
       going_on_stretches b view arrivals count state s t service.ClearEvent (λ object. ClearsEvents) fits setting after_boot stands o.goes_on block.serves.masks
-      15 (omega arith) (λ place. EventsCleared t)
+      15 (omega arith) (λ place. EventsCleared t) (λ place touched from to e. touches_none b touched e.touches)
       (λ place can. block.serves.runs block.offset t start.core (record {
         goes_back = can.goes_back;
         level = can.level;
@@ -79,7 +80,7 @@ module _ (b : Build) (view : View) (arrivals : List Arrival) (count : ℕ) (stat
       let declared = ltb-true object (length b.config.tasks) o.goes_on.names in
       let there = k b view arrivals count state s t service.SetEvent SetsEvents fits setting after_boot stands o.goes_on.opens block.serves.masks in
       going_on_stretches b view arrivals count state s t service.SetEvent SetsEvents fits setting after_boot stands o.goes_on block.serves.masks
-      25 (omega arith) (λ place. EventsSet object)
+      25 (omega arith) (λ place. EventsSet object) (λ place touched from to e. touches_one b object touched declared e.touches)
       (λ place can. block.serves.runs block.offset start.core (record {
         goes_back = can.goes_back;
         is_task = let f = fits.few_tasks in omega arith;

@@ -3,6 +3,7 @@ use Rattle.std.specs.Prelude.{ℕ, ◌+◌, ◌^◌, ◌<◌, ◌≡◌, List, [
 use Rattle.sloth_base.specs.declared.service.Service.{Service}
 use Rattle.sloth_base.specs.declared.service.Service.TheVariants as service
 use Rattle.sloth_base.specs.Machine.{State}
+use Rattle.sloth_base.specs.MemoryMap.{memory_base}
 use Rattle.sloth_region.specs.Layout.{below_word, context_bytes}
 use Rattle.rv32_instr.specs.Ram.{word_at}
 use Rattle.event_gen.specs.ClearEvent.{EventsCleared}
@@ -42,8 +43,8 @@ SetEventGoesOn = (b : Build) (state : State) (s : System) (t : ℕ) (own : Task)
 pub record MayWaitAt (b : Build) (state : State) (s : System) (t : ℕ) (own : Task) (object place kept : ℕ) : Type 0 where
   pub goes_on : MayGoOn b state s t own service.WaitEvent object
   pub holds_nothing : own.held ≡ []
-  pub below : word_at state.core.ram below_word ≡ 0x8000_0000 + place
-  pub x2 : slice_index state.core.registers 2 ≡ 0x8000_0000 + (kept + context_bytes)
+  pub below : word_at state.core.ram below_word ≡ memory_base + place
+  pub x2 : slice_index state.core.registers 2 ≡ memory_base + (kept + context_bytes)
   pub words : AreBelow (2 ^ 32) state.core.registers
 
 -- WaitEvent goes on where one of the events of its mask is set; else the task waits for them, and what runs below it goes on.

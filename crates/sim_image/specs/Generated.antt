@@ -12,6 +12,7 @@ use Rattle.sloth_base.specs.declared.image.Mark.{Mark}
 use Rattle.sloth_base.specs.declared.places.Levels.{Levels}
 use Rattle.sloth_base.specs.declared.places.Places.{Places}
 use Rattle.sloth_base.specs.declared.service.Service.TheVariants as service
+use Rattle.sloth_base.specs.MemoryMap.{vectors_base, boot_base}
 use Rattle.sloth_region.specs.declared.map.Map.{Map}
 use Rattle.app_rules.specs.WellFormed.{WellFormed}
 use Rattle.stack_bounds.specs.declared.stacks.Stacks.{Stacks}
@@ -46,8 +47,8 @@ pub record Has (blocks : List Block) (address : ℕ) (marks : List Mark) (Does :
 
 -- the code that every kernel has is among the blocks, by the contracts of the generators
 pub record HasCode (config : Config) (app : App) (levels : Levels) (map : Map) (blocks : List Block) : Type 0 where
-  pub vectors : Has blocks 0x8000_0400 [] (AreJumps 32 map.handlers)
-  pub boot : Has blocks 0x8000_0480 [] (Boots config.tasks levels.task map.idle)
+  pub vectors : Has blocks vectors_base [] (AreJumps 32 map.handlers)
+  pub boot : Has blocks boot_base [] (Boots config.tasks levels.task map.idle)
   pub idle : Has blocks map.idle (idle_mark map.idle ∷ []) Idles
   pub prologues : (t : ℕ) → t < length config.tasks → Has blocks (slice_index map.handlers t) [] (EntersTask t config app levels map)
   -- the code of each service that an item calls

@@ -3,6 +3,7 @@ use Rattle.std.specs.Prelude.{ℕ, ◌+◌, ◌*◌, ◌%◌, ◌<◌, ◌≤◌
 use Rattle.std.specs.Prelude as prelude
 use Rattle.std.specs.List.{AllZip}
 use Rattle.sloth_base.specs.declared.image.Mark.{Mark}
+use Rattle.sloth_base.specs.MemoryMap.{memory_base}
 use Rattle.sloth_region.specs.declared.extent.Extent.{Extent}
 use Rattle.sloth_region.specs.declared.map.Map.{Map}
 use Rattle.sloth_region.specs.Region.{FollowWithin}
@@ -25,7 +26,7 @@ MarksRise (mark ∷ next ∷ marks) = (mark.address < next.address) × MarksRise
 -- a block begins where its extent does and isn't longer, and has at most two marks
 pub record FitsRoom (room : Extent) (block : Block) : Type 0 where
   pub at : block.at ≡ room.base
-  pub above : 0x8000_0000 ≤ room.base
+  pub above : memory_base ≤ room.base
   pub aligned : room.base % 4 ≡ 0
   pub short : 4 * length block.code ≤ room.len
   pub few : length block.marks ≤ 2

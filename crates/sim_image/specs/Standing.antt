@@ -8,6 +8,7 @@ use Rattle.sloth_base.specs.declared.config.Config.{Config}
 use Rattle.sloth_base.specs.declared.image.Image.{Image}
 use Rattle.sloth_base.specs.declared.image.Mark.{Mark}
 use Rattle.sloth_base.specs.declared.places.Places.{Places}
+use Rattle.sloth_base.specs.MemoryMap.{memory_base}
 use Rattle.sloth_region.specs.declared.map.Map.{Map}
 use Rattle.app_rules.specs.WellFormed.{WellFormed}
 use Rattle.rv32_instr.specs.declared.block.Block.{Block}
@@ -69,15 +70,15 @@ MarksAreOfItems app places block = All (IsOwnMark app places) block.marks
 -- the items stand in a memory, each with its mark, and no other item has one
 pub record ItemsStand (app : App) (places : Places) (memory : List ℕ) (marks : List Mark) : Type 0 where
   pub code : (func index : ℕ) → IsItem app func index → CodeAt memory (item_address places func index) (expansion app places func index)
-  pub inside : (func index : ℕ) → IsItem app func index → (0x8000_0000 ≤ item_address places func index)
-      × (item_address places func index + 4 * length (expansion app places func index) ≤ 0x8000_0000 + length memory)
+  pub inside : (func index : ℕ) → IsItem app func index → (memory_base ≤ item_address places func index)
+      × (item_address places func index + 4 * length (expansion app places func index) ≤ memory_base + length memory)
   pub marked : (func index : ℕ) → IsItem app func index → Contains marks (item_mark app places func index)
   pub only : All (IsOwnMark app places) marks
 
 -- items that were linked, each as a block of its own, stand
 abbrev pub LinkedItemsStand : Type 0
 LinkedItemsStand = (app : App) (places : Places) (size : ℕ) (blocks : List Block) (memory : List ℕ) (marks : List Mark)
-    → HaveItems app places blocks → All (MarksAreOfItems app places) blocks → All (λ b. 0x8000_0000 ≤ b.at) blocks
+    → HaveItems app places blocks → All (MarksAreOfItems app places) blocks → All (λ b. memory_base ≤ b.at) blocks
     → All (λ b. IsInside size (block_section b)) blocks → length memory ≡ size → All (BlockStands memory) blocks
     → IsPermutation (marks_of blocks) marks → ItemsStand app places memory marks
 

@@ -4,6 +4,7 @@ use Rattle.std.specs.Prelude as prelude
 use Rattle.sloth_base.specs.Named.{symbol_size}
 use Rattle.sloth_base.specs.declared.app.App.{App}
 use Rattle.sloth_base.specs.declared.app.Symbol.{Symbol}
+use Rattle.sloth_base.specs.MemoryMap.{memory_base}
 use Rattle.sloth_region.specs.declared.map.Map.{Map}
 use Rattle.sloth_region.specs.Region.{FollowWithin}
 use Rattle.rv32_expand.specs.Expansion.{symbol_address}
@@ -36,7 +37,7 @@ SymbolsAreInData = (map : Map) (app : App) → HasSymbols map app → All (IsInD
 
 -- each symbol's bytes lie as a section in its own room
 abbrev pub SymbolsAreIn : Type 0
-SymbolsAreIn = (map : Map) (app : App) → 0x8000_0000 ≤ (data_zone map).base → HasSymbols map app
+SymbolsAreIn = (map : Map) (app : App) → memory_base ≤ (data_zone map).base → HasSymbols map app
     → AreIn (data_extents map app) (prelude.map datum_section (data_of map.places.symbols app.symbols))
 
 -- no byte of a symbol has the address of one of another symbol

@@ -3,6 +3,7 @@ use Rattle.std.specs.Prelude.{ℕ, ◌+◌, ◌-◌, ◌*◌, ◌%◌, ◌<◌, 
 use Rattle.sloth_base.specs.Machine.{Core}
 use Rattle.sloth_base.specs.declared.app.App.{App}
 use Rattle.sloth_base.specs.declared.config.Config.{Config}
+use Rattle.sloth_base.specs.MemoryMap.{memory_base}
 use Rattle.sloth_region.specs.declared.extent.Extent.{Extent}
 use Rattle.sloth_region.specs.declared.map.Map.{Map}
 use Rattle.sloth_region.specs.Layout.{context_bytes}
@@ -22,7 +23,7 @@ use Rattle.sim_image.specs.Symbols.{HasSymbols}
 
 -- whether the byte at an offset from 0x80000000 is in an extent
 abbrev pub is_in : Extent → ℕ → Bool
-is_in e i = nat_le e.base (0x8000_0000 + i) && nat_lt (0x8000_0000 + i) (e.base + e.len)
+is_in e i = nat_le e.base (memory_base + i) && nat_lt (memory_base + i) (e.base + e.len)
 
 -- what is built, by the map
 abbrev pub build_of : Config → App → Map → Stacks → ℕ → List ℕ → Build
@@ -30,8 +31,8 @@ build_of config app map stacks back memory = record {
   config = config;
   app = app;
   places = map.places;
-  low = λ t. top_of map t - bytes_of stacks t - 0x8000_0000;
-  top = λ t. top_of map t - 0x8000_0000;
+  low = λ t. top_of map t - bytes_of stacks t - memory_base;
+  top = λ t. top_of map t - memory_base;
   is_code = is_in (code_zone map);
   is_data = is_in (data_zone map);
   idle = map.idle;
@@ -70,7 +71,7 @@ StacksAreApart = (config : Config) (app : App) (map : Map) (stacks : Stacks) (ba
 abbrev pub BlocksArePlaced : Type 0
 BlocksArePlaced = (config : Config) (app : App) (map : Map) (stacks : Stacks) (back : ℕ) (memory : List ℕ) (blocks : List Block) → HasZones map config
     → All (λ b. All InRange b.code) blocks → All (IsInCode map) blocks → All (BlockStands memory) blocks
-    → All (λ b. IsPlaced (build_of config app map stacks back memory) (b.at - 0x8000_0000) b.code) blocks
+    → All (λ b. IsPlaced (build_of config app map stacks back memory) (b.at - memory_base) b.code) blocks
 
 -- every block can run wherever the bytes of code are those that were linked
 abbrev pub BlocksCanRun : Type 0
@@ -80,4 +81,4 @@ BlocksCanRun = (config : Config) (app : App) (map : Map) (stacks : Stacks) (back
     → All (IsInCode map) blocks → All (BlockStands memory) blocks → All (λ b. 0 < length b.code) blocks → core.controller ≡ true
     → length core.registers ≡ 32 → slice_index core.registers 0 ≡ 0 → length core.pending ≡ 32
     → ((i : ℕ) → is_in (code_zone map) i ≡ true → slice_index core.ram i ≡ slice_index memory i)
-    → All (λ b. CanRun (b.at - 0x8000_0000) b.code core) blocks
+    → All (λ b. CanRun (b.at - memory_base) b.code core) blocks

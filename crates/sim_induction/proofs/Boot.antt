@@ -17,6 +17,8 @@ use Rattle.rv32_machine.specs.Advance.{Goes}
 use Rattle.rv32_machine.specs.Run.{after_from, moment, run_from, arrived}
 use Rattle.rv32_routine.specs.Trace.{Trace, touches, touched_of, touched_lines, lines_of, early, late}
 use Rattle.sloth_base.specs.Options.{is_number}
+use Rattle.sloth_base.specs.Owners.{owners_in, IsOwned, AreOwned}
+use Rattle.sloth_base.specs.Stretches.{Boots, stretch_limit}
 use Rattle.observe.specs.Pieces.{Stretch, pieces, cut_off}
 use Rattle.observe.specs.Observe.{observe, piece_events, found_admits, admit, stamp, is_early, last_of}
 use Rattle.observe.proofs.Cutting.{pieces-append, cut_off-append}
@@ -26,19 +28,19 @@ use Rattle.osek_machine.specs.Runs.{Leads, Follows}
 use Rattle.osek_machine.specs.InTime.{is_admit, admits_at, arrivals_at, IsOrdered, KeepsOrder, longest}
 use Rattle.sim_induction.specs.Short.{IsShort, IsShortPiece, TouchesOnly, HasShortGaps}
 use Rattle.sim_induction.specs.Sound.{stands_before}
-use Rattle.sim_induction.specs.Admits.{Setting, IsSetting, lines_at, with_admits, admit_event, AllBelow, before_event, behind_event, at_moment}
+use Rattle.sim_induction.specs.Admits.{Setting, IsSetting, lines_at, with_admits, admit_event, before_event, behind_event, at_moment}
 use Rattle.sim_induction.specs.Observed.{trace_of, IsTraced}
 use Rattle.sim_induction.specs.Advances.{RunTo, EachPair, IsWithin}
 use Rattle.sim_induction.specs.Laws.{BootLaw, seen_at}
 use Rattle.sim_induction.specs.Related.{IsSimulation}
 use Rattle.sim_induction.proofs.Follow.{leads-append, follows-append, follows_leads, follows_admits, booted_admits}
 use Rattle.sim_induction.proofs.Events.{IsFrom, filter_all, each_map, each-append, each_arrival, admit_pairs, behind_within, before}
-use Rattle.sim_induction.proofs.Schedule.{from_zero, moments-split, below_moments, admits_are}
+use Rattle.sim_induction.proofs.Schedule.{from_zero, moments-split, owned_at, admits_are}
 use Rattle.sim_induction.proofs.Counts.{admits-append, arrivals-append}
 use Rattle.sim_induction.proofs.Order.{orders-append, parted_order, admits_order}
 use Rattle.sim_induction.proofs.Runs.{steps_from, run_steps, run_take, after_steps, goes_through}
 use Rattle.sim_induction.proofs.RunFrom.{events_from, ReachedAt, SoundFrom}
-use Rattle.sim_induction.proofs.Traces.{lines_behind, is_traced, below_trace, steps_touch, each_step-take}
+use Rattle.sim_induction.proofs.Traces.{lines_behind, is_traced, lines_trace, steps_touch, each_step-take}
 use Rattle.sim_induction.proofs.MaskedRun.{MaskedRun, masked_steps, masked_inside, masked_moment, none_taken, trace_long, Flags, flag_first}
 use Rattle.sim_induction.proofs.Cut.{cut_whole, cut_short}
 use Rattle.sim_induction.proofs.Induct.{sound_from, within_wider, pairs_apart}
@@ -140,11 +142,11 @@ module _ (given : Setting) (setting : IsSetting given) (R : State → System →
       let n : 0 + length (f ∷ r.steps) ≡ J = let l = long in omega arith in
       ap (λ v. filter (λ a. not (p a)) (moments 0 v A)) (sym n) ∙ traced.behind ∙ ap (behind_event 0) all_trace
 
-  in_range : AllBelow (length given.config.tasks) (early law.trace) × AllBelow (length given.config.tasks) (late law.trace)
-  in_range = below_trace (length given.config.tasks) J 0 (lines_at A) m law.trace law.end (λ i. below_moments (length given.config.tasks) i (i + 1) A setting.lines) law.steps
+  in_range : AreOwned (owners_in given.config) (early law.trace) × AreOwned (owners_in given.config) (late law.trace)
+  in_range = lines_trace (IsOwned (owners_in given.config)) J 0 (lines_at A) m law.trace law.end (owned_at given setting) law.steps
 
-  below_behind : AllBelow (length given.config.tasks) (map (λ a. a.line) (behind_event 0 law.trace))
-  below_behind = subst (AllBelow (length given.config.tasks)) (sym (lines_behind 0 law.trace)) in_range.1
+  owned_behind : AreOwned (owners_in given.config) (map (λ a. a.line) (behind_event 0 law.trace))
+  owned_behind = subst (AreOwned (owners_in given.config)) (sym (lines_behind 0 law.trace)) in_range.1
 
   events_are : piece_events given.view A (Stretch (f ∷ r.steps)) ≡ E0
   events_are =
@@ -158,7 +160,7 @@ module _ (given : Setting) (setting : IsSetting given) (R : State → System →
       ∙ ap (λ v. shape [] v (filter (λ a. not (p a)) inside) e) none_early
       ∙ ap (λ v. shape [] [] v e) all_late
       ∙ ap (λ v. stamp 0 v event.Boot ∷ map (admit given.view) (behind_event 0 law.trace)) a
-      ∙ ap (λ v. boot ∷ v) (admits_are given.view (behind_event 0 law.trace) (subst (λ n. AllBelow n (map (λ y. y.line) (behind_event 0 law.trace))) (sym setting.tasks) below_behind))
+      ∙ ap (λ v. boot ∷ v) (admits_are given setting (behind_event 0 law.trace) owned_behind)
 
   abbrev z : System
   z = with_admits (late law.trace) law.after
@@ -172,7 +174,7 @@ module _ (given : Setting) (setting : IsSetting given) (R : State → System →
     law.step_is,
     tt,
     subst (λ a. Follows given.config given.app (boot ∷ []) law.after (map admit_event (behind_event 0 law.trace)) (with_admits a law.after)) (lines_behind 0 law.trace)
-        (follows_admits given.config given.app (boot ∷ []) (behind_event 0 law.trace) law.after after_booted below_behind),
+        (follows_admits given.config given.app (boot ∷ []) (behind_event 0 law.trace) law.after after_booted owned_behind),
   )
 
   -- no line arrives at count 0
@@ -208,8 +210,8 @@ module _ (given : Setting) (setting : IsSetting given) (R : State → System →
   touching : AllByRecursion (TouchesOnly []) (f ∷ r.steps)
   touching = steps_touch A [] (f ∷ r.steps) (subst (AllByRecursion (Contains [])) (sym (ap touched_lines all_trace ∙ law.untouched)) tt)
 
-  short_at : (steps : List Step) → length steps ≤ 399 → AllByRecursion (TouchesOnly []) steps → IsShort (f ∷ steps)
-  short_at steps l h = (let n : length (f ∷ steps) ≤ 400 = omega arith in n, All-from_recursion (TouchesOnly []) (f ∷ steps) (touching.0, h))
+  short_at : (steps : List Step) → length (f ∷ steps) ≤ stretch_limit given.config Boots → AllByRecursion (TouchesOnly []) steps → IsShort given.config (f ∷ steps)
+  short_at steps l h = (l, ([], omega arith, All-from_recursion (TouchesOnly []) (f ∷ steps) (touching.0, h)))
 
   closed : (i : ℕ) → i < J → (x : State) → after_from i A 0 m ≡ Some x → x.core.mie ≡ false
   closed i l x e = masked_inside A J 0 m law.trace law.end law.steps i l x e
@@ -258,12 +260,12 @@ module _ (given : Setting) (setting : IsSetting given) (R : State → System →
         within = subst (AllByRecursion (IsWithin 0 (suc n))) (sym obs) tt;
         placed = subst (EachPair IsOrdered) (sym obs) tt;
         to = 0;
-        to_in = (omega arith, subst (λ E. suc n < 0 + longest E) (sym obs) (omega arith));
+        to_in = (omega arith, subst (λ E. suc n < 0 + longest given.config E) (sym obs) (omega arith));
         ends = subst (AllByRecursion (λ e. is_admit e ≡ false → e.stamp.at < 0)) (sym obs) tt;
         counted = λ i t. ap (admits_at i t) obs ∙ sym (ap (arrivals_at i t) (moments-none 0 A));
         keeps = subst (KeepsOrder (moments 0 0 A)) (sym obs) (subst (λ v. KeepsOrder v []) (sym (moments-none 0 A)) (admits_order []));
-        short = subst (AllByRecursion IsShortPiece) (sym no_pieces) tt;
-        short_cut = subst IsShort (sym open_is) (short_at (take n r.steps) (let k = length-take n r.steps in omega arith) (each_step-take (TouchesOnly []) n r.steps touching.1));
+        short = subst (AllByRecursion (IsShortPiece given.config)) (sym no_pieces) tt;
+        short_cut = subst (IsShort given.config) (sym open_is) (short_at (take n r.steps) (let k = length-take n r.steps in omega arith) (each_step-take (TouchesOnly []) n r.steps touching.1));
         gaps = subst (HasShortGaps given.view 0) (sym no_pieces) tt;
         mirrors = λ i h x e o. let b = closed i (omega arith) x e in cc;
       }
@@ -298,7 +300,7 @@ module _ (given : Setting) (setting : IsSetting given) (R : State → System →
             (each-append (IsWithin 0 (J + n)) E0 E (within_wider 0 J 0 (J + n) E0 (omega arith) (omega arith) within0) (within_wider J (J + n) 0 (J + n) E (omega arith) (omega arith) g.within));
         placed = subst (EachPair IsOrdered) (sym obs) (pairs_apart 0 J (J + n) E0 E within0 g.within placed0 g.placed);
         to = g.to;
-        to_in = (let w = g.to_in in (omega arith, subst (λ E. J + n < g.to + longest E) (sym obs) w.2));
+        to_in = (let w = g.to_in in (omega arith, subst (λ E. J + n < g.to + longest given.config E) (sym obs) w.2));
         ends = subst (AllByRecursion (λ e. is_admit e ≡ false → e.stamp.at < g.to)) (sym obs)
             (each-append (λ e. is_admit e ≡ false → e.stamp.at < g.to) E0 E
             (each_map (IsWithin 0 J) (λ e. is_admit e ≡ false → e.stamp.at < g.to) (λ e w o. let u = w.ends in let v = g.to_in.0 in omega arith) E0 within0) g.ends);
@@ -307,8 +309,8 @@ module _ (given : Setting) (setting : IsSetting given) (R : State → System →
             ∙ sym (ap (arrivals_at i t) split ∙ arrivals-append i t inside (moments J g.to A));
         keeps = subst (KeepsOrder (moments 0 g.to A)) (sym obs)
             (subst (λ v. KeepsOrder v (E0 ++ E)) (sym split) (orders-append inside (moments J g.to A) E0 E keeps0 g.keeps));
-        short = subst (AllByRecursion IsShortPiece) (sym pieces_are) (short_at r.steps (omega arith) touching.1, g.short);
-        short_cut = subst IsShort (sym open_is) g.short_cut;
+        short = subst (AllByRecursion (IsShortPiece given.config)) (sym pieces_are) (short_at r.steps (omega arith) touching.1, g.short);
+        short_cut = subst (IsShort given.config) (sym open_is) g.short_cut;
         gaps = subst (HasShortGaps given.view 0) (sym pieces_are) (omega arith, g.gaps 0 (omega arith));
         mirrors = λ i h x e o. ⊎_elim
             (λ (l : i < J). let b = closed i l x e in cc)

@@ -5,6 +5,8 @@ use Rattle.sloth_base.specs.declared.config.Config.{Config}
 use Rattle.sloth_base.specs.declared.app.App.{App}
 use Rattle.sloth_base.specs.declared.event.Arrival.{Arrival}
 use Rattle.sloth_base.specs.declared.event.Stamped.{Stamped}
+use Rattle.sloth_base.specs.Owners.{owners_in, AreOwned}
+use Rattle.sloth_base.proofs.Owners.{owned_task}
 use Rattle.osek_machine.specs.declared.state.TaskState.{TaskState}
 use Rattle.osek_machine.specs.declared.state.TaskState.TheVariants as mode
 use Rattle.osek_machine.specs.State.{System, task}
@@ -12,7 +14,7 @@ use Rattle.osek_machine.specs.Services.{if_suspended, activated}
 use Rattle.osek_machine.specs.Steps.{admitted}
 use Rattle.osek_machine.specs.Runs.{Leads, Follows}
 pub use Rattle.osek_machine.proofs.Leading.{leads-append, follows_leads}
-use Rattle.sim_induction.specs.Admits.{with_admits, AllBelow, admit_event}
+use Rattle.sim_induction.specs.Admits.{with_admits, admit_event}
 
 pub follows-append : (c : Config) (app : App) (past : List Stamped) (s x z : System) (a b : List Stamped) → Follows c app past s a x → Follows c app (past ++ a) x b z → Follows c app past s (a ++ b) z
 follows-append c app past s x z [] b h k =
@@ -39,11 +41,11 @@ pub with_admits-append : (a b : List ℕ) (s : System) → with_admits (a ++ b) 
 with_admits-append [] b s = refl
 with_admits-append (t ∷ a) b s = with_admits-append a b (admitted t s)
 
-pub follows_admits : (c : Config) (app : App) (past : List Stamped) (a : List Arrival) (s : System) → s.booted ≡ true → AllBelow (length c.tasks) (map (λ x. x.line) a)
+pub follows_admits : (c : Config) (app : App) (past : List Stamped) (a : List Arrival) (s : System) → s.booted ≡ true → AreOwned (owners_in c) (map (λ x. x.line) a)
     → Follows c app past s (map admit_event a) (with_admits (map (λ x. x.line) a) s)
 follows_admits c app past [] s b h = refl
 follows_admits c app past (x ∷ a) s b h =
-    (admitted x.line s, (b, h.0, refl), tt, follows_admits c app (past ++ admit_event x ∷ []) a (admitted x.line s) (booted_admitted x.line s ∙ b) h.1)
+    (admitted x.line s, (b, owned_task (owners_in c) x.line h.0, refl), tt, follows_admits c app (past ++ admit_event x ∷ []) a (admitted x.line s) (booted_admitted x.line s ∙ b) h.1)
 
-pub leads_admits : (c : Config) (app : App) (a : List Arrival) (s : System) → s.booted ≡ true → AllBelow (length c.tasks) (map (λ x. x.line) a) → Leads c app (map admit_event a) s (with_admits (map (λ x. x.line) a) s)
+pub leads_admits : (c : Config) (app : App) (a : List Arrival) (s : System) → s.booted ≡ true → AreOwned (owners_in c) (map (λ x. x.line) a) → Leads c app (map admit_event a) s (with_admits (map (λ x. x.line) a) s)
 leads_admits c app a s b h = follows_leads c app [] s (map admit_event a) (with_admits (map (λ x. x.line) a) s) (follows_admits c app [] a s b h)

@@ -9,6 +9,7 @@ use Rattle.sloth_base.specs.declared.event.Stamped.{Stamped}
 use Rattle.sloth_base.specs.declared.step.Step.{Step}
 use Rattle.sloth_base.specs.Machine.{State}
 use Rattle.sloth_base.specs.Arrivals.{moments}
+use Rattle.sloth_base.specs.Owners.{owners_in, AreOwned}
 use Rattle.rv32_machine.specs.Run.{after_from, arrived, run_from}
 use Rattle.observe.specs.Pieces.{Piece, pieces, cut_off}
 use Rattle.observe.specs.Observe.{observe, piece_events, found_admits, admit}
@@ -19,12 +20,12 @@ use Rattle.osek_machine.specs.Runs.{Leads, Follows}
 use Rattle.osek_machine.specs.InTime.{is_admit, admits_at, arrivals_at, IsOrdered, StandsBefore, KeepsOrder}
 use Rattle.sim_induction.specs.Short.{IsShort, IsShortPiece, HasShortGaps, passed}
 use Rattle.sim_induction.specs.Sound.{stands_before}
-use Rattle.sim_induction.specs.Admits.{Setting, IsSetting, lines_at, with_admits, admit_event, AllBelow}
+use Rattle.sim_induction.specs.Admits.{Setting, IsSetting, lines_at, with_admits, admit_event}
 use Rattle.sim_induction.specs.Advances.{EachPair, IsWithin, found_by, Advances}
 use Rattle.sim_induction.specs.Related.{IsSimulation}
 use Rattle.sim_induction.proofs.Follow.{leads-append, follows-append, follows_leads, follows_admits}
 use Rattle.sim_induction.proofs.Events.{filter_all, filter_none, each_map, each_both, each-append, each_arrival, pairs-append, admit_pairs, moment_within, before, behind}
-use Rattle.sim_induction.proofs.Schedule.{from_zero, moments-split, below_moments, admits_are}
+use Rattle.sim_induction.proofs.Schedule.{from_zero, moments-split, owned_at, admits_are}
 use Rattle.sim_induction.proofs.Counts.{admits-append, arrivals-append, admits_of}
 use Rattle.sim_induction.proofs.Order.{orders-append, admits_order}
 use Rattle.sim_induction.proofs.Runs.{steps_from, run_steps, run_take, after_steps, goes_through}
@@ -63,11 +64,11 @@ module _ (given : Setting) (setting : IsSetting given) (R : State → System →
   abbrev here : ℕ → List Arrival
   here k = moments k (k + 1) A
 
-  below_here : (k : ℕ) → AllBelow (length given.config.tasks) (lines_at A k)
-  below_here k = below_moments (length given.config.tasks) k (k + 1) A setting.lines
+  owned_here : (k : ℕ) → AreOwned (owners_in given.config) (lines_at A k)
+  owned_here = owned_at given setting
 
   follow_mine : (past : List Stamped) (k : ℕ) (m : State) (s : System) → R m s → Follows given.config given.app past s (mine k) (with_admits (lines_at A k) s)
-  follow_mine past k m s r = follows_admits given.config given.app past (here k) s (simulation.booted m s r) (below_here k)
+  follow_mine past k m s r = follows_admits given.config given.app past (here k) s (simulation.booted m s r) (owned_here k)
 
   mine_within : (k hi : ℕ) → k < hi → AllByRecursion (IsWithin k hi) (mine k)
   mine_within k hi l = each_arrival (IsWithin k hi) (λ a. a.at ≡ k) (λ a e. record { begins = omega arith; ordered = omega arith; ends = omega arith; spans = refl }) (here k) (moment_within k A)
@@ -138,7 +139,7 @@ module _ (given : Setting) (setting : IsSetting given) (R : State → System →
         ∙ ap (found_admits given.view A) cut_open
         ∙ ap (λ b. map (admit given.view) (moments a.first.count (cond b (a.first.count + 1) a.first.count) A)) f
         ∙ ap (λ v. map (admit given.view) (here v)) a.finds.0
-        ∙ admits_are given.view (here k) (subst (λ v. AllBelow v (lines_at A k)) (sym setting.tasks) (below_here k))
+        ∙ admits_are given setting (here k) (owned_here k)
 
     cut_sound : SoundFrom given R progress (suc n) k m s past
     cut_sound =
@@ -155,8 +156,8 @@ module _ (given : Setting) (setting : IsSetting given) (R : State → System →
           ends = subst (AllByRecursion (λ e. is_admit e ≡ false → e.stamp.at < k + 1)) (sym cut_observed) (mine_ends k (k + 1));
           counted = λ i t. ap (admits_at i t) cut_observed ∙ admits_of i t (here k);
           keeps = subst (KeepsOrder (here k)) (sym cut_observed) (admits_order (here k));
-          short = subst (AllByRecursion IsShortPiece) (sym cut_pieces) tt;
-          short_cut = subst IsShort (sym cut_open) (a.short_front n (omega arith));
+          short = subst (AllByRecursion (IsShortPiece given.config)) (sym cut_pieces) tt;
+          short_cut = subst (IsShort given.config) (sym cut_open) (a.short_front n (omega arith));
           gaps = λ before h. subst (HasShortGaps given.view before) (sym cut_pieces) tt;
           mirrors = λ i h x g o. cut_mirror i h x g o;
         }
@@ -258,8 +259,8 @@ module _ (given : Setting) (setting : IsSetting given) (R : State → System →
           keeps = subst (KeepsOrder (moments k g.to A)) (sym observed)
               (subst (λ v. KeepsOrder v ((mine k ++ a.others) ++ E)) (sym (moments-split 0 k (k + j) g.to A (from_zero A setting.ordered) (omega arith) g.to_in.0))
               (orders-append (moments k (k + j) A) (moments (k + j) g.to A) (mine k ++ a.others) E a.keeps g.keeps));
-          short = subst (AllByRecursion IsShortPiece) (sym long_pieces) (a.short, g.short);
-          short_cut = subst IsShort (sym long_open) g.short_cut;
+          short = subst (AllByRecursion (IsShortPiece given.config)) (sym long_pieces) (a.short, g.short);
+          short_cut = subst (IsShort given.config) (sym long_open) g.short_cut;
           gaps = λ b h. subst (HasShortGaps given.view b) (sym long_pieces) (
             (let p = a.progresses b h in let q = simulation.bounded a.next a.after a.related in omega arith),
             g.gaps (passed given.view a.piece b) (a.progresses b h),

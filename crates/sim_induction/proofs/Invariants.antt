@@ -10,19 +10,20 @@ use Rattle.sloth_base.specs.declared.event.Stamped.{Stamped}
 use Rattle.sloth_base.specs.declared.step.Step.{Step}
 use Rattle.sloth_base.specs.Machine.{State}
 use Rattle.sloth_base.specs.Arrivals.{moments}
+use Rattle.sloth_base.specs.Owners.{owners_in, IsOwned, AreOwned}
 use Rattle.rv32_machine.specs.Advance.{Goes}
 use Rattle.rv32_machine.specs.Run.{moment, arrived}
 use Rattle.osek_machine.specs.State.{System, opening}
 use Rattle.osek_machine.specs.Steps.{OsekStep}
 use Rattle.osek_machine.specs.Runs.{Leads}
 use Rattle.sim_induction.specs.Mirror.{Mirror}
-use Rattle.sim_induction.specs.Admits.{Setting, IsSetting, lines_at, with_admits, admit_event, AllBelow, behind_event}
+use Rattle.sim_induction.specs.Admits.{Setting, IsSetting, lines_at, with_admits, admit_event, behind_event}
 use Rattle.sim_induction.specs.Advances.{RunTo, Advances}
 use Rattle.sim_induction.specs.Laws.{BootLaw}
 use Rattle.sim_induction.specs.Related.{IsSimulation}
 use Rattle.sim_induction.proofs.Follow.{leads_admits}
-use Rattle.sim_induction.proofs.Schedule.{below_moments}
-use Rattle.sim_induction.proofs.Traces.{lines_behind, below_trace}
+use Rattle.sim_induction.proofs.Schedule.{owned_at}
+use Rattle.sim_induction.proofs.Traces.{lines_behind, lines_trace}
 use Rattle.sim_induction.proofs.MaskedRun.{masked_steps}
 
 -- what each instruction keeps, and each event
@@ -50,7 +51,7 @@ module _ (given : Setting) (setting : IsSetting given) (R : State → System →
   admits_keep : (k : ℕ) (s : System) → s.booted ≡ true → J s → J (with_admits (lines_at given.arrivals k) s)
   admits_keep k s b j =
       along_events given.config given.app J keep_j (map admit_event (moments k (k + 1) given.arrivals)) s (with_admits (lines_at given.arrivals k) s)
-      (leads_admits given.config given.app (moments k (k + 1) given.arrivals) s b (below_moments (length given.config.tasks) k (k + 1) given.arrivals setting.lines)) j
+      (leads_admits given.config given.app (moments k (k + 1) given.arrivals) s b (owned_at (length given.config.tasks) k (k + 1) given.arrivals setting.lines)) j
 
   pub strengthen : (k : ℕ) (m : State) (s : System) → s.booted ≡ true → With R I J m s → Advances given R progress k m s → Advances given (With R I J) progress k m s
   strengthen k m s b w a = record {
@@ -104,8 +105,8 @@ module _ (given : Setting) (setting : IsSetting given) (R : State → System →
   pub boot_with : (m : State) (law : BootLaw given R m) → law.after.booted ≡ true → I m → J (opening given.config given.app) → BootLaw given (With R I J) m
   boot_with m law b i j =
       let r = masked_steps given.arrivals (suc law.more) 0 m law.trace law.end law.steps law.ends in
-      let in_range = below_trace (length given.config.tasks) (suc law.more) 0 (lines_at given.arrivals) m law.trace law.end (λ k. below_moments (length given.config.tasks) k (k + 1) given.arrivals setting.lines) law.steps in
-      let late_below : AllBelow (length given.config.tasks) (map (λ a. a.line) (behind_event 0 law.trace)) = subst (AllBelow (length given.config.tasks)) (sym (lines_behind 0 law.trace)) in_range.1 in
+      let in_range = lines_trace (IsOwned (owners_in given.config)) (suc law.more) 0 (lines_at given.arrivals) m law.trace law.end (owned_at given setting) law.steps in
+      let late_below : AreOwned (owners_in given.config) (map (λ a. a.line) (behind_event 0 law.trace)) = subst (AreOwned (owners_in given.config)) (sym (lines_behind 0 law.trace)) in_range.1 in
       record {
         more = law.more;
         few = law.few;

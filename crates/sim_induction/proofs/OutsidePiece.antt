@@ -14,11 +14,11 @@ use Rattle.osek_machine.specs.State.{System}
 use Rattle.osek_machine.specs.Runs.{Leads, Follows, PassesOverArrivals}
 use Rattle.osek_machine.specs.InTime.{is_admit, admits_at, SpansFor, IsOrdered, KeepsOrder}
 use Rattle.sim_induction.specs.Short.{passed_by}
-use Rattle.sim_induction.specs.Admits.{Setting, IsSetting, lines_at, with_admits, AllBelow}
+use Rattle.sim_induction.specs.Admits.{Setting, IsSetting, lines_at, with_admits}
 use Rattle.sim_induction.specs.Advances.{EachPair, IsWithin, found_by, Advances}
 use Rattle.std.specs.List.{AllByRecursion}
 use Rattle.sim_induction.specs.Laws.{OutsideLaw, Shows, seen_at}
-use Rattle.sim_induction.proofs.Schedule.{below_moments, admits_are}
+use Rattle.sim_induction.proofs.Schedule.{owned_at, admits_are}
 use Rattle.sim_induction.proofs.Counts.{admits-append, admits_of, others_count}
 use Rattle.sim_induction.proofs.Order.{orders-append, admits_order, others_order}
 use Rattle.sim_induction.proofs.Shown.{AreSingle, IsSingle, outside_single}
@@ -112,8 +112,7 @@ outside_advances given setting R progress k m s x law =
       others = others;
       events =
           ap (λ u. u ++ map (stamp k k) (outside_events (mark_at given.view first.pc) given.view first))
-          (admits_are given.view (moments k (k + 1) given.arrivals)
-          (subst (λ n. AllBelow n (map (λ a. a.line) (moments k (k + 1) given.arrivals))) (sym setting.tasks) (below_moments (length given.config.tasks) k (k + 1) given.arrivals setting.lines)))
+          (admits_are given setting (moments k (k + 1) given.arrivals) (owned_at given setting k))
           ∙ ap (λ v. found_by given k ++ map (stamp k k) v) law.whats_are;
       stamps = a.stamps;
       later = a.later;

@@ -7,6 +7,7 @@ use Rattle.sloth_base.specs.declared.app.App.{App}
 use Rattle.sloth_base.specs.declared.event.Arrival.{Arrival}
 use Rattle.sloth_base.specs.declared.event.Event.TheVariants as event
 use Rattle.sloth_base.specs.declared.event.Stamped.{Stamped}
+use Rattle.sloth_base.specs.Owners.{owners_in, AreTasks}
 use Rattle.osek_machine.specs.declared.state.TaskState.{TaskState}
 use Rattle.osek_machine.specs.declared.state.TaskState.TheVariants as mode
 use Rattle.osek_machine.specs.State.{Task, System, task, with_task, sleeping, declaration, opening}
@@ -15,7 +16,7 @@ use Rattle.osek_machine.specs.Services.{if_suspended, activated}
 use Rattle.osek_machine.specs.Steps.{OsekStep, admitted}
 use Rattle.osek_machine.specs.Runs.{Leads, ReadySince, PassesOver}
 use Rattle.rv32_routine.specs.Trace.{Trace, early}
-use Rattle.sim_induction.specs.Admits.{with_admits, AllBelow, admit_event, before_event}
+use Rattle.sim_induction.specs.Admits.{with_admits, admit_event, before_event}
 use Rattle.sim_induction.proofs.Follow.{leads-append, booted_admitted}
 use Rattle.sim_induction.proofs.Events.{IsFrom, before_within}
 use Rattle.std.specs.List.{AllByRecursion}
@@ -123,7 +124,7 @@ made t u s n =
     (cases_eq u t))
     (λ _ r. absurd (n r))
 
-pub made_ready : (c : Config) (app : App) (past : List Stamped) (k to u : ℕ) (a : List Arrival) (s : System) → Leads c app past (opening c app) s → s.booted ≡ true → AllBelow (length c.tasks) (map (λ x. x.line) a) → AllByRecursion (IsFrom (k + 1) to) a
+pub made_ready : (c : Config) (app : App) (past : List Stamped) (k to u : ℕ) (a : List Arrival) (s : System) → Leads c app past (opening c app) s → s.booted ≡ true → AreTasks (owners_in c) (map (λ x. x.line) a) → AllByRecursion (IsFrom (k + 1) to) a
     → ((task s u).state ≡ mode.Ready → ⊥) → (task (with_admits (map (λ x. x.line) a) s) u).state ≡ mode.Ready → ReadySince c app (past ++ map admit_event a) u k
 made_ready c app past k to u [] s h b l m n r = absurd (n r)
 made_ready c app past k to u (x ∷ a) s h b l m n r =
@@ -174,7 +175,7 @@ still_top c s t lines top active fresh =
     }
 
 pub passes_over : (c : Config) (app : App) (past : List Stamped) (k to t : ℕ) (a : List Arrival) (s : System) → Leads c app past (opening c app) s → s.booted ≡ true
-    → AllBelow (length c.tasks) (map (λ x. x.line) a) → AllByRecursion (IsFrom (k + 1) to) a → IsTop c s [] t → (task s t).state ≡ mode.Active
+    → AreTasks (owners_in c) (map (λ x. x.line) a) → AllByRecursion (IsFrom (k + 1) to) a → IsTop c s [] t → (task s t).state ≡ mode.Active
     → PassesOver c app (past ++ map admit_event a) (with_admits (map (λ x. x.line) a) s) t k
 passes_over c app past k to t a s h b l m top active u declared ready above =
     made_ready c app past k to u a s h b l m
@@ -187,10 +188,10 @@ passes_over c app past k to t a s h b l m top active u declared ready above =
     ready
 
 pub passes_inner : (c : Config) (app : App) (past : List Stamped) (k t : ℕ) (s : System) (trace : Trace) → Leads c app past (opening c app) s → s.booted ≡ true
-    → AllBelow (length c.tasks) (early trace) → IsTop c s [] t → (task s t).state ≡ mode.Active
+    → AreTasks (owners_in c) (early trace) → IsTop c s [] t → (task s t).state ≡ mode.Active
     → PassesOver c app (past ++ map admit_event (before_event (k + 1) trace)) (with_admits (early trace) s) t k
 passes_inner c app past k t s trace h b l top active =
     let e = lines_before (k + 1) trace in
     subst (λ lines. PassesOver c app (past ++ map admit_event (before_event (k + 1) trace)) (with_admits lines s) t k) e
-    (passes_over c app past k (k + 1 + length trace) t (before_event (k + 1) trace) s h b (subst (AllBelow (length c.tasks)) (sym e) l)
+    (passes_over c app past k (k + 1 + length trace) t (before_event (k + 1) trace) s h b (subst (AreTasks (owners_in c)) (sym e) l)
     (before_within (k + 1) (k + 1 + length trace) (k + 1) trace (omega arith) (omega arith)) top active)

@@ -9,6 +9,7 @@ use Rattle.sloth_base.specs.declared.step.Step.{Step}
 use Rattle.sloth_base.specs.Machine.{State}
 use Rattle.sloth_base.specs.Arrive.{state_arrive}
 use Rattle.sloth_base.specs.Take.{line_to_take, enter, entered}
+use Rattle.sloth_base.proofs.Owners.{kind_of_task}
 use Rattle.rv32_instr.specs.Execute.{Next, Going, Stopped, step, touched}
 use Rattle.rv32_machine.specs.Advance.{seen}
 use Rattle.rv32_machine.specs.Run.{arrived}
@@ -16,7 +17,7 @@ use Rattle.rv32_routine.specs.Masked.{OnGoing, Masked, WithArrivals, FromOpening
 use Rattle.rv32_routine.specs.Trace.{Trace, lines_of, touched_lines, early, late}
 use Rattle.rv32_routine.proofs.Masked.{masked_run}
 use Rattle.observe.specs.Pieces.{begins}
-use Rattle.observe.specs.Observe.{View, stretch_event, later_event, unentered_event, marked_event, mark_at}
+use Rattle.observe.specs.Observe.{View, stretch_event, later_event, unentered_event, marked_event, mark_at, entry_event}
 use Rattle.sim_induction.specs.Admits.{lines_at}
 use Rattle.std.specs.List.{AllByRecursion}
 
@@ -164,11 +165,11 @@ begins_none k n x l h e =
     and_false true = refl
     and_false false = refl
 
-pub entered_event : (view : View) (k : ℕ) (n x : State) (last : Step) (line : ℕ) → 0 < k → line_to_take n ≡ Some line → line < view.tasks → stretch_event view (seen k n x) last ≡ event.Enter line
+pub entered_event : (view : View) (k : ℕ) (n x : State) (last : Step) (line : ℕ) → 0 < k → line_to_take n ≡ Some line → line < view.owners.tasks → stretch_event view (seen k n x) last ≡ event.Enter line
 entered_event view k n x last line l h t =
     ap (λ b. cond b event.Boot (later_event (line_to_take n) view (seen k n x) last)) (ne_eqb k 0 (λ z. omega arith))
     ∙ ap (λ o. later_event o view (seen k n x) last) h
-    ∙ ap (λ b. event.Enter (cond b line 4294967295)) (lt-ltb line view.tasks t)
+    ∙ ap entry_event (kind_of_task view.owners line t)
 
 pub opened_event : (view : View) (k : ℕ) (n x : State) (last : Step) (mark : Mark) → 0 < k → line_to_take n ≡ None → mark_at view (entered n).pc ≡ Some mark
     → stretch_event view (seen k n x) last ≡ marked_event mark.kind view mark (seen k n x) last

@@ -3,6 +3,7 @@ use Rattle.std.proofs.Common.{◌≡◌, ℕ, ◌+◌, ◌<◌, ◌≤◌, List,
 use Rattle.sloth_base.specs.declared.event.Stamped.{Stamped}
 use Rattle.sloth_base.specs.Machine.{State}
 use Rattle.sloth_base.specs.Arrivals.{moments}
+use Rattle.sloth_base.specs.Stretches.{longest_stretch}
 use Rattle.rv32_machine.specs.Run.{after_from, arrived}
 use Rattle.observe.specs.Pieces.{pieces, cut_off}
 use Rattle.std.specs.List.{AllByRecursion}
@@ -32,11 +33,11 @@ pub record SoundFrom (given : Setting) (R : State → System → Type 0) (progre
   pub within : AllByRecursion (IsWithin k (k + n)) (events_from given n k m)
   pub placed : EachPair IsOrdered (events_from given n k m)
   pub to : ℕ
-  pub to_in : (k ≤ to) × (to ≤ k + n) × (k + n < to + 160)
+  pub to_in : (k ≤ to) × (to ≤ k + n) × (k + n < to + longest_stretch given.config)
   pub ends : AllByRecursion (λ e. is_admit e ≡ false → e.stamp.at < to) (events_from given n k m)
   pub counted : (i t : ℕ) → admits_at i t (events_from given n k m) ≡ arrivals_at i t (moments k to given.arrivals)
   pub keeps : KeepsOrder (moments k to given.arrivals) (events_from given n k m)
-  pub short : AllByRecursion IsShortPiece (pieces [] (steps_from n given.arrivals k m))
-  pub short_cut : IsShort (cut_off [] (steps_from n given.arrivals k m))
+  pub short : AllByRecursion (IsShortPiece given.config) (pieces [] (steps_from n given.arrivals k m))
+  pub short_cut : IsShort given.config (cut_off [] (steps_from n given.arrivals k m))
   pub gaps : (before : ℕ) → before ≤ progress m s → HasShortGaps given.view before (pieces [] (steps_from n given.arrivals k m))
   pub mirrors : (i : ℕ) → i < n → (x : State) → after_from i given.arrivals k m ≡ Some x → x.core.mie ≡ true → ReachedAt given R (events_from given n k m) s (k + i) x

@@ -1,13 +1,17 @@
 -- The arrivals of a moment, and of the moments of a stretch.
 use Rattle.std.proofs.Common.{◌≡◌, ℕ, suc, ◌+◌, ◌<◌, ◌≤◌, List, [], ◌∷◌, ◌++◌, refl, sym, ap, ◌∙◌, arith, Bool, true, false, cond, nat_le, nat_lt, ⊎_elim}
 use Rattle.std.specs.Prelude.{map, All, ◌&&◌}
+use Rattle.std.specs.List.{AllByRecursion}
 use Rattle.std.proofs.lemmas.Bool.{le-leb, lt-leb, lt-ltb, le-ltb, cases_lt}
 use Rattle.sloth_base.specs.declared.event.Arrival.{Arrival}
-use Rattle.sloth_base.specs.declared.event.Event.TheVariants as event
+use Rattle.sloth_base.specs.declared.image.Mark.{Mark}
+use Rattle.sloth_base.specs.declared.lines.Owners.{Owners}
 use Rattle.sloth_base.specs.Arrivals.{moments, NeverFalls}
-use Rattle.observe.specs.Observe.{View, admit, task_of_line}
+use Rattle.sloth_base.specs.Owners.{owners_in, IsOwned, AreOwned}
+use Rattle.sloth_base.proofs.Owners.{kind_of_task, owned_task}
+use Rattle.observe.specs.Observe.{view_from, admit, arrival_event}
 use Rattle.observe.proofs.Moments.{moments-later}
-use Rattle.sim_induction.specs.Admits.{lines_at, AllBelow, admit_event, at_moment}
+use Rattle.sim_induction.specs.Admits.{Setting, IsSetting, lines_at, admit_event, at_moment}
 
 pub from_zero : (xs : List Arrival) → NeverFalls 1 xs → NeverFalls 0 xs
 from_zero [] h = tt
@@ -65,26 +69,35 @@ pub lines_back : (k : ℕ) (a : List ℕ) → map (λ x. x.line) (at_moment k a)
 lines_back k [] = refl
 lines_back k (l ∷ a) = ap (λ u. l ∷ u) (lines_back k a)
 
--- ---- lines of tasks
+-- ---- what holds of each line
 
-first_below : (n : ℕ) (x : Arrival) (xs : List Arrival) → All (λ a. a.line < n) (x ∷ xs) → x.line < n
-first_below n x xs h = h 0 x (omega arith)
+module _ (P : ℕ → Type 0) where
+  first_line : (x : Arrival) (xs : List Arrival) → All (λ a. P a.line) (x ∷ xs) → P x.line
+  first_line x xs h = h 0 x (omega arith)
 
-rest_below : (n : ℕ) (x : Arrival) (xs : List Arrival) → All (λ a. a.line < n) (x ∷ xs) → All (λ a. a.line < n) xs
-rest_below n x xs h k d lt = h (suc k) d (omega arith)
+  rest_lines : (x : Arrival) (xs : List Arrival) → All (λ a. P a.line) (x ∷ xs) → All (λ a. P a.line) xs
+  rest_lines x xs h k d lt = h (suc k) d (omega arith)
 
-below_kept : (n : ℕ) (b : Bool) (x : Arrival) (u : List Arrival) → x.line < n → AllBelow n (map (λ a. a.line) u) → AllBelow n (map (λ a. a.line) (cond b (x ∷ u) u))
-below_kept n true x u l h = (l, h)
-below_kept n false x u l h = h
+  lines_kept : (b : Bool) (x : Arrival) (u : List Arrival) → P x.line → AllByRecursion P (map (λ a. a.line) u) → AllByRecursion P (map (λ a. a.line) (cond b (x ∷ u) u))
+  lines_kept true x u l h = (l, h)
+  lines_kept false x u l h = h
 
-pub below_moments : (n from to : ℕ) (xs : List Arrival) → All (λ a. a.line < n) xs → AllBelow n (map (λ a. a.line) (moments from to xs))
-below_moments n from to [] h = tt
-below_moments n from to (x ∷ xs) h =
-    below_kept n (nat_le from x.at && nat_lt x.at to) x (moments from to xs) (first_below n x xs h) (below_moments n from to xs (rest_below n x xs h))
+  pub lines_moments : (from to : ℕ) (xs : List Arrival) → All (λ a. P a.line) xs → AllByRecursion P (map (λ a. a.line) (moments from to xs))
+  lines_moments from to [] h = tt
+  lines_moments from to (x ∷ xs) h =
+      lines_kept (nat_le from x.at && nat_lt x.at to) x (moments from to xs) (first_line x xs h) (lines_moments from to xs (rest_lines x xs h))
 
--- the observer's admits are those of the tasks
-pub admits_are : (view : View) (xs : List Arrival) → AllBelow view.tasks (map (λ a. a.line) xs) → map (admit view) xs ≡ map admit_event xs
-admits_are view [] h = refl
-admits_are view (x ∷ xs) h =
-    let one : task_of_line view.tasks x.line ≡ x.line = rw (lt-ltb x.line view.tasks h.0) refl in
-    ap (λ (t : ℕ). record (admit_event x) { event = event.Admit t } ∷ map (admit view) xs) one ∙ ap (λ u. admit_event x ∷ u) (admits_are view xs h.1)
+-- the lines that arrive before a count have owners
+pub owned_at : (given : Setting) → IsSetting given → (k : ℕ) → AreOwned (owners_in given.config) (lines_at given.arrivals k)
+owned_at given setting k = lines_moments (IsOwned (owners_in given.config)) k (k + 1) given.arrivals setting.lines
+
+-- the observer's admits of lines that have owners
+admits_owned : (owners : Owners) (marks : List Mark) (xs : List Arrival) → AreOwned owners (map (λ a. a.line) xs) → map (admit (view_from marks owners)) xs ≡ map admit_event xs
+admits_owned owners marks [] h = refl
+admits_owned owners marks (x ∷ xs) h =
+    ap (λ kind. record (admit_event x) { event = arrival_event kind } ∷ map (admit (view_from marks owners)) xs) (kind_of_task owners x.line (owned_task owners x.line h.0))
+    ∙ ap (λ u. admit_event x ∷ u) (admits_owned owners marks xs h.1)
+
+pub admits_are : (given : Setting) → IsSetting given → (xs : List Arrival) → AreOwned (owners_in given.config) (map (λ a. a.line) xs) → map (admit given.view) xs ≡ map admit_event xs
+admits_are given setting xs h =
+    ap (λ owners. map (admit (view_from given.view.marks owners)) xs) setting.owners ∙ admits_owned (owners_in given.config) given.view.marks xs h

@@ -25,8 +25,8 @@ pick P false x y h k = k
 service_long : (s : Option Service) (view : View) (first last : Step) → IsLong (service_event s view first last)
 service_long (Some s) view first last =
     pick IsLong (first.cur_before == last.cur_after)
-    (event.Call (task_of view.tasks first.cur_before) s (slice_index last.regs 10))
-    (event.Left (task_of view.tasks first.cur_before) s)
+    (event.Call (task_of view.owners.tasks first.cur_before) s (slice_index last.regs 10))
+    (event.Left (task_of view.owners.tasks first.cur_before) s)
     (refl, λ e. tt)
     (refl, λ e. tt)
 service_long None view first last = (refl, λ e. tt)

@@ -1,11 +1,12 @@
 -- Every run of an image is one of the abstract scheduler, where a relation goes on from each count that finds MIE 1 to the next.
-use Rattle.std.proofs.Common.{◌≡◌, ℕ, List, length}
+use Rattle.std.proofs.Common.{◌≡◌, ℕ, List, length, ap}
 use Rattle.sloth_base.specs.declared.config.Config.{Config}
 use Rattle.sloth_base.specs.declared.app.App.{App}
 use Rattle.sloth_base.specs.declared.image.Image.{Image}
 use Rattle.sloth_base.specs.declared.event.Arrival.{Arrival}
 use Rattle.sloth_base.specs.Machine.{State}
 use Rattle.sloth_base.specs.Arrivals.{AreArrivals}
+use Rattle.sloth_base.specs.Owners.{owners_in}
 use Rattle.rv32_machine.specs.Start.{start}
 use Rattle.osek_machine.specs.State.{System}
 use Rattle.sim_induction.specs.Sound.{SoundRun, Sound}
@@ -15,9 +16,9 @@ use Rattle.sim_induction.specs.Related.{IsSimulation}
 use Rattle.sim_induction.proofs.Boot.{whole_run}
 use Rattle.sim_induction.proofs.WholeRun.{setting_of, sound_of}
 
-pub is_setting : (config : Config) (app : App) (image : Image) (arrivals : List Arrival) → length image.tasks ≡ length config.tasks → AreArrivals (length config.tasks) arrivals
+pub is_setting : (config : Config) (app : App) (image : Image) (arrivals : List Arrival) → length image.tasks ≡ length config.tasks → AreArrivals (owners_in config) arrivals
     → IsSetting (setting_of config app image arrivals)
-is_setting config app image arrivals tasks are = record { tasks = tasks; ordered = are.ordered; lines = are.lines_of_tasks }
+is_setting config app image arrivals tasks are = record { owners = ap (λ (n : ℕ). record { tasks = n }) tasks; ordered = are.ordered; lines = are.lines_owned }
 
 pub sound_run : (config : Config) (app : App) (image : Image) (arrivals : List Arrival) (R : State → System → Type 0) (progress : State → System → ℕ)
     → IsSetting (setting_of config app image arrivals) → IsSimulation (setting_of config app image arrivals) R progress → BootLaw (setting_of config app image arrivals) R (start image)
@@ -27,7 +28,7 @@ sound_run config app image arrivals R progress setting simulation boot n =
     (whole_run (setting_of config app image arrivals) setting R progress simulation (start image) boot n)
 
 pub sound : (config : Config) (app : App) (image : Image) (R : State → System → Type 0) (progress : State → System → ℕ) → length image.tasks ≡ length config.tasks
-    → ((arrivals : List Arrival) → AreArrivals (length config.tasks) arrivals → IsSimulation (setting_of config app image arrivals) R progress × BootLaw (setting_of config app image arrivals) R (start image))
+    → ((arrivals : List Arrival) → AreArrivals (owners_in config) arrivals → IsSimulation (setting_of config app image arrivals) R progress × BootLaw (setting_of config app image arrivals) R (start image))
     → Sound config app image
 sound config app image R progress tasks laws = record {
   each = λ arrivals n are few. sound_run config app image arrivals R progress (is_setting config app image arrivals tasks are) (laws arrivals are).0 (laws arrivals are).1 n;

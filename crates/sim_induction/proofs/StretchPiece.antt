@@ -1,14 +1,17 @@
 -- A stretch is a piece of the run.
 use Rattle.std.proofs.Common.{◌≡◌, ℕ, zero, suc, ◌+◌, ◌<◌, ◌≤◌, List, [], ◌∷◌, ◌++◌, length, take, refl, sym, ap, ◌∙◌, subst, arith, Bool, true, false, cond, inr, filter, Some}
 use Rattle.std.specs.Prelude.{map, not, Contains}
-use Rattle.std.proofs.lemmas.Bool.{ne_eqb, not_from_true}
+use Rattle.std.proofs.lemmas.Bool.{not_from_true}
 use Rattle.std.proofs.lemmas.List.{length-take}
 use Rattle.sloth_base.specs.declared.event.Arrival.{Arrival}
 use Rattle.sloth_base.specs.declared.event.Stamped.{Stamped}
 use Rattle.sloth_base.specs.declared.step.Step.{Step}
 use Rattle.sloth_base.specs.Machine.{State}
 use Rattle.sloth_base.specs.Arrivals.{moments}
-use Rattle.rv32_machine.specs.Run.{after_from}
+use Rattle.sloth_base.specs.Owners.{owners_in, IsOwned, AreOwned}
+use Rattle.sloth_base.specs.Take.{line_to_take}
+use Rattle.sloth_base.proofs.Stretches.{begins_later, within_longest}
+use Rattle.rv32_machine.specs.Run.{after_from, arrived}
 use Rattle.rv32_routine.specs.Trace.{Trace, touched_lines, early, late}
 use Rattle.observe.specs.Pieces.{Stretch, is_outside, begins}
 use Rattle.observe.specs.Observe.{admit, stamp, is_early, last_of, stretch_event, piece_events}
@@ -16,7 +19,7 @@ use Rattle.osek_machine.specs.State.{System, opening}
 use Rattle.osek_machine.specs.Runs.{Leads, Follows}
 use Rattle.osek_machine.specs.InTime.{is_admit, admits_at, arrivals_at, IsOrdered, StandsBefore, SpansFor, KeepsOrder}
 use Rattle.sim_induction.specs.Short.{IsShort, IsShortAt, TouchesOnly}
-use Rattle.sim_induction.specs.Admits.{Setting, IsSetting, lines_at, with_admits, admit_event, AllBelow, before_event, behind_event}
+use Rattle.sim_induction.specs.Admits.{Setting, IsSetting, lines_at, with_admits, admit_event, before_event, behind_event}
 use Rattle.sim_induction.specs.Observed.{IsTraced}
 use Rattle.sim_induction.specs.Advances.{RunTo, EachPair, IsWithin, found_by, Advances}
 use Rattle.std.specs.List.{AllByRecursion}
@@ -24,11 +27,11 @@ use Rattle.sim_induction.specs.Laws.{StretchLaw, seen_at}
 use Rattle.sim_induction.proofs.Follow.{leads-append, follows-append, booted_admits, follows_admits, leads_admits}
 use Rattle.sim_induction.proofs.Events.{IsFrom, each-append, each_arrival, admit_pairs, pairs-append, before_within, behind_within}
 use Rattle.sim_induction.proofs.Runs.{one_after}
-use Rattle.sim_induction.proofs.Schedule.{from_zero, below_moments, admits_are, moments-split}
+use Rattle.sim_induction.proofs.Schedule.{from_zero, owned_at, admits_are, moments-split}
 use Rattle.sim_induction.proofs.Counts.{admits-append, arrivals-append, admits_of, other_counts, arrivals_parted}
 use Rattle.sim_induction.proofs.Order.{orders-append, admits_order, parted_order}
 use Rattle.sim_induction.proofs.Shown.{stretch_long}
-use Rattle.sim_induction.proofs.Traces.{lines_before, lines_behind, is_traced, below_trace, steps_touch, each_step-take}
+use Rattle.sim_induction.proofs.Traces.{lines_before, lines_behind, is_traced, lines_trace, steps_touch, each_step-take}
 use Rattle.std.proofs.lemmas.List.Elements.{All-from_recursion}
 use Rattle.sim_induction.proofs.MaskedRun.{MaskedRun, masked_steps, masked_inside, trace_long, going_moment, Flags, flag_first, ShowsState}
 use Rattle.sim_induction.proofs.Cut.{cut_whole, cut_short}
@@ -151,17 +154,17 @@ module _ (given : Setting) (setting : IsSetting given) (R : State → System →
   inside_behind : filter (λ a. not (early_inside a)) (moments (k + 1) (k + 1 + length r.steps) A) ≡ behind_event (k + 1) t
   inside_behind = traced.behind ∙ ap (behind_event (k + 1)) r.trace
 
-  in_range : AllBelow (length given.config.tasks) (early t) × AllBelow (length given.config.tasks) (late t)
-  in_range = below_trace (length given.config.tasks) law.more (k + 1) (lines_at A) x1 t x (λ i. below_moments (length given.config.tasks) i (i + 1) A setting.lines) law.steps
+  in_range : AreOwned (owners_in given.config) (early t) × AreOwned (owners_in given.config) (late t)
+  in_range = lines_trace (IsOwned (owners_in given.config)) law.more (k + 1) (lines_at A) x1 t x (owned_at given setting) law.steps
 
-  lines_in : (a : List Arrival) → AllBelow (length given.config.tasks) (map (λ y. y.line) a) → map (admit given.view) a ≡ map admit_event a
-  lines_in a h = admits_are given.view a (subst (λ n. AllBelow n (map (λ y. y.line) a)) (sym setting.tasks) h)
+  lines_in : (a : List Arrival) → AreOwned (owners_in given.config) (map (λ y. y.line) a) → map (admit given.view) a ≡ map admit_event a
+  lines_in = admits_are given setting
 
-  below_before : AllBelow (length given.config.tasks) (map (λ a. a.line) (before_event (k + 1) t))
-  below_before = subst (AllBelow (length given.config.tasks)) (sym (lines_before (k + 1) t)) in_range.0
+  owned_before : AreOwned (owners_in given.config) (map (λ a. a.line) (before_event (k + 1) t))
+  owned_before = subst (AreOwned (owners_in given.config)) (sym (lines_before (k + 1) t)) in_range.0
 
-  below_behind : AllBelow (length given.config.tasks) (map (λ a. a.line) (behind_event (k + 1) t))
-  below_behind = subst (AllBelow (length given.config.tasks)) (sym (lines_behind (k + 1) t)) in_range.1
+  owned_behind : AreOwned (owners_in given.config) (map (λ a. a.line) (behind_event (k + 1) t))
+  owned_behind = subst (AreOwned (owners_in given.config)) (sym (lines_behind (k + 1) t)) in_range.1
 
   -- as the observer lists them
   abbrev listed : List Arrival → List Arrival → List Arrival → Stamped → List Stamped
@@ -180,9 +183,9 @@ module _ (given : Setting) (setting : IsSetting given) (R : State → System →
       ∙ ap (λ v. listed found v (filter (λ a. not (p a)) (moments (k + 1) (k + 1 + length r.steps) A)) e) inside_before
       ∙ ap (λ v. listed found (before_event (k + 1) t) v e) inside_behind
       ∙ ap (λ v. listed found (before_event (k + 1) t) (behind_event (k + 1) t) v) event_is
-      ∙ ap (λ v. v ++ (map (admit given.view) (before_event (k + 1) t) ++ (event ∷ map (admit given.view) (behind_event (k + 1) t)))) (lines_in found (below_moments (length given.config.tasks) k (k + 1) A setting.lines))
-      ∙ ap (λ v. found_by given k ++ (v ++ (event ∷ map (admit given.view) (behind_event (k + 1) t)))) (lines_in (before_event (k + 1) t) below_before)
-      ∙ ap (λ v. found_by given k ++ (map admit_event (before_event (k + 1) t) ++ (event ∷ v))) (lines_in (behind_event (k + 1) t) below_behind)
+      ∙ ap (λ v. v ++ (map (admit given.view) (before_event (k + 1) t) ++ (event ∷ map (admit given.view) (behind_event (k + 1) t)))) (lines_in found (owned_at given setting k))
+      ∙ ap (λ v. found_by given k ++ (v ++ (event ∷ map (admit given.view) (behind_event (k + 1) t)))) (lines_in (before_event (k + 1) t) owned_before)
+      ∙ ap (λ v. found_by given k ++ (map admit_event (before_event (k + 1) t) ++ (event ∷ v))) (lines_in (behind_event (k + 1) t) owned_behind)
 
   abbrev s1 : System
   s1 = with_admits (lines_at A k) s
@@ -193,30 +196,32 @@ module _ (given : Setting) (setting : IsSetting given) (R : State → System →
   lead_others : Leads given.config given.app others s1 (with_admits (late t) law.after)
   lead_others =
       leads-append given.config given.app (map admit_event (before_event (k + 1) t)) (event ∷ map admit_event (behind_event (k + 1) t)) s1 (with_admits (early t) s1) (with_admits (late t) law.after)
-      (subst (λ a. Leads given.config given.app (map admit_event (before_event (k + 1) t)) s1 (with_admits a s1)) (lines_before (k + 1) t) (leads_admits given.config given.app (before_event (k + 1) t) s1 s1_booted below_before)) (
+      (subst (λ a. Leads given.config given.app (map admit_event (before_event (k + 1) t)) s1 (with_admits a s1)) (lines_before (k + 1) t) (leads_admits given.config given.app (before_event (k + 1) t) s1 s1_booted owned_before)) (
         law.after,
         law.step_is,
-        subst (λ a. Leads given.config given.app (map admit_event (behind_event (k + 1) t)) law.after (with_admits a law.after)) (lines_behind (k + 1) t) (leads_admits given.config given.app (behind_event (k + 1) t) law.after after_booted below_behind),
+        subst (λ a. Leads given.config given.app (map admit_event (behind_event (k + 1) t)) law.after (with_admits a law.after)) (lines_behind (k + 1) t) (leads_admits given.config given.app (behind_event (k + 1) t) law.after after_booted owned_behind),
       )
 
   follow_others : (past : List Stamped) → Leads given.config given.app past (opening given.config given.app) s1 → Follows given.config given.app past s1 others (with_admits (late t) law.after)
   follow_others past h =
       follows-append given.config given.app past s1 (with_admits (early t) s1) (with_admits (late t) law.after) (map admit_event (before_event (k + 1) t)) (event ∷ map admit_event (behind_event (k + 1) t))
-      (subst (λ a. Follows given.config given.app past s1 (map admit_event (before_event (k + 1) t)) (with_admits a s1)) (lines_before (k + 1) t) (follows_admits given.config given.app past (before_event (k + 1) t) s1 s1_booted below_before)) (
+      (subst (λ a. Follows given.config given.app past s1 (map admit_event (before_event (k + 1) t)) (with_admits a s1)) (lines_before (k + 1) t) (follows_admits given.config given.app past (before_event (k + 1) t) s1 s1_booted owned_before)) (
         law.after,
         law.step_is,
         law.passes past h,
         subst (λ a. Follows given.config given.app ((past ++ map admit_event (before_event (k + 1) t)) ++ event ∷ []) law.after (map admit_event (behind_event (k + 1) t)) (with_admits a law.after)) (lines_behind (k + 1) t)
-            (follows_admits given.config given.app ((past ++ map admit_event (before_event (k + 1) t)) ++ event ∷ []) (behind_event (k + 1) t) law.after after_booted below_behind),
+            (follows_admits given.config given.app ((past ++ map admit_event (before_event (k + 1) t)) ++ event ∷ []) (behind_event (k + 1) t) law.after after_booted owned_behind),
       )
 
-  touching : AllByRecursion (TouchesOnly (law.one ∷ law.other ∷ [])) r.steps
-  touching = steps_touch A (law.one ∷ law.other ∷ []) r.steps (subst (λ u. AllByRecursion (Contains (law.one ∷ law.other ∷ [])) (touched_lines u)) (sym r.trace) law.touches)
+  touching : AllByRecursion (TouchesOnly law.lines) r.steps
+  touching = steps_touch A law.lines r.steps (subst (λ u. AllByRecursion (Contains law.lines) (touched_lines u)) (sym r.trace) law.touches)
 
-  short_at : (steps : List Step) → length steps ≤ 159 → AllByRecursion (TouchesOnly (law.one ∷ law.other ∷ [])) steps → IsShort (first ∷ steps)
+  short_at : (steps : List Step) → length steps ≤ length r.steps → AllByRecursion (TouchesOnly law.lines) steps → IsShort given.config (first ∷ steps)
   short_at steps l h =
-      subst (λ b. IsShortAt b (first ∷ steps)) (sym (ne_eqb k 0 (λ e. omega arith)))
-      (let n : length (first ∷ steps) ≤ 160 = omega arith in (n, (law.one, law.other, All-from_recursion (TouchesOnly (law.one ∷ law.other ∷ [])) (first ∷ steps) (law.touches_first, h))))
+      let few = law.few in
+      let n = r.long in
+      subst (λ beginning. IsShortAt given.config beginning (first ∷ steps)) (sym (begins_later first late_k))
+      (omega arith, (law.lines, law.few_lines, All-from_recursion (TouchesOnly law.lines) (first ∷ steps) (law.touches_first, h)))
 
   counts : (i u : ℕ) → admits_at i u (found_by given k ++ others) ≡ arrivals_at i u (moments k (k + suc (length r.steps)) A)
   counts i u =
@@ -247,6 +252,7 @@ module _ (given : Setting) (setting : IsSetting given) (R : State → System →
       let cut = cut_whole r.steps [] first outside flags in
       let long = trace_long law.more (k + 1) (lines_at A) x1 t x law.steps in
       let few = law.few in
+      let most = within_longest given.config (line_to_take (arrived A k m)) in
       let n = r.long in
       let one : k + 1 ≡ suc k = omega arith in
       record {
@@ -269,7 +275,7 @@ module _ (given : Setting) (setting : IsSetting given) (R : State → System →
         keeps = keeps;
         few = omega arith;
         short = short_at r.steps (omega arith) touching;
-        short_front = λ i l. short_at (take i r.steps) (let z = length-take i r.steps in omega arith) (each_step-take (TouchesOnly (law.one ∷ law.other ∷ [])) i r.steps touching);
+        short_front = λ i l. short_at (take i r.steps) (let z = length-take i r.steps in omega arith) (each_step-take (TouchesOnly law.lines) i r.steps touching);
         after = with_admits (late t) law.after;
         leads = lead_others;
         follows = follow_others;

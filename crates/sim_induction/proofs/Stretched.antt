@@ -1,5 +1,5 @@
 -- The laws of stretches, from what contracts say of the code that runs.
-use Rattle.std.proofs.Common.{◌≡◌, ℕ, ◌+◌, ◌-◌, ◌<◌, ◌≤◌, List, [], ◌∷◌, ◌++◌, length, sym, ap, ◌∙◌, subst, arith, Bool, true, false, cond, Option, Some, None, nat_le}
+use Rattle.std.proofs.Common.{◌≡◌, ℕ, ◌+◌, ◌-◌, ◌<◌, ◌≤◌, List, [], ◌∷◌, ◌++◌, length, sym, ap, ◌∙◌, subst, arith, Bool, true, false, cond, Option, Some, None, nat_le, suc}
 use Rattle.std.specs.Prelude.{◌&&◌, ◌==◌, map, IfSome, slice_index, Contains}
 use Rattle.std.proofs.lemmas.Bool.{ne_eqb, eq-eqb, lt-ltb, le-leb}
 use Rattle.sloth_base.specs.declared.service.Service.{Service}
@@ -16,17 +16,18 @@ use Rattle.rv32_machine.specs.Run.{arrived}
 use Rattle.rv32_routine.specs.Trace.{Trace, lines_of, touched_lines, early, late}
 use Rattle.observe.specs.Observe.{mark_at, marked_event, service_event, task_of}
 use Rattle.sloth_base.specs.ServiceCodes.{service_of}
+use Rattle.sloth_base.specs.Owners.{owners_in, AreTasks}
+use Rattle.sloth_base.specs.Stretches.{Takes, Masks, later_beginning, stretch_limit, touch_limit}
 use Rattle.osek_machine.specs.declared.state.TaskState.TheVariants as mode
 use Rattle.osek_machine.specs.State.{System, task}
 use Rattle.osek_machine.specs.Priority.{IsTop}
 use Rattle.osek_machine.specs.Steps.{OsekStep}
 use Rattle.osek_machine.specs.Runs.{PassesOver, PassesOverArrivals}
-use Rattle.sim_induction.specs.Admits.{Setting, IsSetting, lines_at, with_admits, admit_event, before_event}
+use Rattle.sim_induction.specs.Admits.{Setting, lines_at, with_admits, admit_event, before_event}
 use Rattle.sim_induction.specs.Laws.{StretchLaw, seen_at, served_event}
 use Rattle.std.specs.List.{AllByRecursion}
 use Rattle.sim_induction.proofs.Follow.{booted_admits}
-use Rattle.sim_induction.proofs.Schedule.{below_moments}
-use Rattle.sim_induction.proofs.Traces.{lines_before, below_trace}
+use Rattle.sim_induction.proofs.Traces.{lines_before}
 use Rattle.sim_induction.proofs.Boot.{nothing_before}
 use Rattle.sim_induction.proofs.Passing.{passes_inner}
 use Rattle.sim_induction.proofs.Routes.{Entering, Masking, touches_parted, begins_entered, begins_masked, entered_event, opened_event}
@@ -42,24 +43,24 @@ rest_none (Some l) rest h = cc
 -- ---- an entry
 
 pub enter_law : (given : Setting) (R : State → System → Type 0) (k : ℕ) (m : State) (s : System) (line : ℕ) (Effect : List ℕ → State → State → Type 0)
-    → 0 < k → m.core.mie ≡ true → line_to_take (arrived given.arrivals k m) ≡ Some line → line < given.view.tasks
-    → (e : Entering given.arrivals 159 k m Effect) → lines_of (touched (entered (arrived given.arrivals k m))) (touched_lines e.trace) ≡ []
+    → 0 < k → m.core.mie ≡ true → line_to_take (arrived given.arrivals k m) ≡ Some line → line < given.view.owners.tasks
+    → (most : ℕ) → suc most ≤ stretch_limit given.config (Takes line) → (e : Entering given.arrivals most k m Effect) → lines_of (touched (entered (arrived given.arrivals k m))) (touched_lines e.trace) ≡ []
     → (after : System) → OsekStep given.config given.app (event.Enter line) (with_admits (lines_at given.arrivals k) s) after
     → R (state_arrive (late e.trace) e.last) (with_admits (late e.trace) after)
     → StretchLaw given R k m s e.next e.trace e.end
-enter_law given R k m s line Effect after_boot enabled taken is_task e none after step related =
+enter_law given R k m s line Effect after_boot enabled taken is_task most short e none after step related =
     let n = arrived given.arrivals k m in
-    let t = touches_parted (0 ∷ 0 ∷ []) (touched (entered n)) (touched_lines e.trace) (subst (AllByRecursion (Contains (0 ∷ 0 ∷ []))) (sym none) tt) in
+    let t = touches_parted [] (touched (entered n)) (touched_lines e.trace) (subst (AllByRecursion (Contains [])) (sym none) tt) in
     record {
       finds = enabled;
       goes = e.goes;
       starts = begins_entered k n e.next line taken;
       more = e.more;
-      few = e.few;
+      few = let f = e.few in subst (λ o. suc e.more ≤ stretch_limit given.config (later_beginning o)) (sym taken) (omega arith);
       steps = e.steps;
       ends = e.ends;
-      one = 0;
-      other = 0;
+      lines = [];
+      few_lines = omega arith;
       touches_first = t.0;
       touches = t.1;
       what = event.Enter line;
@@ -84,45 +85,45 @@ both_pass : (given : Setting) (past : List Stamped) (s : System) (k t : ℕ) (ca
 both_pass given past s k t called status true h = h
 both_pass given past s k t called status false h = h
 
-pub service_law : (given : Setting) → IsSetting given → (R : State → System → Type 0) (k : ℕ) (m : State) (s : System) (t : ℕ) (called : Service) (mark : Mark) (most : ℕ) (Effect : List ℕ → State → State → Type 0)
+pub service_law : (given : Setting) → (R : State → System → Type 0) (k : ℕ) (m : State) (s : System) (t : ℕ) (called : Service) (mark : Mark) (most : ℕ) (Effect : List ℕ → State → State → Type 0)
     → 0 < k → m.core.mie ≡ true → line_to_take (arrived given.arrivals k m) ≡ None
     → mark_at given.view (entered (arrived given.arrivals k m)).pc ≡ Some mark → mark.kind ≡ kind.Opening → service_of mark.a ≡ Some called
-    → t < given.view.tasks → word_at m.core.ram 0 ≡ t + 1
+    → t < given.view.owners.tasks → word_at m.core.ram 0 ≡ t + 1
     → s.booted ≡ true → IsTop given.config (with_admits (lines_at given.arrivals k) s) [] t → (task (with_admits (lines_at given.arrivals k) s) t).state ≡ mode.Active
-    → (e : Masking given.arrivals most k m Effect) → most ≤ 159 → e.end.core.mie ≡ true → touched (entered (arrived given.arrivals k m)) ≡ None → (one other : ℕ) → AllByRecursion (Contains (one ∷ other ∷ [])) (touched_lines e.trace)
+    → (e : Masking given.arrivals most k m Effect) → suc most ≤ stretch_limit given.config Masks → e.end.core.mie ≡ true → touched (entered (arrived given.arrivals k m)) ≡ None → (lines : List ℕ) → length lines ≤ touch_limit given.config Masks → AllByRecursion (Contains lines) (touched_lines e.trace)
+    → AreTasks (owners_in given.config) (early e.trace)
     → (after : System) → OsekStep given.config given.app (served_event t called e.end) (with_admits (early e.trace) (with_admits (lines_at given.arrivals k) s)) after
     → R (state_arrive (late e.trace) e.last) (with_admits (late e.trace) after)
     → StretchLaw given R k m s e.next e.trace e.end
-service_law given setting R k m s t called mark most Effect after_boot enabled none at_mark opens is_called is_task runs booted top active e short ends untouched one other touches after step related =
+service_law given R k m s t called mark most Effect after_boot enabled none at_mark opens is_called is_task runs booted top active e short ends untouched lines few_lines touches tasks_alone after step related =
     let n = arrived given.arrivals k m in
     let first = seen_at given k m e.next in
-    let in_range = below_trace (length given.config.tasks) e.more (k + 1) (lines_at given.arrivals) e.next e.trace e.end (λ i. below_moments (length given.config.tasks) i (i + 1) given.arrivals setting.lines) e.steps in
     record {
       finds = enabled;
       goes = e.goes;
       starts = begins_masked k n e.next enabled e.off;
       more = e.more;
-      few = let l = e.few in omega arith;
+      few = let l = e.few in subst (λ o. suc e.more ≤ stretch_limit given.config (later_beginning o)) (sym none) (omega arith);
       steps = e.steps;
       ends = ends;
-      one = one;
-      other = other;
-      touches_first = subst (λ o. IfSome o (Contains (one ∷ other ∷ []))) (sym untouched) tt;
+      lines = lines;
+      few_lines = subst (λ o. length lines ≤ touch_limit given.config (later_beginning o)) (sym none) few_lines;
+      touches_first = subst (λ o. IfSome o (Contains lines)) (sym untouched) tt;
       touches = touches;
       what = served_event t called e.end;
       what_is = λ last regs cur.
           opened_event given.view k n e.next last mark after_boot none at_mark
           ∙ ap (λ v. marked_event v given.view mark first last) opens
           ∙ ap (λ v. service_event v given.view first last) is_called
-          ∙ ap (λ v. cond (v == last.cur_after) (event.Call (task_of given.view.tasks v) called (slice_index last.regs 10)) (event.Left (task_of given.view.tasks v) called)) runs
-          ∙ ap (λ v. cond (t + 1 == last.cur_after) (event.Call v called (slice_index last.regs 10)) (event.Left v called)) (task_is given.view.tasks t is_task)
+          ∙ ap (λ v. cond (v == last.cur_after) (event.Call (task_of given.view.owners.tasks v) called (slice_index last.regs 10)) (event.Left (task_of given.view.owners.tasks v) called)) runs
+          ∙ ap (λ v. cond (t + 1 == last.cur_after) (event.Call v called (slice_index last.regs 10)) (event.Left v called)) (task_is given.view.owners.tasks t is_task)
           ∙ ap (λ v. cond (t + 1 == v) (event.Call t called (slice_index last.regs 10)) (event.Left t called)) cur
           ∙ ap (λ v. cond (t + 1 == word_at e.end.core.ram 0) (event.Call t called (slice_index v 10)) (event.Left t called)) regs;
       after = after;
       step_is = step;
       passes = λ past h. both_pass given (past ++ map admit_event (before_event (k + 1) e.trace)) (with_admits (early e.trace) (with_admits (lines_at given.arrivals k) s)) k t called
           (slice_index e.end.core.registers 10) (t + 1 == word_at e.end.core.ram 0)
-          (passes_inner given.config given.app past k t (with_admits (lines_at given.arrivals k) s) e.trace h (booted_admits (lines_at given.arrivals k) s ∙ booted) in_range.0 top active);
+          (passes_inner given.config given.app past k t (with_admits (lines_at given.arrivals k) s) e.trace h (booted_admits (lines_at given.arrivals k) s ∙ booted) tasks_alone top active);
       related = subst (λ x. R x (with_admits (late e.trace) after)) (sym e.late_behind) related;
     }
 

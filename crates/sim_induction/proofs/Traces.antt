@@ -1,17 +1,19 @@
 -- What the trace of a stretch tells: its lines, and the lines that it touches.
 use Rattle.std.proofs.Common.{◌≡◌, ℕ, zero, suc, ◌+◌, ◌<◌, List, [], ◌∷◌, ◌++◌, refl, sym, ap, ◌∙◌, subst, arith, Bool, true, false, cond, Option, Some, None}
-use Rattle.std.specs.Prelude.{map, IfSome, All, take, Contains}
+use Rattle.std.specs.Prelude.{map, IfSome, All, take, Contains, ◌||◌, ◌==◌}
 use Rattle.std.proofs.lemmas.List.{map-append}
 use Rattle.sloth_base.specs.declared.event.Arrival.{Arrival}
 use Rattle.sloth_base.specs.declared.step.Step.{Step}
 use Rattle.sloth_base.specs.Arrivals.{NeverFalls}
 use Rattle.sloth_base.specs.Machine.{State}
 use Rattle.sloth_base.specs.Arrive.{state_arrive}
+use Rattle.sloth_base.specs.Options.{is_number}
+use Rattle.std.proofs.lemmas.Bool.{eqb-true}
 use Rattle.rv32_instr.specs.Execute.{touched}
 use Rattle.rv32_routine.specs.Masked.{Steps}
 use Rattle.rv32_routine.specs.Trace.{Entry, Trace, touches, touched_of, untouched_of, touched_lines, lines_of, early, late}
 use Rattle.sim_induction.specs.Short.{TouchesOnly}
-use Rattle.sim_induction.specs.Admits.{AllBelow, at_moment, before_event, behind_event}
+use Rattle.sim_induction.specs.Admits.{at_moment, before_event, behind_event}
 use Rattle.sim_induction.specs.Observed.{trace_of, AreFrom, AreBefore, IsTraced}
 use Rattle.std.specs.List.{AllByRecursion}
 use Rattle.sim_induction.proofs.Schedule.{lines_back}
@@ -37,28 +39,61 @@ is_traced arrivals up k done steps b f = record {
   late = lines_behind k (trace_of arrivals steps);
 }
 
--- ---- lines below a number
+-- ---- what holds of each line that arrives
 
-below-append : (n : ℕ) (a b : List ℕ) → AllBelow n a → AllBelow n b → AllBelow n (a ++ b)
-below-append n [] b h k = k
-below-append n (x ∷ a) b h k = (h.0, below-append n a b h.1 k)
+module _ (P : ℕ → Type 0) where
+  lines-append : (a b : List ℕ) → AllByRecursion P a → AllByRecursion P b → AllByRecursion P (a ++ b)
+  lines-append [] b h k = k
+  lines-append (x ∷ a) b h k = (h.0, lines-append a b h.1 k)
 
-below_touched : (n : ℕ) (t : Trace) (a : List ℕ) → AllBelow n a → AllBelow n (touched_of t a) × AllBelow n (untouched_of t a)
-below_touched n t [] h = (tt, tt)
-below_touched n t (x ∷ a) h = let r = below_touched n t a h.1 in pick (touches t x) x (touched_of t a) (untouched_of t a) h.0 r.0 r.1
-  where
-    pick : {n : ℕ} (b : Bool) (x : ℕ) (u v : List ℕ) → x < n → AllBelow n u → AllBelow n v → AllBelow n (cond b (x ∷ u) u) × AllBelow n (cond b v (x ∷ v))
-    pick true x u v l p q = ((l, p), q)
-    pick false x u v l p q = (p, (l, q))
+  pick : (b : Bool) (x : ℕ) (u v : List ℕ) → P x → AllByRecursion P u → AllByRecursion P v → AllByRecursion P (cond b (x ∷ u) u) × AllByRecursion P (cond b v (x ∷ v))
+  pick true x u v l p q = ((l, p), q)
+  pick false x u v l p q = (p, (l, q))
 
-pub below_trace : (n j k : ℕ) (A : ℕ → List ℕ) (m : State) (t : Trace) (x : State) → ((i : ℕ) → AllBelow n (A i)) → Steps j k A m t x → AllBelow n (early t) × AllBelow n (late t)
-below_trace n zero k A m t x b h = subst (λ u. AllBelow n (early u) × AllBelow n (late u)) (sym h.0) (tt, tt)
-below_trace n (suc j) k A m t x b h =
-    let r = below_trace n j (suc k) A h.1 h.3.0 x b h.3.2 in
-    let e : Entry = (A k, touched (state_arrive (A k) m)) in
-    let w = below_touched n (e ∷ h.3.0) (A k) (b k) in
-    subst (λ u. AllBelow n (early u) × AllBelow n (late u)) (sym h.3.1)
-    (below-append n (touched_of (e ∷ h.3.0) (A k)) (early h.3.0) w.0 r.0, below-append n (untouched_of (e ∷ h.3.0) (A k)) (late h.3.0) w.1 r.1)
+  lines_parted : (t : Trace) (a : List ℕ) → AllByRecursion P a → AllByRecursion P (touched_of t a) × AllByRecursion P (untouched_of t a)
+  lines_parted t [] h = (tt, tt)
+  lines_parted t (x ∷ a) h = let r = lines_parted t a h.1 in pick (touches t x) x (touched_of t a) (untouched_of t a) h.0 r.0 r.1
+
+  pub lines_trace : (j k : ℕ) (A : ℕ → List ℕ) (m : State) (t : Trace) (x : State) → ((i : ℕ) → AllByRecursion P (A i)) → Steps j k A m t x → AllByRecursion P (early t) × AllByRecursion P (late t)
+  lines_trace zero k A m t x b h = subst (λ u. AllByRecursion P (early u) × AllByRecursion P (late u)) (sym h.0) (tt, tt)
+  lines_trace (suc j) k A m t x b h =
+      let r = lines_trace j (suc k) A h.1 h.3.0 x b h.3.2 in
+      let e : Entry = (A k, touched (state_arrive (A k) m)) in
+      let w = lines_parted (e ∷ h.3.0) (A k) (b k) in
+      subst (λ u. AllByRecursion P (early u) × AllByRecursion P (late u)) (sym h.3.1)
+      (lines-append (touched_of (e ∷ h.3.0) (A k)) (early h.3.0) w.0 r.0, lines-append (untouched_of (e ∷ h.3.0) (A k)) (late h.3.0) w.1 r.1)
+
+-- ---- what holds of each line that is touched holds of the early ones
+
+module _ (P : ℕ → Type 0) where
+  of_touched : (t : Trace) (line : ℕ) → AllByRecursion P (touched_lines t) → touches t line ≡ true → P line
+  of_touched [] line h is = absurd cc
+  of_touched (e ∷ t) line h is = by e.1 h is
+    where
+      by : (o : Option ℕ) → AllByRecursion P (lines_of o (touched_lines t)) → (is_number line o || touches t line) ≡ true → P line
+      by None h is = of_touched t line h is
+      by (Some l) h is = at (l == line) refl
+        where
+          at : (b : Bool) → (l == line) ≡ b → P line
+          at true same = subst P (eqb-true l line same) h.0
+          at false other = of_touched t line h.1 (sym (ap (λ b. b || touches t line) other) ∙ is)
+
+  part_touched : (t : Trace) (a : List ℕ) → AllByRecursion P (touched_lines t) → AllByRecursion P (touched_of t a)
+  part_touched t [] h = tt
+  part_touched t (line ∷ a) h = by (touches t line) refl
+    where
+      by : (b : Bool) → touches t line ≡ b → AllByRecursion P (cond b (line ∷ touched_of t a) (touched_of t a))
+      by true is = (of_touched t line h is, part_touched t a h)
+      by false is = part_touched t a h
+
+  rest_touched : (o : Option ℕ) (rest : List ℕ) → AllByRecursion P (lines_of o rest) → AllByRecursion P rest
+  rest_touched None rest h = h
+  rest_touched (Some line) rest h = h.1
+
+  pub early_touched : (t : Trace) → AllByRecursion P (touched_lines t) → AllByRecursion P (early t)
+  early_touched [] h = tt
+  early_touched (e ∷ t) h =
+      lines-append P (touched_of (e ∷ t) e.0) (early t) (part_touched (e ∷ t) e.0 h) (early_touched t (rest_touched e.1 (touched_lines t) h))
 
 -- ---- the lines that the steps touch
 

@@ -38,12 +38,12 @@ pub record WholeRun (given : Setting) (R : State → System → Type 0) (n : ℕ
   pub within : AllByRecursion (IsWithin 0 n) (events_from given n 0 m)
   pub placed : EachPair IsOrdered (events_from given n 0 m)
   pub to : ℕ
-  pub to_in : (to ≤ n) × (n < to + longest (events_from given n 0 m))
+  pub to_in : (to ≤ n) × (n < to + longest given.config (events_from given n 0 m))
   pub ends : AllByRecursion (λ e. is_admit e ≡ false → e.stamp.at < to) (events_from given n 0 m)
   pub counted : (i t : ℕ) → admits_at i t (events_from given n 0 m) ≡ arrivals_at i t (moments 0 to given.arrivals)
   pub keeps : KeepsOrder (moments 0 to given.arrivals) (events_from given n 0 m)
-  pub short : AllByRecursion IsShortPiece (pieces [] (steps_from n given.arrivals 0 m))
-  pub short_cut : IsShort (cut_off [] (steps_from n given.arrivals 0 m))
+  pub short : AllByRecursion (IsShortPiece given.config) (pieces [] (steps_from n given.arrivals 0 m))
+  pub short_cut : IsShort given.config (cut_off [] (steps_from n given.arrivals 0 m))
   pub gaps : HasShortGaps given.view 0 (pieces [] (steps_from n given.arrivals 0 m))
   pub mirrors : (i : ℕ) → i < n → (x : State) → after_from i given.arrivals 0 m ≡ Some x → x.core.mie ≡ true → ReachedAt given R (events_from given n 0 m) (opening given.config given.app) i x
 
@@ -58,19 +58,19 @@ all_pairs R (x ∷ a) h i zero d l k = absurd (omega arith)
 all_pairs R (x ∷ a) h zero (suc j) d l k = All-from_recursion (R x) a h.0 j d (omega arith)
 all_pairs R (x ∷ a) h (suc i) (suc j) d l k = all_pairs R a h.1 i j d (omega arith) (omega arith)
 
-pub in_time : (given : Setting) → IsSetting given → (R : State → System → Type 0) (n : ℕ) (m : State) → WholeRun given R n m → InTime n given.arrivals (events_from given n 0 m)
+pub in_time : (given : Setting) → IsSetting given → (R : State → System → Type 0) (n : ℕ) (m : State) → WholeRun given R n m → InTime given.config n given.arrivals (events_from given n 0 m)
 in_time given setting R n m w =
     let events = events_from given n 0 m in
     record {
       stamped = All-from_recursion (IsStamped n) events (each_map (IsWithin 0 n) (IsStamped n) (λ e h. record { ordered = h.ordered; spans = h.spans; below = h.ends }) events w.within);
       placed = all_pairs IsOrdered events w.placed;
       in_order = order_within (λ a. nat_le 0 a.at && nat_lt a.at w.to) given.arrivals events w.keeps;
-      admitted = left_out n w.to given.arrivals events (from_zero given.arrivals setting.ordered) w.to_in.0 w.counted w.ends w.to_in.1;
+      admitted = left_out given.config n w.to given.arrivals events (from_zero given.arrivals setting.ordered) w.to_in.0 w.counted w.ends w.to_in.1;
     }
 
-pub short_of : (given : Setting) (R : State → System → Type 0) (n : ℕ) (m : State) → WholeRun given R n m → Short given.view (steps_from n given.arrivals 0 m)
+pub short_of : (given : Setting) (R : State → System → Type 0) (n : ℕ) (m : State) → WholeRun given R n m → Short given.config given.view (steps_from n given.arrivals 0 m)
 short_of given R n m w = record {
-  finished = all_pieces IsShortPiece (pieces [] (steps_from n given.arrivals 0 m)) w.short;
+  finished = all_pieces (IsShortPiece given.config) (pieces [] (steps_from n given.arrivals 0 m)) w.short;
   cut = w.short_cut;
   gaps = w.gaps;
 }

@@ -1,12 +1,12 @@
 -- Arrivals as the abstract scheduler sees them.
 use Rattle.std.specs.Prelude.{ℕ, ◌+◌, ◌<◌, ◌≡◌, List, [], ◌∷◌, ◌++◌, map, length, All}
-use Rattle.std.specs.List.{AllByRecursion}
 use Rattle.sloth_base.specs.declared.config.Config.{Config}
 use Rattle.sloth_base.specs.declared.app.App.{App}
 use Rattle.sloth_base.specs.declared.event.Arrival.{Arrival}
 use Rattle.sloth_base.specs.declared.event.Event.TheVariants as event
 use Rattle.sloth_base.specs.declared.event.Stamped.{Stamped}
 use Rattle.sloth_base.specs.Arrivals.{moments, NeverFalls}
+use Rattle.sloth_base.specs.Owners.{owners_in, IsOwned}
 use Rattle.observe.specs.Observe.{View, stamp}
 use Rattle.osek_machine.specs.State.{System}
 use Rattle.osek_machine.specs.Steps.{admitted}
@@ -19,11 +19,11 @@ pub record Setting : Type 0 where
   pub view : View
   pub arrivals : List Arrival
 
--- each line is a task's, and the moments, from 1 on, never fall
+-- the run is observed by the owners of lines, each line that arrives has one, and the moments, from 1 on, never fall
 pub record IsSetting (given : Setting) : Type 0 where
-  pub tasks : given.view.tasks ≡ length given.config.tasks
+  pub owners : given.view.owners ≡ owners_in given.config
   pub ordered : NeverFalls 1 given.arrivals
-  pub lines : All (λ a. a.line < length given.config.tasks) given.arrivals
+  pub lines : All (λ a. IsOwned (owners_in given.config) a.line) given.arrivals
 
 -- the lines that arrive before the instruction of a count
 abbrev pub lines_at : List Arrival → ℕ → List ℕ
@@ -34,11 +34,7 @@ abbrev pub with_admits : List ℕ → System → System
 with_admits [] s = s
 with_admits (t ∷ lines) s = with_admits lines (admitted t s)
 
--- each of these lines is below a number
-abbrev pub AllBelow : ℕ → List ℕ → Type 0
-AllBelow n lines = AllByRecursion (λ line. line < n) lines
-
--- the event of an arrival of a task's line
+-- the event of an arrival of a line that has an owner
 abbrev pub admit_event : Arrival → Stamped
 admit_event a = stamp a.at a.at (event.Admit a.line)
 

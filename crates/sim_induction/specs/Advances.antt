@@ -6,6 +6,7 @@ use Rattle.sloth_base.specs.declared.event.Stamped.{Stamped}
 use Rattle.sloth_base.specs.declared.step.Step.{Step}
 use Rattle.sloth_base.specs.Machine.{State}
 use Rattle.sloth_base.specs.Arrivals.{moments}
+use Rattle.sloth_base.specs.Stretches.{longest_stretch}
 use Rattle.rv32_machine.specs.Advance.{Goes}
 use Rattle.rv32_machine.specs.Run.{moment, after_from}
 use Rattle.observe.specs.Pieces.{Piece, pieces, cut_off}
@@ -59,9 +60,9 @@ pub record Advances (given : Setting) (R : State → System → Type 0) (progres
   pub placed : EachPair IsOrdered others
   pub counted : (i t : ℕ) → admits_at i t (found_by given count ++ others) ≡ arrivals_at i t (moments count (count + suc (length rest)) given.arrivals)
   pub keeps : KeepsOrder (moments count (count + suc (length rest)) given.arrivals) (found_by given count ++ others)
-  pub few : length rest ≤ 159
-  pub short : IsShortPiece piece
-  pub short_front : (n : ℕ) → n < length rest → IsShort (first ∷ take n rest)
+  pub few : length rest < longest_stretch given.config
+  pub short : IsShortPiece given.config piece
+  pub short_front : (n : ℕ) → n < length rest → IsShort given.config (first ∷ take n rest)
   pub after : System
   pub leads : Leads given.config given.app others (with_admits (lines_at given.arrivals count) s) after
   pub follows : (past : List Stamped) → Leads given.config given.app past (opening given.config given.app) (with_admits (lines_at given.arrivals count) s)

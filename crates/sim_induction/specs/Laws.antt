@@ -1,5 +1,5 @@
 -- What is asked of a piece of generated code, for each kind of piece of a run.
-use Rattle.std.specs.Prelude.{ℕ, suc, ◌+◌, ◌==◌, ◌<◌, ◌≤◌, ◌≡◌, List, [], ◌∷◌, ◌++◌, map, true, false, cond, slice_index, Contains}
+use Rattle.std.specs.Prelude.{ℕ, suc, ◌+◌, ◌==◌, ◌<◌, ◌≤◌, ◌≡◌, List, [], ◌∷◌, ◌++◌, map, length, true, false, cond, slice_index, Contains}
 use Rattle.std.specs.List.{AllByRecursion}
 use Rattle.sloth_base.specs.declared.event.Event.{Event}
 use Rattle.sloth_base.specs.declared.event.Event.TheVariants as event
@@ -7,7 +7,8 @@ use Rattle.sloth_base.specs.declared.event.Stamped.{Stamped}
 use Rattle.sloth_base.specs.declared.service.Service.{Service}
 use Rattle.sloth_base.specs.declared.step.Step.{Step}
 use Rattle.sloth_base.specs.Machine.{State}
-use Rattle.sloth_base.specs.Take.{entered}
+use Rattle.sloth_base.specs.Stretches.{Beginning, Boots, later_beginning, stretch_limit, touch_limit}
+use Rattle.sloth_base.specs.Take.{entered, line_to_take}
 use Rattle.rv32_instr.specs.Ram.{word_at}
 use Rattle.rv32_instr.specs.Execute.{Going, step}
 use Rattle.rv32_machine.specs.Advance.{seen}
@@ -26,6 +27,10 @@ use Rattle.sim_induction.specs.Admits.{Setting, lines_at, with_admits, admit_eve
 abbrev pub seen_at : Setting → ℕ → State → State → Step
 seen_at given count state next = seen count (arrived given.arrivals count state) next
 
+-- how a stretch behind boot begins at a count
+abbrev pub beginning_at : Setting → ℕ → State → Beginning
+beginning_at given count state = later_beginning (line_to_take (arrived given.arrivals count state))
+
 -- the event of a service: a call with the status in a0, where its caller still runs; else the caller left
 abbrev pub served_event : (task : ℕ) → Service → State → Event
 served_event t served end =
@@ -40,14 +45,14 @@ pub record StretchLaw (given : Setting) (R : State → System → Type 0) (count
   pub goes : step (entered (arrived given.arrivals count state)) ≡ Going next
   pub starts : begins (seen_at given count state next) ≡ true
   pub more : ℕ
-  pub few : more ≤ 159
+  pub few : suc more ≤ stretch_limit given.config (beginning_at given count state)
   pub steps : Steps more (count + 1) (lines_at given.arrivals) next trace end
   pub ends : end.core.mie ≡ true
-  -- the two lines that it may touch
-  pub one : ℕ
-  pub other : ℕ
-  pub touches_first : TouchesOnly (one ∷ other ∷ []) (seen_at given count state next)
-  pub touches : AllByRecursion (Contains (one ∷ other ∷ [])) (touched_lines trace)
+  -- the lines that it may touch
+  pub lines : List ℕ
+  pub few_lines : length lines ≤ touch_limit given.config (beginning_at given count state)
+  pub touches_first : TouchesOnly lines (seen_at given count state next)
+  pub touches : AllByRecursion (Contains lines) (touched_lines trace)
   pub what : Event
   pub what_is : (last : Step) → last.regs ≡ end.core.registers → last.cur_after ≡ word_at end.core.ram 0
       → stretch_event given.view (seen_at given count state next) last ≡ what
@@ -80,7 +85,7 @@ pub record OutsideLaw (given : Setting) (R : State → System → Type 0) (progr
 -- The first stretch, from count 0 on, touches no line, and its event is Boot.
 pub record BootLaw (given : Setting) (R : State → System → Type 0) (state : State) : Type 0 where
   pub more : ℕ
-  pub few : suc more ≤ 400
+  pub few : suc more ≤ stretch_limit given.config Boots
   pub trace : Trace
   pub end : State
   pub steps : Steps (suc more) 0 (lines_at given.arrivals) state trace end

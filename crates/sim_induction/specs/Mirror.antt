@@ -19,13 +19,13 @@ pub record Runs (config : Config) (s : System) (t : ℕ) : Type 0 where
   pub active : (task s t).state ≡ mode.Active
   pub is_greatest : (u : ℕ) → u < length config.tasks → (task s u).state ≡ mode.Active → priority_of config s u ≤ priority_of config s t
 
--- the controller's bytes, the running level and the word at 0x80000000 say what the system is
+-- the controller's bytes, the running level and the first word of memory say what the system is
 pub record Mirror (config : Config) (core : Core) (s : System) : Type 0 where
   pub suspended : (t : ℕ) → t < length config.tasks → (task s t).state ≡ mode.Suspended
       → (slice_index core.enabled t ≡ 1) × (slice_index core.pending t ≡ 0)
   pub ready : (t : ℕ) → t < length config.tasks → (task s t).state ≡ mode.Ready
       → (slice_index core.enabled t ≡ 1) × (slice_index core.pending t ≡ 1)
   pub waiting : (t mask : ℕ) → t < length config.tasks → (task s t).state ≡ mode.Waiting mask → slice_index core.enabled t ≡ 0
-  -- the running level is that of the running task's current priority, and the word at 0x80000000 names the task
+  -- the running level is that of the running task's current priority, and the first word of memory names the task
   pub running : (t : ℕ) → Runs config s t → (core.ilevel ≡ level_of config (priority_of config s t)) × (word_at core.ram 0 ≡ t + 1)
   pub idle : ((t : ℕ) → t < length config.tasks → ¬ ((task s t).state ≡ mode.Active)) → (core.ilevel ≡ 0) × (word_at core.ram 0 ≡ 0)

@@ -3,12 +3,13 @@ use Rattle.std.specs.Prelude.{ℕ, ◌+◌, ◌≡◌, List, [], ◌++◌, map, 
 use Rattle.sloth_base.specs.declared.config.Config.{Config}
 use Rattle.sloth_base.specs.declared.app.App.{App}
 use Rattle.sloth_base.specs.declared.event.Stamped.{Stamped}
+use Rattle.sloth_base.specs.Owners.{owners_in, AreTasks}
 use Rattle.osek_machine.specs.declared.state.TaskState.TheVariants as mode
 use Rattle.osek_machine.specs.State.{System, task, opening}
 use Rattle.osek_machine.specs.Priority.{IsTop, is_in}
 use Rattle.osek_machine.specs.Runs.{Leads, PassesOver}
 use Rattle.rv32_routine.specs.Trace.{Trace, early}
-use Rattle.sim_induction.specs.Admits.{with_admits, AllBelow, admit_event, before_event}
+use Rattle.sim_induction.specs.Admits.{with_admits, admit_event, before_event}
 
 -- it is the top one, those left out that were admitted since the last event of another kind
 abbrev pub StaysTop : Type 0
@@ -21,5 +22,5 @@ abbrev pub PassesOverInner : Type 0
 PassesOverInner =
     (config : Config) (app : App) (past : List Stamped) (count t : ℕ) (s : System) (trace : Trace) → Leads config app past (opening config app) s
     → s.booted ≡ true
-    → AllBelow (length config.tasks) (early trace) → IsTop config s [] t → (task s t).state ≡ mode.Active
+    → AreTasks (owners_in config) (early trace) → IsTop config s [] t → (task s t).state ≡ mode.Active
     → PassesOver config app (past ++ map admit_event (before_event (count + 1) trace)) (with_admits (early trace) s) t count

@@ -1,7 +1,9 @@
 -- How long generated code keeps interrupts masked, and what it touches.
-use Rattle.std.specs.Prelude.{ℕ, ◌+◌, ◌≤◌, ◌≡◌, ◌⊎◌, ◌==◌, List, [], ◌∷◌, length, Bool, true, false, IfSome, All, Contains}
+use Rattle.std.specs.Prelude.{ℕ, ◌+◌, ◌≤◌, List, [], ◌∷◌, length, IfSome, All, Contains}
 use Rattle.sloth_base.specs.declared.event.Event.{Event}
 use Rattle.sloth_base.specs.declared.step.Step.{Step}
+use Rattle.sloth_base.specs.declared.config.Config.{Config}
+use Rattle.sloth_base.specs.Stretches.{Beginning, beginning_of, stretch_limit, touch_limit}
 use Rattle.observe.specs.Pieces.{Piece, Outside, Stretch, pieces, cut_off}
 use Rattle.observe.specs.Observe.{View, mark_at, outside_events}
 
@@ -9,21 +11,20 @@ use Rattle.observe.specs.Observe.{View, mark_at, outside_events}
 abbrev pub TouchesOnly : List ℕ → Step → Type 0
 TouchesOnly lines step = IfSome step.touched (Contains lines)
 
--- The steps of a stretch, finished or not: at most 160, which touch at most two lines. Boot, which begins at count 0, has at most
--- 400 and touches none.
-abbrev pub IsShortAt : Bool → List Step → Type 0
-IsShortAt true steps = (length steps ≤ 400) × All (TouchesOnly []) steps
-IsShortAt false steps = (length steps ≤ 160) × ((one other : ℕ) × All (TouchesOnly (one ∷ other ∷ [])) steps)
+-- The steps of a stretch that begins so, finished or not: no more than the limit, and they touch no more lines than the limit.
+abbrev pub IsShortAt : Config → Beginning → List Step → Type 0
+IsShortAt config beginning steps =
+    (length steps ≤ stretch_limit config beginning) × ((lines : List ℕ) × (length lines ≤ touch_limit config beginning) × All (TouchesOnly lines) steps)
 
 -- the same of steps that may be none
-abbrev pub IsShort : List Step → Type 0
-IsShort [] = Unit {0}
-IsShort (first ∷ more) = IsShortAt (first.count == 0) (first ∷ more)
+abbrev pub IsShort : Config → List Step → Type 0
+IsShort config [] = Unit {0}
+IsShort config (first ∷ more) = IsShortAt config (beginning_of first) (first ∷ more)
 
 -- a short stretch, or a step outside that touches no line
-abbrev pub IsShortPiece : Piece → Type 0
-IsShortPiece (Outside step) = TouchesOnly [] step
-IsShortPiece (Stretch steps) = IsShort steps
+abbrev pub IsShortPiece : Config → Piece → Type 0
+IsShortPiece config (Outside step) = TouchesOnly [] step
+IsShortPiece config (Stretch steps) = IsShort config steps
 
 -- how many steps without an event follow one another, the one last passed with them: `before` had been passed
 abbrev pub passed_by : List Event → ℕ → ℕ
@@ -41,7 +42,7 @@ HasShortGaps view before [] = Unit {0}
 HasShortGaps view before (piece ∷ rest) = (passed view piece before ≤ 40) × HasShortGaps view (passed view piece before) rest
 
 -- each stretch of a run is short, and so are the gaps between its events
-pub record Short (view : View) (steps : List Step) : Type 0 where
-  pub finished : All IsShortPiece (pieces [] steps)
-  pub cut : IsShort (cut_off [] steps)
+pub record Short (config : Config) (view : View) (steps : List Step) : Type 0 where
+  pub finished : All (IsShortPiece config) (pieces [] steps)
+  pub cut : IsShort config (cut_off [] steps)
   pub gaps : HasShortGaps view 0 (pieces [] steps)

@@ -7,6 +7,7 @@ use Rattle.sloth_base.specs.declared.event.Arrival.{Arrival}
 use Rattle.sloth_base.specs.declared.event.Stamped.{Stamped}
 use Rattle.sloth_base.specs.Machine.{State}
 use Rattle.sloth_base.specs.Arrivals.{AreArrivals}
+use Rattle.sloth_base.specs.Owners.{owners_in}
 use Rattle.rv32_machine.specs.Start.{start}
 use Rattle.rv32_machine.specs.Run.{run, steps_of, state_after, stop_of, arrived}
 use Rattle.observe.specs.Observe.{view_of_image, observe}
@@ -33,11 +34,11 @@ pub record SoundRun (config : Config) (app : App) (image : Image) (arrivals : Li
   -- the image executes so many instructions
   pub whole : stop_of n arrivals (start image) ≡ None
   pub osek : OsekRun config app (events_of image arrivals n)
-  pub in_time : InTime n arrivals (events_of image arrivals n)
-  pub short : Short (view_of_image image) (steps_of (run n arrivals (start image)))
+  pub in_time : InTime config n arrivals (events_of image arrivals n)
+  pub short : Short config (view_of_image image) (steps_of (run n arrivals (start image)))
   pub mirrors : (count : ℕ) (state : State) → count < n → state_after count arrivals (start image) ≡ Some state → state.core.mie ≡ true
       → MirrorsAt config app (filter (stands_before count) (events_of image arrivals n)) (arrived arrivals count state)
 
 -- for every list of arrivals and every number of instructions
 pub record Sound (config : Config) (app : App) (image : Image) : Type 0 where
-  pub each : (arrivals : List Arrival) (n : ℕ) → AreArrivals (length config.tasks) arrivals → n ≤ 1000000 → SoundRun config app image arrivals n
+  pub each : (arrivals : List Arrival) (n : ℕ) → AreArrivals (owners_in config) arrivals → n ≤ 1000000 → SoundRun config app image arrivals n

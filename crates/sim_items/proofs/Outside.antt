@@ -16,6 +16,7 @@ use Rattle.rv32_machine.specs.Run.{arrived}
 use Rattle.rv32_routine.specs.Place.{at, InPlace}
 use Rattle.rv32_expand.specs.Expansion.{item_address, expansion}
 use Rattle.sloth_base.specs.Named.{operation, function}
+use Rattle.sloth_base.specs.declared.lines.Owners.{Owners}
 use Rattle.rv32_expand.specs.InPlace.{result_register, item_mark, mark_of, last_address}
 use Rattle.observe.specs.Observe.{View, mark_at, task_of, outside_events, events_of_kind}
 use Rattle.osek_machine.specs.State.{System}
@@ -24,7 +25,7 @@ use Rattle.osek_machine.specs.Steps.{settled}
 use Rattle.sim_induction.specs.Admits.{Setting, lines_at, with_admits}
 use Rattle.sim_induction.specs.Laws.{OutsideLaw, Shows, seen_at}
 use Rattle.sim_induction.proofs.Routes.{begins_none}
-use Rattle.sim_induction.proofs.Schedule.{below_moments}
+use Rattle.sim_induction.proofs.Schedule.{owned_at}
 use Rattle.sim_induction.proofs.Stretched.{task_is}
 use Rattle.sim_relation.specs.Build.{Build}
 use Rattle.sim_relation.specs.Context.{Running, RunsIdle}
@@ -53,7 +54,7 @@ module _ (b : Build) (view : View) (arrivals : List Arrival) (progress : State �
   few = let f = here.fits.few_tasks in omega arith
 
   pub now : Stands b n s1
-  now = stands_arrived b (lines_at arrivals count) state s few (below_moments (length b.config.tasks) count (count + 1) arrivals here.setting.lines) here.stands
+  now = stands_arrived b (lines_at arrivals count) state s few (owned_at (setting_of b view arrivals) here.setting count) here.stands
 
   pub none : line_to_take n ≡ None
   none = ap (λ m. cond m (choose n.core) None) here.stands.fixed.open_to_lines ∙ here.none
@@ -96,9 +97,9 @@ module _ (b : Build) (view : View) (arrivals : List Arrival) (progress : State �
 
     shown : events_of_kind mark.kind view mark (seen_at given count state runs.next) ≡ event.Run t func item result ∷ []
     shown =
-        let l : t < view.tasks = let v = here.setting.tasks in let h = (top_here t current).declared in omega arith in
+        let l : t < view.owners.tasks = let v = ap (λ (o : Owners). o.tasks) here.setting.owners in let h = (top_here t current).declared in omega arith in
         ap (λ m. events_of_kind m.kind view m (seen_at given count state runs.next)) (is_item (last_address b.app b.places func item))
-        ∙ ap (λ u. event.Run u func item result ∷ []) (ap (task_of view.tasks) current ∙ task_is view.tasks t l)
+        ∙ ap (λ u. event.Run u func item result ∷ []) (ap (task_of view.owners.tasks) current ∙ task_is view.owners.tasks t l)
 
     pub committed_outside : GoesOutside b view arrivals progress count state s
     committed_outside = (

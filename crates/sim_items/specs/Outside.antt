@@ -13,6 +13,7 @@ use Rattle.rv32_instr.specs.Ram.{word_at}
 use Rattle.rv32_machine.specs.Run.{arrived}
 use Rattle.rv32_expand.specs.Expansion.{item_address, block_address, mask_of, number_in, expansion}
 use Rattle.sloth_base.specs.Named.{operation, function}
+use Rattle.sloth_base.specs.MemoryMap.{memory_base}
 use Rattle.observe.specs.Observe.{View, mark_at}
 use Rattle.vector_gen.specs.Idle.{Idles}
 use Rattle.osek_machine.specs.State.{Frame, System}
@@ -103,9 +104,9 @@ pub record JumpsToService (b : Build) (func item : ℕ) : Type 0 where
   pub is : operation b.app func item ≡ op.Serve call
   pub no_mask : mask_of call.service call.mask ≡ []
   pub block : ℕ
-  pub block_is : block_address b.places call.service call.object ≡ 0x8000_0000 + block
+  pub block_is : block_address b.places call.service call.object ≡ memory_base + block
   pub in_ram : block < 0x20_0000
-  pub apart : (0x8000_0000 + block < item_address b.places func item) ⊎ (item_address b.places func item + 4 ≤ 0x8000_0000 + block)
+  pub apart : (memory_base + block < item_address b.places func item) ⊎ (item_address b.places func item + 4 ≤ memory_base + block)
 
 -- It leads to the opening mark of the block, and makes progress.
 abbrev pub ServiceJumpsGoOn : Type 0
@@ -127,9 +128,9 @@ pub record JumpsWithMask (b : Build) (func item : ℕ) : Type 0 where
   pub has_mask : mask_of call.service call.mask ≡ number_in mask_register call.mask
   pub is_word : call.mask < 2 ^ 32
   pub block : ℕ
-  pub block_is : block_address b.places call.service call.object ≡ 0x8000_0000 + block
+  pub block_is : block_address b.places call.service call.object ≡ memory_base + block
   pub in_ram : block < 0x20_0000
-  pub apart : (0x8000_0000 + block < item_address b.places func item) ⊎ (item_address b.places func item + 12 ≤ 0x8000_0000 + block)
+  pub apart : (memory_base + block < item_address b.places func item) ⊎ (item_address b.places func item + 12 ≤ memory_base + block)
 
 -- Each instruction of it makes progress; the last one leads to the opening mark of the block, with the mask in its register.
 abbrev pub MaskedJumpsGoOn : Type 0
@@ -145,7 +146,7 @@ pub record HasIdle (b : Build) (view : View) : Type 0 where
   pub code : List InstrKind
   pub idles : Idles code
   pub offset : ℕ
-  pub is : b.idle ≡ 0x8000_0000 + offset
+  pub is : b.idle ≡ memory_base + offset
   pub placed : IsPlaced b offset code
   pub mark : Mark
   pub marked : mark_at view b.idle ≡ Some mark

@@ -20,7 +20,7 @@ use Rattle.sim_induction.specs.Advances.{Advances}
 use Rattle.sim_induction.specs.Laws.{StretchLaw}
 use Rattle.sim_induction.proofs.Follow.{booted_admits}
 use Rattle.sim_induction.proofs.OutsidePiece.{outside_advances}
-use Rattle.sim_induction.proofs.Schedule.{below_moments}
+use Rattle.sim_induction.proofs.Schedule.{owned_at}
 use Rattle.sim_induction.proofs.StretchPiece.{stretch_advances}
 use Rattle.sim_relation.specs.Build.{Build}
 use Rattle.sim_relation.specs.Position.{Position, Standing, Owing, InExpansion, AtBlock, Calling, Returning, thread_of}
@@ -158,7 +158,7 @@ module _ (b : Build) (image : Image) (kernel : Kernel b image) where
     Goes = Advances (setting_of b view arrivals) (Stands b) (progress_in b) count state s
 
     k : Stands b n s1
-    k = stands_arrived b (lines_at arrivals count) state s few (below_moments (length b.config.tasks) count (count + 1) arrivals setting.lines) stands
+    k = stands_arrived b (lines_at arrivals count) state s few (owned_at (setting_of b view arrivals) setting count) stands
 
     -- one instruction outside the stretches
     outside : GoesOutside b view arrivals (progress_in b) count state s → Goes
@@ -453,10 +453,10 @@ module _ (b : Build) (image : Image) (kernel : Kernel b image) where
     -- a line is taken: its task starts anew, or goes on behind its wait
     enters : (t : ℕ) → choose n.core ≡ Some t → Goes
     enters t chosen =
-        let l = taken_declared b n s1 k few t chosen in
-        let r = taken_ready b n s1 k few t chosen in
-        enter_advances b view arrivals setting kernel.fits count after_boot state s stands sane t chosen (basic_anew b.config b.app s1 t steady.valid l r)
-        (λ fresh u h ne alive. kernel.stacks t u l h ne (meets b n s1 k few steady.valid steady.owing t chosen u h alive)) (kernel.prologues t l) (progress_in b)
+        let l = taken_declared b n s1 k t chosen in
+        let r = taken_ready b n s1 k few t l chosen in
+        enter_advances b view arrivals setting kernel.fits count after_boot state s stands sane t l chosen (basic_anew b.config b.app s1 t steady.valid l r)
+        (λ fresh u h ne alive. kernel.stacks t u l h ne (meets b n s1 k few steady.valid steady.owing t l chosen u h alive)) (kernel.prologues t l) (progress_in b)
 
     pub advance : Advances (setting_of b view arrivals) (Stands b) (progress_in b) count state s
     advance = by (choose n.core) refl

@@ -13,7 +13,7 @@ use Rattle.osek_valid.proofs.Apart.{at_least_static}
 use Rattle.osek_valid.proofs.Together.{lower_may}
 use Rattle.sim_relation.specs.Build.{Build}
 use Rattle.sim_relation.specs.Stands.{Stands, IsAlive}
-use Rattle.sim_relation.proofs.Choice.{taken_declared, taken_above}
+use Rattle.sim_relation.proofs.Choice.{taken_above}
 
 clash : {X : Type 0} → true ≡ false → X
 clash e = cc
@@ -34,13 +34,13 @@ module _ (b : Build) (state : State) (s : System) (k : Stands b state s) (few : 
       by mode.Active e i = e
       by (mode.Waiting mask) e i = clash (sym i.2 ∙ basic)
 
-  pub meets : (t : ℕ) → choose state.core ≡ Some t → (u : ℕ) → u < length b.config.tasks → IsAlive (task s u) → MayMeet b.config b.app t u
-  meets t chosen u declared alive = by (declaration b.config u).extended refl
+  pub meets : (t : ℕ) → t < length b.config.tasks → choose state.core ≡ Some t → (u : ℕ) → u < length b.config.tasks → IsAlive (task s u) → MayMeet b.config b.app t u
+  meets t is_task chosen u declared alive = by (declaration b.config u).extended refl
     where
       by : (x : Bool) → (declaration b.config u).extended ≡ x → MayMeet b.config b.app t u
       by true e = meets_waiting e
       by false e =
           let active = alive_active u declared e alive in
-          let over = taken_above b state s k few t chosen u (k.active.all u declared active) in
+          let over = taken_above b state s k few t is_task chosen u (k.active.all u declared active) in
           let least = at_least_static b.config u (task s u) in
-          is_over (lower_may b.config b.app s valid owing u t declared (taken_declared b state s k few t chosen) active over) (omega (arith, over, least))
+          is_over (lower_may b.config b.app s valid owing u t declared is_task active over) (omega (arith, over, least))

@@ -22,7 +22,7 @@ use Rattle.sim_induction.specs.Laws.{BootLaw}
 use Rattle.sim_induction.specs.Related.{IsSimulation}
 use Rattle.sim_induction.proofs.Follow.{booted_admits, leads_admits}
 use Rattle.sim_induction.proofs.Invariants.{With, along_events, simulation_with, boot_with}
-use Rattle.sim_induction.proofs.Schedule.{below_moments}
+use Rattle.sim_induction.proofs.Schedule.{owned_at}
 use Rattle.sim_induction.proofs.Simulated.{sound, is_setting}
 use Rattle.sim_relation.specs.Bounds.{AreBelow}
 use Rattle.sim_relation.specs.Build.{Build}
@@ -106,14 +106,14 @@ module _ (b : Build) (image : Image) (kernel : Kernel b image) where
     steady_found : (count : ℕ) (s : System) → s.booted ≡ true → IsSteady b.config b.app s → IsSteady b.config b.app (with_admits (lines_at arrivals count) s)
     steady_found count s booted h =
         along_events b.config b.app (IsSteady b.config b.app) (steady_stays b.config b.app kernel.well_formed) (map admit_event (moments count (count + 1) arrivals)) s (with_admits (lines_at arrivals count) s)
-        (leads_admits b.config b.app (moments count (count + 1) arrivals) s booted (below_moments (length b.config.tasks) count (count + 1) arrivals setting.lines)) h
+        (leads_admits b.config b.app (moments count (count + 1) arrivals) s booted (owned_at (setting_of b view arrivals) setting count)) h
 
     simulation : IsSimulation (setting_of b view arrivals) R (progress_in b)
     simulation =
         simulation_with (setting_of b view arrivals) setting (Stands b) IsBounded (IsSteady b.config b.app) (progress_in b) (bounds_stay arrivals) (steady_stays b.config b.app kernel.well_formed)
         (λ count state s positive w.
         advance b image kernel arrivals setting count positive state s w.base (arrive_fits (lines_at arrivals count) state w.machine) (steady_found count s w.base.tidy.booted w.system))
-        (λ count state s w. stands_arrived b (lines_at arrivals count) state s few (below_moments (length b.config.tasks) count (count + 1) arrivals setting.lines) w.base)
+        (λ count state s w. stands_arrived b (lines_at arrivals count) state s few (owned_at (setting_of b view arrivals) setting count) w.base)
         (λ count state h. arrive_fits (lines_at arrivals count) state h)
         (λ state s w. w.base.tidy.booted)
         (λ state s w. mirror_of b state s w.base)

@@ -9,6 +9,7 @@ use Rattle.app_rules.specs.WellFormed.{WellFormed}
 use Rattle.stack_bounds.specs.Bounds.{MayMeet}
 use Rattle.osek_machine.specs.State.{body_of}
 use Rattle.sloth_base.specs.Named.{function}
+use Rattle.sloth_base.specs.MemoryMap.{memory_base}
 use Rattle.prio_levels.specs.Levels.{AreLevels}
 use Rattle.vector_gen.specs.Boot.{Boots}
 use Rattle.vector_gen.specs.Vectors.{AreJumps}
@@ -31,7 +32,7 @@ pub record HasPrologue (b : Build) (levels : Levels) (map : Map) (t : ℕ) : Typ
   pub code : List InstrKind
   pub enters : EntersTask t b.config b.app levels map code
   pub offset : ℕ
-  pub is : slice_index map.handlers t ≡ 0x8000_0000 + offset
+  pub is : slice_index map.handlers t ≡ memory_base + offset
   pub placed : IsPlaced b offset code
   pub one_body : HasOneBody b t
   pub few_words : first_words b t ≤ 32
@@ -44,7 +45,7 @@ pub record IsGenerated (b : Build) (image : Image) (levels : Levels) (map : Map)
   pub are_levels : AreLevels b.config levels
   pub places : b.places ≡ map.places
   pub idle_is : b.idle ≡ map.idle
-  pub tops : (t : ℕ) → t < length b.config.tasks → 0x8000_0000 + b.top t ≡ slice_index map.tops t
+  pub tops : (t : ℕ) → t < length b.config.tasks → memory_base + b.top t ≡ slice_index map.tops t
   pub tasks : length image.tasks ≡ length b.config.tasks
   pub is_image : IsImage b image
   pub bytes : AreBelow 256 image.memory

@@ -11,6 +11,7 @@ use Rattle.rv32_expand.specs.InPlace.{IsItem, ItemsInPlace}
 use Rattle.app_rules.specs.WellFormed.{WellFormed}
 use Rattle.observe.specs.Observe.{View, mark_at, view_of_image}
 use Rattle.sloth_base.specs.ImageRange.{AreAscending}
+use Rattle.sloth_base.specs.MemoryMap.{memory_base}
 use Rattle.sim_relation.specs.Build.{Build}
 use Rattle.sim_items.specs.Place.{ItemStands}
 use Rattle.sim_laws.specs.Kernel.{IsKnown}
@@ -22,8 +23,8 @@ pub record HasItems (b : Build) (image : Image) : Type 0 where
   pub places : in_place.places ≡ b.places
   pub memory : image.memory ≡ b.memory
   pub size : length b.memory ≤ 0x20_0000
-  pub is_code : (func item i : ℕ) → IsItem b.app func item → item_address b.places func item ≤ 0x8000_0000 + i
-      → 0x8000_0000 + i < item_address b.places func item + 4 * length (expansion b.app b.places func item) → b.is_code i ≡ true
+  pub is_code : (func item i : ℕ) → IsItem b.app func item → item_address b.places func item ≤ memory_base + i
+      → memory_base + i < item_address b.places func item + 4 * length (expansion b.app b.places func item) → b.is_code i ≡ true
   pub rising : AreAscending image.marks
   pub unmarked : (func item i : ℕ) → IsItem b.app func item → i + 1 < length (expansion b.app b.places func item)
       → All (λ mark. mark.address ≢ item_address b.places func item + 4 * i) image.marks

@@ -6,6 +6,7 @@ use Rattle.sloth_base.specs.declared.app.Op.TheVariants as op
 use Rattle.sloth_base.specs.declared.service.Service.TheVariants as service
 use Rattle.sloth_base.specs.declared.places.Levels.{Levels}
 use Rattle.sloth_base.specs.Named.{operation, function}
+use Rattle.sloth_base.specs.MemoryMap.{memory_base}
 use Rattle.app_rules.specs.WellFormed.{WellFormed}
 use Rattle.stack_bounds.specs.Bounds.{MayMeet}
 use Rattle.prio_levels.specs.Levels.{AreLevels}
@@ -49,8 +50,8 @@ pub record CallsService (b : Build) (view : View) (func item : ℕ) : Type 0 whe
   pub are_levels : AreLevels b.config levels
   pub block : HasBlock b view call.service call.object (ServesCall call.service call.object levels)
   pub in_ram : block.offset < 0x20_0000
-  pub apart : (0x8000_0000 + block.offset < item_address b.places func item)
-      ⊎ (item_address b.places func item + 4 * length (expansion b.app b.places func item) ≤ 0x8000_0000 + block.offset)
+  pub apart : (memory_base + block.offset < item_address b.places func item)
+      ⊎ (item_address b.places func item + 4 * length (expansion b.app b.places func item) ≤ memory_base + block.offset)
 
 -- an item is of one of these kinds
 pub data IsKnown (b : Build) (view : View) (func item : ℕ) : Type 0 where

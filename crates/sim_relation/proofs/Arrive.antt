@@ -4,13 +4,15 @@ use Rattle.std.specs.Prelude.{◌⊎◌, ◌≢◌, slice_index}
 use Rattle.std.proofs.lemmas.List.{set-get_or, get_or-set_same, get_or-set_other, length-set}
 use Rattle.sloth_base.specs.Machine.{State}
 use Rattle.sloth_base.specs.Arrive.{state_arrive}
+use Rattle.sloth_base.specs.Owners.{owners_in, AreOwned}
+use Rattle.sloth_base.proofs.Owners.{owned_task}
 use Rattle.osek_machine.specs.declared.state.TaskState.{TaskState}
 use Rattle.osek_machine.specs.declared.state.TaskState.TheVariants as mode
 use Rattle.osek_machine.specs.State.{Task, System, sleeping, task, with_task}
 use Rattle.osek_machine.specs.Priority.{is_in, is_active}
 use Rattle.osek_machine.specs.Services.{if_suspended, activated}
 use Rattle.osek_machine.specs.Steps.{admitted}
-use Rattle.sim_induction.specs.Admits.{with_admits, AllBelow}
+use Rattle.sim_induction.specs.Admits.{with_admits}
 use Rattle.sim_relation.specs.Build.{Build}
 use Rattle.sim_relation.specs.ServiceWords.{ServiceWords, active_word}
 use Rattle.sim_relation.specs.Stands.{Stands, IsLineOf, IsAlive, TidyTask}
@@ -151,11 +153,11 @@ module _ (b : Build) (state : State) (s : System) (l : ℕ) (k : Stands b state 
       (is_suspended (task s l).state)
 
 -- Arrivals at a count that finds MIE 1 are the admits of their tasks.
-pub stands_arrived : (b : Build) (lines : List ℕ) (state : State) (s : System) → length b.config.tasks ≤ 32 → AllBelow (length b.config.tasks) lines
+pub stands_arrived : (b : Build) (lines : List ℕ) (state : State) (s : System) → length b.config.tasks ≤ 32 → AreOwned (owners_in b.config) lines
     → Stands b state s → Stands b (state_arrive lines state) (with_admits lines s)
 stands_arrived b [] state s few h k = k
 stands_arrived b (l ∷ lines) state s few h k =
-    stands_arrived b lines (state_arrive (l ∷ []) state) (admitted l s) few h.1 (arrived_one b state s l k h.0 few)
+    stands_arrived b lines (state_arrive (l ∷ []) state) (admitted l s) few h.1 (arrived_one b state s l k (owned_task (owners_in b.config) l h.0) few)
 
 -- nothing here speaks of `fresh`
 pub stands_fresh : (b : Build) (state : State) (s : System) (fresh : List ℕ) → Stands b state s → Stands b state (record s { fresh = fresh })

@@ -12,6 +12,8 @@ use Rattle.osek_machine.specs.State.{System, task, declaration}
 use Rattle.osek_machine.specs.Priority.{is_in, IsDue, IsTop}
 use Rattle.sim_induction.specs.Mirror.{priority_of}
 use Rattle.sloth_base.specs.PriorityLevels.{level_of}
+use Rattle.sloth_base.specs.Owners.{owners_in, IsOwned}
+use Rattle.sloth_base.proofs.Owners.{owned_task}
 use Rattle.sim_relation.specs.Build.{Build}
 use Rattle.sim_relation.specs.Context.{Running, RunsTask, RunsIdle}
 use Rattle.sim_relation.specs.Stands.{Stands, IsLineOf, Falling, AreActive}
@@ -105,21 +107,15 @@ module _ (b : Build) (state : State) (s : System) (k : Stands b state s) (few : 
       absurd (false≢true (active.all u h r)))
       due
 
-  module _ (t : ℕ) (e : choose state.core ≡ Some t) where
+  module _ (t : ℕ) (is_task : t < length b.config.tasks) (e : choose state.core ≡ Some t) where
     chosen : IsChosen (lines_of state.core) state.core.ilevel (Some t)
     chosen = chosen_some state.core t k.fixed.controller e
 
     may : MayTake (lines_of state.core) state.core.ilevel t
     may = chosen.0
 
-    pub taken_declared : t < length b.config.tasks
-    taken_declared =
-        ⊎_elim (λ (a : t < length b.config.tasks). a)
-        (λ (a : length b.config.tasks ≤ t). absurd (let o = k.lines.others t a in let p = may.is_enabled in omega arith))
-        (cases_lt t (length b.config.tasks))
-
     level_is : state.core.ilevel < level_of b.config (declaration b.config t).priority
-    level_is = let l = k.lines.levels t taken_declared in let p = may.is_above in omega arith
+    level_is = let l = k.lines.levels t is_task in let p = may.is_above in omega arith
 
     -- the Active tasks have current priorities below its static one
     pub taken_above : (u : ℕ) → is_in u k.stack ≡ true → priority_of b.config s u < (declaration b.config t).priority
@@ -129,8 +125,8 @@ module _ (b : Build) (state : State) (s : System) (k : Stands b state s) (few : 
     taken_ready =
         ⊎_elim (λ (a : (task s t).state ≡ mode.Ready). a)
         (λ (a : (task s t).state ≡ mode.Active).
-        absurd (let q = taken_above t (k.active.all t taken_declared a) in let v = static_le b.config s t in omega arith))
-        (ready_or_active (task s t).state (slice_index state.core.pending t) (slice_index state.core.enabled t) may.is_pending may.is_enabled (k.lines.each t taken_declared))
+        absurd (let q = taken_above t (k.active.all t is_task a) in let v = static_le b.config s t in omega arith))
+        (ready_or_active (task s t).state (slice_index state.core.pending t) (slice_index state.core.enabled t) may.is_pending may.is_enabled (k.lines.each t is_task))
 
     -- another Ready task has no higher priority
     most_ready : (u : ℕ) → u < length b.config.tasks → (task s u).state ≡ mode.Ready → (declaration b.config u).priority ≤ (declaration b.config t).priority
@@ -140,7 +136,7 @@ module _ (b : Build) (state : State) (s : System) (k : Stands b state s) (few : 
         let higher = level_of-below b.config u (declaration b.config t).priority h a in
         let l = level_is in
         let v = k.lines.levels u h in
-        let w = k.lines.levels t taken_declared in
+        let w = k.lines.levels t is_task in
         ⊎_elim
         (λ (y : slice_index state.core.levels u < slice_index state.core.levels t). omega arith)
         (λ (y : (slice_index state.core.levels u ≡ slice_index state.core.levels t) × (t ≤ u)). let z = y.0 in omega arith)
@@ -150,7 +146,7 @@ module _ (b : Build) (state : State) (s : System) (k : Stands b state s) (few : 
 
     pub taken_top : IsTop b.config s [] t
     taken_top = record {
-      declared = taken_declared;
+      declared = is_task;
       due = inl taken_ready;
       is_greatest = λ u h due o.
           ⊎_elim
@@ -167,3 +163,15 @@ module _ (b : Build) (state : State) (s : System) (k : Stands b state s) (few : 
           due;
       is_not_left_out = refl;
     }
+
+-- a line that is taken is enabled, so it has an owner
+pub taken_owned : (b : Build) (state : State) (s : System) → Stands b state s → (line : ℕ) → choose state.core ≡ Some line → IsOwned (owners_in b.config) line
+taken_owned b state s k line e unused =
+    let may : MayTake (lines_of state.core) state.core.ilevel line = (chosen_some state.core line k.fixed.controller e).0 in
+    let p = may.is_enabled in
+    let o = k.lines.others line unused in
+    absurd (omega arith)
+
+-- the line of a task, where the relation says what it is for
+pub taken_declared : (b : Build) (state : State) (s : System) → Stands b state s → (line : ℕ) → choose state.core ≡ Some line → line < length b.config.tasks
+taken_declared b state s k line e = owned_task (owners_in b.config) line (taken_owned b state s k line e)

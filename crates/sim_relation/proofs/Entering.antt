@@ -25,7 +25,7 @@ use Rattle.sim_relation.proofs.Contexts.{context_same, chain_kept, data_kept}
 use Rattle.sim_relation.proofs.Parts.{other_task, this_task, by_task, falling_kept, each_from}
 use Rattle.sim_relation.proofs.Rebuilt.{other_kept, among, rebuilt}
 use Rattle.sim_relation.proofs.Tops.{falling_head, falling_active, below_other, is_in-head, is_in-tail}
-use Rattle.sim_relation.proofs.Choice.{taken_declared, taken_ready, taken_above}
+use Rattle.sim_relation.proofs.Choice.{taken_ready, taken_above}
 use Rattle.sim_relation.proofs.TaskSteps.{resumes_active}
 use Rattle.sim_relation.proofs.Fresh.{start_priority, falling_cons}
 use Rattle.sim_relation.proofs.Spot.{is_first, is_first_in, Spot, spot}
@@ -39,16 +39,13 @@ enabled_ready (mode.Waiting v) p e q h = cc
 not_first : (b : Build) (s : System) (t : ℕ) (below : List ℕ) → Falling b s (t ∷ below) → (u : ℕ) → is_in u below ≡ true → eqb t u ≡ false
 not_first b s t below f u h = ne_eqb t u (λ e. below_other b s t below f u h (sym e))
 
-module _ (b : Build) (old now : State) (s : System) (k : Stands b old s) (fits : Fits b) (t : ℕ) (e : choose old.core ≡ Some t)
+module _ (b : Build) (old now : State) (s : System) (k : Stands b old s) (fits : Fits b) (t : ℕ) (declared : t < length b.config.tasks) (e : choose old.core ≡ Some t)
     (own : Task) (place : ℕ) (entry : TaskEntry b old now s t own place) where
   few : length b.config.tasks ≤ 32
   few = let f = fits.few_tasks in omega arith
 
-  declared : t < length b.config.tasks
-  declared = taken_declared b old s k few t e
-
   ready : (task s t).state ≡ mode.Ready
-  ready = taken_ready b old s k few t e
+  ready = taken_ready b old s k few t declared e
 
   few30 : t < 30
   few30 = let g = fits.few_tasks in let l = declared in omega arith
@@ -235,7 +232,7 @@ module _ (b : Build) (old now : State) (s : System) (k : Stands b old s) (fits :
         code = λ i x. elsewhere_kept i (inl x);
         active = record {
           falling = falling_cons b next t k.stack (record { declared = declared; active = ap (λ x. x.state) this ∙ entry.state })
-              (λ u h. subst (λ x. current_priority b.config (declaration b.config u) x < (declaration b.config t).priority) (sym (in_stack u h)) (taken_above b old s k few t e u h))
+              (λ u h. subst (λ x. current_priority b.config (declaration b.config u) x < (declaration b.config t).priority) (sym (in_stack u h)) (taken_above b old s k few t declared e u h))
               (falling_kept b s next k.stack in_stack k.active.falling);
           all = all;
         };

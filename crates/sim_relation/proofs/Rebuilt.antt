@@ -4,6 +4,8 @@ use Rattle.std.specs.Prelude.{◌≢◌, slice_index}
 use Rattle.std.proofs.lemmas.Bool.{cases_eq}
 use Rattle.std.proofs.lemmas.List.{length-set}
 use Rattle.sloth_base.specs.Machine.{State}
+use Rattle.sloth_base.specs.Owners.{owners_in}
+use Rattle.sloth_base.proofs.Owners.{unused_behind}
 use Rattle.sloth_region.specs.Layout.{active, events, wait, resume, saved}
 use Rattle.osek_machine.specs.State.{Task, System, task}
 use Rattle.osek_machine.specs.Priority.{is_in, is_active}
@@ -118,7 +120,7 @@ module _ (b : Build) (old now : State) (s : System) (k : Stands b old s) (t : �
           ⊎_elim (λ (e : u ≡ t). subst (λ l. slice_index now.core.pending l < 2) (sym e) r.own_bit)
           (λ (n : u ≡ t → ⊥). subst (λ p. p < 2) (sym (r.other_pending u n)) (k.lines.bits u h)) (cases_eq u t);
       levels = λ u h. ap (λ l. slice_index l u) r.machine.levels ∙ k.lines.levels u h;
-      others = λ l h. r.other_enabled l (λ e. let c = r.declared in omega arith) ∙ k.lines.others l h;
+      others = λ l h. r.other_enabled l (λ e. let c = r.declared in let f = unused_behind (owners_in b.config) l h in omega arith) ∙ k.lines.others l h;
     };
     running = r.running;
     words = by_task (λ u v. u < length b.config.tasks → ServiceWords b now.core.ram u v) s t own here (λ h. r.own_words) (λ u m h. r.other_words u h m);

@@ -3,6 +3,8 @@ use Rattle.std.proofs.Common.{◌≡◌, ℕ, zero, suc, ◌+◌, ◌<◌, ◌�
 use Rattle.std.specs.Prelude.{◌≢◌, map, slice_index}
 use Rattle.sloth_base.specs.Machine.{State}
 use Rattle.sloth_base.specs.declared.config.TaskDecl.{TaskDecl}
+use Rattle.sloth_base.specs.Owners.{owners_in}
+use Rattle.sloth_base.proofs.Owners.{unused_behind}
 use Rattle.sloth_region.specs.Layout.{active, events, resume, idle_context}
 use Rattle.rv32_instr.specs.Ram.{word_at}
 use Rattle.osek_machine.specs.declared.state.TaskState.TheVariants as mode
@@ -91,7 +93,7 @@ module _ (b : Build) (state : State) (fits : Fits b) (start : Starts b state) wh
           (λ t h. line_of (declaration b.config t).autostart (slice_index state.core.pending t) (slice_index state.core.enabled t) (start.pending t h) (start.enabled t h));
       bits = λ t h. small (declaration b.config t).autostart (slice_index state.core.pending t) (start.pending t h);
       levels = start.levels;
-      others = start.other_enabled;
+      others = λ line unused. start.other_enabled line (unused_behind (owners_in b.config) line unused);
     };
     running = record { level = start.level; current = zero_at 0 (omega arith); pc = start.pc; x2 = start.x2 };
     words = by_awake (λ t v. ServiceWords b state.core.ram t v)

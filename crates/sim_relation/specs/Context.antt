@@ -8,13 +8,14 @@ use Rattle.osek_machine.specs.State.{Frame, Task, System, task}
 use Rattle.sloth_base.specs.Named.{function}
 use Rattle.sim_induction.specs.Mirror.{priority_of}
 use Rattle.sloth_base.specs.PriorityLevels.{level_of}
+use Rattle.sloth_base.specs.MemoryMap.{memory_base}
 use Rattle.sim_relation.specs.Build.{Build}
 use Rattle.sim_relation.specs.Position.{Thread, thread_of, thread_at, FramesAt, Position}
 
 -- A task's registers, position and frames, with x2 at the offset `place`. All that this says of RAM lies from there up to the
 -- task's top.
 pub record Context (b : Build) (ram : List ℕ) (t : ℕ) (own : Task) (th : Thread) (place : ℕ) : Type 0 where
-  pub x2 : th.x2 ≡ 0x8000_0000 + place
+  pub x2 : th.x2 ≡ memory_base + place
   pub registers : (i : ℕ) → i < 25 → slice_index own.registers i ≡ th.x (i + 5)
   pub position : Position b ram t own th place
   -- there is room for a context below
@@ -40,7 +41,7 @@ pub record SavedIdle (b : Build) (ram : List ℕ) (place : ℕ) : Type 0 where
 abbrev pub Chain : Build → List ℕ → System → List ℕ → ℕ → Type 0
 Chain b ram s [] place = SavedIdle b ram place
 Chain b ram s (t ∷ below) place =
-    Saved b ram s t place × ((next : ℕ) × (word_at ram (place + 12) ≡ 0x8000_0000 + next) × Chain b ram s below next)
+    Saved b ram s t place × ((next : ℕ) × (word_at ram (place + 12) ≡ memory_base + next) × Chain b ram s below next)
 
 -- ---- what runs
 
@@ -51,7 +52,7 @@ pub record RunsTask (b : Build) (state : State) (s : System) (t : ℕ) (below : 
   pub place : ℕ
   pub context : Context b state.core.ram t (task s t) (thread_of state) place
   pub next : ℕ
-  pub link : word_at state.core.ram below_word ≡ 0x8000_0000 + next
+  pub link : word_at state.core.ram below_word ≡ memory_base + next
   pub chain : Chain b state.core.ram s below next
 
 -- the machine runs the idle loop
@@ -59,7 +60,7 @@ pub record RunsIdle (b : Build) (state : State) : Type 0 where
   pub level : state.core.ilevel ≡ 0
   pub current : word_at state.core.ram cur ≡ 0
   pub pc : state.pc ≡ b.idle
-  pub x2 : slice_index state.core.registers 2 ≡ 0x8000_0000 + (idle_context + context_bytes)
+  pub x2 : slice_index state.core.registers 2 ≡ memory_base + (idle_context + context_bytes)
 
 -- the first of the Active tasks runs, above the others
 abbrev pub Running : Build → State → System → List ℕ → Type 0
@@ -70,7 +71,7 @@ Running b state s (t ∷ below) = RunsTask b state s t below
 
 -- its context, at an offset, is at the first instruction of its next item
 pub record Rested (b : Build) (ram : List ℕ) (t : ℕ) (own : Task) (frame : Frame) (outer : List Frame) (place : ℕ) : Type 0 where
-  pub link : word_at ram (resume t) ≡ 0x8000_0000 + place
+  pub link : word_at ram (resume t) ≡ memory_base + place
   pub inside : frame.item < length (function b.app frame.func).items
   pub pc : word_at ram place ≡ item_address b.places frame.func frame.item
   pub registers : (i : ℕ) → i < 25 → slice_index own.registers i ≡ word_at ram (place + 4 * (i + 5))

@@ -1,6 +1,7 @@
 -- What the entry of a task leaves, anew or behind a wait.
 use Rattle.std.specs.Prelude.{ℕ, ◌+◌, ◌*◌, ◌%◌, ◌<◌, ◌≤◌, ◌≡◌, ◌≢◌, ◌⊎◌, List, length, slice_index, slice_set, true}
 use Rattle.sloth_base.specs.Machine.{State}
+use Rattle.sloth_base.specs.MemoryMap.{memory_base}
 use Rattle.sloth_region.specs.Layout.{cur, below_word, active, resume, idle_context, context_bytes}
 use Rattle.rv32_instr.specs.Ram.{word_at}
 use Rattle.osek_machine.specs.declared.state.TaskState.TheVariants as mode
@@ -23,7 +24,7 @@ pub record EntryRam (b : Build) (old : State) (new : List ℕ) (t place : ℕ) :
   pub register_words : (i : ℕ) → 5 ≤ i → i < 32 → word_at new (place + 4 * i) ≡ slice_index old.core.registers i
   pub named : (p : ℕ) → p + 4 ≤ idle_context → p % 4 ≡ 0 → p ≢ cur → p ≢ below_word → p ≢ active t → p ≢ resume t → word_at new p ≡ word_at old.core.ram p
   pub current : word_at new cur ≡ t + 1
-  pub link : word_at new below_word ≡ 0x8000_0000 + place
+  pub link : word_at new below_word ≡ memory_base + place
   pub activity : word_at new (active t) ≡ 1
   pub resumption : word_at new (resume t) ≡ 0
 
@@ -48,7 +49,7 @@ pub record TaskEntry (b : Build) (old now : State) (s : System) (t : ℕ) (own :
   pub held : own.held ≡ (task s t).held
   pub raised : own.raised ≡ (declaration b.config t).non
   pub registers : length own.registers ≡ 25
-  pub x2 : slice_index old.core.registers 2 ≡ 0x8000_0000 + (place + context_bytes)
+  pub x2 : slice_index old.core.registers 2 ≡ memory_base + (place + context_bytes)
   -- its part of the stacks is apart from those of the tasks that have something there
   pub apart : (u : ℕ) → u < length b.config.tasks → u ≢ t → IsAlive (task s u) → AreApart b t u
   pub frame : ℕ

@@ -1,6 +1,7 @@
 -- What a stretch leaves as it was.
 use Rattle.std.specs.Prelude.{ℕ, ◌<◌, ◌≤◌, ◌≡◌, ◌≢◌, ◌+◌, ◌*◌, ◌%◌, List, slice_index}
 use Rattle.sloth_base.specs.Machine.{State}
+use Rattle.sloth_base.specs.MemoryMap.{memory_base}
 use Rattle.sloth_region.specs.Layout.{cur, below_word, active, events, wait, resume, idle_context, context_bytes}
 use Rattle.rv32_instr.specs.Ram.{word_at}
 use Rattle.osek_machine.specs.State.{System, task}
@@ -43,7 +44,7 @@ pub record HasLeftFor (old new : List ℕ) (place : ℕ) (end : State) : Type 0 
   pub ram : end.core.ram ≡ new
   pub current : word_at new cur ≡ word_at old (place + 8)
   pub link : word_at new below_word ≡ word_at old (place + 12)
-  pub x2 : slice_index end.core.registers 2 ≡ 0x8000_0000 + (place + context_bytes)
+  pub x2 : slice_index end.core.registers 2 ≡ memory_base + (place + context_bytes)
   pub loaded : (i : ℕ) → 5 ≤ i → i < 32 → slice_index end.core.registers i ≡ word_at old (place + 4 * i)
   pub pc : end.pc ≡ word_at old place
   pub level : end.core.ilevel ≡ word_at old (place + 4)

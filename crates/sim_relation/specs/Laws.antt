@@ -3,13 +3,14 @@ use Rattle.std.specs.Prelude.{ℕ, ◌<◌, ◌≤◌, ◌≡◌, List, [], leng
 use Rattle.sloth_base.specs.Machine.{State}
 use Rattle.sloth_base.specs.Arrive.{state_arrive}
 use Rattle.sloth_base.specs.Choose.{choose}
+use Rattle.sloth_base.specs.Owners.{owners_in, IsOwned, AreOwned}
 use Rattle.osek_machine.specs.declared.state.TaskState.{TaskState}
 use Rattle.osek_machine.specs.declared.state.TaskState.TheVariants as mode
 use Rattle.rv32_routine.specs.Kernel.{IsBelow}
 use Rattle.osek_machine.specs.State.{Task, System, task, with_task}
 use Rattle.osek_machine.specs.Priority.{IsTop, IsDue}
 use Rattle.osek_machine.specs.Steps.{settled}
-use Rattle.sim_induction.specs.Admits.{with_admits, AllBelow}
+use Rattle.sim_induction.specs.Admits.{with_admits}
 use Rattle.sim_induction.specs.Mirror.{Mirror, Runs}
 use Rattle.sim_relation.specs.Build.{Build, Fits}
 use Rattle.sim_relation.specs.Stands.{Stands}
@@ -22,15 +23,19 @@ use Rattle.sim_relation.specs.Start.{Starts, started}
 abbrev pub MirrorOfStands : Type 0
 MirrorOfStands = (b : Build) (state : State) (s : System) → Stands b state s → Mirror b.config state.core s
 
--- lines that arrive where MIE is 1 are the activations of their tasks
+-- lines with owners that arrive where MIE is 1 are the activations of their tasks
 abbrev pub ArrivalsAreAdmits : Type 0
 ArrivalsAreAdmits = (b : Build) (lines : List ℕ) (state : State) (s : System) → length b.config.tasks ≤ 32
-    → AllBelow (length b.config.tasks) lines → Stands b state s → Stands b (state_arrive lines state) (with_admits lines s)
+    → AreOwned (owners_in b.config) lines → Stands b state s → Stands b (state_arrive lines state) (with_admits lines s)
 
--- the line that is taken is that of a Ready task, which is the top task
+-- the line that is taken has an owner
+abbrev pub TakenIsOwned : Type 0
+TakenIsOwned = (b : Build) (state : State) (s : System) → Stands b state s → (line : ℕ) → choose state.core ≡ Some line → IsOwned (owners_in b.config) line
+
+-- the line of a task that is taken is that of a Ready task, which is the top task
 abbrev pub TakenIsTop : Type 0
 TakenIsTop = (b : Build) (state : State) (s : System) → length b.config.tasks ≤ 32 → Stands b state s
-    → (t : ℕ) → choose state.core ≡ Some t → IsTop b.config s [] t × ((task s t).state ≡ mode.Ready)
+    → (t : ℕ) → t < length b.config.tasks → choose state.core ≡ Some t → IsTop b.config s [] t × ((task s t).state ≡ mode.Ready)
 
 -- where no line is taken, the running task is the top task, and where none runs none is due
 pub record IsUndisturbed (b : Build) (s : System) : Type 0 where
@@ -65,7 +70,7 @@ ChangesKeep = (b : Build) (old now : State) (s : System) (t : ℕ) (state : Task
 
 -- the entry of the task whose line is taken
 abbrev pub EntriesKeep : Type 0
-EntriesKeep = (b : Build) (old now : State) (s : System) (t : ℕ) (own : Task) (place : ℕ) → Fits b → Stands b old s → choose old.core ≡ Some t
+EntriesKeep = (b : Build) (old now : State) (s : System) (t : ℕ) (own : Task) (place : ℕ) → Fits b → Stands b old s → t < length b.config.tasks → choose old.core ≡ Some t
     → TaskEntry b old now s t own place → Stands b now (settled (with_task s t own))
 
 -- the context of what runs below it is where a routine looks for it

@@ -7,6 +7,7 @@ use Rattle.osek_machine.specs.declared.state.TaskState.TheVariants as mode
 use Rattle.osek_machine.specs.State.{Task, System, task, with_task, declaration}
 use Rattle.osek_machine.specs.Priority.{is_active, current_priority}
 use Rattle.sloth_base.specs.PriorityLevels.{level_of}
+use Rattle.sloth_base.specs.MemoryMap.{memory_base}
 use Rattle.sim_relation.specs.Build.{Build, IsElsewhere}
 use Rattle.sim_relation.specs.Position.{thread_of}
 use Rattle.sim_relation.specs.Context.{Context}
@@ -86,7 +87,7 @@ pub record TaskStep (b : Build) (old now : State) (s : System) (t : ℕ) (own : 
 
 -- The running task leaves: its record is `own` now, and what the context at `place` says goes on.
 pub record TaskLeave (b : Build) (old now : State) (s : System) (t : ℕ) (own : Task) (place : ℕ) : Type 0 where
-  pub link : word_at old.core.ram below_word ≡ 0x8000_0000 + place
+  pub link : word_at old.core.ram below_word ≡ memory_base + place
   pub left : HasLeftFor old.core.ram now.core.ram place now
   pub machine : WholeMachine old now
   -- the lines

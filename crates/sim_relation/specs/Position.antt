@@ -10,6 +10,7 @@ use Rattle.sloth_region.specs.Layout.{context_bytes}
 use Rattle.rv32_instr.specs.Ram.{word_at}
 use Rattle.rv32_expand.specs.Expansion.{item_address, symbol_address, block_address, label_address, mask_of, expansion}
 use Rattle.sloth_base.specs.Named.{operation, function}
+use Rattle.sloth_base.specs.MemoryMap.{memory_base}
 use Rattle.osek_machine.specs.State.{Frame, Task}
 use Rattle.osek_machine.specs.Meaning.{register}
 use Rattle.sim_relation.specs.Build.{Build, start_level}
@@ -26,7 +27,7 @@ thread_of state = record { pc = state.pc; x2 = slice_index state.core.registers 
 
 -- of the context at an offset: x2 is not stored, for a context lies directly below it
 abbrev pub thread_at : List ℕ → ℕ → Thread
-thread_at ram place = record { pc = word_at ram place; x2 = 0x8000_0000 + (place + context_bytes); x = λ i. word_at ram (place + 4 * i) }
+thread_at ram place = record { pc = word_at ram place; x2 = memory_base + (place + context_bytes); x = λ i. word_at ram (place + 4 * i) }
 
 -- ---- frames
 

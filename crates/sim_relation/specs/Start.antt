@@ -5,6 +5,7 @@ use Rattle.sloth_region.specs.Layout.{idle_context, context_bytes}
 use Rattle.osek_machine.specs.State.{System, declaration, opening}
 use Rattle.osek_machine.specs.Steps.{settled, autostarted}
 use Rattle.sloth_base.specs.PriorityLevels.{level_of}
+use Rattle.sloth_base.specs.MemoryMap.{memory_base}
 use Rattle.sim_relation.specs.Build.{Build}
 use Rattle.sim_relation.specs.DataStands.{DataStands}
 use Rattle.sim_relation.specs.Stands.{Fixed}
@@ -18,7 +19,7 @@ started b = settled (record (opening b.config b.app) { tasks = autostarted b.con
 pub record Starts (b : Build) (state : State) : Type 0 where
   pub pc : state.pc ≡ b.idle
   pub level : state.core.ilevel ≡ 0
-  pub x2 : slice_index state.core.registers 2 ≡ 0x8000_0000 + (idle_context + context_bytes)
+  pub x2 : slice_index state.core.registers 2 ≡ memory_base + (idle_context + context_bytes)
   pub fixed : Fixed b state.core
   pub service_words : (i : ℕ) → i < idle_context → slice_index state.core.ram i ≡ 0
   pub pending : (t : ℕ) → t < length b.config.tasks → slice_index state.core.pending t ≡ cond (declaration b.config t).autostart 1 0

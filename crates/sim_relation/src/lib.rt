@@ -2,7 +2,7 @@
 //! keeps it. It stands on the offsets of `sloth_region` (`specs/Layout`) and on no generator.
 #![tactic(auto)]
 
-ghost use Rattle.sim_relation.specs.Laws.{MirrorOfStands, ArrivalsAreAdmits, TakenIsTop, NoneTaken, StepsKeep, MovesKeep, LeavesKeep, ChangesKeep, EntriesKeep, BelowIsFound, StartsStand};
+ghost use Rattle.sim_relation.specs.Laws.{MirrorOfStands, ArrivalsAreAdmits, TakenIsOwned, TakenIsTop, NoneTaken, StepsKeep, MovesKeep, LeavesKeep, ChangesKeep, EntriesKeep, BelowIsFound, StartsStand};
 
 /// Where the relation stands, the interrupt controller mirrors the abstract scheduler.
 pub fn mirror_of_stands()
@@ -14,7 +14,12 @@ pub fn arrivals_are_admits()
     ensures { ArrivalsAreAdmits }
 {}
 
-/// The line that is taken is that of the top task, which is Ready.
+/// The line that is taken has an owner.
+pub fn taken_is_owned()
+    ensures { TakenIsOwned }
+{}
+
+/// The line of a task that is taken is that of the top task, which is Ready.
 pub fn taken_is_top()
     ensures { TakenIsTop }
 {}

@@ -1,5 +1,5 @@
 -- The stretches of services that go back to their callers, whatever lines arrive.
-use Rattle.std.proofs.Common.{◌≡◌, ℕ, ◌<◌, ◌≤◌, List, ◌∷◌, length, sym, ap, ◌∙◌, subst, arith}
+use Rattle.std.proofs.Common.{◌≡◌, ℕ, suc, ◌<◌, ◌≤◌, List, ◌∷◌, length, sym, ap, ◌∙◌, subst, arith}
 use Rattle.std.proofs.lemmas.Bool.{ltb-true}
 use Rattle.sloth_base.specs.declared.app.Call.{Call}
 use Rattle.sloth_base.specs.declared.app.Op.TheVariants as op
@@ -9,6 +9,7 @@ use Rattle.sloth_base.specs.declared.service.Service.TheVariants as service
 use Rattle.sloth_base.specs.Arrive.{state_arrive}
 use Rattle.sloth_base.specs.Machine.{State}
 use Rattle.sloth_base.specs.Named.{operation}
+use Rattle.sloth_base.specs.Stretches.{Masks, stretch_limit}
 use Rattle.rv32_instr.specs.declared.InstrKind.{InstrKind}
 use Rattle.rv32_machine.specs.Run.{arrived}
 use Rattle.rv32_routine.specs.Kernel.{masking}
@@ -28,7 +29,7 @@ use Rattle.sim_relation.specs.Placed.{setting_of}
 use Rattle.sim_relation.specs.Stands.{Stands}
 use Rattle.sim_services.specs.Laws.{MayGoOn}
 use Rattle.sim_services.specs.Opening.{AtOpening, IsFollowed, CanServe}
-use Rattle.sim_services.specs.Served.{IsServed, Answers}
+use Rattle.sim_services.specs.Served.{IsServed, Answers, TouchesTasks}
 use Rattle.sim_services.specs.Stretch.{OpensChainTask, OpensGetResource, OpensGoingOn, Stretches}
 use Rattle.sim_services.proofs.Activated.{activates}
 use Rattle.sim_services.proofs.Chained.{chain_answers}
@@ -38,6 +39,7 @@ use Rattle.sim_services.proofs.Raising.{active_bit, enabled_bit}
 use Rattle.sim_services.proofs.ServiceStretch.{k, can_serve, service_stretches}
 use Rattle.sim_services.proofs.StateTold.{tells_state}
 use Rattle.sim_services.proofs.Told.{tells}
+use Rattle.sim_services.proofs.Touching.{touches_none, touches_one, chain_touches, state_touches}
 
 -- the same frame and call, where a task is said to stand at a service's opening twice
 module _ (b : Build) (one two : State) (t : ℕ) (own : Task) (served : Service) (a : AtOpening b one t own served) (c : AtOpening b two t own served) where
@@ -74,15 +76,15 @@ module _ (b : Build) (view : View) (arrivals : List Arrival) (count : ℕ) (stat
       }
 
   -- the code runs as its contract says, and its effect is an answer
-  pub going_on_stretches : (most : ℕ) → most ≤ 159 → (Effect : ℕ → List ℕ → State → State → Type 0)
+  pub going_on_stretches : (most : ℕ) → suc most ≤ stretch_limit b.config Masks → (Effect : ℕ → List ℕ → State → State → Type 0) → ((place : ℕ) → TouchesTasks b (Effect place))
       → ((place : ℕ) → CanServe o.opens.block.offset o.opens.block.code t place n.core → FromOpening most (at o.opens.block.offset n.core) (Effect place))
       → ((place : ℕ) (lines touched : List ℕ) (s2 : System) (end : State) → CanServe o.opens.block.offset o.opens.block.code t place n.core
       → MayGoOn b (state_arrive lines n) s2 t own served object → Effect place touched (state_arrive lines n) end → Answers b s2 t served touched end)
       → Stretches b view arrivals count state s
-  going_on_stretches most short Effect runs law =
+  going_on_stretches most short Effect tasks_alone runs law =
       let found = can_serve b view arrivals count state s t served Contract fits setting after_boot stands o.opens masks in
       service_stretches b view arrivals count state s t served Contract fits setting after_boot stands o.opens masks
-      most short (Effect found.0) (runs found.0 found.1)
+      most short (Effect found.0) (tasks_alone found.0) (runs found.0 found.1)
       (λ lines touched s2 end is effect. law found.0 lines touched s2 end found.1 (may_go_on lines s2 is) effect)
 
 module _ (b : Build) (view : View) (arrivals : List Arrival) (count : ℕ) (state : State) (s : System) (t : ℕ) (fits : Fits b)
@@ -97,7 +99,7 @@ module _ (b : Build) (view : View) (arrivals : List Arrival) (count : ℕ) (stat
   tells_stretches o =
       let block = o.opens.block in
       going_on_stretches b view arrivals count state s t service.GetTaskID (λ object. TellsTask) fits setting after_boot stands o block.serves.masks
-      8 (omega arith) (λ place. Told t)
+      8 (omega arith) (λ place. Told t) (λ place touched from to e. touches_none b touched e.touches)
       (λ place can. block.serves.runs block.offset t start.core
       (record { goes_back = can.goes_back; level = can.level; runs = can.current; is_task = can.is_task }))
       (λ place lines touched s2 end can may effect.
@@ -110,7 +112,7 @@ module _ (b : Build) (view : View) (arrivals : List Arrival) (count : ℕ) (stat
       let declared = ltb-true object (length b.config.tasks) o.names in
       let there = k b view arrivals count state s t service.GetTaskState TellsState fits setting after_boot stands o.opens block.serves.masks in
       going_on_stretches b view arrivals count state s t service.GetTaskState TellsState fits setting after_boot stands o block.serves.masks
-      23 (omega arith) (λ place. StateTold object t)
+      23 (omega arith) (λ place. StateTold object t) (λ place. state_touches b object t declared)
       (λ place can. block.serves.runs block.offset t start.core (record {
         goes_back = can.goes_back;
         level = can.level;
@@ -130,7 +132,7 @@ module _ (b : Build) (view : View) (arrivals : List Arrival) (count : ℕ) (stat
       let declared = ltb-true object (length b.config.tasks) o.names in
       let there = k b view arrivals count state s t service.ActivateTask Activates fits setting after_boot stands o.opens block.serves.masks in
       going_on_stretches b view arrivals count state s t service.ActivateTask Activates fits setting after_boot stands o block.serves.masks
-      16 (omega arith) (λ place. Activated object)
+      16 (omega arith) (λ place. Activated object) (λ place touched from to e. touches_one b object touched declared e.touches)
       (λ place can. block.serves.runs block.offset start.core (record {
         goes_back = can.goes_back;
         is_task = let f = fits.few_tasks in omega arith;
@@ -149,6 +151,7 @@ module _ (b : Build) (view : View) (arrivals : List Arrival) (count : ℕ) (stat
       let there = k b view arrivals count state s t service.ChainTask Chains fits setting after_boot stands o.goes_on.opens block.serves.masks in
       going_on_stretches b view arrivals count state s t service.ChainTask Chains fits setting after_boot stands o.goes_on block.serves.masks
       68 (omega arith) (λ place. Chained object t place)
+      (λ place. chain_touches b object t place declared (active_by_word b start found t there o.goes_on.opens.opening.current).declared)
       (λ place can. block.serves.runs block.offset t place start.core (record {
         goes_back = can.goes_back;
         level = can.level;
@@ -169,7 +172,7 @@ module _ (b : Build) (view : View) (arrivals : List Arrival) (count : ℕ) (stat
       let block = o.goes_on.opens.block in
       let object = o.goes_on.opens.opening.block.call.object in
       going_on_stretches b view arrivals count state s t service.GetResource (λ object. Takes object level) fits setting after_boot stands o.goes_on
-      block.serves.masks 10 (omega arith) (λ place. Taken object level)
+      block.serves.masks 10 (omega arith) (λ place. Taken object level) (λ place touched from to e. touches_none b touched e.touches)
       (λ place can. block.serves.runs block.offset start.core
       (record { goes_back = can.goes_back; is_resource = let l = o.may.is_resource in omega arith; level = can.level }))
       (λ place lines touched s2 end can may effect. takes b (state_arrive lines start) s2 t (task found t) object level touched end fits may o.may effect)
@@ -182,7 +185,7 @@ module _ (b : Build) (view : View) (arrivals : List Arrival) (count : ℕ) (stat
       let here = active_by_word b start found t there o.opens.opening.current in
       let among = (popped b start found there t here.declared object o.names).among in
       going_on_stretches b view arrivals count state s t service.ReleaseResource Releases fits setting after_boot stands o block.serves.masks
-      6 (omega arith) (λ place. Released object)
+      6 (omega arith) (λ place. Released object) (λ place touched from to e. touches_none b touched e.touches)
       (λ place can. block.serves.runs block.offset start.core
       (record {
         goes_back = can.goes_back;

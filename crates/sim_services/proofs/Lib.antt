@@ -17,3 +17,4 @@ pub mod StateTold
 pub mod GivingWay
 pub mod ComingBack
 pub mod ScheduleStretch
+pub mod Touching

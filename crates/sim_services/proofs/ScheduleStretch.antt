@@ -1,5 +1,5 @@
 -- The stretches of Schedule and of the way back from it, whatever lines arrive.
-use Rattle.std.proofs.Common.{◌≡◌, ℕ, ◌+◌, ◌*◌, ◌%◌, ◌<◌, ◌≤◌, List, [], ◌∷◌, ◌++◌, length, sym, ap, ◌∙◌, subst, arith, None, cond}
+use Rattle.std.proofs.Common.{◌≡◌, ℕ, ◌+◌, ◌*◌, ◌%◌, ◌<◌, ◌≤◌, List, [], ◌∷◌, ◌++◌, length, sym, ap, ◌∙◌, subst, arith, None, cond, suc}
 use Rattle.std.specs.Prelude.{IfSome, Contains}
 use Rattle.std.specs.List.{AllByRecursion}
 use Rattle.sloth_base.specs.declared.event.Arrival.{Arrival}
@@ -9,6 +9,9 @@ use Rattle.sloth_base.specs.Arrive.{state_arrive}
 use Rattle.sloth_base.specs.Choose.{choose}
 use Rattle.sloth_base.specs.Machine.{State}
 use Rattle.sloth_base.specs.Take.{line_to_take, enter, entered}
+use Rattle.sloth_base.specs.Owners.{owners_in, IsOwned, AreOwned}
+use Rattle.sloth_base.specs.Stretches.{later_beginning, stretch_limit}
+use Rattle.sloth_base.specs.declared.lines.Owners.{Owners}
 use Rattle.rv32_instr.specs.declared.InstrKind.{InstrKind}
 use Rattle.rv32_instr.specs.Execute.{touched, touched_by}
 use Rattle.rv32_machine.specs.Run.{arrived}
@@ -22,12 +25,12 @@ use Rattle.service_gen.proofs.Yielding.{in_place-rest}
 use Rattle.observe.specs.Observe.{View, mark_at, marked_event, task_of}
 use Rattle.osek_machine.specs.State.{System, task}
 use Rattle.osek_machine.specs.Steps.{OsekStep}
-use Rattle.sim_induction.specs.Admits.{IsSetting, lines_at, with_admits, AllBelow}
+use Rattle.sim_induction.specs.Admits.{IsSetting, lines_at, with_admits}
 use Rattle.sim_induction.specs.Laws.{StretchLaw, seen_at}
 use Rattle.sim_induction.proofs.Routes.{Masking, masking, begins_masked, opened_event}
-use Rattle.sim_induction.proofs.Schedule.{below_moments}
+use Rattle.sim_induction.proofs.Schedule.{owned_at}
 use Rattle.sim_induction.proofs.Stretched.{early_none, task_is}
-use Rattle.sim_induction.proofs.Traces.{below_trace}
+use Rattle.sim_induction.proofs.Traces.{lines_trace}
 use Rattle.sim_relation.specs.Build.{Build, Fits}
 use Rattle.sim_relation.specs.Context.{RunsTask, Running}
 use Rattle.sim_relation.specs.Placed.{setting_of}
@@ -45,6 +48,7 @@ use Rattle.sim_services.proofs.ComingBack.{comes_back, owing_of}
 use Rattle.sim_services.proofs.GivingWay.{gives_way}
 use Rattle.sim_services.proofs.GoingOnStretch.{going_on_stretches}
 use Rattle.sim_services.proofs.ServiceStretch.{k}
+use Rattle.sim_services.proofs.Touching.{touches_none}
 
 pub yields_stretches : (b : Build) (view : View) (arrivals : List Arrival) (count : ℕ) (state : State) (s : System) (t : ℕ)
     → Fits b → IsSetting (setting_of b view arrivals) → 0 < count → Stands b state s
@@ -57,7 +61,7 @@ yields_stretches b view arrivals count state s t fits setting after_boot stands 
     let there = k b view arrivals count state s t service.Schedule (λ object. Yields) fits setting after_boot stands o.goes_on.opens block.serves.masks in
     let here = active_by_word b n s1 t there o.goes_on.opens.opening.current in
     going_on_stretches b view arrivals count state s t service.Schedule (λ object. Yields) fits setting after_boot stands o.goes_on block.serves.masks
-    12 (omega arith) (λ place. Yielded block.offset t)
+    12 (omega arith) (λ place. Yielded block.offset t) (λ place touched from to e. touches_none b touched e.touches)
     (λ place can. block.serves.runs block.offset t n.core (record {
       can_run = can.goes_back.can_run;
       previous = can.goes_back.previous;
@@ -83,11 +87,11 @@ module _ (b : Build) (view : View) (arrivals : List Arrival) (count : ℕ) (stat
   few : length b.config.tasks ≤ 32
   few = let f = fits.few_tasks in omega arith
 
-  all_below : (i : ℕ) → AllBelow (length b.config.tasks) (lines_at arrivals i)
-  all_below i = below_moments (length b.config.tasks) i (i + 1) arrivals setting.lines
+  all_owned : (i : ℕ) → AreOwned (owners_in b.config) (lines_at arrivals i)
+  all_owned = owned_at (setting_of b view arrivals) setting
 
   there : Stands b n s1
-  there = stands_arrived b (lines_at arrivals count) state s few (all_below count) stands
+  there = stands_arrived b (lines_at arrivals count) state s few (all_owned count) stands
 
   here : IsActive b s1 t
   here = active_by_word b n s1 t there opens.current
@@ -149,8 +153,8 @@ module _ (b : Build) (view : View) (arrivals : List Arrival) (count : ℕ) (stat
         }
 
     module _ (e : Masking arrivals 3 count state CameBack) where
-      in_range : AllBelow (length b.config.tasks) (early e.trace) × AllBelow (length b.config.tasks) (late e.trace)
-      in_range = below_trace (length b.config.tasks) e.more (count + 1) (lines_at arrivals) e.next e.trace e.end all_below e.steps
+      in_range : AreOwned (owners_in b.config) (early e.trace) × AreOwned (owners_in b.config) (late e.trace)
+      in_range = lines_trace (IsOwned (owners_in b.config)) e.more (count + 1) (lines_at arrivals) e.next e.trace e.end all_owned e.steps
 
       no_early : early e.trace ≡ []
       no_early = early_none e.trace e.effect.touches
@@ -173,20 +177,20 @@ module _ (b : Build) (view : View) (arrivals : List Arrival) (count : ℕ) (stat
         goes = e.goes;
         starts = begins_masked count n e.next stands.fixed.open_to_lines e.off;
         more = e.more;
-        few = let l = e.few in omega arith;
+        few = let l = e.few in subst (λ o. suc e.more ≤ stretch_limit b.config (later_beginning o)) (sym none) (omega arith);
         steps = e.steps;
         ends = ap (λ (x : State). x.core.mie) e.late_behind ∙ answer.stands.fixed.open_to_lines;
-        one = t;
-        other = t;
-        touches_first = subst (λ o. IfSome o (Contains (t ∷ t ∷ []))) (sym (untouched_at owing.pc)) tt;
-        touches = subst (AllByRecursion (Contains (t ∷ t ∷ []))) (sym e.effect.touches) tt;
+        lines = [];
+        few_lines = omega arith;
+        touches_first = subst (λ o. IfSome o (Contains [])) (sym (untouched_at owing.pc)) tt;
+        touches = subst (AllByRecursion (Contains [])) (sym e.effect.touches) tt;
         what = event.Back t;
         what_is = λ last regs current.
             opened_event view count n e.next last opens.way.mark after_boot none
             (ap (λ o. mark_at view (enter o n).pc) none ∙ ap (mark_at view) owing.pc ∙ opens.way.marked)
             ∙ ap (λ v. marked_event v view opens.way.mark (seen_at (setting_of b view arrivals) count state e.next) last) opens.way.is_back
-            ∙ ap (λ v. event.Back (task_of view.tasks v)) opens.current
-            ∙ ap (λ (v : ℕ). event.Back v) (task_is view.tasks t (let v = setting.tasks in let h = here.declared in omega arith));
+            ∙ ap (λ v. event.Back (task_of view.owners.tasks v)) opens.current
+            ∙ ap (λ (v : ℕ). event.Back v) (task_is view.owners.tasks t (let v = ap (λ (o : Owners). o.tasks) setting.owners in let h = here.declared in omega arith));
         after = answer.after;
         step_is = subst (λ lines. OsekStep b.config b.app (event.Back t) (with_admits lines s1) answer.after) (sym no_early) answer.step_is;
         passes = λ past h. tt;

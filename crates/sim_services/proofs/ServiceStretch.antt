@@ -1,5 +1,5 @@
 -- From its opening mark on, a service is a stretch of a run, whatever lines arrive: its contract and its own law are all that is asked.
-use Rattle.std.proofs.Common.{◌≡◌, ℕ, ◌+◌, ◌*◌, ◌%◌, ◌<◌, ◌≤◌, List, [], ◌∷◌, length, sym, ap, ◌∙◌, subst, arith, None, cond}
+use Rattle.std.proofs.Common.{◌≡◌, ℕ, suc, ◌+◌, ◌*◌, ◌%◌, ◌<◌, ◌≤◌, List, [], ◌∷◌, length, sym, ap, ◌∙◌, subst, arith, None, cond}
 use Rattle.std.specs.Prelude.{slice_index}
 use Rattle.sloth_base.specs.declared.event.Arrival.{Arrival}
 use Rattle.sloth_base.specs.declared.service.Service.{Service}
@@ -7,6 +7,9 @@ use Rattle.sloth_base.specs.Choose.{choose}
 use Rattle.sloth_base.specs.Machine.{State}
 use Rattle.sloth_base.specs.Arrive.{state_arrive}
 use Rattle.sloth_base.specs.Take.{line_to_take, enter, entered}
+use Rattle.sloth_base.specs.Owners.{owners_in, IsOwned, AreOwned, AreTasks}
+use Rattle.sloth_base.specs.Stretches.{Masks, stretch_limit}
+use Rattle.sloth_base.specs.declared.lines.Owners.{Owners}
 use Rattle.rv32_instr.specs.declared.InstrKind.{InstrKind}
 use Rattle.rv32_instr.specs.Execute.{touched, touched_by}
 use Rattle.rv32_machine.specs.Run.{arrived}
@@ -20,14 +23,14 @@ use Rattle.observe.specs.Observe.{View, mark_at}
 use Rattle.osek_machine.specs.State.{System, task}
 use Rattle.osek_machine.specs.Priority.{IsTop}
 use Rattle.osek_machine.specs.Steps.{OsekStep}
-use Rattle.sim_induction.specs.Admits.{IsSetting, lines_at, with_admits, AllBelow}
+use Rattle.sim_induction.specs.Admits.{IsSetting, lines_at, with_admits}
 use Rattle.sim_induction.specs.Laws.{StretchLaw, served_event}
 use Rattle.sim_induction.specs.Mirror.{priority_of}
 use Rattle.sim_induction.proofs.Passing.{not_suspended, kept_admits, still_top}
 use Rattle.sim_induction.proofs.Routes.{Masking, masking}
-use Rattle.sim_induction.proofs.Schedule.{below_moments}
+use Rattle.sim_induction.proofs.Schedule.{owned_at}
 use Rattle.sim_induction.proofs.Stretched.{service_law}
-use Rattle.sim_induction.proofs.Traces.{below_trace}
+use Rattle.sim_induction.proofs.Traces.{lines_trace, early_touched}
 use Rattle.sim_relation.specs.Build.{Build, Fits}
 use Rattle.sim_relation.specs.Context.{RunsTask, Running}
 use Rattle.sim_relation.specs.Placed.{setting_of}
@@ -39,7 +42,7 @@ use Rattle.sim_relation.proofs.Levels.{level_of-few}
 use Rattle.sim_relation.proofs.Placed.{placed_in, code_behind, first_by_word}
 use Rattle.sim_relation.proofs.Tops.{falling_head}
 use Rattle.sim_services.specs.Opening.{AtOpening, OpensService, CanServe}
-use Rattle.sim_services.specs.Served.{IsServed, Answers, ServiceLaw}
+use Rattle.sim_services.specs.Served.{IsServed, Answers, ServiceLaw, TouchesTasks}
 use Rattle.sim_services.specs.Stretch.{Stretches}
 
 module _ (b : Build) (view : View) (arrivals : List Arrival) (count : ℕ) (state : State) (s : System) (t : ℕ) (served : Service) (Contract : ℕ → List InstrKind → Type 0)
@@ -64,11 +67,11 @@ module _ (b : Build) (view : View) (arrivals : List Arrival) (count : ℕ) (stat
   few : length b.config.tasks ≤ 32
   few = let f = fits.few_tasks in omega arith
 
-  all_below : (i : ℕ) → AllBelow (length b.config.tasks) (lines_at arrivals i)
-  all_below i = below_moments (length b.config.tasks) i (i + 1) arrivals setting.lines
+  all_owned : (i : ℕ) → AreOwned (owners_in b.config) (lines_at arrivals i)
+  all_owned = owned_at (setting_of b view arrivals) setting
 
   pub k : Stands b n s1
-  k = stands_arrived b (lines_at arrivals count) state s few (all_below count) stands
+  k = stands_arrived b (lines_at arrivals count) state s few (all_owned count) stands
 
   none : line_to_take n ≡ None
   none = ap (λ m. cond m (choose n.core) None) stands.fixed.open_to_lines ∙ opens.none
@@ -139,9 +142,13 @@ module _ (b : Build) (view : View) (arrivals : List Arrival) (count : ℕ) (stat
           },
         )
 
-    module _ (most : ℕ) (short : most ≤ 159) (Effect : List ℕ → State → State → Type 0) (law : ServiceLaw b n t (task s1 t) served Effect) (e : Masking arrivals most count state Effect) where
-      in_range : AllBelow (length b.config.tasks) (early e.trace) × AllBelow (length b.config.tasks) (late e.trace)
-      in_range = below_trace (length b.config.tasks) e.more (count + 1) (lines_at arrivals) e.next e.trace e.end all_below e.steps
+    module _ (most : ℕ) (short : suc most ≤ stretch_limit b.config Masks) (Effect : List ℕ → State → State → Type 0) (tasks_alone : TouchesTasks b Effect)
+        (law : ServiceLaw b n t (task s1 t) served Effect) (e : Masking arrivals most count state Effect) where
+      in_range : AreOwned (owners_in b.config) (early e.trace) × AreOwned (owners_in b.config) (late e.trace)
+      in_range = lines_trace (IsOwned (owners_in b.config)) e.more (count + 1) (lines_at arrivals) e.next e.trace e.end all_owned e.steps
+
+      early_tasks : AreTasks (owners_in b.config) (early e.trace)
+      early_tasks = early_touched (λ line. line < length b.config.tasks) e.trace (tasks_alone (touched_lines e.trace) (state_arrive (early e.trace) n) e.last e.effect)
 
       abbrev s2 : System
       s2 = with_admits (early e.trace) s1
@@ -169,11 +176,11 @@ module _ (b : Build) (view : View) (arrivals : List Arrival) (count : ℕ) (stat
 
       stretch : StretchLaw (setting_of b view arrivals) (Stands b) count state s e.next e.trace e.end
       stretch =
-          service_law (setting_of b view arrivals) setting (Stands b) count state s t served opens.block.mark most Effect
+          service_law (setting_of b view arrivals) (Stands b) count state s t served opens.block.mark most Effect
           after_boot stands.fixed.open_to_lines none
           (ap (λ o. mark_at view (enter o n).pc) none ∙ ap (mark_at view) pc_is ∙ opens.block.marked) opens.block.opens opens.block.calls
-          (let v = setting.tasks in let h = here.declared in omega arith) op.current
-          stands.tidy.booted top here.active e short (ap (λ (x : State). x.core.mie) e.late_behind ∙ a.stands.fixed.open_to_lines) untouched a.one a.other a.touches
+          (let v = ap (λ (o : Owners). o.tasks) setting.owners in let h = here.declared in omega arith) op.current
+          stands.tidy.booted top here.active e short (ap (λ (x : State). x.core.mie) e.late_behind ∙ a.stands.fixed.open_to_lines) untouched (a.one ∷ a.other ∷ []) (omega arith) a.touches early_tasks
           a.after
           (subst (λ (x : State). OsekStep b.config b.app (served_event t served x) s2 a.after) (sym e.late_behind) a.step_is)
           (stands_arrived b (late e.trace) e.last a.after few in_range.1 a.stands)
@@ -183,9 +190,9 @@ module _ (b : Build) (view : View) (arrivals : List Arrival) (count : ℕ) (stat
   can_serve = let f = first_by_word b n s1 t k.stack k.running op.current in serves_from f.0 f.1
 
   -- where the block has its effect from there on, and the service its law, it is a stretch
-  pub service_stretches : (most : ℕ) → most ≤ 159 → (Effect : List ℕ → State → State → Type 0) → FromOpening most (at offset n.core) Effect
+  pub service_stretches : (most : ℕ) → suc most ≤ stretch_limit b.config Masks → (Effect : List ℕ → State → State → Type 0) → TouchesTasks b Effect → FromOpening most (at offset n.core) Effect
       → ServiceLaw b n t (task s1 t) served Effect → Stretches b view arrivals count state s
-  service_stretches most short Effect runs law =
+  service_stretches most short Effect tasks_alone runs law =
       let f = first_by_word b n s1 t k.stack k.running op.current in
       let e = masking arrivals most count state Effect none (subst (λ m. FromOpening most m Effect) (sym n_is) runs) in
-      (e.next, e.trace, e.end, stretch f.0 f.1 most short Effect law e)
+      (e.next, e.trace, e.end, stretch f.0 f.1 most short Effect tasks_alone law e)

@@ -13,7 +13,9 @@ use Rattle.sim_relation.specs.Build.{Build, Fits}
 use Rattle.sim_relation.specs.Placed.{setting_of}
 use Rattle.sim_relation.specs.Stands.{Stands}
 use Rattle.sim_services.specs.Stretch.{OpensTerminateTask, Stretches}
-use Rattle.sim_services.proofs.ServiceStretch.{can_serve, service_stretches}
+use Rattle.sim_services.proofs.ServiceStretch.{k, can_serve, service_stretches}
+use Rattle.sim_services.proofs.Touching.{touches_one}
+use Rattle.sim_relation.proofs.Placed.{active_by_word}
 use Rattle.sim_services.proofs.Terminate.{terminate_ends}
 
 pub terminate_stretches : (b : Build) (view : View) (arrivals : List Arrival) (count : ℕ) (state : State) (s : System) (t : ℕ)
@@ -25,8 +27,10 @@ terminate_stretches b view arrivals count state s t fits setting after_boot stan
     let block = o.opens.block in
     let found = can_serve b view arrivals count state s t service.TerminateTask (λ object. Terminates) fits setting after_boot stands o.opens block.serves.masks in
     let can = found.1 in
+    let there = k b view arrivals count state s t service.TerminateTask (λ object. Terminates) fits setting after_boot stands o.opens block.serves.masks in
     service_stretches b view arrivals count state s t service.TerminateTask (λ object. Terminates) fits setting after_boot stands o.opens block.serves.masks
     49 (omega arith) (Terminated t found.0)
+    (λ touched from to e. touches_one b t touched (active_by_word b n (with_admits (lines_at arrivals count) s) t there o.opens.opening.current).declared e.touches)
     (block.serves.runs block.offset t found.0 n.core
     (record { can_run = can.goes_back.can_run; previous = can.goes_back.previous; runs = can.current; is_task = can.is_task; below = can.below }))
     (λ lines touched s2 end is effect.

@@ -18,6 +18,7 @@ use Rattle.osek_machine.specs.State.{Task, System, declaration, task}
 use Rattle.osek_machine.specs.Priority.{is_in, ceiling, IsTop}
 use Rattle.osek_machine.specs.Steps.{OsekStep}
 use Rattle.sloth_base.specs.PriorityLevels.{level_of}
+use Rattle.sloth_base.specs.MemoryMap.{memory_base}
 use Rattle.osek_machine.specs.Services.{is_there}
 use Rattle.sim_relation.specs.Build.{Build, Fits}
 use Rattle.sim_relation.specs.Stands.{Stands}
@@ -28,7 +29,7 @@ use Rattle.sim_services.specs.Served.{IsServed, Answers}
 pub record MayEnd (b : Build) (state : State) (s : System) (t : ℕ) (own : Task) (served : Service) (place : ℕ) : Type 0 where
   pub is_served : IsServed b state s t own served
   pub holds_nothing : own.held ≡ []
-  pub below : word_at state.core.ram below_word ≡ 0x8000_0000 + place
+  pub below : word_at state.core.ram below_word ≡ memory_base + place
 
 -- TerminateTask ends the task: what runs below it goes on, the task below or the idle loop.
 abbrev pub TerminateTaskEnds : Type 0
@@ -62,7 +63,7 @@ ActivateTaskGoesOn = (b : Build) (state : State) (s : System) (t : ℕ) (own : T
 pub record MayChainTo (b : Build) (state : State) (s : System) (t : ℕ) (own : Task) (object place : ℕ) : Type 0 where
   pub goes_on : MayGoOn b state s t own service.ChainTask object
   pub holds_nothing : own.held ≡ []
-  pub below : word_at state.core.ram below_word ≡ 0x8000_0000 + place
+  pub below : word_at state.core.ram below_word ≡ memory_base + place
 
 -- ChainTask ends the caller and makes the other task Ready, or the caller itself; where the other one is not Suspended, it answers
 -- so, and the caller goes on.
@@ -97,7 +98,7 @@ ReleaseResourceGoesOn = (b : Build) (state : State) (s : System) (t : ℕ) (own 
 pub record MayGiveWay (b : Build) (t : ℕ) (own : Task) (offset : ℕ) : Type 0 where
   pub holds_nothing : own.held ≡ []
   pub raised : own.raised ≡ (declaration b.config t).non
-  pub back : b.back ≡ 0x8000_0000 + (offset + way_back)
+  pub back : b.back ≡ memory_base + (offset + way_back)
 
 -- Schedule gives the internal resource back, and the task owes the way back.
 abbrev pub ScheduleGivesWay : Type 0

@@ -15,6 +15,7 @@ use Rattle.observe.specs.Observe.{View, mark_at}
 use Rattle.sloth_base.specs.ServiceCodes.{service_of}
 use Rattle.osek_machine.specs.State.{Frame, Task, System, task}
 use Rattle.sloth_base.specs.Named.{function}
+use Rattle.sloth_base.specs.MemoryMap.{memory_base}
 use Rattle.osek_machine.specs.Priority.{is_in}
 use Rattle.sim_relation.specs.Bounds.{AreBelow}
 use Rattle.sim_relation.specs.Build.{Build}
@@ -37,10 +38,10 @@ pub record HasBlock (b : Build) (view : View) (served : Service) (object : ℕ) 
   pub code : List InstrKind
   pub serves : Contract code
   pub offset : ℕ
-  pub is : block_address b.places served object ≡ 0x8000_0000 + offset
+  pub is : block_address b.places served object ≡ memory_base + offset
   pub placed : IsPlaced b offset code
   pub mark : Mark
-  pub marked : mark_at view (0x8000_0000 + offset) ≡ Some mark
+  pub marked : mark_at view (memory_base + offset) ≡ Some mark
   pub opens : mark.kind ≡ kind.Opening
   pub calls : service_of mark.a ≡ Some served
 

@@ -9,6 +9,7 @@ use Rattle.sloth_base.specs.declared.event.Arrival.{Arrival}
 use Rattle.sloth_base.specs.declared.service.Service.{Service}
 use Rattle.sloth_base.specs.declared.service.Service.TheVariants as service
 use Rattle.sloth_base.specs.Machine.{State}
+use Rattle.sloth_base.specs.MemoryMap.{memory_base}
 use Rattle.rv32_machine.specs.Run.{arrived}
 use Rattle.rv32_routine.specs.Trace.{Trace}
 use Rattle.rv32_expand.specs.Expansion.{block_address}
@@ -120,9 +121,9 @@ pub record HasWayBack (b : Build) (view : View) (object : ℕ) : Type 0 where
   pub code : List InstrKind
   pub yields : Yields code
   pub offset : ℕ
-  pub block_is : block_address b.places service.Schedule object ≡ 0x8000_0000 + offset
+  pub block_is : block_address b.places service.Schedule object ≡ memory_base + offset
   pub placed : IsPlaced b offset code
-  pub is : b.back ≡ 0x8000_0000 + (offset + way_back)
+  pub is : b.back ≡ memory_base + (offset + way_back)
   pub mark : Mark
   pub marked : mark_at view b.back ≡ Some mark
   pub is_back : mark.kind ≡ kind.Back

@@ -1,6 +1,8 @@
 -- Arrivals of interrupt lines, in the order of an arrivals file.
 use Rattle.std.specs.Prelude.{ℕ, ◌&&◌, List, [], ◌∷◌, filter, nat_le, nat_lt, ◌≤◌, ◌<◌, length, All}
 use Rattle.sloth_base.specs.declared.event.Arrival.{Arrival}
+use Rattle.sloth_base.specs.declared.lines.Owners.{Owners}
+use Rattle.sloth_base.specs.Owners.{IsOwned}
 
 -- the arrivals whose moment is at least `from` and below `to`
 abbrev pub moments : ℕ → ℕ → List Arrival → List Arrival
@@ -11,9 +13,9 @@ abbrev pub NeverFalls : ℕ → List Arrival → Type 0
 NeverFalls before [] = Unit {0}
 NeverFalls before (a ∷ rest) = (before ≤ a.at) × NeverFalls a.at rest
 
--- at most 100,000 arrivals, at moments from 1 to 1,000,000 that never fall, of lines below the number of tasks
-pub record AreArrivals (tasks : ℕ) (arrivals : List Arrival) : Type 0 where
+-- at most 100,000 arrivals, at moments from 1 to 1,000,000 that never fall, of lines that have owners
+pub record AreArrivals (owners : Owners) (arrivals : List Arrival) : Type 0 where
   pub few : length arrivals ≤ 100000
   pub moments_in_range : All (λ a. a.at ≤ 1000000) arrivals
   pub ordered : NeverFalls 1 arrivals
-  pub lines_of_tasks : All (λ a. a.line < tasks) arrivals
+  pub lines_owned : All (λ a. IsOwned owners a.line) arrivals

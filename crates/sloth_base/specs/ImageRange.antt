@@ -7,6 +7,7 @@ use Rattle.sloth_base.specs.declared.image.Image.{Image}
 use Rattle.sloth_base.specs.declared.image.Mark.{Mark}
 use Rattle.sloth_base.specs.declared.image.MarkKind.{MarkKind}
 use Rattle.sloth_base.specs.declared.image.MarkKind.TheVariants as kind
+use Rattle.sloth_base.specs.MemoryMap.{memory_base}
 
 -- a letter or `_`
 abbrev pub begins_word : ℕ → Bool
@@ -39,11 +40,11 @@ AreFields functions kind.Opening a b c = (a ≤ 11) × (b ≡ 0) × (c ≡ 0)
 AreFields functions kind.Idle a b c = (a ≡ 0) × (b ≡ 0) × (c ≡ 0)
 AreFields functions kind.Back a b c = (a ≡ 0) × (b ≡ 0) × (c ≡ 0)
 
--- a mark on a word of a memory of so many bytes, which begins at 0x80000000
+-- a mark on a word of a memory of so many bytes, which begins at its base
 pub record IsMark (functions size : ℕ) (mark : Mark) : Type 0 where
   pub aligned : mark.address % 4 ≡ 0
-  pub above : 0x8000_0000 ≤ mark.address
-  pub below : mark.address < 0x8000_0000 + size
+  pub above : memory_base ≤ mark.address
+  pub below : mark.address < memory_base + size
   pub fields : AreFields functions mark.kind mark.a mark.b mark.c
 
 -- the addresses of the marks rise

@@ -12,3 +12,7 @@ pub mod Status
 pub mod Named
 pub mod PriorityLevels
 pub mod Options
+pub mod Blocks
+pub mod MemoryMap
+pub mod Owners
+pub mod Stretches

@@ -13,7 +13,7 @@ pub record Core : Type 0 where
   -- the running level, and the one that MRET goes back to
   pub ilevel : ℕ
   pub plevel : ℕ
-  -- the bytes from 0x80000000 on
+  -- the bytes from the base of memory on
   pub ram : List ℕ
   -- the controller's 32 bytes of each kind, and whether it is there
   pub pending : List ℕ

@@ -8,7 +8,7 @@ use Rattle.sloth_base.specs.Choose.{choose}
 abbrev pub without_pending : ℕ → Lines → Lines
 without_pending line lines = record lines { pending = slice_set lines.pending line 0 }
 
--- the state after the entry of a line: its vector is at 0x80000400 + 4 * line
+-- the state after the entry of a line: its vector word is at 4 times its number behind the base of the vectors
 abbrev pub take : ℕ → State → State
 take line state = record {
   pc = 0x8000_0400 + 4 * line;

@@ -28,7 +28,7 @@ pub struct Mark {
     pub c: u32,
 }
 
-/// A memory image: the bytes from 0x80000000 on, the marks, and the names that they speak of.
+/// A memory image: the bytes from the base of memory on, the marks, and the names that they speak of.
 #[derive(Drop)]
 pub struct Image {
     pub tasks: List<Name>,

@@ -16,7 +16,10 @@ impl Model for TaskId {
     ghost inverse = { λ number. record { 0 = number } };
 }
 
-/// A resource: its place among the RESOURCE objects of the configuration, from 0. 32 is RES_SCHEDULER.
+/// The number of the resource RES_SCHEDULER, behind those of RESOURCE objects.
+pub const RES_SCHEDULER: u32 = 32;
+
+/// A resource: its place among the RESOURCE objects of the configuration, from 0, or `RES_SCHEDULER`.
 #[derive(Clone, Copy, Debug, PartialEq, Eq)]
 pub struct ResId(pub u32);
 

@@ -15,7 +15,7 @@ pub struct Step {
     pub enabled_before: bool,
     /// MIE after the instruction.
     pub enabled_after: bool,
-    /// The word at 0x80000000 before the instruction.
+    /// The first word of memory before the instruction.
     pub cur_before: u32,
     /// The same word after it.
     pub cur_after: u32,

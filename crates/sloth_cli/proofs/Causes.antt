@@ -6,6 +6,7 @@ use Rattle.sloth_base.specs.declared.app.App.{App}
 use Rattle.sloth_base.specs.declared.event.Arrival.{Arrival}
 use Rattle.sloth_base.specs.Arrivals.{AreArrivals}
 use Rattle.sloth_base.specs.declared.image.Image.{Image}
+use Rattle.sloth_base.specs.Owners.{owners_in}
 use Rattle.sloth_io.specs.Counts.{Rose}
 use Rattle.sloth_io.specs.Sink.{Output}
 use Rattle.sloth_io.specs.Store.{Files, KeepsFiles, fits}
@@ -56,7 +57,7 @@ pub record IsBuilt (old mid : Files) (c : Building) (image : Image) (arrivals : 
   pub kept : KeepsFiles old mid
 
 pub built-of : (old mid : Files) (c : Building) (config : Config) (app : App) (image : Image) (arrivals : List Arrival) (oil src arr : List ℕ)
-    → AreInputs old c oil src arr → Accepted oil src config app → AreRead (names_of config) arr arrivals → AreArrivals (length config.tasks) arrivals
+    → AreInputs old c oil src arr → Accepted oil src config app → AreRead (names_of config) arr arrivals → AreArrivals (owners_in config) arrivals
     → IsImageOf config app image → IsInLimit c.run → KeepsFiles old mid → IsBuilt old mid c image arrivals
 built-of old mid c config app image arrivals oil src arr inputs accepted read in_range is_image in_limit kept = record {
   config = config;

@@ -5,6 +5,7 @@ use Rattle.sloth_base.specs.declared.app.App.{App}
 use Rattle.sloth_base.specs.Arrivals.{AreArrivals}
 use Rattle.sloth_base.specs.declared.event.Arrival.{Arrival}
 use Rattle.sloth_base.specs.declared.image.Image.{Image}
+use Rattle.sloth_base.specs.Owners.{owners_in}
 use Rattle.app_rules.specs.AppRange.{AppInRange}
 use Rattle.osek_blocking.proofs.Protocol.{keeps_protocol}
 use Rattle.sim_induction.specs.Sound.{Sound, events_of}
@@ -22,6 +23,6 @@ runs-keep oil src config app image range accepted sound arrivals n in_range few 
 
 -- and so does the run that a command shows
 pub shown-keep : (config : Config) (app : App) (image : Image) (arrivals : List Arrival) (run : Option Run) → RunsKeepProtocol config app image
-    → AreArrivals (length config.tasks) arrivals → IsInLimit run → ShownKeepProtocol config app image arrivals run
+    → AreArrivals (owners_in config) arrivals → IsInLimit run → ShownKeepProtocol config app image arrivals run
 shown-keep config app image arrivals None keeps in_range few = tt
 shown-keep config app image arrivals (Some run) keeps in_range few = keeps arrivals run.n in_range few

@@ -3,6 +3,7 @@ use Rattle.std.proofs.Common.{◌≡◌, ◌≤◌, ◌∙◌, ℕ, List, [], �
 use Rattle.sloth_base.specs.Arrivals.{AreArrivals}
 use Rattle.sloth_base.specs.declared.event.Arrival.{Arrival}
 use Rattle.sloth_base.specs.declared.image.Image.{Image}
+use Rattle.sloth_base.specs.Owners.{owners_named}
 use Rattle.sloth_io.specs.Sink.{Output, gains, GainsPart}
 use Rattle.sloth_io.specs.Store.{Files, Holds}
 use Rattle.sloth_io.proofs.Gains.{gains-gains, gains-nil, part-behind}
@@ -85,7 +86,7 @@ exec-failed (failure.NotAnImage fault) old new sink out e image arrivals is stay
 exec-failed failure.WriteFile old new sink out e image arrivals is stay h = absurd h
 
 pub runnable : (old : Files) (e : Execution) (image : Image) (arrivals : List Arrival) (file arr : List ℕ) → AreExecInputs old e file arr → ImageText file image
-    → AreRead image.tasks arr arrivals → AreArrivals (length image.tasks) arrivals → IsRunnable old e image arrivals
+    → AreRead image.tasks arr arrivals → AreArrivals (owners_named image) arrivals → IsRunnable old e image arrivals
 runnable old e image arrivals file arr inputs is read in_range =
     record { file = file; arr = arr; inputs = inputs; is_image = is; read = read; in_range = in_range }
 

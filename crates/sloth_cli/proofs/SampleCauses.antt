@@ -5,6 +5,7 @@ use Rattle.sloth_base.specs.declared.app.App.{App}
 use Rattle.sloth_base.specs.Arrivals.{AreArrivals}
 use Rattle.sloth_base.specs.declared.event.Arrival.{Arrival}
 use Rattle.sloth_base.specs.declared.image.Image.{Image}
+use Rattle.sloth_base.specs.Owners.{owners_in}
 use Rattle.sloth_io.specs.Sink.{Output}
 use Rattle.sloth_io.specs.Store.{Files}
 use Rattle.image_file.specs.ImageText.{image_bytes}
@@ -34,16 +35,16 @@ pub record IsGenerated (seed : ℕ) (image : Image) : Type 0 where
   pub app : App
   pub accepted : Accepted sample_oil (sample_source seed) config app
   pub is_image : IsImageOf config app image
-  pub in_range : AreArrivals (length config.tasks) (sample_arrivals seed)
+  pub in_range : AreArrivals (owners_in config) (sample_arrivals seed)
 
 pub generated : (seed : ℕ) (config : Config) (app : App) (image : Image) (arrivals : List Arrival) → Accepted sample_oil (sample_source seed) config app
-    → IsImageOf config app image → arrivals ≡ sample_arrivals seed → AreArrivals (length config.tasks) arrivals → IsGenerated seed image
+    → IsImageOf config app image → arrivals ≡ sample_arrivals seed → AreArrivals (owners_in config) arrivals → IsGenerated seed image
 generated seed config app image arrivals accepted is_image are in_range = record {
   config = config;
   app = app;
   accepted = accepted;
   is_image = is_image;
-  in_range = subst (λ A. AreArrivals (length config.tasks) A) are in_range;
+  in_range = subst (λ A. AreArrivals (owners_in config) A) are in_range;
 }
 
 sampled : (old new : Files) (seed : ℕ) (img : List ℕ) (image : Image) → IsGenerated seed image

@@ -4,6 +4,7 @@ use Rattle.sloth_base.specs.declared.event.Arrival.{Arrival}
 use Rattle.sloth_base.specs.declared.image.Image.{Image}
 use Rattle.sloth_base.specs.declared.refusal.Refusal.{Refusal}
 use Rattle.sloth_base.specs.Arrivals.{AreArrivals}
+use Rattle.sloth_base.specs.Owners.{owners_named}
 use Rattle.sloth_refusal.specs.Order.{IsLeast}
 use Rattle.sloth_io.specs.Store.{Files, Holds}
 use Rattle.image_file.specs.ImageText.{ImageText}
@@ -48,7 +49,7 @@ pub record IsRunnable (old : Files) (e : Execution) (image : Image) (arrivals : 
   pub is_image : ImageText file image
   pub read : AreRead image.tasks arr arrivals
   -- so the machine has their lines
-  pub in_range : AreArrivals (length image.tasks) arrivals
+  pub in_range : AreArrivals (owners_named image) arrivals
 
 -- the line of a run that stopped; of one that did not there is none
 abbrev pub end_line : RunEnd → List ℕ

@@ -8,6 +8,7 @@ use Rattle.sloth_base.specs.declared.image.Image.{Image}
 use Rattle.sloth_base.specs.declared.refusal.Refusal.{Refusal}
 use Rattle.sloth_base.specs.Arrivals.{AreArrivals}
 use Rattle.sloth_base.specs.ImageRange.{InFormat}
+use Rattle.sloth_base.specs.Owners.{owners_in}
 use Rattle.sloth_refusal.specs.Order.{IsLeast}
 use Rattle.rv32_expand.specs.InPlace.{ItemsInPlace}
 use Rattle.osek_blocking.specs.Protocol.{KeepsCeilingProtocol}
@@ -125,12 +126,12 @@ pub record IsAccepted (old : Files) (c : Building) (config : Config) (app : App)
   pub accepted : Accepted oil src config app
   pub read : AreRead (names_of config) arr arrivals
   -- so they are among those of which an image is sound
-  pub in_range : AreArrivals (length config.tasks) arrivals
+  pub in_range : AreArrivals (owners_in config) arrivals
 
 -- in every run of an image, whatever lines arrive, the observed events keep the priority ceiling protocol
 abbrev pub RunsKeepProtocol : Config → App → Image → Type 0
 RunsKeepProtocol config app image =
-    (arrivals : List Arrival) (n : ℕ) → AreArrivals (length config.tasks) arrivals → n ≤ 1000000
+    (arrivals : List Arrival) (n : ℕ) → AreArrivals (owners_in config) arrivals → n ≤ 1000000
     → KeepsCeilingProtocol config app (events_of image arrivals n)
 
 -- an image of a configuration and its task code

@@ -1,6 +1,7 @@
 //! The commands on image files: `exec` and `list`. They write no file.
 ghost use Rattle.std.specs.Prelude.{◌≡◌, ◌≤◌, IfOk, IfErr, OnOk, OnErr, length};
 ghost use Rattle.sloth_base.specs.Arrivals.{AreArrivals};
+ghost use Rattle.sloth_base.specs.Owners.{owners_named};
 ghost use Rattle.sloth_base.specs.ImageRange.{InFormat};
 ghost use Rattle.sloth_io.specs.Sink.{gains, GainsPart};
 ghost use Rattle.sloth_io.specs.Store.{KeepsFiles};
@@ -63,7 +64,7 @@ fn load(alloc: Global, inputs: &ExecInputs) -> Result<Loaded, Failure>
     requires { length inputs.now.arr.items ≤ input_limit }
     ensures image { IfOk result (λ loaded. ImageText inputs.now.file.items loaded.image) }
     ensures read { IfOk result (λ loaded. AreRead loaded.image.tasks inputs.now.arr.items loaded.arrivals.items) }
-    ensures in_range { IfOk result (λ loaded. AreArrivals (length loaded.image.tasks) loaded.arrivals.items) }
+    ensures in_range { IfOk result (λ loaded. AreArrivals (owners_named loaded.image) loaded.arrivals.items) }
     ensures err { IfErr result (λ failure. LoadFailed failure inputs.now.file.items inputs.now.arr.items) }
 {
     let image = read_image(alloc, inputs.file.as_slice())?;
@@ -101,7 +102,7 @@ fn run_image<S: Sink>(
     out: &mut S,
 ) -> Result<RunEnd, Failure>
     requires format { InFormat image.now }
-    requires arrivals { AreArrivals (length image.now.tasks) arrivals.now }
+    requires arrivals { AreArrivals (owners_named image.now) arrivals.now }
     requires few { n ≤ 1000000 }
     ensures end { IfOk result (λ end. end ≡ run_end image.now arrivals.now n) }
     ensures text { OnOk result (Took (S.seen out.old) (S.seen out.new) (exec_text image.now arrivals.now n)) }

@@ -1,6 +1,7 @@
 //! The command `sample`: an application is generated, built and run, and its events are counted.
 ghost use Rattle.std.specs.Prelude.{◌≡◌, IfOk, IfErr, OnOk, OnErr, length};
 ghost use Rattle.sloth_base.specs.Arrivals.{AreArrivals};
+ghost use Rattle.sloth_base.specs.Owners.{owners_in, owners_named};
 ghost use Rattle.sloth_base.specs.ImageRange.{InFormat};
 ghost use Rattle.sloth_io.specs.Sink.{gains, GainsPart};
 ghost use Rattle.image_file.specs.ImageText.{image_bytes};
@@ -48,7 +49,7 @@ fn generate(alloc: Global, seed: u32) -> Result<Generated, Failure>
     ensures accepted { IfOk result (λ made. Accepted sample_oil (sample_source seed) made.config made.app) }
     ensures image { IfOk result (λ made. IsImageOf made.config made.app made.image) }
     ensures arrivals { IfOk result (λ made. made.arrivals ≡ sample_arrivals seed) }
-    ensures in_range { IfOk result (λ made. AreArrivals (length made.config.tasks) made.arrivals) }
+    ensures in_range { IfOk result (λ made. AreArrivals (owners_in made.config) made.arrivals) }
     ensures err { IfErr result (λ failure. SampleFailed failure seed) }
 {
     let Sample { oil, src, arrivals } = sample(alloc, seed, TASKS)?;
@@ -82,7 +83,7 @@ fn perform<F: Store, S: Sink>(
     arrivals: &[Arrival],
 ) -> Result<(), Failure>
     requires format { InFormat image.now }
-    requires arrivals { AreArrivals (length image.now.tasks) arrivals.now }
+    requires arrivals { AreArrivals (owners_named image.now) arrivals.now }
     ensures written { OnOk result (IsWritten (F.seen files.old) (F.seen files.new) img.now (image_bytes image.now)) }
     ensures text { OnOk result (Took (S.seen out.old) (S.seen out.new) (sample_text image.now arrivals.now)) }
     ensures err { IfErr result (λ failure.

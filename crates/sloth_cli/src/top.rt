@@ -1,6 +1,7 @@
 //! The program, over a store of files and a sink of lines.
 ghost use Rattle.std.specs.Prelude.{◌≡◌, ◌≤◌, IfOk, IfErr, OnOk, length};
 ghost use Rattle.sloth_base.specs.Arrivals.{AreArrivals};
+ghost use Rattle.sloth_base.specs.Owners.{owners_in, owners_named};
 ghost use Rattle.sloth_base.specs.ImageRange.{InFormat};
 ghost use Rattle.sloth_io.specs.Store.{KeepsFiles};
 ghost use Rattle.image_file.specs.ImageText.{image_bytes};
@@ -126,7 +127,7 @@ fn judge(alloc: Global, inputs: &Inputs) -> Result<Judged, Failure>
     ensures accepted { IfOk result (λ judged. Accepted inputs.now.oil.items inputs.now.src.items judged.config judged.app) }
     ensures image { IfOk result (λ judged. IsImageOf judged.config judged.app judged.image) }
     ensures read { IfOk result (λ judged. AreRead (names_of judged.config) inputs.now.arr.items judged.arrivals.items) }
-    ensures in_range { IfOk result (λ judged. AreArrivals (length judged.config.tasks) judged.arrivals.items) }
+    ensures in_range { IfOk result (λ judged. AreArrivals (owners_in judged.config) judged.arrivals.items) }
     ensures err { IfErr result (λ failure. JudgeFailed failure inputs.now.oil.items inputs.now.src.items inputs.now.arr.items) }
 {
     let Built { config, app, image } = build(alloc, inputs.oil.as_slice(), inputs.src.as_slice())?;
@@ -169,7 +170,7 @@ fn perform_run<F: Store, S: Sink>(
     bytes: &[u8],
 ) -> Result<(), Failure>
     requires format { InFormat image.now }
-    requires arrivals { AreArrivals (length image.now.tasks) arrivals.now }
+    requires arrivals { AreArrivals (owners_named image.now) arrivals.now }
     requires few { run.now.n ≤ 1000000 }
     ensures written { OnOk result (IsWritten (F.seen files.old) (F.seen files.new) img.now bytes.now) }
     ensures text { OnOk result (Took (S.seen out.old) (S.seen out.new) (run_text image.now arrivals.now run.now.form run.now.n)) }
@@ -193,7 +194,7 @@ fn perform<F: Store, S: Sink>(
     arrivals: &[Arrival],
 ) -> Result<(), Failure>
     requires format { InFormat image.now }
-    requires arrivals { AreArrivals (length image.now.tasks) arrivals.now }
+    requires arrivals { AreArrivals (owners_named image.now) arrivals.now }
     requires few { IsInLimit (run_of c.now.run) }
     ensures written { OnOk result (IsWritten (F.seen files.old) (F.seen files.new) c.now.img.now (image_bytes image.now)) }
     ensures text { OnOk result (Took (S.seen out.old) (S.seen out.new) (done_text image.now arrivals.now (run_of c.now.run))) }

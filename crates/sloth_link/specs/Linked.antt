@@ -1,8 +1,9 @@
--- What stands in a memory: sections of bytes, each at its offset from 0x80000000, and zeros.
+-- What stands in a memory: sections of bytes, each at its offset from the base of memory, and zeros.
 use Rattle.std.specs.Prelude.{ℕ, ◌+◌, ◌-◌, ◌<◌, ◌≤◌, ◌≡◌, ◌≢◌, ◌⊎◌, List, [], ◌∷◌, ◌++◌, length, map, All, AllPairs, slice_index, slice_set}
 use Rattle.std.specs.List.{flat_map}
 use Rattle.std.specs.Int.{to_le_bytes, w32}
 use Rattle.sloth_base.specs.declared.image.Mark.{Mark}
+use Rattle.sloth_base.specs.MemoryMap.{memory_base}
 use Rattle.rv32_instr.specs.declared.InstrKind.{InstrKind}
 use Rattle.rv32_instr.specs.declared.block.Block.{Block}
 use Rattle.rv32_instr.specs.Encode.{Encode}
@@ -21,11 +22,11 @@ code_bytes (kind ∷ code) = to_le_bytes w32 (Encode kind) ++ code_bytes code
 
 -- a block's instructions as bytes
 abbrev pub block_section : Block → Section
-block_section block = record { offset = block.at - 0x8000_0000; bytes = code_bytes block.code }
+block_section block = record { offset = block.at - memory_base; bytes = code_bytes block.code }
 
 -- the bytes of a symbol
 abbrev pub datum_section : Datum → Section
-datum_section datum = record { offset = datum.at - 0x8000_0000; bytes = datum.bytes }
+datum_section datum = record { offset = datum.at - memory_base; bytes = datum.bytes }
 
 -- the blocks, and behind them the symbols
 abbrev pub sections_of : List Block → List Datum → List Section
@@ -81,11 +82,11 @@ HaveOwnAddresses marks = AllPairs (λ a b. a ≢ b) (addresses marks)
 
 -- the block's instructions stand at its address
 abbrev pub BlockStands : List ℕ → Block → Type 0
-BlockStands memory block = AreWritten memory (block.at - 0x8000_0000) block.code
+BlockStands memory block = AreWritten memory (block.at - memory_base) block.code
 
 -- the blocks and the bytes of symbols lie in a memory of so many bytes, apart from one another
 pub record HaveRoom (size : ℕ) (blocks : List Block) (symbols : List Datum) : Type 0 where
-  pub blocks_above : All (λ b. 0x8000_0000 ≤ b.at) blocks
-  pub symbols_above : All (λ d. 0x8000_0000 ≤ d.at) symbols
+  pub blocks_above : All (λ b. memory_base ≤ b.at) blocks
+  pub symbols_above : All (λ d. memory_base ≤ d.at) symbols
   pub inside : All (IsInside size) (sections_of blocks symbols)
   pub apart : AllPairs AreApart (sections_of blocks symbols)

@@ -6,11 +6,12 @@ use Rattle.sloth_region.specs.Region.{FollowWithin}
 use Rattle.rv32_instr.specs.declared.block.Block.{Block}
 use Rattle.sloth_link.specs.declared.datum.Datum.{Datum}
 use Rattle.sloth_link.specs.Linked.{Section, block_section, datum_section, HaveRoom}
+use Rattle.sloth_base.specs.MemoryMap.{memory_base}
 
 -- a section lies in an extent
 abbrev pub IsIn : Extent → Section → Type 0
 IsIn extent section =
-    (extent.base ≤ 0x8000_0000 + section.offset) × (0x8000_0000 + section.offset + length section.bytes ≤ extent.base + extent.len)
+    (extent.base ≤ memory_base + section.offset) × (memory_base + section.offset + length section.bytes ≤ extent.base + extent.len)
 
 -- each section in the extent that is its room
 abbrev pub AreIn : List Extent → List Section → Type 0
@@ -18,8 +19,8 @@ AreIn = AllZip IsIn
 
 -- the extents follow one another, and each section lies in its own
 pub record AreHoused (from mid end : ℕ) (rooms data_rooms : List Extent) (blocks : List Block) (symbols : List Datum) : Type 0 where
-  pub blocks_above : All (λ b. 0x8000_0000 ≤ b.at) blocks
-  pub symbols_above : All (λ d. 0x8000_0000 ≤ d.at) symbols
+  pub blocks_above : All (λ b. memory_base ≤ b.at) blocks
+  pub symbols_above : All (λ d. memory_base ≤ d.at) symbols
   pub follow : FollowWithin from mid rooms
   pub data_follow : FollowWithin mid end data_rooms
   pub housed : AreIn rooms (map block_section blocks)
@@ -27,5 +28,5 @@ pub record AreHoused (from mid end : ℕ) (rooms data_rooms : List Extent) (bloc
 
 -- blocks and symbols in such extents have room in a memory that reaches to their end
 abbrev pub RoomFollows : Type 0
-RoomFollows = (size from mid end : ℕ) (rooms data_rooms : List Extent) (blocks : List Block) (symbols : List Datum) → end ≤ 0x8000_0000 + size
+RoomFollows = (size from mid end : ℕ) (rooms data_rooms : List Extent) (blocks : List Block) (symbols : List Datum) → end ≤ memory_base + size
     → AreHoused from mid end rooms data_rooms blocks symbols → HaveRoom size blocks symbols

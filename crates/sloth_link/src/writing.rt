@@ -1,12 +1,11 @@
 //! Sections of bytes, written into a memory.
 ghost use Rattle.std.specs.Prelude.{◌≡◌, ◌≤◌, ◌+◌, ◌-◌, ◌*◌, length, map, All};
+ghost use Rattle.sloth_base.specs.MemoryMap.{memory_base};
 ghost use Rattle.sloth_link.specs.Linked.{code_bytes, with_bytes, linked, block_section, datum_section, IsInside};
 
 use crate::datum::Datum;
 use rv32_instr::{Block, Instr, encode};
-
-/// Where memory begins.
-const BASE: u32 = 0x8000_0000;
+use sloth_base::memory_map::MEMORY_BASE;
 
 // Writes these bytes from a place on.
 fn write(memory: &mut [u8], at: usize, bytes: &[u8])
@@ -35,22 +34,22 @@ fn write_code(memory: &mut [u8], at: usize, code: &[Instr])
 /// Writes each block at its address.
 #[tactic(auto, using(crate::proofs::Written::code_bytes_length))]
 pub fn write_blocks(memory: &mut [u8], blocks: &[Block])
-    requires above { All (λ b. 0x80000000 ≤ b.at) blocks.now }
+    requires above { All (λ b. memory_base ≤ b.at) blocks.now }
     requires inside { All (λ b. IsInside (length memory.old) (block_section b)) blocks.now }
     ensures { memory.new ≡ linked memory.old (map block_section blocks.now) }
 {
     for block in blocks {
-        write_code(memory, (block.at - BASE) as usize, block.code.items());
+        write_code(memory, (block.at - MEMORY_BASE) as usize, block.code.items());
     }
 }
 
 /// Writes each run of bytes at its address.
 pub fn write_data(memory: &mut [u8], symbols: &[Datum])
-    requires above { All (λ d. 0x80000000 ≤ d.at) symbols.now }
+    requires above { All (λ d. memory_base ≤ d.at) symbols.now }
     requires inside { All (λ d. IsInside (length memory.old) (datum_section d)) symbols.now }
     ensures { memory.new ≡ linked memory.old (map datum_section symbols.now) }
 {
     for datum in symbols {
-        write(memory, (datum.at - BASE) as usize, datum.bytes.items());
+        write(memory, (datum.at - MEMORY_BASE) as usize, datum.bytes.items());
     }
 }

@@ -1,4 +1,4 @@
--- The first 1,024 bytes of RAM: the service words, at offsets from 0x80000000, and the contexts that they point to.
+-- The first 1,024 bytes of RAM: the service words, at offsets from the base of memory, and the contexts that they point to.
 -- `src/layout.rt` has them under the same names.
 use Rattle.std.specs.Prelude.{ℕ, ◌+◌, ◌*◌}
 
@@ -55,7 +55,7 @@ context_cur = 8
 abbrev pub context_below : ℕ
 context_below = 12
 
--- Bits 31 to 12 of the address of the service words, 0x80000000.
+-- Bits 31 to 12 of the address of the service words, the base of memory.
 abbrev pub words_high : ℕ
 words_high = 0x8_0000
 

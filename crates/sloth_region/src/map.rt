@@ -4,7 +4,7 @@ use crate::extent::Extent;
 use sloth_base::list::List;
 use sloth_base::places::Places;
 
-/// The map of an image. The vector words stand at 0x80000400, and boot at 0x80000480.
+/// The map of an image. The vector words stand at the base of the vectors, and boot at the base of boot.
 #[derive(Drop)]
 pub struct Map {
     /// All extents, in the order in which they were placed.

@@ -8,6 +8,9 @@ use Rattle.sloth_base.specs.declared.image.Image.{Image}
 use Rattle.sloth_base.specs.declared.event.Arrival.{Arrival}
 use Rattle.sloth_base.specs.declared.event.Stamped.{Stamped}
 use Rattle.sloth_base.specs.declared.step.Step.{Step}
+use Rattle.sloth_base.specs.Owners.{owners_named, IsOwned}
+use Rattle.sloth_base.specs.declared.lines.Owners.{Owners}
+use Rattle.sloth_base.proofs.Owners.{owned_task}
 use Rattle.observe.specs.Observe.{observe, view_of_image}
 use Rattle.observe.specs.Progress.{Fed, remaining, view_of, arrivals_of, expected_of, from, here, behind}
 use Rattle.observe.specs.declared.observer.Observer.{Observer}
@@ -86,7 +89,7 @@ stands-more r q image k s o st g fed view arrivals expected fed2 view2 arrivals2
     let P : List Arrival → Type 0 = λ B. Fed q.observer (run_steps image B (k + 1)) (events_of image B (k + 1)) in
     record {
       format = st.format;
-      arrivals = subst (λ B. AreArrivals (length image.tasks) B) (sym same) st.arrivals;
+      arrivals = subst (λ B. AreArrivals (owners_named image) B) (sym same) st.arrivals;
       lines = lines;
       view = view2 ∙ view ∙ st.view;
       after = ap (λ B. state_after (k + 1) B (start image)) same ∙ after_more k A (start image) (sloth_state r.machine) (sloth_state q.machine) s st.after g;
@@ -127,9 +130,9 @@ pub weaker : (m n : ℕ) (A : List Arrival) → n ≤ m → NeverFalls m A → N
 weaker m n [] le h = tt
 weaker m n (a ∷ A) le h = (omega arith, h.1)
 
--- the lines of tasks are lines of the controller
-pub controller-lines : (tasks : ℕ) (A : List Arrival) → tasks ≤ 30 → All (λ (a : Arrival). a.line < tasks) A → AreLines A
-controller-lines tasks A few h k d l = let below = h k d l in omega arith
+-- lines that have owners are lines of the controller
+pub controller-lines : (owners : Owners) (A : List Arrival) → owners.tasks ≤ 30 → All (λ (a : Arrival). IsOwned owners a.line) A → AreLines A
+controller-lines owners A few h k d l = let below = owned_task owners _ (h k d l) in omega arith
 
 -- an observer that was fed nothing
 pub first-fed : (o : Observer) (image : Image) → Fed o [] [] → Fed o (run_steps image (arrivals_of o) 0) (events_of image (arrivals_of o) 0)

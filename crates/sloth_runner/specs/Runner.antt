@@ -20,6 +20,7 @@ use Rattle.rv32_machine.specs.State.{state}
 use Rattle.rv32_machine.specs.declared.machine.Machine.{Machine}
 use Rattle.rv32_machine.specs.declared.sloth.SlothBus.{SlothBus}
 use Rattle.sloth_base.specs.Take.{entered}
+use Rattle.sloth_base.specs.Owners.{owners_named}
 use Rattle.rv32_instr.specs.declared.stop.Stop.{Stop}
 use Rattle.rv32_machine.specs.Run.{Stopping, moment, arrived, run, steps_of, state_after, stop_of}
 use Rattle.sloth_runner.specs.declared.runner.Printer.{Printer}
@@ -97,7 +98,7 @@ AreLines arrivals = All (λ arrival. arrival.line < 32) arrivals
 -- k instructions are done, and all their finished events were handed out
 pub record HasDone (runner : Runner) (image : Image) (k : ℕ) : Type 0 where
   pub format : InFormat image
-  pub arrivals : AreArrivals (length image.tasks) (given runner)
+  pub arrivals : AreArrivals (owners_named image) (given runner)
   pub lines : AreLines runner.coming.now
   pub view : view_of runner.observer ≡ view_of_image image
   pub after : state_after k (given runner) (start image) ≡ Some (sloth_state runner.machine)

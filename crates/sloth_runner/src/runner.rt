@@ -2,6 +2,7 @@
 ghost use Rattle.std.specs.Prelude.{◌≡◌, ◌<◌, ◌≤◌, ◌∷◌, [], OnOk, OnErr, map, IfOk, IfSome, IfNone, OnSome, length};
 ghost use Rattle.sloth_base.specs.ImageRange.{InFormat};
 ghost use Rattle.sloth_base.specs.Arrivals.{AreArrivals};
+ghost use Rattle.sloth_base.specs.Owners.{owners_named};
 ghost use Rattle.sloth_base.specs.Arrive.{state_arrive};
 ghost use Rattle.sloth_io.specs.Sink.{gains, GainsPart};
 ghost use Rattle.trace_text.specs.Texts.{ends_idle, is_idle};
@@ -122,7 +123,7 @@ impl<'a> Runner<'a> {
         arrivals: &'a [Arrival],
     ) -> Result<Runner<'a>, NoMemory>
         requires format { InFormat image.now }
-        requires arrivals { AreArrivals (length image.now.tasks) arrivals.now }
+        requires arrivals { AreArrivals (owners_named image.now) arrivals.now }
         ensures fresh { IfOk result IsFresh }
         ensures image { IfOk result (λ runner. image_of runner ≡ image.now) }
         ensures arrivals { IfOk result (λ runner. given runner ≡ arrivals.now) }

@@ -12,9 +12,11 @@ use Rattle.sloth_base.specs.Arrivals.{AreArrivals, NeverFalls}
 use Rattle.sloth_base.specs.declared.event.Arrival.{Arrival}
 use Rattle.sloth_base.specs.declared.refusal.Part.TheVariants.{Arr}
 use Rattle.sloth_base.specs.declared.refusal.Code.TheVariants.{T2, T3, T4}
+use Rattle.sloth_base.specs.Owners.{IsOwned}
+use Rattle.sloth_base.proofs.Owners.{task_owned}
 use Rattle.sloth_refusal.specs.Order.{NoFault}
 use Rattle.sloth_refusal.proofs.Nowhere.{case_false}
-use Rattle.trace_text.specs.ArrivalsText.{is_arrival, moment_of, task_of, task_text, arrival_of, last_moment, is_outside, is_t2, is_t3, is_t4, LineFault}
+use Rattle.trace_text.specs.ArrivalsText.{is_arrival, moment_of, task_of, task_text, arrival_of, last_moment, is_outside, is_t2, is_t3, is_t4, LineFault, owners_read}
 
 last-at : (none : ℕ) (xs : List Arrival) (k : ℕ) (d : Arrival) → length xs ≡ suc k → (slice_index_or xs k d).at ≡ last_moment none xs
 last-at none [] k d h = absurd (omega (arith, h))
@@ -85,7 +87,7 @@ module _ (tasks : List (List ℕ)) (before : List Arrival) (n : ℕ) (line : Lis
       ltb-false (moment_of line) (last_moment 0 before) (without (is_arrival line) (nat_lt (moment_of line) (last_moment 0 before)) is t3)
 
   -- one arrival more
-  pub one-more : AreArrivals (length tasks) before → AreArrivals (length tasks) (before ++ arrival_of tasks line ∷ [])
+  pub one-more : AreArrivals (owners_read tasks) before → AreArrivals (owners_read tasks) (before ++ arrival_of tasks line ∷ [])
   one-more h =
       let a = arrival_of tasks line in
       let single : (P : Arrival → Type 0) → P a → All P (a ∷ []) = λ P p. All-cons P a [] p (All-nil P) in
@@ -95,5 +97,5 @@ module _ (tasks : List (List ℕ)) (before : List Arrival) (n : ℕ) (line : Lis
         few = omega (arith, few, l);
         moments_in_range = All-append (λ a. a.at ≤ 1000000) before (a ∷ []) h.moments_in_range (single (λ a. a.at ≤ 1000000) moment-fits);
         ordered = falls 1 before a h.ordered (last-by before (moment_of line) rises (ltb-false (moment_of line) 1 is-in.1));
-        lines_of_tasks = All-append (λ a. a.line < length tasks) before (a ∷ []) h.lines_of_tasks (single (λ a. a.line < length tasks) names-task);
+        lines_owned = All-append (λ a. IsOwned (owners_read tasks) a.line) before (a ∷ []) h.lines_owned (single (λ a. IsOwned (owners_read tasks) a.line) (task_owned (owners_read tasks) a.line names-task));
       }

@@ -7,6 +7,7 @@ use Rattle.sloth_base.specs.declared.event.Arrival.{Arrival}
 use Rattle.sloth_base.specs.declared.refusal.Part.TheVariants.{Arr}
 use Rattle.sloth_base.specs.declared.refusal.Code.TheVariants as code
 use Rattle.sloth_base.specs.declared.refusal.Refusal.{Refusal}
+use Rattle.sloth_base.specs.declared.lines.Owners.{Owners}
 use Rattle.sloth_refusal.specs.Search.{Somewhere}
 use Rattle.sloth_refusal.specs.Cases.{CaseOf}
 use Rattle.text_pieces.specs.Bytes.{is_name}
@@ -102,3 +103,7 @@ LinesFault tasks ls r = Somewhere (FaultAt tasks) ls r
 -- r is a fault of an arrivals text, with the names of the tasks
 abbrev pub ArrivalsFault : List (List ℕ) → List ℕ → Refusal → Type 0
 ArrivalsFault tasks text r = LinesFault tasks (lines text) r
+
+-- the owners of lines where these are the names of the tasks
+abbrev pub owners_read : List (List ℕ) → Owners
+owners_read tasks = record { tasks = length tasks }

@@ -9,6 +9,7 @@ use Rattle.sloth_base.specs.declared.image.Mark.{Mark}
 use Rattle.sloth_base.specs.declared.image.MarkKind.{MarkKind}
 use Rattle.sloth_base.specs.declared.image.MarkKind.TheVariants as kind
 use Rattle.sloth_base.specs.declared.service.Service.{Service}
+use Rattle.sloth_base.specs.MemoryMap.{memory_base}
 use Rattle.trace_text.specs.Lines.{name_of, service_text}
 
 -- ---- words and marks
@@ -58,8 +59,8 @@ sizes_line image =
 -- the address of the word at an offset, the word, and what its mark says
 abbrev pub word_line : Image → ℕ → List ℕ
 word_line image offset =
-    word_text (0x8000_0000 + offset) ++ codes " " ++ encode_lower (word_bytes image.memory offset)
-    ++ marked_text image.funcs (mark_on image.marks (0x8000_0000 + offset))
+    word_text (memory_base + offset) ++ codes " " ++ encode_lower (word_bytes image.memory offset)
+    ++ marked_text image.funcs (mark_on image.marks (memory_base + offset))
 
 -- line k, counted from 0, without its LF
 abbrev pub line_at : Image → ℕ → List ℕ

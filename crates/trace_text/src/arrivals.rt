@@ -4,7 +4,7 @@ ghost use Rattle.sloth_base.specs.Arrivals.{AreArrivals};
 ghost use Rattle.sloth_refusal.specs.Order.{ErrorIs, NoFault};
 ghost use Rattle.text_pieces.specs.Names.{now};
 ghost use Rattle.asm_lines.specs.Lines.{lines, without_returns};
-ghost use Rattle.trace_text.specs.ArrivalsText.{arrivals_of, arrivals_in, LineFault, LinesFault, ArrivalsFault};
+ghost use Rattle.trace_text.specs.ArrivalsText.{arrivals_of, arrivals_in, owners_read, LineFault, LinesFault, ArrivalsFault};
 
 use crate::arrival_line::{arrival_of, is_arrival, line_fault};
 use asm_lines::cutting::{line_of, split};
@@ -43,9 +43,9 @@ fn read_line(
     number: u32,
     line: &[u8],
 ) -> Result<(), BuildError>
-    requires { AreArrivals (length tasks.now) read.old.items }
+    requires { AreArrivals (owners_read tasks.now) read.old.items }
     ensures read { OnOk result (read.new.items ≡ read.old.items ++ arrivals_of tasks.now (line.now ∷ [])) }
-    ensures in_range { OnOk result (AreArrivals (length tasks.now) read.new.items) }
+    ensures in_range { OnOk result (AreArrivals (owners_read tasks.now) read.new.items) }
     ensures none { OnOk result (NoFault (LineFault tasks.now read.old.items number line.now)) }
     ensures refused { IfErr result (λ error. ErrorIs (LineFault tasks.now read.old.items number line.now) error) }
 {
@@ -62,7 +62,7 @@ fn read_line(
 fn read_lines(alloc: Global, lines: &[&[u8]], tasks: &[Name]) -> Result<Vec<Arrival>, BuildError>
     requires { length lines.now < 2 ^ 32 }
     ensures arrivals { IfOk result (λ read. read.items ≡ arrivals_of tasks.now (map now lines.now)) }
-    ensures in_range { IfOk result (λ read. AreArrivals (length tasks.now) read.items) }
+    ensures in_range { IfOk result (λ read. AreArrivals (owners_read tasks.now) read.items) }
     ensures none { OnOk result (NoFault (LinesFault tasks.now (map now lines.now))) }
     ensures refused { IfErr result (λ error. ErrorIs (LinesFault tasks.now (map now lines.now)) error) }
 {
@@ -79,7 +79,7 @@ fn read_lines(alloc: Global, lines: &[&[u8]], tasks: &[Name]) -> Result<Vec<Arri
 pub fn read_arrivals(alloc: Global, text: &[u8], tasks: &[Name]) -> Result<Vec<Arrival>, BuildError>
     requires { length text.now < 4294967295 }
     ensures arrivals { IfOk result (λ read. read.items ≡ arrivals_in tasks.now text.now) }
-    ensures in_range { IfOk result (λ read. AreArrivals (length tasks.now) read.items) }
+    ensures in_range { IfOk result (λ read. AreArrivals (owners_read tasks.now) read.items) }
     ensures none { OnOk result (NoFault (ArrivalsFault tasks.now text.now)) }
     ensures refused { IfErr result (λ error. ErrorIs (ArrivalsFault tasks.now text.now) error) }
 {

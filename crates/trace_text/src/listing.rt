@@ -9,6 +9,7 @@ ghost use Rattle.sloth_base.specs.ServiceCodes.{service_of};
 use crate::line_text::LineText;
 use crate::print::{push_name, service_name};
 use sloth_base::image::{Image, Mark, MarkKind};
+use sloth_base::memory_map::MEMORY_BASE;
 use sloth_base::name::Name;
 use sloth_base::service::Service;
 
@@ -54,7 +55,7 @@ fn push_word(line: &mut LineText, image: &Image, offset: u32)
     ensures word { line.new ≡ line.old ++ word_line image.now offset }
     ensures short { length line.new ≤ length line.old + 101 }
 {
-    let address = 0x8000_0000 + offset;
+    let address = MEMORY_BASE + offset;
     line.push_word(address);
     line.push(b" ");
     push_bytes(line, image.memory.items(), offset as usize);

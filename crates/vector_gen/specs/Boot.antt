@@ -7,6 +7,7 @@ use Rattle.rv32_instr.specs.declared.csr.TheConstants.{MSTATUS, MEPC, MPIE}
 use Rattle.rv32_instr.specs.declared.InstrKind.{InstrKind}
 use Rattle.rv32_instr.specs.declared.InstrKind.TheVariants.{Lui, Addi, Sb, Csrrw, Mret}
 use Rattle.sloth_base.specs.Arithmetic.{hi, lo}
+use Rattle.sloth_base.specs.MemoryMap.{memory_base}
 use Rattle.rv32_routine.specs.Place.{at}
 use Rattle.rv32_routine.specs.Masked.{Masked, WithArrivals}
 use Rattle.rv32_routine.specs.Kernel.{CanRun, LeftAs}
@@ -66,7 +67,7 @@ pub record Booted (tasks : List TaskDecl) (levels : List ℕ) (idle : ℕ) (touc
   pub lines : (length end.core.pending ≡ 32) × (length end.core.enabled ≡ 32) × (length end.core.levels ≡ 32)
   pub pc : end.pc ≡ idle
   pub left : LeftAs (with_lines_of end.core start.core) end.core
-  pub x2 : slice_index end.core.registers 2 ≡ 0x8000_0000 + (idle_context + context_bytes)
+  pub x2 : slice_index end.core.registers 2 ≡ memory_base + (idle_context + context_bytes)
   pub kept : (i : ℕ) → 5 ≤ i → slice_index end.core.registers i ≡ slice_index start.core.registers i
 
 -- Code of boot: at most 130 instructions lead to its effect, whatever lines arrive.

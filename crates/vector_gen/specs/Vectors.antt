@@ -4,6 +4,7 @@ use Rattle.sloth_base.specs.Machine.{Core}
 use Rattle.rv32_instr.specs.declared.InstrKind.{InstrKind}
 use Rattle.rv32_instr.specs.declared.InstrKind.TheVariants.{Jal}
 use Rattle.sloth_base.specs.Arithmetic.{plus}
+use Rattle.sloth_base.specs.MemoryMap.{vectors_base, boot_base}
 use Rattle.rv32_instr.specs.Execute.{Going, step, touched}
 use Rattle.rv32_routine.specs.Place.{at, InPlace}
 
@@ -11,19 +12,19 @@ use Rattle.rv32_routine.specs.Place.{at, InPlace}
 pub record AreInReach (handlers : List ℕ) : Type 0 where
   pub long : length handlers ≡ 32
   pub aligned : (line : ℕ) → line < 32 → slice_index handlers line % 4 ≡ 0
-  pub behind : (line : ℕ) → line < 32 → 0x8000_0480 ≤ slice_index handlers line
+  pub behind : (line : ℕ) → line < 32 → boot_base ≤ slice_index handlers line
   pub near : (line : ℕ) → line < 32 → slice_index handlers line < 0x8010_0400
 
 -- an instruction at an address jumps to another, and writes no register
 abbrev pub IsJump : ℕ → ℕ → InstrKind → Type 0
 IsJump from target kind = (imm : ℤ) × (kind ≡ Jal 0 imm) × (plus from imm ≡ target)
 
--- each word, at 0x80000400 + 4 * line, jumps to the line's handler; there are so many
+-- each word, at 4 times its line behind the base of the vectors, jumps to the line's handler; there are so many
 pub record AreJumps (words : ℕ) (handlers : List ℕ) (code : List InstrKind) : Type 0 where
   pub many : length code ≡ words
-  pub each : (line : ℕ) (d : InstrKind) → line < words → IsJump (0x8000_0400 + 4 * line) (slice_index handlers line) (slice_index_or code line d)
+  pub each : (line : ℕ) (d : InstrKind) → line < words → IsJump (vectors_base + 4 * line) (slice_index handlers line) (slice_index_or code line d)
 
--- In place at 0x80000400, the word of each line is a step to the line's handler, which changes nothing else and touches no line.
+-- In place at the base of the vectors, the word of each line is a step to the line's handler, which changes nothing else and touches no line.
 pub record StepToHandlers (handlers : List ℕ) (code : List InstrKind) : Type 0 where
   pub steps :
       (line : ℕ) (core : Core) → line < 32 → InPlace core.ram 0x400 code

@@ -1,5 +1,6 @@
 //! Boot: the levels and enable bytes of the tasks' lines, and the first activations.
 ghost use Rattle.std.specs.Prelude.{ℕ, ◌^◌, slice_index, ◌≡◌, ◌++◌, [], ◌<◌, ◌≤◌, IfOk, OnOk, length};
+ghost use Rattle.sloth_base.specs.MemoryMap.{boot_base};
 ghost use Rattle.sloth_base.specs.ConfigRange.{InRange};
 ghost use Rattle.vector_gen.specs.Boot.{begins, starts_one, starts, finishes, Boots};
 
@@ -11,6 +12,7 @@ use rv32_routine::emit::emit;
 use sloth_base::config::{Config, TaskDecl};
 use sloth_base::list::List;
 use sloth_base::memory::NoMemory;
+use sloth_base::memory_map::BOOT_BASE;
 use sloth_base::places::Levels;
 use sloth_region::layout::{
     CONTEXT_BYTES, CONTROLLER_HIGH, IDLE_CONTEXT, WORDS_HIGH, enabled_byte, level_byte,
@@ -19,13 +21,10 @@ use sloth_region::layout::{
 use sloth_region::map::Map;
 use std::alloc::{AllocError, Global};
 
-/// Where boot stands.
-const BOOT: u32 = 0x8000_0480;
-
 /// The block of boot. It stores no zero to a pending byte and loads none.
 pub fn boot(alloc: Global, config: &Config, levels: &Levels, map: &Map) -> Result<Block, NoMemory>
     requires { InRange config.now }
-    ensures at { IfOk result (λ block. block.at ≡ 0x80000480) }
+    ensures at { IfOk result (λ block. block.at ≡ boot_base) }
     ensures marks { IfOk result (λ block. block.marks ≡ []) }
     ensures size { IfOk result (λ block. length block.code ≤ 256) }
     ensures effect { IfOk result (λ block. Boots config.now.tasks levels.now.task map.now.idle block.code) }
@@ -35,7 +34,7 @@ pub fn boot(alloc: Global, config: &Config, levels: &Levels, map: &Map) -> Resul
     start_all(&mut code, config.tasks.items(), levels.task)?;
     finish(&mut code, map.idle)?;
     Ok(Block {
-        at: BOOT,
+        at: BOOT_BASE,
         code: List::from_vec(code),
         marks: List::from_vec(Vec::new(alloc)),
     })

@@ -1,5 +1,6 @@
 //! The vector words: for each line a jump to its handler.
 ghost use Rattle.std.specs.Prelude.{◌≡◌, ◌<◌, ◌≤◌, ◌+◌, ◌%◌, ◌^◌, [], length, IfOk};
+ghost use Rattle.sloth_base.specs.MemoryMap.{vectors_base};
 ghost use Rattle.rv32_instr.specs.Range.{InRange};
 ghost use Rattle.vector_gen.specs.Vectors.{AreInReach, AreJumps, IsJump, StepToHandlers};
 
@@ -8,16 +9,14 @@ use rv32_instr::{Block, InstrKind};
 use rv32_routine::emit::emit;
 use sloth_base::list::List;
 use sloth_base::memory::NoMemory;
+use sloth_base::memory_map::VECTORS_BASE;
 use sloth_region::map::Map;
 use std::alloc::Global;
-
-/// Where the vector words stand.
-const VECTORS: u32 = 0x8000_0400;
 
 /// The 32 vector words.
 pub fn vectors(alloc: Global, map: &Map) -> Result<Block, NoMemory>
     requires { AreInReach map.now.handlers }
-    ensures at { IfOk result (λ block. block.at ≡ 0x80000400) }
+    ensures at { IfOk result (λ block. block.at ≡ vectors_base) }
     ensures marks { IfOk result (λ block. block.marks ≡ []) }
     ensures size { IfOk result (λ block. length block.code ≤ 256) }
     ensures effect { IfOk result (λ block. AreJumps 32 map.now.handlers block.code) }
@@ -25,11 +24,11 @@ pub fn vectors(alloc: Global, map: &Map) -> Result<Block, NoMemory>
 {
     let mut code = Vec::new(alloc);
     for line in 0..32 {
-        let from = VECTORS + 4 * line;
+        let from = VECTORS_BASE + 4 * line;
         emit(&mut code, &[jump(from, map.handlers[line as usize])])?;
     }
     Ok(Block {
-        at: VECTORS,
+        at: VECTORS_BASE,
         code: List::from_vec(code),
         marks: List::from_vec(Vec::new(alloc)),
     })

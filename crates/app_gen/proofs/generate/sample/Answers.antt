@@ -4,7 +4,7 @@ use Rattle.sloth_base.specs.declared.event.Arrival.{Arrival}
 use Rattle.std.specs.List.{All}
 use Rattle.app_gen.specs.Oil.{oil_text}
 use Rattle.app_gen.specs.Source.{source_text}
-use Rattle.app_gen.specs.Load.{first_arrivals}
+use Rattle.app_gen.specs.Load.{first_arrivals, owners_of}
 use Rattle.app_gen.proofs.Moments.{are_arrivals, early_until}
 use Rattle.app_gen.proofs.Short.{short-oil, short-source}
 use Rattle.app_gen.proofs.generate.sample.Goals as goal
@@ -22,7 +22,7 @@ returns-clause-short_src c =
 
 pub returns-clause-in_range : goal.returns-clause-in_range
 returns-clause-in_range c =
-    let P : List Arrival → Type 0 = λ t. AreArrivals c.args.tasks t in
+    let P : List Arrival → Type 0 = λ t. AreArrivals (owners_of c.args.tasks) t in
     let is = c.from_vec-3.ensures ∙ c.in_ok-arrivals.ensures in
     subst P (sym is) (are_arrivals _ c.args.tasks (omega arith) 1000 (omega arith))
 

@@ -22,6 +22,6 @@ returns-clause-in_range c =
     let config = c.in_ok-config.field-0.config in
     let configuration = c.in_ok-config.ensures.accepted.configuration in
     let P : List ℕ → Type 0 = λ text. OilText text config in
-    let Q : ℕ → Type 0 = λ tasks. AreArrivals tasks c.in_ok-oil.field-0.arrivals in
+    let Q : ℕ → Type 0 = λ tasks. AreArrivals (record { tasks = tasks }) c.in_ok-oil.field-0.arrivals in
     let declared = thirty-tasks config (subst P (c.items.ensures ∙ c.in_ok-oil.ensures.oil) configuration) in
     subst Q (sym declared) c.in_ok-oil.ensures.in_range

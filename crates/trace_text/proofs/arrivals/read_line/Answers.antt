@@ -2,7 +2,7 @@ use Rattle.std.proofs.Common.{arith, ◌∙◌, sym, ap, subst, List, length, �
 use Rattle.sloth_base.specs.declared.event.Arrival.{Arrival}
 use Rattle.sloth_base.specs.Arrivals.{AreArrivals}
 use Rattle.sloth_refusal.specs.Order.{NoFault}
-use Rattle.trace_text.specs.ArrivalsText.{LineFault}
+use Rattle.trace_text.specs.ArrivalsText.{LineFault, owners_read}
 use Rattle.trace_text.proofs.Kept.{last-fits, moment-fits, one-more}
 use Rattle.trace_text.proofs.arrivals.read_line.Goals as goal
 
@@ -19,7 +19,7 @@ returns-in_ok-push-clause-in_range c =
     let read = c.args.read.now.items in
     let tasks = c.args.tasks.now in
     let none = subst (λ (xs : List Arrival). NoFault (LineFault tasks xs c.args.number c.args.line.now)) c.as_slice.ensures.value c.in_default.ensures in
-    subst (AreArrivals (length tasks)) (sym (c.in_ok-push.ensures ∙ ap (λ (a : Arrival). read ++ a ∷ []) c.arrival_of.ensures))
+    subst (AreArrivals (owners_read tasks)) (sym (c.in_ok-push.ensures ∙ ap (λ (a : Arrival). read ++ a ∷ []) c.arrival_of.ensures))
     (one-more tasks read c.args.number c.args.line.now none (sym c.is_arrival.ensures ∙ c.if-is_arrival.true) c.requires)
 
 pub returns-in_ok-push-clause-none : goal.returns-in_ok-push-clause-none

@@ -2,12 +2,12 @@ use Rattle.std.proofs.Common.{◌≡◌, map, take, length, None}
 use Rattle.sloth_base.specs.Arrivals.{AreArrivals}
 use Rattle.sloth_refusal.proofs.Kept.{Loop}
 use Rattle.text_pieces.specs.Names.{now}
-use Rattle.trace_text.specs.ArrivalsText.{arrivals_of, FaultAt}
+use Rattle.trace_text.specs.ArrivalsText.{arrivals_of, FaultAt, owners_read}
 use Rattle.trace_text.proofs.arrivals.read_lines.Given as goal
 
 abbrev pub invariant-loop-n : goal.invariant-loop-n
 invariant-loop-n l = record {
   read : l.read.items ≡ arrivals_of l.tasks (take l.n (map now l.lines));
-  in_range : AreArrivals (length l.tasks) l.read.items;
+  in_range : AreArrivals (owners_read l.tasks) l.read.items;
   none : Loop (FaultAt l.tasks) (map now l.lines) l.n None;
 }

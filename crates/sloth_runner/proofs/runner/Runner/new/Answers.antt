@@ -1,6 +1,7 @@
 use Rattle.std.proofs.Common.{sym, ◌∙◌, ap, refl, subst, arith, length, Some}
 use Rattle.sloth_base.specs.Machine.{State}
 use Rattle.sloth_base.specs.Arrivals.{AreArrivals}
+use Rattle.sloth_base.specs.Owners.{owners_named}
 use Rattle.observe.specs.Progress.{from}
 use Rattle.observe.proofs.Moments.{from-later}
 use Rattle.rv32_machine.specs.Run.{run_from, after_from}
@@ -17,8 +18,8 @@ returns-clause-fresh c =
     let e = c.in_ok-observer.ensures in (
       record {
         format = c.requires.format;
-        arrivals = subst (λ B. AreArrivals (length c.args.image.now.tasks) B) (sym e.arrivals) c.requires.arrivals;
-        lines = controller-lines _ c.args.arrivals.now c.requires.format.few_tasks c.requires.arrivals.lines_of_tasks;
+        arrivals = subst (λ B. AreArrivals (owners_named c.args.image.now) B) (sym e.arrivals) c.requires.arrivals;
+        lines = controller-lines (owners_named c.args.image.now) c.args.arrivals.now c.requires.format.few_tasks c.requires.arrivals.lines_owned;
         view = e.view;
         after = ap (λ (m : State). Some m) (sym c.in_ok-machine.ensures.state);
         fed = first-fed o c.args.image.now e.fed;

@@ -1,0 +1,36 @@
+-- What a service touches are lines of tasks.
+use Rattle.std.proofs.Common.{◌≡◌, ℕ, ◌<◌, List, [], ◌∷◌, length, sym, subst, ⊎_elim}
+use Rattle.sloth_base.specs.Machine.{State}
+use Rattle.sloth_base.specs.Owners.{owners_in, AreTasks}
+use Rattle.service_gen.specs.ChainTask.{Chained, HasChained, HasNotChained}
+use Rattle.service_gen.specs.GetTaskState.{IsNumber, running, preempted, waiting, ready, suspended, StateTold}
+use Rattle.sim_relation.specs.Build.{Build}
+use Rattle.sim_services.specs.Served.{TouchesTasks}
+
+module _ (b : Build) where
+  pub touches_none : (touched : List ℕ) → touched ≡ [] → AreTasks (owners_in b.config) touched
+  touches_none touched e = subst (AreTasks (owners_in b.config)) (sym e) tt
+
+  pub touches_one : (t : ℕ) (touched : List ℕ) → t < length b.config.tasks → touched ≡ t ∷ [] → AreTasks (owners_in b.config) touched
+  touches_one t touched l e = subst (AreTasks (owners_in b.config)) (sym e) (l, tt)
+
+  touches_two : (t u : ℕ) (touched : List ℕ) → t < length b.config.tasks → u < length b.config.tasks → touched ≡ t ∷ u ∷ [] → AreTasks (owners_in b.config) touched
+  touches_two t u touched l m e = subst (AreTasks (owners_in b.config)) (sym e) (l, m, tt)
+
+  pub chain_touches : (t own place : ℕ) → t < length b.config.tasks → own < length b.config.tasks → TouchesTasks b (Chained t own place)
+  chain_touches t own place l m touched start end effect =
+      ⊎_elim
+      (λ (h : HasChained t own place touched start end).
+      ⊎_elim (λ h. touches_one own touched m h.1) (λ h. touches_two t own touched l m h.2) h.may)
+      (λ (h : HasNotChained t own touched start end). touches_one t touched l h.touches)
+      effect
+
+  pub state_touches : (t own : ℕ) → t < length b.config.tasks → TouchesTasks b (StateTold t own)
+  state_touches t own l touched start end effect = by effect.number
+    where
+      by : {number : ℕ} → IsNumber t own start.core touched number → AreTasks (owners_in b.config) touched
+      by (running a is e n) = touches_none touched e
+      by (preempted a is e n) = touches_none touched e
+      by (waiting a is e n) = touches_none touched e
+      by (ready a en p e n) = touches_one t touched l e
+      by (suspended looks e n) = touches_one t touched l e

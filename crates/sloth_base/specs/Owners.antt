@@ -1,0 +1,32 @@
+-- What the lines of the interrupt controller are for (Sloth, RTSS 2009: a task is entered by its line).
+use Rattle.std.specs.Prelude.{ℕ, ◌<◌, ◌≢◌, if◌then◌else◌, nat_lt, List, length}
+use Rattle.std.specs.List.{AllByRecursion}
+use Rattle.sloth_base.specs.declared.config.Config.{Config}
+use Rattle.sloth_base.specs.declared.image.Image.{Image}
+use Rattle.sloth_base.specs.declared.lines.LineKind.{LineKind}
+use Rattle.sloth_base.specs.declared.lines.LineKind.TheVariants as line_of
+use Rattle.sloth_base.specs.declared.lines.Owners.{Owners}
+
+-- the owners of lines in a configuration
+abbrev pub owners_in : Config → Owners
+owners_in config = record { tasks = length config.tasks }
+
+-- those that an image names
+abbrev pub owners_named : Image → Owners
+owners_named image = record { tasks = length image.tasks }
+
+-- what a line is for: a task's line has the task's number
+abbrev pub line_kind : Owners → ℕ → LineKind
+line_kind owners line = if nat_lt line owners.tasks then line_of.Task line else line_of.Unused
+
+-- the line has an owner
+abbrev pub IsOwned : Owners → ℕ → Type 0
+IsOwned owners line = line_kind owners line ≢ line_of.Unused
+
+-- each of these lines has one
+abbrev pub AreOwned : Owners → List ℕ → Type 0
+AreOwned owners lines = AllByRecursion (IsOwned owners) lines
+
+-- each of these lines is a task's
+abbrev pub AreTasks : Owners → List ℕ → Type 0
+AreTasks owners lines = AllByRecursion (λ line. line < owners.tasks) lines

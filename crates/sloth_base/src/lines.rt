@@ -1,0 +1,32 @@
+//! What the lines of the interrupt controller are for.
+ghost use Rattle.std.specs.Prelude.{◌≡◌};
+ghost use Rattle.sloth_base.specs.Owners.{line_kind};
+
+use crate::numbers::Line;
+
+/// What a line is for.
+#[derive(Clone, Copy, Debug, PartialEq, Eq)]
+pub enum LineKind {
+    /// It enters this task.
+    Task(u32),
+    Unused,
+}
+
+/// The owners of lines: so many tasks.
+#[derive(Clone, Copy, Debug, PartialEq, Eq)]
+pub struct Owners {
+    pub tasks: usize,
+}
+
+impl Owners {
+    /// What a line is for.
+    pub fn kind(&self, line: Line) -> LineKind
+        ensures { result ≡ line_kind self.now line }
+    {
+        if usize::from(line.0) < self.tasks {
+            LineKind::Task(u32::from(line.0))
+        } else {
+            LineKind::Unused
+        }
+    }
+}
