@@ -1,3 +1,4 @@
 pub mod Choosing
+pub mod Services
 pub mod Owners
 pub mod Stretches

@@ -8,6 +8,7 @@ pub mod Take
 pub mod Arrive
 pub mod Arithmetic
 pub mod ServiceCodes
+pub mod Events
 pub mod Status
 pub mod Named
 pub mod PriorityLevels

@@ -1,5 +1,7 @@
--- The numbers of the services, in marks and in addresses of their code.
-use Rattle.std.specs.Prelude.{ℕ, List, [], ◌∷◌, Option, slice_get}
+-- The services (OSEK OS 2.2.3, section 13): their numbers, in marks and in addresses of their code, their names, and what they take.
+use Rattle.std.specs.Prelude.{ℕ, ◌≡◌, ◌<◌, ◌≤◌, ◌==◌, Bool, true, false, if◌then◌else◌, List, [], ◌∷◌, codes, bytes_eq, Option, Some, None, slice_get}
+use Rattle.sloth_base.specs.declared.service.ObjectKind.{ObjectKind}
+use Rattle.sloth_base.specs.declared.service.ObjectKind.TheVariants as object
 use Rattle.sloth_base.specs.declared.service.Service.{Service}
 use Rattle.sloth_base.specs.declared.service.Service.TheVariants as service
 
@@ -27,3 +29,59 @@ services =
 -- the service of a number
 abbrev pub service_of : ℕ → Option Service
 service_of code = slice_get services code
+
+-- two services are the same
+abbrev pub is_service : Service → Service → Bool
+is_service one other = code_of one == code_of other
+
+-- ---- names
+
+-- the name of a service
+abbrev pub service_name : Service → List ℕ
+service_name service.ActivateTask = codes "ActivateTask"
+service_name service.TerminateTask = codes "TerminateTask"
+service_name service.ChainTask = codes "ChainTask"
+service_name service.Schedule = codes "Schedule"
+service_name service.GetTaskID = codes "GetTaskID"
+service_name service.GetTaskState = codes "GetTaskState"
+service_name service.GetResource = codes "GetResource"
+service_name service.ReleaseResource = codes "ReleaseResource"
+service_name service.SetEvent = codes "SetEvent"
+service_name service.ClearEvent = codes "ClearEvent"
+service_name service.GetEvent = codes "GetEvent"
+service_name service.WaitEvent = codes "WaitEvent"
+
+-- the first of these services that has this name
+abbrev pub service_among : List Service → List ℕ → Option Service
+service_among [] word = None
+service_among (s ∷ rest) word = if bytes_eq word (service_name s) then Some s else service_among rest word
+
+-- the service of a name
+unfoldable pub service_named : List ℕ → Option Service
+service_named word = service_among services word
+
+-- ---- what a service takes
+
+-- what a service names
+abbrev pub object_kind : Service → ObjectKind
+object_kind service.ActivateTask = object.Task
+object_kind service.ChainTask = object.Task
+object_kind service.GetTaskState = object.Task
+object_kind service.SetEvent = object.Task
+object_kind service.GetEvent = object.Task
+object_kind service.GetResource = object.Resource
+object_kind service.ReleaseResource = object.Resource
+object_kind _ = object.Nothing
+
+-- it has a mask of events
+abbrev pub has_mask : Service → Bool
+has_mask service.SetEvent = true
+has_mask service.ClearEvent = true
+has_mask service.WaitEvent = true
+has_mask _ = false
+
+-- the numbers of the objects of a kind, in every configuration; where there is no object it is 0
+abbrev pub IsObjectNumber : ObjectKind → ℕ → Type 0
+IsObjectNumber object.Nothing number = number ≡ 0
+IsObjectNumber object.Task number = number < 30
+IsObjectNumber object.Resource number = number ≤ 32

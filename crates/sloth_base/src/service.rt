@@ -1,6 +1,6 @@
 //! The operating system services and their statuses (OSEK OS 2.2.3, section 13).
-ghost use Rattle.std.specs.Prelude.{◌≡◌, ◌<◌, ◌≤◌, IfNone, IfSome};
-ghost use Rattle.sloth_base.specs.ServiceCodes.{code_of, service_of};
+ghost use Rattle.std.specs.Prelude.{◌≡◌, ◌<◌, ◌≤◌, IfNone, IfSome, length};
+ghost use Rattle.sloth_base.specs.ServiceCodes.{code_of, service_of, is_service, service_name, service_named, object_kind, has_mask};
 
 /// The status where a service did what it was asked.
 pub const E_OK: u32 = 0;
@@ -26,6 +26,14 @@ pub enum Service {
     ClearEvent,
     GetEvent,
     WaitEvent,
+}
+
+/// What a service names.
+#[derive(Clone, Copy, Debug, PartialEq, Eq)]
+pub enum ObjectKind {
+    Nothing,
+    Task,
+    Resource,
 }
 
 // In the order of their codes.
@@ -61,4 +69,74 @@ impl Service {
     {
         SERVICES.get(usize::from(code)).copied()
     }
+
+    /// Whether it is this service.
+    pub fn is(self, other: Service) -> bool
+        ensures { result ≡ is_service self other }
+    {
+        self.code() == other.code()
+    }
+
+    /// Its name.
+    pub fn name(self) -> &'static [u8]
+        ensures name { result.now ≡ service_name self }
+        ensures short { length result.now ≤ 15 }
+    {
+        match self {
+            Service::ActivateTask => b"ActivateTask",
+            Service::TerminateTask => b"TerminateTask",
+            Service::ChainTask => b"ChainTask",
+            Service::Schedule => b"Schedule",
+            Service::GetTaskID => b"GetTaskID",
+            Service::GetTaskState => b"GetTaskState",
+            Service::GetResource => b"GetResource",
+            Service::ReleaseResource => b"ReleaseResource",
+            Service::SetEvent => b"SetEvent",
+            Service::ClearEvent => b"ClearEvent",
+            Service::GetEvent => b"GetEvent",
+            Service::WaitEvent => b"WaitEvent",
+        }
+    }
+
+    /// What it names.
+    pub fn object_kind(self) -> ObjectKind
+        ensures { result ≡ object_kind self }
+    {
+        match self {
+            Service::ActivateTask
+            | Service::ChainTask
+            | Service::GetTaskState
+            | Service::SetEvent
+            | Service::GetEvent => ObjectKind::Task,
+            Service::GetResource | Service::ReleaseResource => ObjectKind::Resource,
+            Service::TerminateTask
+            | Service::Schedule
+            | Service::GetTaskID
+            | Service::ClearEvent
+            | Service::WaitEvent => ObjectKind::Nothing,
+        }
+    }
+
+    /// Whether it has a mask of events.
+    pub fn has_mask(self) -> bool
+        ensures { result ≡ has_mask self }
+    {
+        match self {
+            Service::SetEvent | Service::ClearEvent | Service::WaitEvent => true,
+            _ => false,
+        }
+    }
+}
+
+/// The service of a name.
+#[tactic(auto, unfolding(crate::specs::ServiceCodes::service_named))]
+pub fn service_named(word: &[u8]) -> Option<Service>
+    ensures { result ≡ service_named word.now }
+{
+    for service in SERVICES {
+        if word == service.name() {
+            return Some(service);
+        }
+    }
+    None
 }
