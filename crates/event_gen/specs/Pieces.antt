@@ -1,7 +1,7 @@
 -- Pieces of code of the services on events.
-use Rattle.std.specs.Prelude.{ℕ, ◌+◌, ◌*◌, ℤ, pos, negsuc, neg_ℤ, List, [], ◌∷◌, ◌++◌}
+use Rattle.std.specs.Prelude.{ℕ, ◌+◌, ◌-◌, ◌*◌, ℤ, pos, negsuc, neg_ℤ, List, [], ◌∷◌, ◌++◌}
 use Rattle.sloth_base.specs.Status.{E_OK, E_OS_STATE}
-use Rattle.sloth_region.specs.Layout.{cur, events, wait, context_bytes, context_pc, controller_high, enabled_byte}
+use Rattle.sloth_region.specs.Layout.{cur, events, wait, resume, context_bytes, context_pc, controller_high, enabled_byte}
 use Rattle.rv32_instr.specs.declared.InstrKind.{InstrKind}
 use Rattle.rv32_instr.specs.declared.InstrKind.TheVariants.{Beq, Lui, Lw, Sw, Sb, Add, Addi, Or, And, Xori, Slli}
 use Rattle.rv32_routine.specs.Pieces.{past, saves}
