@@ -13,7 +13,7 @@ use Rattle.sloth_base.specs.declared.app.Width.{Width}
 use Rattle.sloth_base.specs.declared.app.Width.TheVariants as width
 use Rattle.sloth_base.specs.declared.service.Service.{Service}
 use Rattle.sloth_base.specs.declared.service.Service.TheVariants as service
-use Rattle.sloth_base.specs.ConfigRange.{InRange}
+use Rattle.sloth_base.specs.ConfigRange.{InRange, scheduler_number}
 use Rattle.sloth_base.specs.ImageRange.{AreNames}
 use Rattle.sloth_base.specs.Named.{function, IsBodyOf}
 
@@ -59,7 +59,7 @@ IsDeclared config t = t < length config.tasks
 
 -- a RESOURCE object, or RES_SCHEDULER where that resource exists
 abbrev pub IsResource : Config → ℕ → Type 0
-IsResource config r = (r < length config.resources) ⊎ ((r ≡ 32) × IsTrue config.res_scheduler)
+IsResource config r = (r < length config.resources) ⊎ ((r ≡ scheduler_number) × IsTrue config.res_scheduler)
 
 -- a named piece of data of the task code
 abbrev pub IsSymbol : App → ℕ → Type 0

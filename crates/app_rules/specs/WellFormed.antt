@@ -17,6 +17,7 @@ use Rattle.sloth_base.specs.Named.{declaration, function, item_of, operation, la
 use Rattle.app_rules.specs.AppRange.{AppInRange}
 use Rattle.app_rules.specs.Code.{CallChain, TaskReaches, Pauses, Ends, ReachesTaking, ReachesPause, way, GoesOn, Path, is_in, is_last, held_at, is_entered, held_entering}
 use Rattle.sloth_base.specs.Arithmetic.{size_of}
+use Rattle.sloth_base.specs.ConfigRange.{scheduler_number}
 
 -- ---- what an operation does against a rule
 
@@ -89,7 +90,7 @@ HasEvents task mask = bit_and mask task.events ≡ mask
 
 -- some task that reaches function f does not list resource r, which is not RES_SCHEDULER
 abbrev pub IsUnlisted : Config → App → ℕ → ℕ → Type 0
-IsUnlisted config app f r = (r ≢ 32) × ((t : ℕ) × TaskReaches app t f × ¬ (Lists (declaration config t) r))
+IsUnlisted config app f r = (r ≢ scheduler_number) × ((t : ℕ) × TaskReaches app t f × ¬ (Lists (declaration config t) r))
 
 -- some task that reaches function f lacks one of these events
 abbrev pub IsLacked : Config → App → ℕ → ℕ → Type 0

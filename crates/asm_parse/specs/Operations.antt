@@ -11,6 +11,7 @@ use Rattle.sloth_base.specs.declared.service.Service.{Service}
 use Rattle.sloth_base.specs.declared.service.Service.TheVariants as service
 use Rattle.sloth_base.specs.declared.config.Config.{Config}
 use Rattle.sloth_base.specs.declared.config.EventDecl.{EventDecl}
+use Rattle.sloth_base.specs.ConfigRange.{scheduler_number}
 use Rattle.asm_lines.specs.declared.operands.Operand.{Operand}
 use Rattle.asm_lines.specs.declared.operands.Operand.TheVariants.{Register, Number, Name, Frame, Direct, Indexed}
 use Rattle.asm_lines.specs.declared.table.Mnemonic.{Mnemonic}
@@ -37,7 +38,7 @@ number_of names name = unwrap_or (position (bytes_eq name) names) 0
 
 -- the number of a resource; RES_SCHEDULER, where it exists, is 32
 abbrev pub resource_number : Scope → List ℕ → ℕ
-resource_number scope name = if is_scheduler scope name then 32 else number_of scope.resources name
+resource_number scope name = if is_scheduler scope name then scheduler_number else number_of scope.resources name
 
 -- the mask of an event, 0 without one
 abbrev pub mask_given : Option EventDecl → ℕ

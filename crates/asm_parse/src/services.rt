@@ -8,11 +8,9 @@ use asm_lines::Operand;
 use asm_names::{Scope, first_name, written};
 use sloth_base::app::Call;
 use sloth_base::config::{Config, EventDecl};
+use sloth_base::numbers::RES_SCHEDULER;
 use sloth_base::service::Service;
 use text_pieces::names::Names;
-
-/// The number of RES_SCHEDULER.
-const SCHEDULER: u32 = 32;
 
 /// The number of a name: its place among those of its kind.
 pub fn number_of(names: &Names, name: &[u8]) -> u32
@@ -31,7 +29,7 @@ pub fn resource_number(scope: &Scope, name: &[u8]) -> u32
     ensures { result ≡ resource_number scope.now name.now }
 {
     if scope.is_scheduler(name) {
-        SCHEDULER
+        RES_SCHEDULER
     } else {
         number_of(&scope.resources, name)
     }

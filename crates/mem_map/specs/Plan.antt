@@ -6,6 +6,7 @@ use Rattle.sloth_base.specs.declared.app.Symbol.{Symbol}
 use Rattle.sloth_base.specs.declared.config.Config.{Config}
 use Rattle.sloth_base.specs.Blocks.{block_object}
 use Rattle.sloth_base.specs.MemoryMap.{vectors_base, boot_base}
+use Rattle.sloth_base.specs.ConfigRange.{scheduler_number}
 use Rattle.sloth_region.specs.declared.extent.Extent.{Extent}
 use Rattle.sloth_region.specs.declared.map.Map.{Map}
 use Rattle.sloth_region.specs.Region.{aligned}
@@ -128,5 +129,5 @@ pub record MayPlan (config : Config) (app : App) (sizes : List ℕ) (services : 
   pub in_range : AppInRange config app
   pub are_sizes : AreSizes app sizes
   -- the object of a wanted service is a task, a resource or RES_SCHEDULER: at most 32
-  pub objects : (number : ℕ) → get_or services number false ≡ true → block_object number ≤ 32
+  pub objects : (number : ℕ) → get_or services number false ≡ true → block_object number ≤ scheduler_number
   pub needs : AreNeeds config app stacks

@@ -2,6 +2,7 @@
 use Rattle.std.specs.Prelude.{ℕ, ◌+◌, ◌*◌, ◌<◌, ◌≤◌, ◌≡◌, ◌⊎◌, ◌==◌, List, [], ◌∷◌, Bool, true, false, cond, length, map, filter, max}
 use Rattle.sloth_base.specs.declared.config.Config.{Config}
 use Rattle.sloth_base.specs.declared.config.TaskDecl.{TaskDecl}
+use Rattle.sloth_base.specs.ConfigRange.{scheduler_number}
 pub use Rattle.app_rules.specs.Code.{is_in}
 use Rattle.osek_machine.specs.declared.state.TaskState.{TaskState}
 use Rattle.osek_machine.specs.declared.state.TaskState.TheVariants as mode
@@ -18,7 +19,7 @@ highest config = greatest (map (λ d. d.priority) config.tasks)
 
 -- The ceiling of a resource: the highest priority of the tasks that list it. That of RES_SCHEDULER, 32, is the highest of all.
 abbrev pub ceiling : Config → ℕ → ℕ
-ceiling config r = cond (r == 32) (highest config) (greatest (map (λ d. d.priority) (filter (λ d. is_in r d.resources) config.tasks)))
+ceiling config r = cond (r == scheduler_number) (highest config) (greatest (map (λ d. d.priority) (filter (λ d. is_in r d.resources) config.tasks)))
 
 -- the greatest of the static priority, the ceilings of what is held, and for a task that has its internal resource the highest priority
 abbrev pub current_priority : Config → TaskDecl → Task → ℕ

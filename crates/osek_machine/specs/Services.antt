@@ -5,6 +5,7 @@ use Rattle.sloth_base.specs.declared.app.App.{App}
 use Rattle.sloth_base.specs.declared.service.Service.{Service}
 use Rattle.sloth_base.specs.declared.service.Service.TheVariants as service
 use Rattle.sloth_base.specs.Status.{E_OK, E_OS_LIMIT, E_OS_STATE}
+use Rattle.sloth_base.specs.ConfigRange.{scheduler_number}
 use Rattle.app_rules.specs.Code.{is_last}
 pub use Rattle.app_rules.specs.Code.{without_last}
 use Rattle.osek_machine.specs.declared.state.TaskState.{TaskState}
@@ -84,7 +85,7 @@ is_task config t = ltb t (length config.tasks)
 
 -- a resource by its number; that of RES_SCHEDULER is 32
 abbrev pub is_resource : Config → ℕ → Bool
-is_resource config r = cond (r == 32) config.res_scheduler (ltb r (length config.resources))
+is_resource config r = cond (r == scheduler_number) config.res_scheduler (ltb r (length config.resources))
 
 -- the task or resource that a service names is there; what is released was taken last
 abbrev pub is_there : Config → (held : List ℕ) → Service → (object : ℕ) → Bool

@@ -7,10 +7,7 @@ use crate::room::TaskRoom;
 use crate::store::Store;
 use osek_machine::state::TaskState;
 use sloth_base::config::{Config, TaskDecl};
-use sloth_base::numbers::ResId;
-
-/// The number of RES_SCHEDULER.
-pub const RES_SCHEDULER: u32 = 32;
+use sloth_base::numbers::{RES_SCHEDULER, ResId};
 
 /// Whether a task in this state is Ready.
 pub fn is_ready(state: TaskState) -> bool

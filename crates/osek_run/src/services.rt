@@ -7,12 +7,12 @@ ghost use Rattle.osek_run.specs.Running.{call_in, call_plan};
 
 use crate::change::TaskChange;
 use crate::plan::{Other, Plan};
-use crate::priority::RES_SCHEDULER;
 use crate::room::TaskRoom;
 use crate::store::{Store, is_suspended};
 use osek_machine::state::TaskState;
 use sloth_base::app::{Call, Op};
 use sloth_base::config::Config;
+use sloth_base::numbers::RES_SCHEDULER;
 use sloth_base::service::{E_OK, E_OS_LIMIT, E_OS_STATE, Service};
 
 // The state of a task; one that is not there is Suspended.

@@ -4,6 +4,7 @@ use Rattle.sloth_base.specs.declared.config.Config.{Config}
 use Rattle.sloth_base.specs.declared.app.App.{App}
 use Rattle.sloth_base.specs.declared.app.Op.TheVariants as op
 use Rattle.sloth_base.specs.Named.{function, declaration, body_of}
+use Rattle.sloth_base.specs.ConfigRange.{scheduler_number}
 use Rattle.app_rules.specs.Code.{IsItem, is_in}
 use Rattle.app_rules.specs.WellFormed.{held_before, Lists, HasEvents}
 use Rattle.osek_machine.specs.declared.state.TaskState.{TaskState}
@@ -37,7 +38,7 @@ held_by app (frame ∷ outer) = held_by app outer ++ held_before app frame.func 
 
 -- a task may hold RES_SCHEDULER and the resources that it lists
 abbrev pub MayHold : Config → (t r : ℕ) → Type 0
-MayHold config t r = (r ≡ 32) ⊎ Lists (declaration config t) r
+MayHold config t r = (r ≡ scheduler_number) ⊎ Lists (declaration config t) r
 
 -- no number occurs twice
 abbrev pub AreDistinct : List ℕ → Type 0

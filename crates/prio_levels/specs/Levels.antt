@@ -5,6 +5,7 @@ use Rattle.sloth_base.specs.declared.config.TaskDecl.{TaskDecl}
 use Rattle.sloth_base.specs.declared.config.Config.{Config}
 use Rattle.sloth_base.specs.declared.places.Levels.{Levels}
 use Rattle.sloth_base.specs.PriorityLevels.{level_among}
+use Rattle.sloth_base.specs.ConfigRange.{scheduler_number}
 
 -- whether a task lists a resource
 abbrev pub lists : ℕ → TaskDecl → Bool
@@ -21,12 +22,12 @@ pub record AreTaskLevels (tasks : List TaskDecl) (levels : List ℕ) : Type 0 wh
 
 -- The ceilings of the resources 0 to 31, and that of RES_SCHEDULER, which is the level of the highest task.
 pub record AreCeilings (tasks : List TaskDecl) (ceilings : List ℕ) : Type 0 where
-  pub listed : (r : ℕ) → r < 32 → slice_index ceilings r ≡ ceiling tasks r
-  pub scheduler : slice_index ceilings 32 ≡ length tasks
+  pub listed : (r : ℕ) → r < scheduler_number → slice_index ceilings r ≡ ceiling tasks r
+  pub scheduler : slice_index ceilings scheduler_number ≡ length tasks
 
 -- the levels of a configuration
 pub record AreLevels (config : Config) (levels : Levels) : Type 0 where
   pub tasks : AreTaskLevels config.tasks levels.task
   pub ceilings : AreCeilings config.tasks levels.ceiling
-  pub no_resource : (r : ℕ) → length config.resources ≤ r → r < 32 → slice_index levels.ceiling r ≡ 0
+  pub no_resource : (r : ℕ) → length config.resources ≤ r → r < scheduler_number → slice_index levels.ceiling r ≡ 0
   pub top : levels.top ≡ length config.tasks

@@ -8,6 +8,7 @@ ghost use Rattle.prio_levels.specs.Levels.{lists, ceiling, AreCeilings, AreLevel
 ghost use Rattle.sloth_base.specs.PriorityLevels.{level_among};
 
 use sloth_base::config::{Config, TaskDecl};
+use sloth_base::numbers::RES_SCHEDULER;
 use sloth_base::places::Levels;
 
 /// The level of a priority: how many of the tasks have no greater one.
@@ -72,15 +73,15 @@ fn ceilings(tasks: &[TaskDecl]) -> [u8; 33]
     ensures { AreCeilings tasks.now result }
 {
     let mut ceilings = [0; 33];
-    for resource in 0..32 {
+    for resource in 0..RES_SCHEDULER {
         ceilings[resource as usize] = ceiling_of(tasks, resource);
     }
-    ceilings[32] = tasks.len() as u8;
+    ceilings[RES_SCHEDULER as usize] = tasks.len() as u8;
     ceilings
 }
 
 /// The level of a task is that of its priority, from 1. The ceiling of a resource is the level of the highest task that lists it,
-/// 0 where none does (OSEK OS 2.2.3, section 8.5). The ceiling of RES_SCHEDULER, entry 32, is the highest task's level.
+/// 0 where none does (OSEK OS 2.2.3, section 8.5). The ceiling of RES_SCHEDULER, the last entry, is the highest task's level.
 pub fn assign(config: &Config) -> Levels
     requires { InRange config.now }
     ensures levels { AreLevels config.now result }

@@ -39,7 +39,11 @@ pub fn write_blocks(memory: &mut [u8], blocks: &[Block])
     ensures { memory.new ≡ linked memory.old (map block_section blocks.now) }
 {
     for block in blocks {
-        write_code(memory, (block.at - MEMORY_BASE) as usize, block.code.items());
+        write_code(
+            memory,
+            (block.at - MEMORY_BASE) as usize,
+            block.code.items(),
+        );
     }
 }
 
@@ -50,6 +54,10 @@ pub fn write_data(memory: &mut [u8], symbols: &[Datum])
     ensures { memory.new ≡ linked memory.old (map datum_section symbols.now) }
 {
     for datum in symbols {
-        write(memory, (datum.at - MEMORY_BASE) as usize, datum.bytes.items());
+        write(
+            memory,
+            (datum.at - MEMORY_BASE) as usize,
+            datum.bytes.items(),
+        );
     }
 }

@@ -10,6 +10,7 @@ use Rattle.sloth_base.specs.declared.service.Service.{Service}
 use Rattle.sloth_base.specs.declared.service.Service.TheVariants as service
 use Rattle.sloth_base.specs.Arithmetic.{size_of}
 use Rattle.sloth_base.specs.Named.{declaration, item_of, label_of, symbol_size}
+use Rattle.sloth_base.specs.ConfigRange.{scheduler_number}
 use Rattle.app_rules.specs.AppRange.{AreOperands}
 use Rattle.app_rules.specs.Code.{falls, way, is_in, is_last}
 use Rattle.call_graph.specs.declared.ranking.Ranks.{Ranks}
@@ -101,8 +102,8 @@ is_lacked config users mask = any_below (length config.tasks) (λ t. has users t
 
 -- a service uses what one of these tasks does not declare
 abbrev pub misuses : Config → ℕ → Service → (object mask : ℕ) → Bool
-misuses config users service.GetResource r mask = not (r == 32) && is_unlisted config users r
-misuses config users service.ReleaseResource r mask = not (r == 32) && is_unlisted config users r
+misuses config users service.GetResource r mask = not (r == scheduler_number) && is_unlisted config users r
+misuses config users service.ReleaseResource r mask = not (r == scheduler_number) && is_unlisted config users r
 misuses config users service.ClearEvent object mask = is_lacked config users mask
 misuses config users service.WaitEvent object mask = is_lacked config users mask
 misuses config users service.SetEvent t mask = lacks config t mask

@@ -9,11 +9,8 @@ ghost use Rattle.task_verify.specs.Tests.{is_ending, leaves_wrongly, is_unlisted
 use call_graph::bits::has;
 use sloth_base::app::{Call, Func, Op};
 use sloth_base::config::{Config, TaskDecl};
-use sloth_base::numbers::ResId;
+use sloth_base::numbers::{RES_SCHEDULER, ResId};
 use sloth_base::service::Service;
-
-/// RES_SCHEDULER, which every task may take.
-const RES_SCHEDULER: u32 = 32;
 
 /// The members of a set are below this.
 const SET_SIZE: usize = 64;
