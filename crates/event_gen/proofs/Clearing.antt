@@ -15,9 +15,9 @@ use Rattle.rv32_routine.specs.Kernel.{masking}
 use Rattle.rv32_routine.specs.Owes.{Owes}
 use Rattle.rv32_routine.proofs.Spread.{spread}
 use Rattle.rv32_routine.proofs.Whole.{masked}
-use Rattle.service_gen.proofs.Returning.{goes_back}
-use Rattle.service_gen.proofs.Serving.{opens}
-use Rattle.service_gen.specs.Pieces.{back}
+use Rattle.block_parts.proofs.Returning.{goes_back}
+use Rattle.block_parts.proofs.Serving.{opens}
+use Rattle.block_parts.specs.Pieces.{back}
 use Rattle.event_gen.specs.Pieces.{finds_own, clears_own}
 use Rattle.event_gen.specs.ClearEvent.{MayClear, EventsCleared, ClearsEvents, cleared_ram}
 

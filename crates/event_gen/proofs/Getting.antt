@@ -16,11 +16,11 @@ use Rattle.rv32_routine.specs.Owes.{Owes}
 use Rattle.rv32_routine.proofs.Spread.{spread, spread_from}
 use Rattle.rv32_routine.proofs.Whole.{masked}
 use Rattle.rv32_routine.proofs.Leave.{behind}
-use Rattle.service_gen.proofs.Returning.{goes_back, goes_back_with}
-use Rattle.service_gen.proofs.Busy.{Finds, looks_owe}
-use Rattle.service_gen.proofs.Chaining.{lands}
-use Rattle.service_gen.proofs.Serving.{opens}
-use Rattle.service_gen.specs.Pieces.{busy, back}
+use Rattle.block_parts.proofs.Returning.{goes_back, goes_back_with}
+use Rattle.block_parts.proofs.Busy.{Finds, looks_owe}
+use Rattle.block_parts.proofs.Landing.{lands}
+use Rattle.block_parts.proofs.Serving.{opens}
+use Rattle.block_parts.specs.Pieces.{busy, back}
 use Rattle.event_gen.specs.Pieces.{refuses, tells_events}
 use Rattle.event_gen.specs.GetEvent.{MayGet, EventsTold, TellsEvents}
 

@@ -17,13 +17,13 @@ use Rattle.rv32_routine.proofs.Words.{word_at-other}
 use Rattle.rv32_routine.proofs.Spread.{spread, spread_from}
 use Rattle.rv32_routine.proofs.Whole.{masked}
 use Rattle.rv32_routine.proofs.Leave.{behind}
-use Rattle.service_gen.proofs.Returning.{goes_back}
-use Rattle.service_gen.proofs.Busy.{Finds, looks_owe}
-use Rattle.service_gen.proofs.Chaining.{lands}
-use Rattle.service_gen.proofs.Serving.{opens}
-use Rattle.service_gen.specs.ActivateTask.{LooksSuspended}
-use Rattle.service_gen.specs.Back.{CanGoBack}
-use Rattle.service_gen.specs.Pieces.{busy, raises, back}
+use Rattle.block_parts.proofs.Returning.{goes_back}
+use Rattle.block_parts.proofs.Busy.{Finds, looks_owe}
+use Rattle.block_parts.proofs.Landing.{lands}
+use Rattle.block_parts.proofs.Serving.{opens}
+use Rattle.block_parts.specs.Looks.{LooksSuspended}
+use Rattle.block_parts.specs.Back.{CanGoBack}
+use Rattle.block_parts.specs.Pieces.{busy, raises, back}
 use Rattle.event_gen.specs.Pieces.{refuses, adds_events, asks_awaited, enables}
 use Rattle.event_gen.specs.SetEvent.{MaySet, EventsSet, SetsEvents, with_mask}
 

@@ -19,10 +19,10 @@ use Rattle.rv32_routine.proofs.Spread.{spread, spread_from}
 use Rattle.rv32_routine.proofs.Runs.{saves_owes}
 use Rattle.rv32_routine.proofs.Whole.{masked}
 use Rattle.rv32_routine.proofs.Leave.{leave_owes, behind}
-use Rattle.service_gen.proofs.Returning.{goes_back}
-use Rattle.service_gen.proofs.Chaining.{lands}
-use Rattle.service_gen.proofs.Serving.{opens}
-use Rattle.service_gen.specs.Pieces.{back}
+use Rattle.block_parts.proofs.Returning.{goes_back}
+use Rattle.block_parts.proofs.Landing.{lands}
+use Rattle.block_parts.proofs.Serving.{opens}
+use Rattle.block_parts.specs.Pieces.{back}
 use Rattle.event_gen.specs.Pieces.{finds_own, asks_set, answers_set, goes_to_rest, keeps, disables}
 use Rattle.event_gen.specs.WaitEvent.{MayWait, Waited, HasWaited, Waits, set_of, rested_ram, kept_ram}
 

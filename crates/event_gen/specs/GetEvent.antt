@@ -8,8 +8,8 @@ use Rattle.rv32_instr.specs.Ram.{word_at}
 use Rattle.rv32_routine.specs.Masked.{FromOpening}
 use Rattle.rv32_routine.specs.Place.{at}
 use Rattle.rv32_routine.specs.Kernel.{masking}
-use Rattle.service_gen.specs.Back.{CanGoBack, WentBack, a0, a1}
-use Rattle.service_gen.specs.ActivateTask.{LooksSuspended}
+use Rattle.block_parts.specs.Back.{CanGoBack, WentBack, a0, a1}
+use Rattle.block_parts.specs.Looks.{LooksSuspended}
 
 -- the code can run, and what tells of the task are bits
 pub record MayGet (offset task : ℕ) (code : List InstrKind) (core : Core) : Type 0 where

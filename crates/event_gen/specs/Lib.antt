@@ -1,5 +1,4 @@
 pub mod Block
-pub mod Calls
 pub mod Pieces
 pub mod ClearEvent
 pub mod GetEvent

@@ -5,7 +5,7 @@ use Rattle.sloth_region.specs.Layout.{cur, events, wait, resume, context_bytes, 
 use Rattle.rv32_instr.specs.declared.InstrKind.{InstrKind}
 use Rattle.rv32_instr.specs.declared.InstrKind.TheVariants.{Beq, Lui, Lw, Sw, Sb, Add, Addi, Or, And, Xori, Slli}
 use Rattle.rv32_routine.specs.Pieces.{past, saves}
-use Rattle.service_gen.specs.Pieces.{own_active, own_events, raises, back}
+use Rattle.block_parts.specs.Pieces.{own_active, own_events, raises, back}
 
 -- x3 := 12 times `cur` behind the service words, where the running task's words end; x4 holds the base of memory
 abbrev pub finds_own : List InstrKind

@@ -8,8 +8,8 @@ use Rattle.rv32_instr.specs.Ram.{word_at, with_word}
 use Rattle.rv32_routine.specs.Masked.{FromOpening}
 use Rattle.rv32_routine.specs.Place.{at}
 use Rattle.rv32_routine.specs.Kernel.{masking}
-use Rattle.service_gen.specs.Back.{CanGoBack, WentBack, a0}
-use Rattle.service_gen.specs.ActivateTask.{LooksSuspended}
+use Rattle.block_parts.specs.Back.{CanGoBack, WentBack, a0}
+use Rattle.block_parts.specs.Looks.{LooksSuspended}
 use Rattle.event_gen.specs.ClearEvent.{mask_register}
 
 -- the code can run, and what tells of the task are bits

@@ -10,7 +10,7 @@ use Rattle.rv32_routine.specs.Masked.{FromOpening}
 use Rattle.rv32_routine.specs.Place.{at}
 use Rattle.rv32_routine.specs.Pieces.{registers_from}
 use Rattle.rv32_routine.specs.Kernel.{IsBelow, LeftAs, masking}
-use Rattle.service_gen.specs.Back.{CanGoBack, WentBack, a0}
+use Rattle.block_parts.specs.Back.{CanGoBack, WentBack, a0}
 use Rattle.event_gen.specs.ClearEvent.{mask_register}
 
 -- The code can run and this task runs. What runs below it has its context at `place`, and its own is to stand at `own`, directly

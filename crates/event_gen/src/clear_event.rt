@@ -4,10 +4,10 @@ ghost use Rattle.event_gen.specs.Pieces.{clears_own};
 ghost use Rattle.event_gen.specs.ClearEvent.{ClearsEvents};
 
 use crate::pieces::find_own;
+use block_parts::pieces::{OWN_EVENTS, go_back, open};
 use rv32_instr::Instr;
 use rv32_instr::asm::{A0, X1, X3, X30, ZERO, addi, and, lw, sw, xori};
 use rv32_routine::emit::emit;
-use service_gen::pieces::{OWN_EVENTS, go_back, open};
 use sloth_base::service::E_OK;
 use std::alloc::{AllocError, Global};
 

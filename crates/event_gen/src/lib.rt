@@ -4,7 +4,7 @@
 ghost use Rattle.std.specs.Prelude.{◌≡◌, ◌+◌, ◌*◌, ◌<◌, ◌≤◌, [], ◌∷◌, IfOk, length, slice_index};
 ghost use Rattle.sloth_base.specs.Blocks.{block_number, block_objects};
 ghost use Rattle.sloth_base.specs.ServiceCodes.{code_of};
-ghost use Rattle.service_gen.specs.Block.{opening};
+ghost use Rattle.block_parts.specs.Marks.{opening};
 ghost use Rattle.event_gen.specs.Block.{HasBlock, Serves};
 
 mod clear_event;
@@ -13,9 +13,9 @@ mod pieces;
 mod set_event;
 mod wait_event;
 
+use block_parts::marks::opening;
 use rv32_instr::{Block, Instr};
 use sloth_base::config::Config;
-use sloth_base::image::{Mark, MarkKind};
 use sloth_base::list::List;
 use sloth_base::memory::NoMemory;
 use sloth_base::places::{Levels, block_number};
@@ -42,14 +42,7 @@ pub fn block(
     let object = small(service, object);
     let at = map.places.blocks[block_number(service, u32::from(object))];
     let code = code(alloc, service, object)?;
-    let mark = Mark {
-        address: at,
-        kind: MarkKind::Opening,
-        a: service.code(),
-        b: 0,
-        c: 0,
-    };
-    let marks = Vec::from_slice(alloc, &[mark])?;
+    let marks = Vec::from_slice(alloc, &[opening(at, service)])?;
     Ok(Block {
         at,
         code: List::from_vec(code),

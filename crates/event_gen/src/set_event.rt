@@ -5,10 +5,10 @@ ghost use Rattle.event_gen.specs.Pieces.{adds_events, asks_awaited, enables};
 ghost use Rattle.event_gen.specs.SetEvent.{SetsEvents};
 
 use crate::pieces::refuse;
+use block_parts::pieces::{go_back, look_at, open, raise};
 use rv32_instr::Instr;
 use rv32_instr::asm::{A0, X1, X3, X4, X30, ZERO, addi, and, beq, lw, or, sb, sw};
 use rv32_routine::emit::{emit, past};
-use service_gen::pieces::{go_back, look_at, open, raise};
 use sloth_base::service::E_OK;
 use sloth_region::layout::{enabled_byte, events, wait};
 use std::alloc::{AllocError, Global};

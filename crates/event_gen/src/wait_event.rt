@@ -4,13 +4,13 @@ ghost use Rattle.event_gen.specs.Pieces.{asks_set, answers_set, goes_to_rest, sa
 ghost use Rattle.event_gen.specs.WaitEvent.{Waits};
 
 use crate::pieces::find_own;
+use block_parts::pieces::{BACK, OWN_ACTIVE, OWN_EVENTS, go_back, open};
 use rv32_instr::Instr;
 use rv32_instr::asm::{
     A0, X1, X2, X3, X4, X30, X31, ZERO, add, addi, and, beq, lui, lw, sb, slli, sw,
 };
 use rv32_routine::emit::{emit, past, save};
 use rv32_routine::pieces::leave;
-use service_gen::pieces::{BACK, OWN_ACTIVE, OWN_EVENTS, go_back, open};
 use sloth_base::service::E_OK;
 use sloth_region::layout::{CONTEXT_BYTES, CONTEXT_PC, CONTROLLER_HIGH, CUR, RESUME_WORDS};
 use std::alloc::{AllocError, Global};

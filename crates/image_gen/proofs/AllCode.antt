@@ -28,8 +28,9 @@ use Rattle.rv32_instr.specs.declared.block.Block.{Block}
 use Rattle.rv32_expand.specs.Expansion.{block_address}
 use Rattle.rv32_expand.specs.InPlace.{IsItem, IsOfItem, item_mark, mark_kind, mark_number}
 use Rattle.rv32_expand.specs.Sizes.{items_before}
-use Rattle.service_gen.specs.Block.{opening, back_mark, further_marks}
-use Rattle.event_gen.specs.Calls.{ServesCall}
+use Rattle.service_gen.specs.Block.{further_marks}
+use Rattle.block_parts.specs.Marks.{opening, back_mark}
+use Rattle.service_blocks.specs.Calls.{ServesCall}
 use Rattle.service_gen.specs.Schedule.{way_back}
 use Rattle.sloth_base.specs.Arithmetic.{sum32}
 use Rattle.sloth_base.specs.Blocks.{block_number, block_code, block_object}

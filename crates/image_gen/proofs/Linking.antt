@@ -40,7 +40,7 @@ use Rattle.image_gen.proofs.Planning.{called_with}
 use Rattle.sloth_base.specs.declared.service.Service.TheVariants as service
 use Rattle.sloth_base.specs.Blocks.{block_number}
 use Rattle.rv32_expand.specs.Expansion.{block_address}
-use Rattle.event_gen.specs.Calls.{IsCalledWith}
+use Rattle.service_blocks.specs.Calls.{IsCalledWith}
 use Rattle.service_gen.specs.Schedule.{way_back}
 
 module _ (config : Config) (app : App) (levels : Levels) (wanted : List Bool) (map : Map) (p : IsPlanned config app wanted map) where

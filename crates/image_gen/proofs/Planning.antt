@@ -19,7 +19,7 @@ use Rattle.app_rules.specs.WellFormed.{WellFormed}
 use Rattle.prio_levels.specs.Levels.{AreLevels}
 use Rattle.rv32_expand.specs.InPlace.{IsItem}
 use Rattle.rv32_expand.specs.Sizes.{AreSizes}
-use Rattle.event_gen.specs.Calls.{IsCalledWith}
+use Rattle.service_blocks.specs.Calls.{IsCalledWith}
 use Rattle.sim_items.specs.Place.{IsStraight, IsFlow}
 use Rattle.mem_map.specs.Plan.{AreNeeds, MayPlan}
 use Rattle.mem_map.specs.Zones.{nowhere}

@@ -25,8 +25,9 @@ use Rattle.rv32_expand.specs.Expansion.{is_long, item_address}
 use Rattle.rv32_expand.specs.InPlace.{IsItem, item_mark}
 use Rattle.rv32_expand.specs.Sizes.{items_before}
 use Rattle.rv32_expand.proofs.Counts.{expanded_some}
-use Rattle.service_gen.specs.Block.{opening, back_mark, further_marks}
-use Rattle.event_gen.specs.Calls.{ServesCall}
+use Rattle.service_gen.specs.Block.{further_marks}
+use Rattle.block_parts.specs.Marks.{opening, back_mark}
+use Rattle.service_blocks.specs.Calls.{ServesCall}
 use Rattle.service_gen.specs.Schedule.{way_back}
 use Rattle.rv32_routine.specs.Kernel.{masking}
 use Rattle.sloth_base.specs.Arithmetic.{sum32}

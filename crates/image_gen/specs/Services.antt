@@ -7,8 +7,9 @@ use Rattle.sloth_base.specs.declared.service.Service.{Service}
 use Rattle.sloth_base.specs.Blocks.{block_code, block_object}
 use Rattle.sloth_region.specs.declared.map.Map.{Map}
 use Rattle.rv32_instr.specs.declared.block.Block.{Block}
-use Rattle.service_gen.specs.Block.{opening, further_marks}
-use Rattle.event_gen.specs.Calls.{IsCalledWith, ServesCall}
+use Rattle.service_gen.specs.Block.{further_marks}
+use Rattle.block_parts.specs.Marks.{opening}
+use Rattle.service_blocks.specs.Calls.{IsCalledWith, ServesCall}
 
 -- the wanted ones, the first of which has this number; a number is a place in the table of blocks
 abbrev pub wanted_from : ℕ → List Bool → List ℕ

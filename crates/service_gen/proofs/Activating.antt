@@ -14,11 +14,13 @@ use Rattle.rv32_routine.specs.Kernel.{masking}
 use Rattle.rv32_routine.specs.Owes.{Owes, Pending, Enabled}
 use Rattle.rv32_routine.proofs.Spread.{spread}
 use Rattle.rv32_routine.proofs.Whole.{masked}
-use Rattle.service_gen.proofs.Busy.{bit_arrives, busy_of, busies}
-use Rattle.service_gen.proofs.Returning.{goes_back}
-use Rattle.service_gen.proofs.Serving.{opens}
-use Rattle.service_gen.specs.Pieces.{busy, tells, raises, back}
-use Rattle.service_gen.specs.ActivateTask.{LooksSuspended, MayActivate, Activated, Activates}
+use Rattle.block_parts.proofs.Busy.{bit_arrives, busy_of, busies}
+use Rattle.block_parts.proofs.Returning.{goes_back}
+use Rattle.block_parts.proofs.Serving.{opens}
+use Rattle.service_gen.specs.Pieces.{tells}
+use Rattle.block_parts.specs.Pieces.{busy, raises, back}
+use Rattle.service_gen.specs.ActivateTask.{MayActivate, Activated, Activates}
+use Rattle.block_parts.specs.Looks.{LooksSuspended}
 
 abbrev pub body : ℕ → List InstrKind
 body task = Lui 4 words_high ∷ (busy task 10 1 ++ (tells ++ (raises task ++ back)))

@@ -18,12 +18,13 @@ use Rattle.rv32_routine.proofs.Arrivals.{other_bytes}
 use Rattle.rv32_routine.proofs.Spread.{spread, spread_from}
 use Rattle.rv32_routine.proofs.Whole.{masked}
 use Rattle.rv32_routine.proofs.Leave.{leave_owes, behind}
-use Rattle.service_gen.proofs.Returning.{goes_back}
-use Rattle.service_gen.proofs.Busy.{Finds, looks_owe}
+use Rattle.block_parts.proofs.Returning.{goes_back}
+use Rattle.block_parts.proofs.Busy.{Finds, looks_owe}
 use Rattle.service_gen.proofs.Ending.{ends_owe, ended_below, has_ended}
-use Rattle.service_gen.proofs.Serving.{opens}
-use Rattle.service_gen.specs.Pieces.{ends, busy, raises, back, asks, refuses}
-use Rattle.service_gen.specs.ActivateTask.{LooksSuspended}
+use Rattle.block_parts.proofs.Serving.{opens}
+use Rattle.service_gen.specs.Pieces.{asks, refuses}
+use Rattle.block_parts.specs.Pieces.{ends, busy, raises, back}
+use Rattle.block_parts.specs.Looks.{LooksSuspended}
 use Rattle.service_gen.specs.TerminateTask.{ended_ram, Terminated}
 use Rattle.service_gen.specs.ChainTask.{MayChain, Chained, Chains}
 
@@ -31,9 +32,6 @@ abbrev pub body : ℕ → List InstrKind
 body task = Lui 4 words_high ∷ (asks task ++ (busy task 3 1 ++ (refuses ++ (back ++ (ends ++ (raises task ++ leave))))))
 
 -- a branch at an offset reaches the instruction behind so many more
-pub lands : (o k n : ℕ) → o ≤ 0x20_0000 → n ≤ 68 → k ≡ 4 + 4 * n → plus (0x8000_0000 + o) (pos k) ≡ 0x8000_0000 + (o + 4 + 4 * n)
-lands o k n small few e = omega arith
-
 module _ (offset task own place : ℕ) (c : Core) (h : MayChain offset task own place (masking ∷ body task) c) where
   low : 1024 ≤ offset
   low = h.goes_back.can_run.behind

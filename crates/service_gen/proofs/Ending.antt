@@ -10,7 +10,7 @@ use Rattle.rv32_routine.specs.Owes.{AreOf, Owes, Pending}
 use Rattle.rv32_routine.specs.Kernel.{IsBelow, HasLeft}
 use Rattle.rv32_routine.proofs.Words.{word_at-other}
 use Rattle.rv32_routine.proofs.Leave.{behind}
-use Rattle.service_gen.specs.Pieces.{ends}
+use Rattle.block_parts.specs.Pieces.{ends}
 use Rattle.service_gen.specs.TerminateTask.{ended_ram, Terminated}
 
 pub ended_kept : (ram : List ℕ) (own p : ℕ) → own < 30 → below_word ≤ p → word_at (ended_ram ram own) p ≡ word_at ram p

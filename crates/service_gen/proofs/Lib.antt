@@ -1,12 +1,9 @@
 pub mod TerminateTask
 pub mod Activating
-pub mod Returning
 pub mod Telling
 pub mod Releasing
 pub mod Ending
 pub mod Chaining
 pub mod Taking
-pub mod Serving
-pub mod Busy
 pub mod Stating
 pub mod Yielding

@@ -12,8 +12,8 @@ use Rattle.rv32_routine.specs.Kernel.{masking}
 use Rattle.rv32_routine.specs.Owes.{Owes}
 use Rattle.rv32_routine.proofs.Spread.{spread}
 use Rattle.rv32_routine.proofs.Whole.{masked}
-use Rattle.service_gen.proofs.Returning.{goes_back_at}
-use Rattle.service_gen.proofs.Serving.{opens}
+use Rattle.block_parts.proofs.Returning.{goes_back_at}
+use Rattle.block_parts.proofs.Serving.{opens}
 use Rattle.service_gen.specs.Pieces as piece
 use Rattle.service_gen.specs.ReleaseResource.{MayRelease, Released, Releases}
 

@@ -17,11 +17,12 @@ use Rattle.rv32_routine.specs.Owes.{Owes, Pending, Enabled}
 use Rattle.rv32_routine.proofs.Leave.{behind}
 use Rattle.rv32_routine.proofs.Spread.{spread, spread_from}
 use Rattle.rv32_routine.proofs.Whole.{masked}
-use Rattle.service_gen.proofs.Busy.{bit_arrives}
-use Rattle.service_gen.proofs.Chaining.{lands}
-use Rattle.service_gen.proofs.Returning.{goes_back_with}
-use Rattle.service_gen.proofs.Serving.{opens}
-use Rattle.service_gen.specs.Pieces.{asks_active, tells_active, asks_waiting, tells_resting, back}
+use Rattle.block_parts.proofs.Busy.{bit_arrives}
+use Rattle.block_parts.proofs.Landing.{lands}
+use Rattle.block_parts.proofs.Returning.{goes_back_with}
+use Rattle.block_parts.proofs.Serving.{opens}
+use Rattle.service_gen.specs.Pieces.{asks_active, tells_active, asks_waiting, tells_resting}
+use Rattle.block_parts.specs.Pieces.{back}
 use Rattle.service_gen.specs.GetTaskState.{MayTellState, IsNumber, StateTold, TellsState}
 use Rattle.service_gen.specs.GetTaskState.IsNumber.{running, preempted, waiting, ready, suspended}
 

@@ -14,10 +14,11 @@ use Rattle.rv32_routine.specs.Kernel.{masking}
 use Rattle.rv32_routine.specs.Owes.{Owes}
 use Rattle.rv32_routine.proofs.Spread.{spread, spread_from}
 use Rattle.rv32_routine.proofs.Whole.{masked}
-use Rattle.service_gen.proofs.Returning.{goes_back_at}
-use Rattle.service_gen.proofs.Chaining.{lands}
-use Rattle.service_gen.proofs.Serving.{opens}
-use Rattle.service_gen.specs.Pieces.{takes, goes_on_at}
+use Rattle.block_parts.proofs.Returning.{goes_back_at}
+use Rattle.block_parts.proofs.Landing.{lands}
+use Rattle.block_parts.proofs.Serving.{opens}
+use Rattle.service_gen.specs.Pieces.{takes}
+use Rattle.block_parts.specs.Pieces.{goes_on_at}
 use Rattle.service_gen.specs.GetResource.{MayTake, Taken, Takes}
 
 abbrev pub body : ℕ → ℕ → List InstrKind

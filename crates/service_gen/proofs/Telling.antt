@@ -11,9 +11,10 @@ use Rattle.rv32_routine.specs.Kernel.{masking}
 use Rattle.rv32_routine.specs.Owes.{Owes}
 use Rattle.rv32_routine.proofs.Spread.{spread}
 use Rattle.rv32_routine.proofs.Whole.{masked}
-use Rattle.service_gen.proofs.Returning.{goes_back_with}
-use Rattle.service_gen.proofs.Serving.{opens}
-use Rattle.service_gen.specs.Pieces.{tells_own, back}
+use Rattle.block_parts.proofs.Returning.{goes_back_with}
+use Rattle.block_parts.proofs.Serving.{opens}
+use Rattle.service_gen.specs.Pieces.{tells_own}
+use Rattle.block_parts.specs.Pieces.{back}
 use Rattle.service_gen.specs.GetTaskID.{MayTell, Told, TellsTask}
 
 abbrev pub body : List InstrKind

@@ -14,8 +14,8 @@ use Rattle.rv32_routine.proofs.Spread.{spread, spread_from}
 use Rattle.rv32_routine.proofs.Whole.{masked}
 use Rattle.rv32_routine.proofs.Leave.{leave_owes, behind}
 use Rattle.service_gen.proofs.Ending.{ends_owe, ended_below, has_ended}
-use Rattle.service_gen.proofs.Serving.{opens}
-use Rattle.service_gen.specs.Pieces.{ends}
+use Rattle.block_parts.proofs.Serving.{opens}
+use Rattle.block_parts.specs.Pieces.{ends}
 use Rattle.service_gen.specs.TerminateTask.{ended_ram, MayTerminate, Terminated, Terminates}
 
 abbrev pub body : List InstrKind

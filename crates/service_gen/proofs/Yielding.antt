@@ -14,9 +14,9 @@ use Rattle.rv32_routine.specs.Kernel.{CanRun, masking}
 use Rattle.rv32_routine.specs.Owes.{Owes, Level}
 use Rattle.rv32_routine.proofs.Spread.{spread, spread_from, others}
 use Rattle.rv32_routine.proofs.Whole.{masked}
-use Rattle.service_gen.proofs.Serving.{opens}
+use Rattle.block_parts.proofs.Serving.{opens}
 use Rattle.service_gen.specs.Pieces.{lowers, stops_at_back, comes_back}
-use Rattle.service_gen.specs.Back.{a0}
+use Rattle.block_parts.specs.Back.{a0}
 use Rattle.service_gen.specs.Schedule.{start_register, way_back, MayYield, Yielded, MayComeBack, CameBack, Yields}
 
 -- up to the way back

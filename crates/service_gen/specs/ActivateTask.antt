@@ -8,11 +8,7 @@ use Rattle.rv32_instr.specs.Ram.{word_at}
 use Rattle.rv32_routine.specs.Masked.{FromOpening}
 use Rattle.rv32_routine.specs.Place.{at}
 use Rattle.rv32_routine.specs.Kernel.{masking}
-use Rattle.service_gen.specs.Back.{CanGoBack, WentBack, a0}
-
--- a task is Suspended: it is not Active, its line is not pending, and the line is enabled, so it does not wait
-abbrev pub LooksSuspended : ℕ → Core → Type 0
-LooksSuspended task core = (word_at core.ram (active task) ≡ 0) × (slice_index core.pending task ≡ 0) × (slice_index core.enabled task ≡ 1)
+use Rattle.block_parts.specs.Back.{CanGoBack, WentBack, a0}
 
 -- the code can run, and what tells of the task are bits
 pub record MayActivate (offset task : ℕ) (code : List InstrKind) (core : Core) : Type 0 where

@@ -1,7 +1,6 @@
 -- Service blocks.
 use Rattle.std.specs.Prelude.{ℕ, ◌≡◌, ◌<◌, ◌≤◌, List, [], ◌∷◌, slice_index}
 use Rattle.sloth_base.specs.declared.image.Mark.{Mark}
-use Rattle.sloth_base.specs.declared.image.MarkKind.TheVariants as mark
 use Rattle.sloth_base.specs.declared.service.Service.{Service}
 use Rattle.sloth_base.specs.declared.service.Service.TheVariants.{ActivateTask, TerminateTask, ChainTask, Schedule, GetTaskID, GetTaskState, GetResource, ReleaseResource}
 use Rattle.sloth_base.specs.declared.places.Levels.{Levels}
@@ -15,14 +14,7 @@ use Rattle.service_gen.specs.GetTaskState.{TellsState}
 use Rattle.service_gen.specs.ReleaseResource.{Releases}
 use Rattle.service_gen.specs.Schedule.{way_back, Yields}
 use Rattle.sloth_base.specs.Arithmetic.{sum32}
-
--- the mark on the instruction with which a service of this code begins
-abbrev pub opening : ℕ → ℕ → Mark
-opening address code = record { address = address; kind = mark.Opening; a = code; b = 0; c = 0 }
-
--- the mark on the instruction with which a task comes back from Schedule
-abbrev pub back_mark : ℕ → Mark
-back_mark address = record { address = address; kind = mark.Back; a = 0; b = 0; c = 0 }
+use Rattle.block_parts.specs.Marks.{back_mark}
 
 -- the marks behind the opening in a block at this address: Schedule's has the way back
 abbrev pub further_marks : Service → ℕ → List Mark

@@ -9,8 +9,8 @@ use Rattle.rv32_instr.specs.Ram.{word_at}
 use Rattle.rv32_routine.specs.Masked.{FromOpening}
 use Rattle.rv32_routine.specs.Place.{at}
 use Rattle.rv32_routine.specs.Kernel.{IsBelow, masking}
-use Rattle.service_gen.specs.Back.{CanGoBack, WentBack, a0}
-use Rattle.service_gen.specs.ActivateTask.{LooksSuspended}
+use Rattle.block_parts.specs.Back.{CanGoBack, WentBack, a0}
+use Rattle.block_parts.specs.Looks.{LooksSuspended}
 use Rattle.service_gen.specs.TerminateTask.{Terminated}
 
 -- the code can run, the task `own` runs, what runs below it has its context at `place`, and what tells of the chained task are bits

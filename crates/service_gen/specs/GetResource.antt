@@ -8,7 +8,7 @@ use Rattle.rv32_instr.specs.Ram.{with_word}
 use Rattle.rv32_routine.specs.Masked.{FromOpening}
 use Rattle.rv32_routine.specs.Place.{at}
 use Rattle.rv32_routine.specs.Kernel.{masking}
-use Rattle.service_gen.specs.Back.{CanGoBack, WentBack, a0}
+use Rattle.block_parts.specs.Back.{CanGoBack, WentBack, a0}
 
 -- the code can run
 pub record MayTake (offset resource : ℕ) (code : List InstrKind) (core : Core) : Type 0 where

@@ -8,7 +8,7 @@ use Rattle.rv32_instr.specs.Ram.{word_at}
 use Rattle.rv32_routine.specs.Masked.{FromOpening}
 use Rattle.rv32_routine.specs.Place.{at}
 use Rattle.rv32_routine.specs.Kernel.{masking}
-use Rattle.service_gen.specs.Back.{CanGoBack, WentBack, a0, a1}
+use Rattle.block_parts.specs.Back.{CanGoBack, WentBack, a0, a1}
 
 -- the code can run, and this task runs
 pub record MayTell (offset task : ℕ) (code : List InstrKind) (core : Core) : Type 0 where

@@ -2,7 +2,6 @@ pub mod Block
 pub mod TerminateTask
 pub mod Pieces
 pub mod ActivateTask
-pub mod Back
 pub mod GetTaskID
 pub mod GetTaskState
 pub mod ReleaseResource

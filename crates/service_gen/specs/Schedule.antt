@@ -9,7 +9,7 @@ use Rattle.rv32_instr.specs.Ram.{word_at}
 use Rattle.rv32_routine.specs.Masked.{FromOpening}
 use Rattle.rv32_routine.specs.Place.{at}
 use Rattle.rv32_routine.specs.Kernel.{CanRun, LeftAs, masking}
-use Rattle.service_gen.specs.Back.{CanGoBack, a0}
+use Rattle.block_parts.specs.Back.{CanGoBack, a0}
 
 -- the register of the level to come back to
 abbrev pub start_register : ℕ

@@ -3,7 +3,7 @@ ghost use Rattle.std.specs.Prelude.{◌≡◌, ◌<◌, ◌++◌, IfOk, OnOk};
 ghost use Rattle.service_gen.specs.Pieces.{tells};
 ghost use Rattle.service_gen.specs.ActivateTask.{Activates};
 
-use crate::pieces::{go_back, look_at, open, raise};
+use block_parts::pieces::{go_back, look_at, open, raise};
 use rv32_instr::Instr;
 use rv32_instr::asm::{A0, X1, slli};
 use rv32_routine::emit::emit;

@@ -4,7 +4,7 @@ ghost use Rattle.std.specs.Prelude.{◌≡◌, ◌<◌, ◌++◌, IfOk, OnOk};
 ghost use Rattle.service_gen.specs.Pieces.{asks, refuses};
 ghost use Rattle.service_gen.specs.ChainTask.{Chains};
 
-use crate::pieces::{BACK, LOOK, end, go_back, look_at, open, raise};
+use block_parts::pieces::{BACK, LOOK, end, go_back, look_at, open, raise};
 use rv32_instr::Instr;
 use rv32_instr::asm::{A0, X1, X3, X4, ZERO, addi, beq, lw};
 use rv32_routine::emit::{emit, past};

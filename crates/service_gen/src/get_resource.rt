@@ -3,7 +3,7 @@ ghost use Rattle.std.specs.Prelude.{◌≡◌, ◌≤◌, ◌++◌, IfOk, OnOk};
 ghost use Rattle.service_gen.specs.Pieces.{takes};
 ghost use Rattle.service_gen.specs.GetResource.{Takes};
 
-use crate::pieces::{go_on, open};
+use block_parts::pieces::{go_on, open};
 use rv32_instr::Instr;
 use rv32_instr::asm::{X1, X3, X4, ZERO, addi, bgeu, csrrs, sw};
 use rv32_instr::csr::ILEVEL;

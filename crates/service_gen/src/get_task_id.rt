@@ -3,7 +3,7 @@ ghost use Rattle.std.specs.Prelude.{◌≡◌, ◌++◌, IfOk, OnOk};
 ghost use Rattle.service_gen.specs.Pieces.{tells_own};
 ghost use Rattle.service_gen.specs.GetTaskID.{TellsTask};
 
-use crate::pieces::{go_back, open};
+use block_parts::pieces::{go_back, open};
 use rv32_instr::Instr;
 use rv32_instr::asm::{A0, A1, X4, ZERO, addi, lw};
 use rv32_routine::emit::emit;

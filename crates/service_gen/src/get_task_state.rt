@@ -3,7 +3,7 @@ ghost use Rattle.std.specs.Prelude.{◌≡◌, ◌<◌, ◌++◌, IfOk, OnOk};
 ghost use Rattle.service_gen.specs.Pieces.{asks_active, tells_active, asks_waiting, tells_resting};
 ghost use Rattle.service_gen.specs.GetTaskState.{TellsState};
 
-use crate::pieces::{BACK, go_back, open};
+use block_parts::pieces::{BACK, go_back, open};
 use rv32_instr::Instr;
 use rv32_instr::asm::{A0, A1, X1, X3, X4, ZERO, addi, beq, lbu, lui, lw, slli, sltu, sub};
 use rv32_routine::emit::{emit, past};

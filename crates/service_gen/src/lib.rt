@@ -4,22 +4,23 @@
 ghost use Rattle.std.specs.Prelude.{◌≡◌, ◌+◌, ◌*◌, ◌<◌, ◌≤◌, [], ◌∷◌, IfOk, length, slice_index};
 ghost use Rattle.sloth_base.specs.Blocks.{block_number, block_objects};
 ghost use Rattle.sloth_base.specs.ServiceCodes.{code_of};
-ghost use Rattle.service_gen.specs.Block.{opening, back_mark, further_marks, HasBlock, Serves};
+ghost use Rattle.block_parts.specs.Marks.{opening};
+ghost use Rattle.service_gen.specs.Block.{further_marks, HasBlock, Serves};
 
 mod activate_task;
 mod chain_task;
 mod get_resource;
 mod get_task_id;
 mod get_task_state;
-pub mod pieces;
 mod release_resource;
 mod schedule;
 mod terminate_task;
 
 use crate::schedule::WAY_BACK;
+use block_parts::marks::{back_mark, opening};
 use rv32_instr::{Block, Instr};
 use sloth_base::config::Config;
-use sloth_base::image::{Mark, MarkKind};
+use sloth_base::image::Mark;
 use sloth_base::list::List;
 use sloth_base::memory::NoMemory;
 use sloth_base::places::{Levels, block_number};
@@ -59,24 +60,11 @@ fn marks(alloc: Global, service: Service, at: u32) -> Result<Vec<Mark>, AllocErr
     ensures { IfOk result (λ marks. marks.items ≡ opening at (code_of service) ∷ further_marks service at) }
 {
     let mut marks = Vec::new(alloc);
-    marks.push(plain_mark(at, MarkKind::Opening, service.code()))?;
+    marks.push(opening(at, service))?;
     if let Service::Schedule = service {
-        marks.push(plain_mark(at.wrapping_add(WAY_BACK), MarkKind::Back, 0))?;
+        marks.push(back_mark(at.wrapping_add(WAY_BACK)))?;
     }
     Ok(marks)
-}
-
-/// A mark with one field.
-fn plain_mark(address: u32, kind: MarkKind, a: u8) -> Mark
-    ensures { result ≡ record { address = address; kind = kind; a = a; b = 0; c = 0 } }
-{
-    Mark {
-        address,
-        kind,
-        a,
-        b: 0,
-        c: 0,
-    }
 }
 
 /// The object's number.

@@ -3,7 +3,7 @@ ghost use Rattle.std.specs.Prelude.{◌≡◌, ◌≤◌, ◌++◌, IfOk, OnOk};
 ghost use Rattle.service_gen.specs.Pieces.{releases};
 ghost use Rattle.service_gen.specs.ReleaseResource.{Releases};
 
-use crate::pieces::{go_on, open};
+use block_parts::pieces::{go_on, open};
 use rv32_instr::Instr;
 use rv32_instr::asm::{X3, X4, lw};
 use rv32_routine::emit::emit;

@@ -3,7 +3,7 @@ ghost use Rattle.std.specs.Prelude.{◌≡◌, ◌++◌, IfOk, OnOk};
 ghost use Rattle.service_gen.specs.Pieces.{lowers, stops_at_back, comes_back};
 ghost use Rattle.service_gen.specs.Schedule.{Yields};
 
-use crate::pieces::open;
+use block_parts::pieces::open;
 use rv32_instr::Instr;
 use rv32_instr::asm::{
     A0, X1, X3, X4, X30, X31, ZERO, add, addi, auipc, csrrci, csrrs, csrrw, lbu, lui, lw, mret,

@@ -2,7 +2,7 @@
 ghost use Rattle.std.specs.Prelude.{◌≡◌, IfOk};
 ghost use Rattle.service_gen.specs.TerminateTask.{Terminates};
 
-use crate::pieces::{end, open};
+use block_parts::pieces::{end, open};
 use rv32_instr::Instr;
 use rv32_routine::pieces::leave;
 use std::alloc::{AllocError, Global};

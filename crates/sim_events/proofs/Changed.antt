@@ -7,7 +7,7 @@ use Rattle.sloth_region.specs.Layout.{cur, events, wait}
 use Rattle.rv32_instr.specs.Ram.{word_at, with_word}
 use Rattle.rv32_routine.specs.Kernel.{LeftAs}
 use Rattle.rv32_routine.proofs.Words.{word_at-same, get_or-with_word, length-with_word}
-use Rattle.service_gen.specs.Back.{WentBack, a0}
+use Rattle.block_parts.specs.Back.{WentBack, a0}
 use Rattle.osek_machine.specs.declared.state.TaskState.{TaskState}
 use Rattle.osek_machine.specs.declared.state.TaskState.TheVariants as mode
 use Rattle.osek_machine.specs.State.{Task, System, task}

@@ -12,8 +12,8 @@ use Rattle.sloth_region.specs.Layout.{events, wait}
 use Rattle.rv32_instr.specs.Ram.{word_at, with_word}
 use Rattle.rv32_expand.specs.Expansion.{mask_of}
 use Rattle.rv32_routine.proofs.Words.{word_below}
-use Rattle.service_gen.specs.ActivateTask.{LooksSuspended}
-use Rattle.service_gen.specs.Back.{WentBack, a0}
+use Rattle.block_parts.specs.Looks.{LooksSuspended}
+use Rattle.block_parts.specs.Back.{WentBack, a0}
 use Rattle.event_gen.specs.ClearEvent.{mask_register}
 use Rattle.event_gen.specs.SetEvent.{with_mask, HasNotSet, HasSet, HasWoken, EventsSet}
 use Rattle.osek_machine.specs.declared.state.TaskState.{TaskState}

@@ -32,8 +32,9 @@ use Rattle.rv32_expand.proofs.Verified.{has_first}
 use Rattle.osek_valid.proofs.Stacks.{body_is}
 use Rattle.observe.specs.Observe.{mark_at, view_of_image}
 use Rattle.vector_gen.specs.Idle.{idle_mark}
-use Rattle.service_gen.specs.Block.{opening, back_mark, further_marks}
-use Rattle.event_gen.specs.Calls.{ServesCall}
+use Rattle.service_gen.specs.Block.{further_marks}
+use Rattle.block_parts.specs.Marks.{opening, back_mark}
+use Rattle.service_blocks.specs.Calls.{ServesCall}
 use Rattle.sloth_base.specs.Arithmetic.{sum32}
 use Rattle.service_gen.specs.Schedule.{way_back, Yields}
 use Rattle.sim_laws.specs.Kernel.{HasWayBack}

@@ -5,7 +5,7 @@ use Rattle.sloth_base.specs.declared.places.Levels.{Levels}
 use Rattle.sloth_base.specs.declared.service.Service.{Service}
 use Rattle.sloth_base.specs.declared.service.Service.TheVariants as service
 use Rattle.rv32_instr.specs.declared.InstrKind.{InstrKind}
-use Rattle.event_gen.specs.Calls.{ServesCall}
+use Rattle.service_blocks.specs.Calls.{ServesCall}
 
 -- a service has its code
 pub of_code : (s : Service) → service_of (code_of s) ≡ Some s

@@ -26,9 +26,10 @@ use Rattle.vector_gen.specs.Boot.{Boots}
 use Rattle.vector_gen.specs.Idle.{Idles, idle_mark}
 use Rattle.vector_gen.specs.Vectors.{AreJumps}
 use Rattle.prologue_gen.specs.Places.{EntersTask}
-use Rattle.service_gen.specs.Block.{opening, further_marks}
+use Rattle.service_gen.specs.Block.{further_marks}
+use Rattle.block_parts.specs.Marks.{opening}
 use Rattle.service_gen.specs.Schedule.{way_back}
-use Rattle.event_gen.specs.Calls.{ServesCall}
+use Rattle.service_blocks.specs.Calls.{ServesCall}
 use Rattle.sim_relation.specs.Bounds.{AreBelow}
 use Rattle.sim_laws.specs.Generated.{IsGenerated}
 use Rattle.sloth_link.specs.declared.datum.Datum.{Datum}

@@ -67,7 +67,7 @@ use Rattle.osek_machine.specs.Services.{is_there}
 use Rattle.osek_machine.specs.Steps.{IsAt}
 use Rattle.prio_levels.specs.Levels.{AreLevels}
 use Rattle.rv32_instr.specs.declared.InstrKind.{InstrKind}
-use Rattle.event_gen.specs.Calls.{ServesCall}
+use Rattle.service_blocks.specs.Calls.{ServesCall}
 use Rattle.event_gen.specs.ClearEvent.{ClearsEvents}
 use Rattle.event_gen.specs.GetEvent.{TellsEvents}
 use Rattle.event_gen.specs.SetEvent.{SetsEvents}

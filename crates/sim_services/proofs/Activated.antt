@@ -10,8 +10,9 @@ use Rattle.sloth_base.specs.Machine.{State}
 use Rattle.sloth_region.specs.Layout.{cur}
 use Rattle.rv32_instr.specs.Ram.{word_at}
 use Rattle.rv32_routine.specs.Kernel.{LeftAs}
-use Rattle.service_gen.specs.ActivateTask.{LooksSuspended, Activated}
-use Rattle.service_gen.specs.Back.{a0}
+use Rattle.service_gen.specs.ActivateTask.{Activated}
+use Rattle.block_parts.specs.Looks.{LooksSuspended}
+use Rattle.block_parts.specs.Back.{a0}
 use Rattle.osek_machine.specs.declared.state.TaskState.TheVariants as mode
 use Rattle.osek_machine.specs.State.{Task, System, task}
 use Rattle.osek_machine.specs.Services.{activated, answers, answered, is_there, GoesOn, outcome}

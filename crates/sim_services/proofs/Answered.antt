@@ -3,7 +3,7 @@ use Rattle.std.proofs.Common.{◌≡◌, ℕ, ◌+◌, ◌<◌, ◌≤◌, ◌�
 use Rattle.std.specs.Prelude.{slice_index}
 use Rattle.std.proofs.lemmas.Bool.{cases_eq, cases_lt}
 use Rattle.std.proofs.lemmas.List.{get_or-set_same, get_or-set_other, length-set}
-use Rattle.service_gen.specs.Back.{a0, a1}
+use Rattle.block_parts.specs.Back.{a0, a1}
 
 module _ (registers old new : List ℕ) (long : length registers ≡ 25) (held : (i : ℕ) → i < 25 → slice_index registers i ≡ slice_index old (i + 5)) (value : ℕ)
     (value_is : slice_index new a0 ≡ value) where

@@ -11,7 +11,7 @@ use Rattle.sloth_base.specs.Status.{E_OK}
 use Rattle.sloth_region.specs.Layout.{cur}
 use Rattle.rv32_instr.specs.Ram.{word_at}
 use Rattle.rv32_routine.specs.Kernel.{LeftAs}
-use Rattle.service_gen.specs.Back.{WentBack, a0, a1}
+use Rattle.block_parts.specs.Back.{WentBack, a0, a1}
 use Rattle.osek_machine.specs.State.{Frame, Task, System, task}
 use Rattle.osek_machine.specs.Meaning.{going_on}
 use Rattle.osek_machine.specs.Services.{moved, is_there, Outcome, GoesOn, Leaves, outcome, answered, answered_with}

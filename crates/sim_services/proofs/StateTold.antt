@@ -7,7 +7,7 @@ use Rattle.sloth_base.specs.declared.service.Service.TheVariants as service
 use Rattle.sloth_base.specs.Machine.{State}
 use Rattle.sloth_region.specs.Layout.{active}
 use Rattle.rv32_instr.specs.Ram.{word_at}
-use Rattle.service_gen.specs.Back.{a1}
+use Rattle.block_parts.specs.Back.{a1}
 use Rattle.service_gen.specs.GetTaskState.{IsNumber, StateTold}
 use Rattle.service_gen.specs.GetTaskState.IsNumber.{running, preempted, waiting, ready, suspended}
 use Rattle.osek_machine.specs.declared.state.TaskState.{TaskState}

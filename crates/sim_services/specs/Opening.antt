@@ -10,7 +10,7 @@ use Rattle.rv32_instr.specs.declared.InstrKind.{InstrKind}
 use Rattle.rv32_instr.specs.Ram.{word_at}
 use Rattle.rv32_routine.specs.Kernel.{IsBelow}
 use Rattle.rv32_expand.specs.Expansion.{item_address, block_address, expansion}
-use Rattle.service_gen.specs.Back.{CanGoBack}
+use Rattle.block_parts.specs.Back.{CanGoBack}
 use Rattle.observe.specs.Observe.{View, mark_at}
 use Rattle.sloth_base.specs.ServiceCodes.{service_of}
 use Rattle.osek_machine.specs.State.{Frame, Task, System, task}

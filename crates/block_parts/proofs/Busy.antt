@@ -13,8 +13,8 @@ use Rattle.rv32_routine.specs.Place.{at}
 use Rattle.rv32_routine.proofs.Leave.{behind}
 use Rattle.rv32_routine.proofs.Spread.{spread, spread_from}
 use Rattle.rv32_routine.proofs.Whole.{masked}
-use Rattle.service_gen.specs.ActivateTask.{LooksSuspended}
-use Rattle.service_gen.specs.Pieces.{busy}
+use Rattle.block_parts.specs.Looks.{LooksSuspended}
+use Rattle.block_parts.specs.Pieces.{busy}
 
 -- a pending byte stays a bit under arrivals
 pub bit_arrives : (lines bytes : List ℕ) (k : ℕ) → k < length bytes → get_or bytes k 0 < 2 → get_or (arrive lines bytes) k 0 < 2

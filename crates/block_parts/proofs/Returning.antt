@@ -8,8 +8,8 @@ use Rattle.rv32_routine.specs.Place.{at}
 use Rattle.rv32_routine.specs.Owes.{Owes}
 use Rattle.rv32_routine.proofs.Spread.{spread, spread_from, others}
 use Rattle.rv32_routine.proofs.Whole.{masked}
-use Rattle.service_gen.specs.Back.{CanGoBack, WentBack, a0, a1}
-use Rattle.service_gen.specs.Pieces.{back_at, back}
+use Rattle.block_parts.specs.Back.{CanGoBack, WentBack, a0, a1}
+use Rattle.block_parts.specs.Pieces.{back_at, back}
 
 module _ (offset : ℕ) (code : List InstrKind) (c : Core) (can : CanGoBack offset code c) where
   abbrev x2 : ℕ

@@ -1,6 +1,6 @@
 //! Pieces of code that several services have.
 ghost use Rattle.std.specs.Prelude.{◌≡◌, ◌<◌, ◌++◌, OnOk};
-ghost use Rattle.service_gen.specs.Pieces.{opens, ends, busy, raises, back_at, back, goes_on_at};
+ghost use Rattle.block_parts.specs.Pieces.{opens, ends, busy, raises, back_at, back, goes_on_at};
 
 use rv32_instr::Instr;
 use rv32_instr::asm::{

@@ -1,0 +1,4 @@
+pub mod Serving
+pub mod Returning
+pub mod Busy
+pub mod Landing

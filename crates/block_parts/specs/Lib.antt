@@ -1,0 +1,4 @@
+pub mod Back
+pub mod Pieces
+pub mod Marks
+pub mod Looks
