@@ -1,6 +1,7 @@
 //! The abstract scheduler as a program, and its next event.
 #![tactic(auto)]
 
+pub mod above;
 pub mod arithmetic;
 pub mod change;
 pub mod data;

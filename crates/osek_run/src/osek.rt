@@ -1,5 +1,6 @@
 //! The abstract scheduler.
-ghost use Rattle.std.specs.Prelude.{◌≡◌, ◌<◌, IfOk, IfSome, OnOk, OnErr, Some, None, length};
+ghost use Rattle.std.specs.Prelude.{◌≡◌, ◌<◌, ℕ, cond, IfOk, IfSome, OnOk, OnErr, Some, None, length};
+ghost use Rattle.std.specs.Int.{bit_at};
 ghost use Rattle.app_rules.specs.WellFormed.{WellFormed};
 ghost use Rattle.osek_machine.specs.State.{System, opening, task as task_of};
 ghost use Rattle.osek_machine.specs.Steps.{OsekStep};
@@ -7,9 +8,11 @@ ghost use Rattle.osek_machine.specs.Next.{next_state};
 ghost use Rattle.sloth_base.specs.declared.app.App.{App as AnyApp};
 ghost use Rattle.sloth_base.specs.declared.event.Event.TheVariants as event;
 ghost use Rattle.osek_machine.specs.declared.state.TaskState.TheVariants as mode;
+ghost use Rattle.osek_run.specs.Above.{is_above};
 ghost use Rattle.osek_run.specs.Plans.{HasRoom};
 ghost use Rattle.osek_run.specs.Steps.{IsSound, Machine, follows};
 
+use crate::above::lines_above;
 use crate::events::{answer_plan, back_plan, entry_plan, leave_plan, running_plan};
 use crate::plan::Plan;
 use crate::priority::is_idle;
@@ -179,5 +182,20 @@ impl Osek {
         ensures { result ≡ (task_of self.now.system task).state }
     {
         self.store.task(task.0 as usize).state()
+    }
+
+    /// The Ready tasks that stand above a task of the configuration, a bit for each line. Takes no memory.
+    pub fn above(&self, task: TaskId) -> u32
+        requires { task < length self.now.config.tasks }
+        ensures { (u : ℕ) → bit_at result u ≡ cond (is_above self.now.config self.now.system task u) 1 0 }
+    {
+        lines_above(&self.config, &self.store, task.0)
+    }
+
+    /// How many tasks the configuration has. Takes no memory.
+    pub fn task_count(&self) -> usize
+        ensures { result ≡ length self.now.config.tasks }
+    {
+        self.config.tasks.items().len()
     }
 }

@@ -107,8 +107,8 @@ fn current_priority(config: &Config, declared: &TaskDecl, task: &TaskRoom) -> u3
     declared.priority.max(held.max(raised))
 }
 
-// The place of a task in the order of the tasks that are due.
-fn rank(config: &Config, store: &Store, t: usize) -> u64
+/// The place of a task in the order of the tasks that are due.
+pub(crate) fn rank(config: &Config, store: &Store, t: usize) -> u64
     requires declared { t < length config.now.tasks }
     requires there { t < length store.now.tasks }
     ensures { result ≡ rank config.now store.now t }

@@ -1,0 +1,32 @@
+use Rattle.std.proofs.Common.{◌≡◌, ◌∙◌, ℕ, List, Bool, Some, None, Option, true, [], ◌++◌, sym, ap, refl, cond}
+use Rattle.osek_machine.specs.InTime.{admitted_task, is_boot}
+use Rattle.trace_time.specs.Scan.{Scan, looked}
+use Rattle.trace_time.specs.Counts.{with_admit}
+use Rattle.trace_time.specs.Timed.{Kept}
+use Rattle.trace_time.proofs.Longer.{stays_late, stops_here, goes_on}
+use Rattle.trace_time.proofs.timing.Timing.take.Goals as goal
+
+pub returns-then-is_late-clause-timed : goal.returns-then-is_late-clause-timed
+returns-then-is_late-clause-timed c events timed = stays_late events c.args.self.now timed c.args.event.now (sym c.is_late.ensures ∙ c.if-is_late.true)
+
+pub returns-then-not-look-clause-timed : goal.returns-then-not-look-clause-timed
+returns-then-not-look-clause-timed c events timed =
+    let inside = c.self.inside in
+    let e = c.args.event.now in
+    let new : Kept = record { n = inside.n; arrivals = inside.arrivals.now; scan = c.look.new.self; admits = inside.admits.items; most = inside.most; stopped = true } in
+    stops_here events c.args.self.now timed e (sym c.is_late.ensures ∙ c.if-is_late.false) new
+    (ap (λ (k : Kept). k.n) c.self.view_is) (ap (λ (k : Kept). k.arrivals) c.self.view_is)
+    (sym (ap (λ b. cond b (Some c.look.new.self) None) c.if-not-look.true) ∙ (c.look.ensures ∙ ap (λ (k : Kept). looked k.n k.scan e) c.self.view_is))
+    refl
+
+pub returns-clause-timed : goal.returns-clause-timed
+returns-clause-timed c events timed =
+    let inside = c.self.inside in
+    let e = c.args.event.now in
+    let new : Kept = record { n = inside.n; arrivals = inside.arrivals.now; scan = c.look.new.self; admits = c.push_number.new.numbers.items; most = c.most_behind-self-inside.result; stopped = inside.stopped } in
+    goes_on events c.args.self.now timed e (sym c.is_late.ensures ∙ c.if-is_late.false) new
+    (ap (λ (k : Kept). k.n) c.self.view_is) (ap (λ (k : Kept). k.arrivals) c.self.view_is)
+    (sym (ap (λ b. cond b (Some c.look.new.self) None) c.if-not-look.false) ∙ (c.look.ensures ∙ ap (λ (k : Kept). looked k.n k.scan e) c.self.view_is))
+    (c.in_ok-push_number.ensures ∙ ap (λ (k : Kept). k.admits ++ with_admit (admitted_task e.event) e.stamp.at []) c.self.view_is)
+    (c.most_behind-self-inside.ensures ∙ ap (λ (k : Kept). cond (is_boot e.event) 160 k.most) c.self.view_is)
+    (ap (λ (k : Kept). k.stopped) c.self.view_is)

@@ -1,0 +1,36 @@
+-- Events looked at one after the other, and what is kept of them to tell whether they are in time.
+use Rattle.std.specs.Prelude.{ℕ, ◌<◌, ◌≡◌, ◌⊎◌, ◌||◌, List, Bool, true, false, length, ltb, Some, None}
+use Rattle.sloth_base.specs.declared.event.Arrival.{Arrival}
+use Rattle.sloth_base.specs.declared.event.Stamped.{Stamped}
+use Rattle.osek_machine.specs.InTime.{longest}
+use Rattle.trace_time.specs.Scan.{Scan, scan_start, scanned}
+use Rattle.trace_time.specs.Counts.{admit_numbers}
+
+-- what is kept: the number of instructions and the arrivals, where the pass stands, the numbers of the admits, the longest stretch that
+-- the end may cut off, and whether the pass stopped at an event
+pub record Kept : Type 0 where
+  pub n : ℕ
+  pub arrivals : List Arrival
+  pub scan : Scan
+  pub admits : List ℕ
+  pub most : ℕ
+  pub stopped : Bool
+
+-- the pass stopped, or there are more admits than arrivals
+abbrev pub is_late : Kept → Bool
+is_late kept = kept.stopped || ltb (length kept.arrivals) (length kept.admits)
+
+-- no events that begin with these are in time
+abbrev pub NeverInTime : ℕ → List Arrival → List Stamped → Type 0
+NeverInTime n arrivals events = (scanned n (Some (scan_start arrivals)) events ≡ None) ⊎ (length arrivals < length (admit_numbers events))
+
+-- what is kept of events that may be in time
+pub record Timely (events : List Stamped) (kept : Kept) : Type 0 where
+  pub scans : scanned kept.n (Some (scan_start kept.arrivals)) events ≡ Some kept.scan
+  pub admits : kept.admits ≡ admit_numbers events
+  pub most : kept.most ≡ longest events
+
+-- what is kept of these events
+pub record TimedBy (events : List Stamped) (kept : Kept) : Type 0 where
+  pub late : is_late kept ≡ true → NeverInTime kept.n kept.arrivals events
+  pub timely : is_late kept ≡ false → Timely events kept

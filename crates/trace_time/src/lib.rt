@@ -1,0 +1,8 @@
+//! Whether events stand where arrivals allow.
+#![tactic(auto)]
+
+pub mod numbers;
+pub mod pass;
+pub mod timing;
+
+pub use timing::Timing;

@@ -1,0 +1,126 @@
+//! Events looked at one after the other, and whether arrivals are admitted in time.
+ghost use Rattle.std.specs.Prelude.{◌≡◌, ◌<◌, ◌∷◌, ◌++◌, [], cond, IfOk, OnOk, All, List};
+ghost use Rattle.std.specs.Bool.{Decides};
+ghost use Rattle.sloth_base.specs.Arrivals.{NeverFalls};
+ghost use Rattle.sloth_base.specs.declared.event.Stamped.{Stamped as AnyEvent};
+ghost use Rattle.osek_machine.specs.InTime.{InTime, is_boot};
+ghost use Rattle.trace_time.specs.Counts.{AreSmall};
+ghost use Rattle.trace_time.specs.Timed.{TimedBy, is_late};
+
+use crate::numbers::{are_admits_of, last_moment, may_leave, push_number};
+use crate::pass::Pass;
+use sloth_base::event::{Arrival, Event, Stamped};
+use sloth_base::memory::NoMemory;
+use std::alloc::Global;
+use std::marker::Model;
+
+/// How many instructions boot has less than.
+const BOOT: u32 = 400;
+
+/// How many instructions any other stretch has less than.
+const STRETCH: u32 = 160;
+
+/// The arrivals of a run, and what is kept of its events to tell whether they are admitted in time.
+#[derive(Drop)]
+pub struct Timing<'a> {
+    n: u32,
+    arrivals: &'a [Arrival],
+    pass: Pass<'a>,
+    // The admits, a number for each; no more than one above the number of arrivals.
+    admits: Vec<u64>,
+    // How long a stretch is that the end may cut off.
+    most: u32,
+    // An event stands where none may.
+    stopped: bool,
+}
+
+impl<'a> Model for Timing<'a> {
+    ghost use Rattle.trace_time.specs.Timed.{Kept};
+
+    ghost Value = { Kept };
+
+    ghost view = { λ t. record { n = t.n; arrivals = t.arrivals.now; scan = t.pass; admits = t.admits.items; most = t.most; stopped = t.stopped } };
+}
+
+// How long a stretch is that the end may cut off, behind one event more.
+fn most_behind(event: &Event, most: u32) -> u32
+    ensures { result ≡ cond (is_boot event.now) 160 most }
+{
+    match *event {
+        Event::Boot => STRETCH,
+        Event::Admit(_)
+        | Event::Enter(_)
+        | Event::Run { .. }
+        | Event::Call { .. }
+        | Event::Left { .. }
+        | Event::Back(_)
+        | Event::Idle
+        | Event::Stray => most,
+    }
+}
+
+impl<'a> Timing<'a> {
+    /// Before the first event of a run of n instructions.
+    pub fn new(alloc: Global, n: u32, arrivals: &'a [Arrival]) -> Timing<'a>
+        ensures timed { TimedBy [] result }
+        ensures n { result.n ≡ n }
+        ensures arrivals { result.arrivals ≡ arrivals.now }
+    {
+        Timing {
+            n,
+            arrivals,
+            pass: Pass::new(arrivals),
+            admits: Vec::new(alloc),
+            most: BOOT,
+            stopped: false,
+        }
+    }
+
+    // Whether the events are not in time, whatever follows.
+    fn is_late(&self) -> bool
+        ensures { result ≡ is_late self.now }
+    {
+        self.stopped || self.admits.as_slice().len() > self.arrivals.len()
+    }
+
+    /// Takes an event.
+    pub fn take(&mut self, event: &Stamped) -> Result<(), NoMemory>
+        ensures timed { OnOk result ((events : List AnyEvent) → TimedBy events self.old → TimedBy (events ++ event.now ∷ []) self.new) }
+        ensures n { self.new.n ≡ self.old.n }
+        ensures arrivals { self.new.arrivals ≡ self.old.arrivals }
+    {
+        if self.is_late() {
+            return Ok(());
+        }
+        if !self.pass.look(self.n, event) {
+            self.stopped = true;
+            return Ok(());
+        }
+        push_number(&mut self.admits, event)?;
+        self.most = most_behind(&event.event, self.most);
+        Ok(())
+    }
+
+    /// Whether the events stand where the arrivals allow.
+    pub fn in_time(&mut self, alloc: Global) -> Result<bool, NoMemory>
+        requires rising { NeverFalls 1 self.old.arrivals }
+        requires lines { All (λ a. a.line < 4294967296) self.old.arrivals }
+        ensures { IfOk result (λ b. (events : List AnyEvent) → AreSmall events → TimedBy events self.old
+            → Decides b (InTime self.old.n self.old.arrivals events)) }
+    {
+        if self.is_late() {
+            return Ok(false);
+        }
+        let (front, back) = self.arrivals.split_at(self.admits.as_slice().len());
+        if !are_admits_of(alloc, front, &mut self.admits)? {
+            return Ok(false);
+        }
+        Ok(may_leave(
+            self.n,
+            self.most,
+            self.pass.ends(),
+            last_moment(front),
+            back,
+        ))
+    }
+}
