@@ -10,11 +10,11 @@ use Rattle.sloth_base.specs.Named.{nowhere, label_of}
 use Rattle.app_rules.specs.Code.{labelled, marked, held_at, fallen, is_fallen_into, is_entered, held_entering}
 use Rattle.task_verify.specs.Labels.{last_below, list_of, or_else, first_below}
 
-labelled_snoc : (i : ℕ) (xs : List Label) (l : Label) (held : List ℕ) → labelled i (xs ++ l ∷ []) held ≡ cond (l.item == i) l.holds (labelled i xs held)
+pub labelled_snoc : (i : ℕ) (xs : List Label) (l : Label) (held : List ℕ) → labelled i (xs ++ l ∷ []) held ≡ cond (l.item == i) l.holds (labelled i xs held)
 labelled_snoc i [] l held = refl
 labelled_snoc i (x ∷ xs) l held = labelled_snoc i xs l (cond (x.item == i) x.holds held)
 
-marked_snoc : (i : ℕ) (xs : List Label) (l : Label) (into : Bool) → marked i (xs ++ l ∷ []) into ≡ ((l.item == i) || marked i xs into)
+pub marked_snoc : (i : ℕ) (xs : List Label) (l : Label) (into : Bool) → marked i (xs ++ l ∷ []) into ≡ ((l.item == i) || marked i xs into)
 marked_snoc i [] l into = refl
 marked_snoc i (x ∷ xs) l into = marked_snoc i xs l ((x.item == i) || into)
 

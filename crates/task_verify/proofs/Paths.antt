@@ -35,14 +35,14 @@ chosen f place itself k e = by (nat_lt place (length f.items)) refl
     by true g = inl (sym (ap (λ c. cond c place itself) g) ∙ e)
     by false g = inr (sym (ap (λ c. cond c place itself) g) ∙ e)
 
-next_goes : (f : Func) (i k : ℕ) → next_of f i ≡ k → GoesOn f i k ⊎ (i ≡ k)
+pub next_goes : (f : Func) (i k : ℕ) → next_of f i ≡ k → GoesOn f i k ⊎ (i ≡ k)
 next_goes f i k e = by (falls (item_of f i).op) refl
   where
     by : (b : Bool) → falls (item_of f i).op ≡ b → GoesOn f i k ⊎ (i ≡ k)
     by true g = ⊎_elim (λ a. inl (inl (g, sym a))) inr (chosen f (i + 1) i k (sym (ap (λ c. cond c (inside_or f (i + 1) i) i) g) ∙ e))
     by false g = inr (sym (ap (λ c. cond c (inside_or f (i + 1) i) i) g) ∙ e)
 
-jump_goes : (f : Func) (i k : ℕ) → jump_of f i ≡ k → GoesOn f i k ⊎ (i ≡ k)
+pub jump_goes : (f : Func) (i k : ℕ) → jump_of f i ≡ k → GoesOn f i k ⊎ (i ≡ k)
 jump_goes f i k e = by (way (item_of f i).op) refl
   where
     by : (o : Option ℕ) → way (item_of f i).op ≡ o → GoesOn f i k ⊎ (i ≡ k)
@@ -57,7 +57,7 @@ path_of {f} {i} (by_jump k j l r e) =
     let p = path_of r in ⊎_elim (λ g. step_of f 0 k j p.0 p.1 g) (λ g. stays f 0 k j p.0 p.1 g) (jump_goes f k j e)
 
 -- behind the last item nothing goes on
-goes_from_inside : (f : Func) (i j : ℕ) → GoesOn f i j → i < length f.items
+pub goes_from_inside : (f : Func) (i j : ℕ) → GoesOn f i j → i < length f.items
 goes_from_inside f i j g = ⊎_elim (λ l. l) (λ l. absurd (none l g)) (cases_lt i (length f.items))
   where
     none : length f.items ≤ i → GoesOn f i j → ⊥

@@ -1,0 +1,82 @@
+-- The lists that are spread from the first item of a body along its ways.
+use Rattle.std.specs.Prelude.{ℕ, ◌≡◌, ◌<◌, ◌++◌, Bool, cond, List, [], ◌∷◌, length, map, set, get_or, Option, Some, None, is_some, All, MatchBool}
+use Rattle.sloth_base.specs.declared.config.Config.{Config}
+use Rattle.sloth_base.specs.declared.app.App.{App}
+use Rattle.sloth_base.specs.declared.app.Func.{Func}
+use Rattle.sloth_base.specs.declared.app.Label.{Label}
+use Rattle.sloth_base.specs.declared.app.Op.{Op}
+use Rattle.sloth_base.specs.declared.app.Op.TheVariants as op
+use Rattle.sloth_base.specs.declared.service.Service.{Service}
+use Rattle.sloth_base.specs.declared.service.Service.TheVariants as service
+use Rattle.app_rules.specs.AppRange.{IsResource}
+use Rattle.app_rules.specs.Code.{is_in, without_last, held_at}
+use Rattle.task_verify.specs.Ways.{Reached, Marked, Searching}
+use Rattle.task_verify.specs.Cases.{AreOps}
+use Rattle.held_lists.specs.Filling.{bare_func}
+use Rattle.held_lists.specs.RightLists.{HasRightLists}
+
+-- the list behind a service that names this resource; a resource that is held is not taken again
+abbrev pub list_behind : Service → ℕ → List ℕ → List ℕ
+list_behind service.GetResource r held = cond (is_in r held) held (held ++ r ∷ [])
+list_behind service.ReleaseResource r held = without_last held
+list_behind _ r held = held
+
+-- the list behind an operation
+abbrev pub list_after : Op → List ℕ → List ℕ
+list_after (op.Serve call) held = list_behind call.service call.object held
+list_after _ held = held
+
+-- the list of each place of a body, where it has one
+abbrev pub Lists : Type 0
+Lists = List (Option (List ℕ))
+
+-- a list, or the empty one
+abbrev pub list_or : Option (List ℕ) → List ℕ
+list_or None = []
+list_or (Some held) = held
+
+-- the list of a place, empty where it has none
+abbrev pub list_at : Lists → ℕ → List ℕ
+list_at lists i = list_or (get_or lists i None)
+
+-- the places that have a list
+abbrev pub marks : Lists → List Bool
+marks lists = map is_some lists
+
+-- a visit gives the place this list and keeps the place, where it has none yet
+abbrev pub Placed : (old new : Lists) → (pending kept : List ℕ) → (at : ℕ) → (held : List ℕ) → Type 0
+Placed old new pending kept at held = MatchBool (is_some (get_or old at None))
+    ((new ≡ old) × (kept ≡ pending))
+    ((new ≡ set old at (Some held)) × (kept ≡ pending ++ at ∷ []))
+
+-- the lists are those that are held there, whatever right lists the labels have
+abbrev pub AreTrueLists : Func → Lists → Type 0
+AreTrueLists f lists =
+    (g : Func) → bare_func f ≡ bare_func g → HasRightLists g → (i : ℕ) (held : List ℕ) → get_or lists i None ≡ Some held → held ≡ held_at g i
+
+-- where the operations are in range, the lists are lists of resources
+abbrev pub AreResourceLists : Func → Lists → Type 0
+AreResourceLists f lists =
+    (config : Config) (app : App) → AreOps config app f → (i : ℕ) (held : List ℕ) → get_or lists i None ≡ Some held → All (IsResource config) held
+
+-- lists are spread so far
+pub record Spreading (f : Func) (lists : Lists) (pending : List ℕ) : Type 0 where
+  pub searching : Searching f (marks lists) pending
+  pub true_lists : AreTrueLists f lists
+  pub resources : AreResourceLists f lists
+
+-- lists for all places of a body that are reached
+pub record AreLists (f : Func) (lists : Lists) : Type 0 where
+  pub count : length lists ≡ length f.items
+  pub reached : (i : ℕ) → i < length f.items → Reached f i → Marked (marks lists) i
+  pub true_lists : AreTrueLists f lists
+  pub resources : AreResourceLists f lists
+
+-- a label with the list of its place
+abbrev pub relisted_label : Lists → Label → Label
+relisted_label lists l = record { name = l.name; line = l.line; item = l.item; holds = list_at lists l.item }
+
+-- a body whose labels have the lists of their places
+abbrev pub relisted_func : Lists → Func → Func
+relisted_func lists f =
+    record { name = f.name; line = f.line; task = f.task; frame_words = f.frame_words; items = f.items; labels = map (relisted_label lists) f.labels }
