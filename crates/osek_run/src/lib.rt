@@ -2,7 +2,6 @@
 #![tactic(auto)]
 
 pub mod arithmetic;
-pub mod change;
 pub mod data;
 pub mod events;
 pub mod frame;
@@ -11,7 +10,6 @@ pub mod held;
 pub mod items;
 pub mod laws;
 pub mod osek;
-pub mod plan;
 pub mod priority;
 pub mod room;
 pub mod services;
