@@ -1,2 +1,3 @@
 pub mod Judged
 mod Rows
+pub mod Objects

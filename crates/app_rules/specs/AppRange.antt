@@ -1,5 +1,5 @@
 -- When task code is in range of a configuration: what its text may have said.
-use Rattle.std.specs.Prelude.{ℕ, ℤ, pos, negsuc, ◌<◌, ◌≤◌, ◌≡◌, ◌⊎◌, List, [], ◌∷◌, length, map, sum, All, IsTrue, None, get_or, bit_or}
+use Rattle.std.specs.Prelude.{ℕ, ℤ, pos, negsuc, ◌<◌, ◌≤◌, ◌≡◌, ◌⊎◌, List, [], ◌∷◌, length, map, sum, All, Bool, true, false, IsTrue, None, get_or, bit_or}
 use Rattle.sloth_base.specs.declared.config.Config.{Config}
 use Rattle.sloth_base.specs.declared.config.EventDecl.{EventDecl}
 use Rattle.sloth_base.specs.declared.app.App.{App}
@@ -11,11 +11,13 @@ use Rattle.sloth_base.specs.declared.app.Op.{Op}
 use Rattle.sloth_base.specs.declared.app.Op.TheVariants as op
 use Rattle.sloth_base.specs.declared.app.Width.{Width}
 use Rattle.sloth_base.specs.declared.app.Width.TheVariants as width
+use Rattle.sloth_base.specs.declared.service.ObjectKind.{ObjectKind}
+use Rattle.sloth_base.specs.declared.service.ObjectKind.TheVariants as object
 use Rattle.sloth_base.specs.declared.service.Service.{Service}
-use Rattle.sloth_base.specs.declared.service.Service.TheVariants as service
 use Rattle.sloth_base.specs.ConfigRange.{InRange, scheduler_number}
 use Rattle.sloth_base.specs.ImageRange.{AreNames}
 use Rattle.sloth_base.specs.Named.{function, IsBodyOf}
+use Rattle.sloth_base.specs.ServiceCodes.{object_kind, has_mask}
 
 -- ---- operands
 
@@ -89,20 +91,20 @@ pub record IsMask (config : Config) (mask : ℕ) : Type 0 where
   pub declared : All (λ e. e < length config.events) (first ∷ more)
   pub is : mask ≡ mask_of config (first ∷ more)
 
--- the operands of a service: its task or resource, and the mask of its events; what it does not use is 0
+-- an object of a kind; where a service names none it is 0
+abbrev pub IsObject : Config → ObjectKind → ℕ → Type 0
+IsObject config object.Nothing o = o ≡ 0
+IsObject config object.Task t = IsDeclared config t
+IsObject config object.Resource r = IsResource config r
+
+-- the mask of a service's events; where it has none it is 0
+abbrev pub AreEvents : Config → (has : Bool) → ℕ → Type 0
+AreEvents config true mask = IsMask config mask
+AreEvents config false mask = mask ≡ 0
+
+-- the operands of a service: its task or resource, and the mask of its events
 abbrev pub AreOperands : Config → Service → (object mask : ℕ) → Type 0
-AreOperands config service.ActivateTask t mask = IsDeclared config t × (mask ≡ 0)
-AreOperands config service.TerminateTask object mask = (object ≡ 0) × (mask ≡ 0)
-AreOperands config service.ChainTask t mask = IsDeclared config t × (mask ≡ 0)
-AreOperands config service.Schedule object mask = (object ≡ 0) × (mask ≡ 0)
-AreOperands config service.GetTaskID object mask = (object ≡ 0) × (mask ≡ 0)
-AreOperands config service.GetTaskState t mask = IsDeclared config t × (mask ≡ 0)
-AreOperands config service.GetResource r mask = IsResource config r × (mask ≡ 0)
-AreOperands config service.ReleaseResource r mask = IsResource config r × (mask ≡ 0)
-AreOperands config service.SetEvent t mask = IsDeclared config t × IsMask config mask
-AreOperands config service.ClearEvent object mask = (object ≡ 0) × IsMask config mask
-AreOperands config service.GetEvent t mask = IsDeclared config t × (mask ≡ 0)
-AreOperands config service.WaitEvent object mask = (object ≡ 0) × IsMask config mask
+AreOperands config s object mask = IsObject config (object_kind s) object × AreEvents config (has_mask s) mask
 
 -- what an item of a body may say
 abbrev pub IsOp : Config → App → Func → Op → Type 0

@@ -1,10 +1,10 @@
 //! The statements of task source: their words, and the forms of their operands.
 ghost use Rattle.std.specs.Prelude.{◌≡◌};
 ghost use Rattle.std.specs.Str.{bytes_eq};
-ghost use Rattle.asm_lines.specs.Table.{alu_of, imm_of, shift_of, load_of, store_of, branch_of, service_of, plain_of, mnemonic_of, service_takes, takes, place_form, form_of, is_outer, opens, closes};
+ghost use Rattle.asm_lines.specs.Table.{alu_of, imm_of, shift_of, load_of, store_of, branch_of, plain_of, mnemonic_of, object_operands, service_takes, takes, place_form, form_of, is_outer, opens, closes};
 
 use sloth_base::app::{AluKind, BranchKind, ImmKind, Width};
-use sloth_base::service::Service;
+use sloth_base::service::{ObjectKind, Service, service_named};
 use text_pieces::bytes::same;
 
 /// A statement by its first word.
@@ -164,39 +164,6 @@ fn branch_of(word: &[u8]) -> Option<BranchKind>
     }
 }
 
-#[tactic(auto, unfolding(crate::specs::Table::service_of))]
-fn service_of(word: &[u8]) -> Option<Service>
-    ensures { result ≡ service_of word.now }
-{
-    if same(word, b"ActivateTask") {
-        Some(Service::ActivateTask)
-    } else if same(word, b"TerminateTask") {
-        Some(Service::TerminateTask)
-    } else if same(word, b"ChainTask") {
-        Some(Service::ChainTask)
-    } else if same(word, b"Schedule") {
-        Some(Service::Schedule)
-    } else if same(word, b"GetTaskID") {
-        Some(Service::GetTaskID)
-    } else if same(word, b"GetTaskState") {
-        Some(Service::GetTaskState)
-    } else if same(word, b"GetResource") {
-        Some(Service::GetResource)
-    } else if same(word, b"ReleaseResource") {
-        Some(Service::ReleaseResource)
-    } else if same(word, b"SetEvent") {
-        Some(Service::SetEvent)
-    } else if same(word, b"ClearEvent") {
-        Some(Service::ClearEvent)
-    } else if same(word, b"GetEvent") {
-        Some(Service::GetEvent)
-    } else if same(word, b"WaitEvent") {
-        Some(Service::WaitEvent)
-    } else {
-        None
-    }
-}
-
 #[tactic(auto, unfolding(crate::specs::Table::plain_of))]
 fn plain_of(word: &[u8]) -> Option<Mnemonic>
     ensures { result ≡ plain_of word.now }
@@ -253,26 +220,30 @@ pub fn mnemonic_of(word: &[u8]) -> Option<Mnemonic>
     if let Some(kind) = branch_of(word) {
         return Some(Mnemonic::Branch(kind));
     }
-    if let Some(kind) = service_of(word) {
+    if let Some(kind) = service_named(word) {
         return Some(Mnemonic::Serve(kind));
     }
     plain_of(word)
 }
 
+// How many operands name the object of a service.
+fn object_operands(kind: ObjectKind) -> usize
+    ensures { result ≡ object_operands kind }
+{
+    match kind {
+        ObjectKind::Nothing => 0,
+        ObjectKind::Task | ObjectKind::Resource => 1,
+    }
+}
+
 fn service_takes(service: Service, count: usize) -> bool
     ensures { result ≡ service_takes service count }
 {
-    match service {
-        Service::TerminateTask | Service::Schedule | Service::GetTaskID => count == 0,
-        Service::SetEvent => count >= 2,
-        Service::ClearEvent | Service::WaitEvent => count >= 1,
-        Service::ActivateTask
-        | Service::ChainTask
-        | Service::GetTaskState
-        | Service::GetResource
-        | Service::ReleaseResource
-        | Service::GetEvent => count == 1,
+    let objects = object_operands(service.object_kind());
+    if service.has_mask() {
+        return count > objects;
     }
+    count == objects
 }
 
 /// Whether a statement may have so many operands.

@@ -5,8 +5,10 @@ use Rattle.std.specs.Str.{bytes_eq}
 use Rattle.sloth_base.specs.declared.config.Config.{Config}
 use Rattle.sloth_base.specs.declared.config.TaskDecl.{TaskDecl}
 use Rattle.sloth_base.specs.declared.config.EventDecl.{EventDecl}
+use Rattle.sloth_base.specs.ServiceCodes.{object_kind, has_mask}
+use Rattle.sloth_base.specs.declared.service.ObjectKind.{ObjectKind}
+use Rattle.sloth_base.specs.declared.service.ObjectKind.TheVariants as object
 use Rattle.sloth_base.specs.declared.service.Service.{Service}
-use Rattle.sloth_base.specs.declared.service.Service.TheVariants as service
 use Rattle.asm_lines.specs.declared.operands.Operand.{Operand}
 use Rattle.asm_lines.specs.declared.table.Mnemonic.{Mnemonic}
 use Rattle.asm_lines.specs.declared.table.Mnemonic.TheVariants as m
@@ -38,14 +40,20 @@ scope_of config ls bodies = record {
   called = called_names bodies;
 }
 
--- what the operand at place i of a service names
+-- what an operand that names the object of a service names
+abbrev pub object_name : ObjectKind → Kind
+object_name object.Nothing = kind.Task
+object_name object.Task = kind.Task
+object_name object.Resource = kind.Resource
+
+-- what the operand at place i of a service names: its object, or an event behind that
+abbrev pub operand_kind : (has_mask : Bool) → ObjectKind → ℕ → Kind
+operand_kind false k i = object_name k
+operand_kind true object.Nothing i = kind.Event
+operand_kind true k i = if i == 0 then object_name k else kind.Event
+
 abbrev pub service_kind : Service → ℕ → Kind
-service_kind service.GetResource i = kind.Resource
-service_kind service.ReleaseResource i = kind.Resource
-service_kind service.ClearEvent i = kind.Event
-service_kind service.WaitEvent i = kind.Event
-service_kind service.SetEvent i = if i == 0 then kind.Task else kind.Event
-service_kind _ i = kind.Task
+service_kind s i = operand_kind (has_mask s) (object_kind s) i
 
 -- what the operand at place i of a statement names, if it is a use of a name
 abbrev pub kind_of : Mnemonic → ℕ → Kind

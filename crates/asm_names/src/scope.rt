@@ -1,11 +1,11 @@
 //! What a name may stand for where it is used.
 ghost use Rattle.std.specs.Prelude.{◌≡◌, ◌==◌};
-ghost use Rattle.asm_names.specs.Scopes.{service_kind, kind_of, is_scheduler, exists, is_lacking, any_unknown, has_unknown};
+ghost use Rattle.asm_names.specs.Scopes.{object_name, service_kind, kind_of, is_scheduler, exists, is_lacking, any_unknown, has_unknown};
 ghost use Rattle.asm_names.specs.Said.{written};
 
 use crate::said::written;
 use asm_lines::{Mnemonic, Operand, SourceLine};
-use sloth_base::service::Service;
+use sloth_base::service::{ObjectKind, Service};
 use text_pieces::bytes::same;
 use text_pieces::names::Names;
 
@@ -34,14 +34,28 @@ pub struct Scope<'t> {
     pub called: Names<'t>,
 }
 
+// What an operand that names the object of a service names.
+fn object_name(kind: ObjectKind) -> Kind
+    ensures { result ≡ object_name kind }
+{
+    match kind {
+        ObjectKind::Nothing | ObjectKind::Task => Kind::Task,
+        ObjectKind::Resource => Kind::Resource,
+    }
+}
+
 fn service_kind(service: Service, place: usize) -> Kind
     ensures { result ≡ service_kind service place }
 {
-    match service {
-        Service::GetResource | Service::ReleaseResource => Kind::Resource,
-        Service::ClearEvent | Service::WaitEvent => Kind::Event,
-        Service::SetEvent if place > 0 => Kind::Event,
-        _ => Kind::Task,
+    let object = service.object_kind();
+    if !service.has_mask() {
+        return object_name(object);
+    }
+    match object {
+        ObjectKind::Nothing => Kind::Event,
+        ObjectKind::Task | ObjectKind::Resource => {
+            if place == 0 { object_name(object) } else { Kind::Event }
+        }
     }
 }
 

@@ -4,11 +4,12 @@ use Rattle.std.specs.Prelude.{if◌then◌else◌, codes}
 use Rattle.std.specs.Str.{bytes_eq}
 use Rattle.sloth_base.specs.declared.app.ImmKind.{ImmKind}
 use Rattle.sloth_base.specs.declared.app.ImmKind.TheVariants as imm
+use Rattle.sloth_base.specs.ServiceCodes.{service_named}
 use Rattle.sloth_base.specs.declared.app.Width.{Width}
 use Rattle.sloth_base.specs.declared.app.Width.TheVariants as width
 use Rattle.asm_lines.specs.declared.table.Mnemonic.{Mnemonic}
 use Rattle.asm_lines.specs.declared.table.Mnemonic.TheVariants as m
-use Rattle.asm_lines.specs.Table.{alu_of, imm_of, shift_of, load_of, store_of, branch_of, service_of, plain_of, or_else, mnemonic_of}
+use Rattle.asm_lines.specs.Table.{alu_of, imm_of, shift_of, load_of, store_of, branch_of, plain_of, or_else, mnemonic_of}
 use Rattle.asm_parse.proofs.MnemonicKinds.{HasKind}
 
 -- what is there is of a kind of this group
@@ -85,4 +86,4 @@ has_kind word =
     (or_else_kind m.Load (load_of word) _ (any_kind m.Load (load_of word) (λ k. tt))
     (or_else_kind m.Store (store_of word) _ (store_kind word)
     (or_else_kind m.Branch (branch_of word) _ (any_kind m.Branch (branch_of word) (λ k. tt))
-    (or_else_kind m.Serve (service_of word) (plain_of word) (any_kind m.Serve (service_of word) (λ k. tt)) (plain_kind word)))))))
+    (or_else_kind m.Serve (service_named word) (plain_of word) (any_kind m.Serve (service_named word) (λ k. tt)) (plain_kind word)))))))

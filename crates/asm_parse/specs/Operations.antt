@@ -7,8 +7,10 @@ use Rattle.sloth_base.specs.declared.app.Op.TheVariants as op
 use Rattle.sloth_base.specs.declared.app.Call.{Call}
 use Rattle.sloth_base.specs.declared.app.ImmKind.TheVariants.{Addi}
 use Rattle.sloth_base.specs.declared.app.Width.TheVariants.{Word}
+use Rattle.sloth_base.specs.ServiceCodes.{object_kind, has_mask}
+use Rattle.sloth_base.specs.declared.service.ObjectKind.{ObjectKind}
+use Rattle.sloth_base.specs.declared.service.ObjectKind.TheVariants as object
 use Rattle.sloth_base.specs.declared.service.Service.{Service}
-use Rattle.sloth_base.specs.declared.service.Service.TheVariants as service
 use Rattle.sloth_base.specs.declared.config.Config.{Config}
 use Rattle.sloth_base.specs.declared.config.EventDecl.{EventDecl}
 use Rattle.sloth_base.specs.ConfigRange.{scheduler_number}
@@ -68,23 +70,25 @@ abbrev pub behind_first : List Operand → List Operand
 behind_first [] = []
 behind_first (x ∷ os) = os
 
+-- the number of an object of a kind, or 0
+abbrev pub object_number : Scope → ObjectKind → List Operand → ℕ
+object_number scope object.Nothing os = 0
+object_number scope object.Task os = number_of scope.tasks (first_name os)
+object_number scope object.Resource os = resource_number scope (first_name os)
+
 -- the task or resource that a service names, or 0
 abbrev pub object_of : Scope → Service → List Operand → ℕ
-object_of scope service.TerminateTask os = 0
-object_of scope service.Schedule os = 0
-object_of scope service.GetTaskID os = 0
-object_of scope service.ClearEvent os = 0
-object_of scope service.WaitEvent os = 0
-object_of scope service.GetResource os = resource_number scope (first_name os)
-object_of scope service.ReleaseResource os = resource_number scope (first_name os)
-object_of scope _ os = number_of scope.tasks (first_name os)
+object_of scope s os = object_number scope (object_kind s) os
+
+-- the operands behind the one that names an object of a kind
+abbrev pub behind_object : ObjectKind → List Operand → List Operand
+behind_object object.Nothing os = os
+behind_object object.Task os = behind_first os
+behind_object object.Resource os = behind_first os
 
 -- the mask of the events that a service names, or 0
 abbrev pub events_of : Config → Scope → Service → List Operand → ℕ
-events_of config scope service.SetEvent os = mask_of config scope (behind_first os)
-events_of config scope service.ClearEvent os = mask_of config scope os
-events_of config scope service.WaitEvent os = mask_of config scope os
-events_of config scope _ os = 0
+events_of config scope s os = if has_mask s then mask_of config scope (behind_object (object_kind s) os) else 0
 
 -- the service of these operands
 abbrev pub call_of : Config → Scope → Service → List Operand → Call

@@ -2,14 +2,14 @@
 ghost use Rattle.std.specs.Prelude.{◌≡◌, ◌<◌, ◌^◌, length, option_copied};
 ghost use Rattle.asm_names.specs.Said.{first_name};
 ghost use Rattle.asm_parse.specs.Numbered.{IsNumbered};
-ghost use Rattle.asm_parse.specs.Operations.{number_of, resource_number, mask_given, mask_named, mask_of, behind_first, object_of, events_of, call_of};
+ghost use Rattle.asm_parse.specs.Operations.{number_of, resource_number, mask_given, mask_named, mask_of, behind_first, object_number, behind_object, events_of, call_of};
 
 use asm_lines::Operand;
 use asm_names::{Scope, first_name, written};
 use sloth_base::app::Call;
 use sloth_base::config::{Config, EventDecl};
 use sloth_base::numbers::RES_SCHEDULER;
-use sloth_base::service::Service;
+use sloth_base::service::{ObjectKind, Service};
 use text_pieces::names::Names;
 
 /// The number of a name: its place among those of its kind.
@@ -79,35 +79,35 @@ fn mask_of(config: &Config, scope: &Scope, operands: &[Operand]) -> u32
     mask
 }
 
-fn object_of(scope: &Scope, service: Service, operands: &[Operand]) -> u32
+// The number of an object of a kind.
+fn object_number(scope: &Scope, kind: ObjectKind, operands: &[Operand]) -> u32
     requires { IsNumbered scope.now }
-    ensures { result ≡ object_of scope.now service operands.now }
+    ensures { result ≡ object_number scope.now kind operands.now }
 {
-    match service {
-        Service::TerminateTask
-        | Service::Schedule
-        | Service::GetTaskID
-        | Service::ClearEvent
-        | Service::WaitEvent => 0,
-        Service::GetResource | Service::ReleaseResource => {
-            resource_number(scope, first_name(operands))
-        },
-        Service::ActivateTask
-        | Service::ChainTask
-        | Service::GetTaskState
-        | Service::SetEvent
-        | Service::GetEvent => number_of(&scope.tasks, first_name(operands)),
+    match kind {
+        ObjectKind::Nothing => 0,
+        ObjectKind::Task => number_of(&scope.tasks, first_name(operands)),
+        ObjectKind::Resource => resource_number(scope, first_name(operands)),
+    }
+}
+
+// The operands behind the one that names an object of a kind.
+fn behind_object(kind: ObjectKind, operands: &[Operand]) -> &[Operand]
+    ensures { result.now ≡ behind_object kind operands.now }
+{
+    match kind {
+        ObjectKind::Nothing => operands,
+        ObjectKind::Task | ObjectKind::Resource => behind_first(operands),
     }
 }
 
 fn events_of(config: &Config, scope: &Scope, service: Service, operands: &[Operand]) -> u32
     ensures { result ≡ events_of config.now scope.now service operands.now }
 {
-    match service {
-        Service::SetEvent => mask_of(config, scope, behind_first(operands)),
-        Service::ClearEvent | Service::WaitEvent => mask_of(config, scope, operands),
-        _ => 0,
+    if service.has_mask() {
+        return mask_of(config, scope, behind_object(service.object_kind(), operands));
     }
+    0
 }
 
 /// The service with its operands as numbers.
@@ -117,7 +117,7 @@ pub fn call_of(config: &Config, scope: &Scope, service: Service, operands: &[Ope
 {
     Call {
         service,
-        object: object_of(scope, service, operands),
+        object: object_number(scope, service.object_kind(), operands),
         mask: events_of(config, scope, service, operands),
     }
 }

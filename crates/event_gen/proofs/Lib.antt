@@ -2,3 +2,4 @@ pub mod Clearing
 pub mod Getting
 pub mod Setting
 pub mod Waiting
+pub mod Objects

@@ -1,8 +1,10 @@
 -- Blocks of services on events.
-use Rattle.std.specs.Prelude.{ℕ, ◌≡◌, ◌<◌, List}
+use Rattle.std.specs.Prelude.{ℕ, not, List}
 use Rattle.sloth_base.specs.declared.service.Service.{Service}
 use Rattle.sloth_base.specs.declared.service.Service.TheVariants.{SetEvent, ClearEvent, GetEvent, WaitEvent}
+use Rattle.sloth_base.specs.ServiceCodes.{object_kind}
 use Rattle.rv32_instr.specs.declared.InstrKind.{InstrKind}
+use Rattle.service_gen.specs.Block.{is_on_events, HasBlockUnless}
 use Rattle.event_gen.specs.SetEvent.{SetsEvents}
 use Rattle.event_gen.specs.ClearEvent.{ClearsEvents}
 use Rattle.event_gen.specs.GetEvent.{TellsEvents}
@@ -10,11 +12,7 @@ use Rattle.event_gen.specs.WaitEvent.{Waits}
 
 -- the services on events; the object is a task, or 0 where there is none
 abbrev pub HasBlock : Service → ℕ → Type 0
-HasBlock SetEvent object = object < 30
-HasBlock ClearEvent object = object ≡ 0
-HasBlock GetEvent object = object < 30
-HasBlock WaitEvent object = object ≡ 0
-HasBlock service object = ⊥
+HasBlock service object = HasBlockUnless (not (is_on_events service)) (object_kind service) object
 
 -- the code of a service with its object has the service's effect
 abbrev pub Serves : Service → ℕ → List InstrKind → Type 0

@@ -2,7 +2,7 @@
 #![tactic(auto)]
 
 ghost use Rattle.std.specs.Prelude.{◌≡◌, ◌+◌, ◌*◌, ◌<◌, ◌≤◌, [], ◌∷◌, IfOk, length, slice_index};
-ghost use Rattle.sloth_base.specs.Blocks.{block_number, block_objects};
+ghost use Rattle.sloth_base.specs.Blocks.{block_number};
 ghost use Rattle.sloth_base.specs.ServiceCodes.{code_of};
 ghost use Rattle.block_parts.specs.Marks.{opening};
 ghost use Rattle.event_gen.specs.Block.{HasBlock, Serves};
@@ -25,6 +25,7 @@ use std::alloc::{AllocError, Global};
 
 /// The block of a service on events with its object, at its address in the map. Its first instruction, under an opening
 /// mark, masks interrupts.
+#[tactic(auto, using(crate::proofs::Objects::few_objects))]
 pub fn block(
     alloc: Global,
     service: Service,
@@ -39,30 +40,14 @@ pub fn block(
     ensures size { IfOk result (λ block. length block.code ≤ 256) }
     ensures effect { IfOk result (λ block. Serves service object block.code) }
 {
-    let object = small(service, object);
-    let at = map.places.blocks[block_number(service, u32::from(object))];
-    let code = code(alloc, service, object)?;
+    let at = map.places.blocks[block_number(service, object)];
+    let code = code(alloc, service, object as u8)?;
     let marks = Vec::from_slice(alloc, &[opening(at, service)])?;
     Ok(Block {
         at,
         code: List::from_vec(code),
         marks: List::from_vec(marks),
     })
-}
-
-/// The object's number.
-fn small(service: Service, object: u32) -> u8
-    requires { HasBlock service object }
-    ensures is { result ≡ object }
-    ensures below { result < block_objects }
-{
-    match service {
-        Service::SetEvent => object as u8,
-        Service::ClearEvent => object as u8,
-        Service::GetEvent => object as u8,
-        Service::WaitEvent => object as u8,
-        _ => unreachable!(),
-    }
 }
 
 /// The instructions.

@@ -8,7 +8,7 @@ use Rattle.std.proofs.lemmas.List.Sums.{sum-map}
 use Rattle.std.proofs.lemmas.List.Elements.{All-nil, All-cons, All-append, Contains-get_or, Contains-append_left, Contains-append_right}
 use Rattle.sloth_base.specs.ImageRange.{AreFields}
 use Rattle.sloth_base.specs.Named.{function, missing, no_item, operation}
-use Rattle.sim_image.proofs.Serving.{of_code}
+use Rattle.sloth_base.proofs.Services.{of_code}
 use Rattle.sloth_base.specs.ServiceCodes.{code_of, service_of, services}
 use Rattle.sloth_base.specs.declared.app.App.{App}
 use Rattle.sloth_base.specs.declared.app.Call.{Call}
@@ -134,18 +134,9 @@ fields_of config app f (op.Serve call) n func index h l m = (small_code call.ser
 
 -- a fact on the marks behind the opening, of which there is one alone
 by_further : (P : Mark → Type 0) (s : Service) (at : ℕ) → P (back_mark (sum32 at way_back)) → All P (further_marks s at)
-by_further P service.ActivateTask at back = All-nil P
-by_further P service.TerminateTask at back = All-nil P
-by_further P service.ChainTask at back = All-nil P
 by_further P service.Schedule at back = All-cons P (back_mark (sum32 at way_back)) [] back (All-nil P)
-by_further P service.GetTaskID at back = All-nil P
-by_further P service.GetTaskState at back = All-nil P
-by_further P service.GetResource at back = All-nil P
-by_further P service.ReleaseResource at back = All-nil P
-by_further P service.SetEvent at back = All-nil P
-by_further P service.ClearEvent at back = All-nil P
-by_further P service.GetEvent at back = All-nil P
-by_further P service.WaitEvent at back = All-nil P
+by_further P service.ActivateTask at back = All-nil P
+by_further P s at back = All-nil P
 
 module _ (config : Config) (app : App) (levels : Levels) (wanted : List Bool) (map : Map) (may : MayGenerate config app levels wanted map) where
   -- those of services

@@ -1,21 +1,22 @@
 -- What is built has a map and levels.
 use Rattle.std.proofs.Common.{◌≡◌, ◌≤◌, ◌<◌, ◌+◌, ◌*◌, ◌/◌, ◌%◌, ℕ, zero, suc, Bool, true, false, List, [], ◌∷◌, length, get_or, refl, sym, ap, ◌∙◌, subst, ⊎_elim, arith}
-use Rattle.std.specs.Prelude.{◌⊎◌, IsTrue, slice_index}
+use Rattle.std.specs.Prelude.{slice_index}
 use Rattle.std.specs.Prelude as prelude
 use Rattle.std.proofs.lemmas.Bool.{cases_lt}
 use Rattle.sloth_base.specs.Named.{function, missing, no_item, operation, body_of}
-use Rattle.sloth_base.specs.ServiceCodes.{code_of, service_of}
+use Rattle.sloth_base.specs.ServiceCodes.{code_of, service_of, object_kind}
+use Rattle.sloth_base.proofs.Services.{of_code, object_number_few}
 use Rattle.sloth_base.specs.declared.app.App.{App}
 use Rattle.sloth_base.specs.declared.app.Call.{Call}
 use Rattle.sloth_base.specs.declared.app.Op.TheVariants as op
 use Rattle.sloth_base.specs.declared.config.Config.{Config}
 use Rattle.sloth_base.specs.declared.places.Levels.{Levels}
 use Rattle.sloth_base.specs.declared.service.Service.{Service}
-use Rattle.sloth_base.specs.declared.service.Service.TheVariants as service
 use Rattle.sloth_base.specs.Blocks.{block_objects, block_count, block_number, block_code, block_object}
 use Rattle.sloth_region.specs.declared.map.Map.{Map}
 use Rattle.app_rules.specs.AppRange.{AreOperands, IsOp}
 use Rattle.app_rules.specs.WellFormed.{WellFormed}
+use Rattle.app_rules.proofs.Objects.{object_number}
 use Rattle.prio_levels.specs.Levels.{AreLevels}
 use Rattle.rv32_expand.specs.InPlace.{IsItem}
 use Rattle.rv32_expand.specs.Sizes.{AreSizes}
@@ -28,7 +29,6 @@ use Rattle.sim_image.specs.Zones.{RoomForCalls}
 use Rattle.image_gen.specs.Gathered.{IsPlanned, MayBuild, MayGenerate}
 use Rattle.image_gen.specs.Services.{AreServed}
 use Rattle.image_gen.specs.Wanted.{is_wanted}
-use Rattle.sim_image.proofs.Serving.{of_code}
 use Rattle.image_gen.proofs.AllCode.{small_code}
 use Rattle.image_gen.proofs.Callers.{Caller, called, marked}
 
@@ -57,36 +57,7 @@ small_levels config levels few long are within t =
 
 -- the object of a service that has code
 small_object : (s : Service) (object : ℕ) → IsCalledWith s object → object ≤ 32
-small_object service.ActivateTask object h = omega (arith, h)
-small_object service.TerminateTask object h = omega (arith, h)
-small_object service.ChainTask object h = omega (arith, h)
-small_object service.Schedule object h = omega (arith, h)
-small_object service.GetTaskID object h = omega (arith, h)
-small_object service.GetTaskState object h = omega (arith, h)
-small_object service.GetResource object h = h
-small_object service.ReleaseResource object h = h
-small_object service.SetEvent object h = omega (arith, h)
-small_object service.ClearEvent object h = omega (arith, h)
-small_object service.GetEvent object h = omega (arith, h)
-small_object service.WaitEvent object h = omega (arith, h)
-
--- a service has code, for each object that task code may name
-code_of_object : (config : Config) (s : Service) (object mask : ℕ) → length config.tasks ≤ 30 → length config.resources ≤ 32
-    → AreOperands config s object mask → IsCalledWith s object
-code_of_object config service.ActivateTask object mask tasks resources is = let t = is.0 in omega (arith, t, tasks)
-code_of_object config service.TerminateTask object mask tasks resources is = is.0
-code_of_object config service.ChainTask object mask tasks resources is = let t = is.0 in omega (arith, t, tasks)
-code_of_object config service.GetTaskID object mask tasks resources is = is.0
-code_of_object config service.GetResource object mask tasks resources is =
-    ⊎_elim (λ (r : object < length config.resources). omega (arith, r, resources)) (λ (r : (object ≡ 32) × IsTrue config.res_scheduler). let e = r.0 in omega (arith, e)) is.0
-code_of_object config service.ReleaseResource object mask tasks resources is =
-    ⊎_elim (λ (r : object < length config.resources). omega (arith, r, resources)) (λ (r : (object ≡ 32) × IsTrue config.res_scheduler). let e = r.0 in omega (arith, e)) is.0
-code_of_object config service.Schedule object mask tasks resources is = is.0
-code_of_object config service.GetTaskState object mask tasks resources is = let t = is.0 in omega (arith, t, tasks)
-code_of_object config service.SetEvent object mask tasks resources is = let t = is.0 in omega (arith, t, tasks)
-code_of_object config service.ClearEvent object mask tasks resources is = is.0
-code_of_object config service.GetEvent object mask tasks resources is = let t = is.0 in omega (arith, t, tasks)
-code_of_object config service.WaitEvent object mask tasks resources is = is.0
+small_object s object h = object_number_few (object_kind s) object h
 
 -- what an item calls has code
 pub called_with : (config : Config) (app : App) → WellFormed config app → (func item : ℕ) (call : Call) → IsItem app func item
@@ -94,8 +65,7 @@ pub called_with : (config : Config) (app : App) → WellFormed config app → (f
 called_with config app well func item call is e =
     let own = (well.in_range.bodies func missing is.declared).items item no_item is.inside in
     let operands : AreOperands config call.service call.object call.mask = subst (IsOp config app (function app func)) e own in
-    let range = well.in_range.configuration in
-    code_of_object config call.service call.object call.mask range.few_tasks range.few_resources operands
+    object_number config well.in_range.configuration (object_kind call.service) call.object operands.0
 
 -- ---- the room of stacks
 

@@ -5,7 +5,8 @@ use Rattle.std.proofs.lemmas.List.{get_or-map, length-map}
 use Rattle.std.proofs.lemmas.List.Elements.{All-map}
 use Rattle.sloth_base.specs.ConfigRange.{InRange}
 use Rattle.sloth_base.specs.Named.{function, missing, operation, no_item}
-use Rattle.sloth_base.specs.ServiceCodes.{code_of}
+use Rattle.sloth_base.specs.ServiceCodes.{code_of, object_kind}
+use Rattle.sloth_base.proofs.Services.{object_number_few}
 use Rattle.sloth_base.specs.declared.app.App.{App}
 use Rattle.sloth_base.specs.declared.app.Call.{Call}
 use Rattle.sloth_base.specs.declared.app.Func.{Func}
@@ -16,7 +17,8 @@ use Rattle.sloth_base.specs.declared.places.Places.{Places}
 use Rattle.sloth_base.specs.declared.service.Service.{Service}
 use Rattle.sloth_base.specs.declared.service.Service.TheVariants as service
 use Rattle.sloth_base.specs.Blocks.{block_count, block_number}
-use Rattle.app_rules.specs.AppRange.{AppInRange, AreOperands, IsResource, IsOp}
+use Rattle.app_rules.specs.AppRange.{AppInRange, AreOperands, IsOp}
+use Rattle.app_rules.proofs.Objects.{object_number}
 use Rattle.rv32_expand.specs.Expansion.{item_address, block_address, is_long}
 use Rattle.rv32_expand.specs.InPlace.{IsItem}
 use Rattle.rv32_expand.specs.Sizes.{AreSizes, AgreeWithSizes, Covers, IsWordAddress, items_before}
@@ -28,36 +30,12 @@ use Rattle.mem_map.proofs.Starts.{stands, next, starts_aligned, length_starts, e
 
 -- ---- objects of services
 
-resource_few : (config : Config) (r : ℕ) → InRange config → IsResource config r → r ≤ 32
-resource_few config r range = ⊎_elim (λ h. let n = range.few_resources in omega (arith, h, n)) (λ h. let e = h.0 in omega (arith, e))
-
 object_few : (config : Config) (s : Service) (object mask : ℕ) → InRange config → AreOperands config s object mask → object ≤ 32
-object_few config service.ActivateTask t mask range h = let l = h.0 in let n = range.few_tasks in omega (arith, l, n)
-object_few config service.TerminateTask object mask range h = let e = h.0 in omega (arith, e)
-object_few config service.ChainTask t mask range h = let l = h.0 in let n = range.few_tasks in omega (arith, l, n)
-object_few config service.Schedule object mask range h = let e = h.0 in omega (arith, e)
-object_few config service.GetTaskID object mask range h = let e = h.0 in omega (arith, e)
-object_few config service.GetTaskState t mask range h = let l = h.0 in let n = range.few_tasks in omega (arith, l, n)
-object_few config service.GetResource r mask range h = resource_few config r range h.0
-object_few config service.ReleaseResource r mask range h = resource_few config r range h.0
-object_few config service.SetEvent t mask range h = let l = h.0 in let n = range.few_tasks in omega (arith, l, n)
-object_few config service.ClearEvent object mask range h = let e = h.0 in omega (arith, e)
-object_few config service.GetEvent t mask range h = let l = h.0 in let n = range.few_tasks in omega (arith, l, n)
-object_few config service.WaitEvent object mask range h = let e = h.0 in omega (arith, e)
+object_few config s object mask range h = object_number_few (object_kind s) object (object_number config range (object_kind s) object h.0)
 
 code_few : (s : Service) → code_of s ≤ 11
 code_few service.ActivateTask = omega arith
-code_few service.TerminateTask = omega arith
-code_few service.ChainTask = omega arith
-code_few service.Schedule = omega arith
-code_few service.GetTaskID = omega arith
-code_few service.GetTaskState = omega arith
-code_few service.GetResource = omega arith
-code_few service.ReleaseResource = omega arith
-code_few service.SetEvent = omega arith
-code_few service.ClearEvent = omega arith
-code_few service.GetEvent = omega arith
-code_few service.WaitEvent = omega arith
+code_few s = omega arith
 
 -- ---- the number of an item
 

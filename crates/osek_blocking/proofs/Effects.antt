@@ -12,14 +12,14 @@ use Rattle.sloth_base.specs.Named.{declaration}
 use Rattle.osek_machine.specs.declared.state.TaskState.TheVariants as mode
 use Rattle.osek_machine.specs.State.{Task, System, sleeping, task, opening}
 use Rattle.osek_machine.specs.Priority.{is_in, IsTop}
-use Rattle.osek_machine.specs.Services.{activated, starts, Outcome, GoesOn, Leaves}
+use Rattle.osek_machine.specs.Services.{activated, starts, Outcome, GoesOn, Leaves, IsAfter}
 use Rattle.osek_machine.specs.Steps.{admitted, Serves, OsekStep}
 use Rattle.osek_machine.specs.Runs.{Leads}
 use Rattle.osek_valid.specs.Apart.{IsActive, Apart}
 use Rattle.osek_valid.proofs.Apart.{Same, Acts, boot_calm, admit_calm, enter_acts, run_acts, call_acts, left_acts, back_acts, step_apart, opening_apart}
-use Rattle.osek_valid.proofs.Serving.{by_suspended}
 use Rattle.osek_valid.proofs.Steps.{length-autostarted, autostarted_at}
-use Rattle.osek_blocking.proofs.Staying.{Stays, AnswerStays, own, readied, outcome_stays}
+use Rattle.osek_machine.proofs.Outcomes.{by_suspended}
+use Rattle.osek_blocking.proofs.Staying.{Stays, own, readied, outcome_stays}
 
 -- task u is Ready
 abbrev pub IsReady : System → ℕ → Type 0
@@ -121,8 +121,8 @@ module _ (config : Config) (t : ℕ) (s : System) where
 -- ---- each event
 
 module _ (config : Config) (app : App) (s next : System) (o : Ordered config s) where
-  answer_stays : (t : ℕ) (served : Service) (answer : Outcome) → Serves config app t served s answer → AnswerStays t s answer
-  answer_stays t served answer h = subst (AnswerStays t s) h.is (outcome_stays t served h.call.object h.call.mask s)
+  answer_stays : (t : ℕ) (served : Service) (answer : Outcome) → Serves config app t served s answer → IsAfter (Stays t s) answer
+  answer_stays t served answer h = subst (IsAfter (Stays t s)) h.is (outcome_stays t config served h.call.object h.call.mask s)
 
   pub effect : (e : Event) → OsekStep config app e s next → Effect config s next e
   effect event.Boot h =

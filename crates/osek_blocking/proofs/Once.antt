@@ -49,12 +49,7 @@ abbrev behind_event : Config → ℕ → Event → (b further : ℕ) → ℕ
 behind_event config h (event.Admit t) b further = further
 behind_event config h (event.Call t served status) b further = cond (ltb (static_priority config t) (static_priority config h)) t b
 behind_event config h (event.Left t served) b further = cond (ltb (static_priority config t) (static_priority config h)) t b
-behind_event config h event.Boot b further = b
-behind_event config h (event.Enter t) b further = b
-behind_event config h (event.Run t func item result) b further = b
-behind_event config h (event.Back t) b further = b
-behind_event config h event.Idle b further = b
-behind_event config h event.Stray b further = b
+behind_event config h _ b further = b
 
 -- the same of a list of events
 abbrev behind_all : Config → ℕ → List Stamped → ℕ → ℕ
@@ -224,13 +219,7 @@ module _ (config : Config) (app : App) (h : ℕ) (declared : h < length config.t
     at_work (event.Call t served status) u f l out =
         let e = some_one t u l.works in
         subst (Blocks config h s) e (at_top t s.fresh f.moves.top out f.was (lower_is t u e l.lower))
-    at_work event.Boot u f l out = let w = l.works in absurd cc
-    at_work (event.Admit t) u f l out = let w = l.works in absurd cc
-    at_work (event.Enter t) u f l out = let w = l.works in absurd cc
-    at_work (event.Left t served) u f l out = let w = l.works in absurd cc
-    at_work (event.Back t) u f l out = let w = l.works in absurd cc
-    at_work event.Idle u f l out = let w = l.works in absurd cc
-    at_work event.Stray u f l out = absurd f
+    at_work e u f l out = let w = l.works in absurd cc
 
     -- what is said of it
     abbrev Seen : Event → (u b : ℕ) → Type 0
@@ -245,13 +234,7 @@ module _ (config : Config) (app : App) (h : ℕ) (declared : h < length config.t
     fresh_now (event.Call t served status) u b further alone is f l =
         let e = some_one t u l.works in
         (sym e ∙ sym (cond-true _ t b (lt-ltb _ _ (lower_is t u e l.lower))), inr (refl, is))
-    fresh_now event.Boot u b further alone is f l = let w = l.works in absurd cc
-    fresh_now (event.Admit t) u b further alone is f l = let w = l.works in absurd cc
-    fresh_now (event.Enter t) u b further alone is f l = let w = l.works in absurd cc
-    fresh_now (event.Left t served) u b further alone is f l = let w = l.works in absurd cc
-    fresh_now (event.Back t) u b further alone is f l = let w = l.works in absurd cc
-    fresh_now event.Idle u b further alone is f l = let w = l.works in absurd cc
-    fresh_now event.Stray u b further alone is f l = absurd f
+    fresh_now e u b further alone is f l = let w = l.works in absurd cc
 
     -- behind a service its caller alone may block, or where it is not lower who blocked before
     called : (t b : ℕ) → BlocksAlone config h s b → Calls config t s next

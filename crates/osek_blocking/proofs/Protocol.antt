@@ -12,7 +12,8 @@ use Rattle.sloth_base.specs.declared.service.Service.TheVariants as service
 use Rattle.sloth_base.specs.Status.{E_OK}
 use Rattle.app_rules.specs.WellFormed.{WellFormed}
 use Rattle.osek_machine.specs.State.{System, opening}
-use Rattle.osek_machine.specs.Services.{Outcome, GoesOn, Leaves, outcome}
+use Rattle.osek_machine.specs.Services.{Outcome, GoesOn, Leaves}
+use Rattle.osek_machine.specs.Outcomes.{outcome}
 use Rattle.osek_machine.specs.Steps.{Serves, OsekStep}
 use Rattle.osek_machine.specs.Runs.{Leads, OsekRun}
 use Rattle.osek_machine.proofs.Leading.{follows_leads}
@@ -33,28 +34,23 @@ exclude config app events w front rest s is leads =
 
 module _ (config : Config) (app : App) (s next : System) where
   -- it goes on with E_OK
-  goes_on : (t object mask status : ℕ) (after : System) → outcome service.GetResource object mask t s ≡ GoesOn status after → status ≡ E_OK
+  goes_on : (t object mask status : ℕ) (after : System) → outcome config service.GetResource object mask t s ≡ GoesOn status after → status ≡ E_OK
   goes_on t object mask status after e = cc
 
-  never_leaves : (t object mask : ℕ) (after : System) → outcome service.GetResource object mask t s ≡ Leaves after → ⊥
+  never_leaves : (t object mask : ℕ) (after : System) → outcome config service.GetResource object mask t s ≡ Leaves after → ⊥
   never_leaves t object mask after e = cc
 
   -- the outcome of a service that is GetResource
   of_get : (t : ℕ) (served : Service) (answer : Outcome) → (h : Serves config app t served s answer) → served ≡ service.GetResource
-      → outcome service.GetResource h.call.object h.call.mask t s ≡ answer
-  of_get t served answer h is = subst (λ (v : Service). outcome v h.call.object h.call.mask t s ≡ answer) is h.is
+      → outcome config service.GetResource h.call.object h.call.mask t s ≡ answer
+  of_get t served answer h is = subst (λ (v : Service). outcome config v h.call.object h.call.mask t s ≡ answer) is h.is
 
   gets : (e : Event) → OsekStep config app e s next → GetsResource e
   gets (event.Call t served status) h =
       λ is. goes_on t h.1.1.call.object h.1.1.call.mask status h.1.0 (of_get t served (GoesOn status h.1.0) h.1.1 is)
   gets (event.Left t served) h = λ is. never_leaves t h.1.1.call.object h.1.1.call.mask h.1.0 (of_get t served (Leaves h.1.0) h.1.1 is)
   gets event.Boot h = tt
-  gets (event.Admit t) h = tt
-  gets (event.Enter t) h = tt
-  gets (event.Run t func item result) h = tt
-  gets (event.Back t) h = tt
-  gets event.Idle h = tt
-  gets event.Stray h = tt
+  gets e h = tt
 
 each_gets : (config : Config) (app : App) (events : List Stamped) (s end : System) → Leads config app events s end
     → AllByRecursion (λ (e : Stamped). GetsResource e.event) events

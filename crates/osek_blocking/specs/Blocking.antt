@@ -1,10 +1,12 @@
 -- Blocking: which events of lower tasks stand between the one that makes a task Ready and its entry (OSEK OS 2.2.3, section 8).
-use Rattle.std.specs.Prelude.{ℕ, ◌<◌, ◌≤◌, ◌≡◌, ◌⊎◌, ◌==◌, List, [], ◌∷◌, ◌++◌, Bool, true, false, cond, length, Option, Some, None}
+use Rattle.std.specs.Prelude.{ℕ, ◌<◌, ◌≤◌, ◌≡◌, ◌⊎◌, List, [], ◌∷◌, ◌++◌, Bool, true, false, cond, length, Option, Some, None}
 use Rattle.sloth_base.specs.declared.config.Config.{Config}
 use Rattle.sloth_base.specs.declared.app.App.{App}
 use Rattle.sloth_base.specs.declared.event.Event.{Event}
-use Rattle.sloth_base.specs.declared.event.Event.TheVariants as event
 use Rattle.sloth_base.specs.declared.event.Stamped.{Stamped}
+pub use Rattle.sloth_base.specs.Events.{working_task, is_call}
+use Rattle.sloth_base.specs.Events.{entered_task}
+use Rattle.sloth_base.specs.Options.{is_number}
 use Rattle.osek_machine.specs.declared.state.TaskState.TheVariants as mode
 use Rattle.osek_machine.specs.State.{System, task, opening}
 use Rattle.osek_machine.specs.Priority.{is_in}
@@ -14,41 +16,9 @@ use Rattle.osek_valid.specs.Apart.{priority_of, static_priority}
 
 -- ---- events
 
--- the task of a `run` or `call` event
-abbrev pub working_task : Event → Option ℕ
-working_task (event.Run t func item result) = Some t
-working_task (event.Call t served status) = Some t
-working_task event.Boot = None
-working_task (event.Admit t) = None
-working_task (event.Enter t) = None
-working_task (event.Left t served) = None
-working_task (event.Back t) = None
-working_task event.Idle = None
-working_task event.Stray = None
-
--- the event is a `call`
-abbrev pub is_call : Event → Bool
-is_call (event.Call t served status) = true
-is_call event.Boot = false
-is_call (event.Admit t) = false
-is_call (event.Enter t) = false
-is_call (event.Run t func item result) = false
-is_call (event.Left t served) = false
-is_call (event.Back t) = false
-is_call event.Idle = false
-is_call event.Stray = false
-
 -- the event is the `enter` of task h
 abbrev pub is_entry_of : (h : ℕ) → Event → Bool
-is_entry_of h (event.Enter t) = t == h
-is_entry_of h event.Boot = false
-is_entry_of h (event.Admit t) = false
-is_entry_of h (event.Run t func item result) = false
-is_entry_of h (event.Call t served status) = false
-is_entry_of h (event.Left t served) = false
-is_entry_of h (event.Back t) = false
-is_entry_of h event.Idle = false
-is_entry_of h event.Stray = false
+is_entry_of h e = is_number h (entered_task e)
 
 -- the events in front of the first `enter` of task h, or all where there is none
 abbrev pub up_to_entry : (h : ℕ) → List Stamped → List Stamped

@@ -22,13 +22,7 @@ AlwaysExcludes config app events =
 abbrev pub GetsResource : Event → Type 0
 GetsResource (event.Call t served status) = served ≡ service.GetResource → status ≡ E_OK
 GetsResource (event.Left t served) = served ≢ service.GetResource
-GetsResource event.Boot = Unit {0}
-GetsResource (event.Admit t) = Unit {0}
-GetsResource (event.Enter t) = Unit {0}
-GetsResource (event.Run t func item result) = Unit {0}
-GetsResource (event.Back t) = Unit {0}
-GetsResource event.Idle = Unit {0}
-GetsResource event.Stray = Unit {0}
+GetsResource _ = Unit {0}
 
 -- GetResource has status E_OK at each of its events
 abbrev pub AlwaysGets : List Stamped → Type 0

@@ -2,3 +2,4 @@ pub mod Tests
 pub mod Next
 pub mod Leading
 pub mod Examples
+pub mod Outcomes

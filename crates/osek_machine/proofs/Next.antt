@@ -12,13 +12,14 @@ use Rattle.sloth_base.specs.declared.app.Op.TheVariants as op
 use Rattle.sloth_base.specs.declared.event.Event.{Event}
 use Rattle.sloth_base.specs.declared.event.Event.TheVariants as event
 use Rattle.sloth_base.specs.declared.service.Service.{Service}
-use Rattle.sloth_base.specs.declared.service.Service.TheVariants as service
 use Rattle.osek_machine.specs.declared.state.TaskState.TheVariants as mode
 use Rattle.osek_machine.specs.State.{Frame, Task, System, task, body_of}
 use Rattle.sloth_base.specs.Named.{function}
+use Rattle.sloth_base.proofs.Services.{same_code}
 use Rattle.osek_machine.specs.Priority.{IsDue, is_active}
 use Rattle.osek_machine.specs.Meaning.{meaning, on_some}
-use Rattle.osek_machine.specs.Services.{is_there, Outcome, GoesOn, Leaves, outcome}
+use Rattle.osek_machine.specs.Services.{is_there, Outcome, GoesOn, Leaves}
+use Rattle.osek_machine.specs.Outcomes.{outcome}
 use Rattle.osek_machine.specs.Steps.{settled, IsAt, Executes, Serves, OsekStep}
 use Rattle.osek_machine.specs.Next.{is_ready, is_due, is_top, all_below, operation_of, operation_at, meaning_of, is_position, served, going_on_with, leaving, executed, answer_to, next_state}
 use Rattle.osek_machine.proofs.Tests.{Decides-is_ready, Decides-is_active, Decides-is_due, Decides-is_top, some_one, if_true_some, if_true_is, on_some_from, on_some_is}
@@ -60,33 +61,13 @@ at_is app s t operation at =
 
 -- ---- services
 
-abbrev all_services : List Service
-all_services = service.ActivateTask ∷ service.TerminateTask ∷ service.ChainTask ∷ service.Schedule ∷ service.GetTaskID ∷ service.GetTaskState ∷ service.GetResource ∷ service.ReleaseResource ∷ service.SetEvent ∷ service.ClearEvent ∷ service.GetEvent ∷ service.WaitEvent ∷ []
-
-by_code : (a : Service) → get_or all_services (code_of a) service.ActivateTask ≡ a
-by_code service.ActivateTask = refl
-by_code service.TerminateTask = refl
-by_code service.ChainTask = refl
-by_code service.Schedule = refl
-by_code service.GetTaskID = refl
-by_code service.GetTaskState = refl
-by_code service.GetResource = refl
-by_code service.ReleaseResource = refl
-by_code service.SetEvent = refl
-by_code service.ClearEvent = refl
-by_code service.GetEvent = refl
-by_code service.WaitEvent = refl
-
-pub same_code : (a b : Service) → code_of a ≡ code_of b → a ≡ b
-same_code a b e = sym (by_code a) ∙ (ap (λ n. get_or all_services n service.ActivateTask) e ∙ by_code b)
-
 -- the call that a served operation is
 record IsCall (config : Config) (s : Service) (caller : ℕ) (before : System) (operation : Op) (answer : Outcome) : Type 0 where
   call : Call
   serve : operation ≡ op.Serve call
   same : call.service ≡ s
   names : is_there config (task before caller).held s call.object ≡ true
-  is : outcome s call.object call.mask caller before ≡ answer
+  is : outcome config s call.object call.mask caller before ≡ answer
 
 call_of : (config : Config) (s : Service) (caller : ℕ) (before : System) (operation : Op) (answer : Outcome) → served config s caller before operation ≡ Some answer
     → IsCall config s caller before operation answer
@@ -110,7 +91,7 @@ call_of config s caller before (op.Invoke a) answer e = absurd cc
 call_of config s caller before op.Return answer e = absurd cc
 
 served_is : (config : Config) (s : Service) (caller : ℕ) (before : System) (call : Call) (answer : Outcome) → call.service ≡ s
-    → is_there config (task before caller).held s call.object ≡ true → outcome s call.object call.mask caller before ≡ answer
+    → is_there config (task before caller).held s call.object ≡ true → outcome config s call.object call.mask caller before ≡ answer
     → served config s caller before (op.Serve call) ≡ Some answer
 served_is config s caller before call answer same names is = if_true_is _ _ answer (and_from _ _ (eq-eqb _ _ (ap code_of same)) names) (ap Some is)
 

@@ -3,39 +3,16 @@ use Rattle.std.specs.Prelude.{ℕ, ◌-◌, ◌<◌, ◌≤◌, ◌≡◌, ◌�
 use Rattle.sloth_base.specs.Options.{is_number}
 use Rattle.sloth_base.specs.declared.event.Arrival.{Arrival}
 use Rattle.sloth_base.specs.declared.event.Event.{Event}
-use Rattle.sloth_base.specs.declared.event.Event.TheVariants as event
 use Rattle.sloth_base.specs.declared.event.Stamp.{Stamp}
 use Rattle.sloth_base.specs.declared.event.Stamped.{Stamped}
 use Rattle.sloth_base.specs.declared.config.Config.{Config}
 use Rattle.sloth_base.specs.Stretches.{Boots, stretch_limit, longest_stretch}
-
--- the task that an event admits
-abbrev pub admitted_task : Event → Option ℕ
-admitted_task (event.Admit t) = Some t
-admitted_task event.Boot = None
-admitted_task (event.Enter t) = None
-admitted_task (event.Run t func item result) = None
-admitted_task (event.Call t served status) = None
-admitted_task (event.Left t served) = None
-admitted_task (event.Back t) = None
-admitted_task event.Idle = None
-admitted_task event.Stray = None
+pub use Rattle.sloth_base.specs.Events.{admitted_line, is_boot}
+use Rattle.sloth_base.specs.Events.{is_single}
 
 -- an event is an arrival's activation
 abbrev pub is_admit : Stamped → Bool
-is_admit e = is_some (admitted_task e.event)
-
--- an event is the start of the system
-abbrev pub is_boot : Event → Bool
-is_boot event.Boot = true
-is_boot (event.Admit t) = false
-is_boot (event.Enter t) = false
-is_boot (event.Run t func item result) = false
-is_boot (event.Call t served status) = false
-is_boot (event.Left t served) = false
-is_boot (event.Back t) = false
-is_boot event.Idle = false
-is_boot event.Stray = false
+is_admit e = is_some (admitted_line e.event)
 
 -- the events that are no admits
 abbrev pub others : List Stamped → List Stamped
@@ -43,7 +20,7 @@ others events = filter (λ e. not (is_admit e)) events
 
 -- how many admits of a task a moment has
 abbrev pub admits_at : ℕ → ℕ → List Stamped → ℕ
-admits_at k t events = count_by (λ e. is_number t (admitted_task e.event) && (e.stamp.at == k)) events
+admits_at k t events = count_by (λ e. is_number t (admitted_line e.event) && (e.stamp.at == k)) events
 
 -- how many arrivals of a task's line a moment has
 abbrev pub arrivals_at : ℕ → ℕ → List Arrival → ℕ
@@ -55,17 +32,13 @@ arrivals_at k t arrivals = count_by (λ a. (a.line == t) && (a.at == k)) arrival
 abbrev pub IsAlone : Stamped → Type 0
 IsAlone e = e.stamp.from ≡ e.stamp.at
 
--- how many counts an event of this kind spans: one, or any number
+-- how many counts an event spans: one, or any number
+abbrev pub Spans : (single : Bool) → Stamped → Type 0
+Spans true e = IsAlone e
+Spans false e = Unit {0}
+
 abbrev pub SpansFor : Event → Stamped → Type 0
-SpansFor event.Idle e = IsAlone e
-SpansFor (event.Run t func item result) e = IsAlone e
-SpansFor (event.Admit t) e = IsAlone e
-SpansFor event.Boot e = Unit {0}
-SpansFor (event.Enter t) e = Unit {0}
-SpansFor (event.Call t served status) e = Unit {0}
-SpansFor (event.Left t served) e = Unit {0}
-SpansFor (event.Back t) e = Unit {0}
-SpansFor event.Stray e = Unit {0}
+SpansFor kind e = Spans (is_single kind) e
 
 -- the stamp of an event of the first `n` instructions
 pub record IsStamped (n : ℕ) (e : Stamped) : Type 0 where
@@ -116,7 +89,7 @@ IsSubsequence (x ∷ xs) (y ∷ ys) = ((x ≡ y) × IsSubsequence xs ys) ⊎ IsS
 abbrev pub KeepsOrder : List Arrival → List Stamped → Type 0
 KeepsOrder arrivals events =
     (before group behind : List Stamped) → events ≡ before ++ (group ++ behind) → All (λ e. IsTrue (is_admit e)) group
-    → IsSubsequence (map (λ e. (e.stamp.at, admitted_task e.event)) group) (map (λ a. (a.at, Some a.line)) arrivals)
+    → IsSubsequence (map (λ e. (e.stamp.at, admitted_line e.event)) group) (map (λ a. (a.at, Some a.line)) arrivals)
 
 -- the events of `n` instructions stand where the arrivals allow
 pub record InTime (config : Config) (n : ℕ) (arrivals : List Arrival) (events : List Stamped) : Type 0 where

@@ -14,7 +14,8 @@ use Rattle.osek_machine.specs.State.{Frame, Task, System, task, with_task, decla
 use Rattle.sloth_base.specs.Named.{function, operation}
 use Rattle.osek_machine.specs.Priority.{rank, is_in, is_active}
 use Rattle.osek_machine.specs.Meaning.{Meant, meaning, on_some, if_true}
-use Rattle.osek_machine.specs.Services.{is_there, Outcome, GoesOn, Leaves, outcome, entered}
+use Rattle.osek_machine.specs.Services.{is_there, Outcome, GoesOn, Leaves, entered}
+use Rattle.osek_machine.specs.Outcomes.{outcome}
 use Rattle.osek_machine.specs.Steps.{settled, autostarted, admitted}
 
 -- a task is Ready
@@ -67,7 +68,7 @@ is_position func item (frame ∷ outer) = (frame.func == func) && (frame.item ==
 abbrev pub served : Config → Service → ℕ → System → Op → Option Outcome
 served config s caller before (op.Serve call) =
     if_true ((code_of call.service == code_of s) && is_there config (task before caller).held s call.object)
-    (Some (outcome s call.object call.mask caller before))
+    (Some (outcome config s call.object call.mask caller before))
 served config s caller before (op.Alu k a b c) = None
 served config s caller before (op.AluImm k a b c) = None
 served config s caller before (op.Lui a b) = None

@@ -1,10 +1,11 @@
 -- Runs of the abstract scheduler.
-use Rattle.std.specs.Prelude.{ℕ, ◌<◌, ◌≡◌, List, [], ◌∷◌, ◌++◌, length}
+use Rattle.std.specs.Prelude.{ℕ, ◌<◌, ◌≡◌, List, [], ◌∷◌, ◌++◌, length, IfSome}
 use Rattle.sloth_base.specs.declared.config.Config.{Config}
 use Rattle.sloth_base.specs.declared.app.App.{App}
 use Rattle.sloth_base.specs.declared.event.Event.{Event}
 use Rattle.sloth_base.specs.declared.event.Event.TheVariants as event
 use Rattle.sloth_base.specs.declared.event.Stamped.{Stamped}
+use Rattle.sloth_base.specs.Events.{served_task}
 use Rattle.osek_machine.specs.declared.state.TaskState.TheVariants as mode
 use Rattle.osek_machine.specs.State.{System, task, opening}
 use Rattle.osek_machine.specs.Priority.{rank}
@@ -35,15 +36,7 @@ PassesOver config app past s t k =
 
 -- a service may pass over an arrival only in the stretch that was already running
 abbrev pub PassesOverArrivals : Config → App → List Stamped → System → ℕ → Event → Type 0
-PassesOverArrivals config app past s k (event.Call t served status) = PassesOver config app past s t k
-PassesOverArrivals config app past s k (event.Left t served) = PassesOver config app past s t k
-PassesOverArrivals config app past s k event.Boot = Unit {0}
-PassesOverArrivals config app past s k (event.Admit t) = Unit {0}
-PassesOverArrivals config app past s k (event.Enter t) = Unit {0}
-PassesOverArrivals config app past s k (event.Run t func item result) = Unit {0}
-PassesOverArrivals config app past s k (event.Back t) = Unit {0}
-PassesOverArrivals config app past s k event.Idle = Unit {0}
-PassesOverArrivals config app past s k event.Stray = Unit {0}
+PassesOverArrivals config app past s k e = IfSome (served_task e) (λ t. PassesOver config app past s t k)
 
 -- behind the events `past`, which led to s, these events lead on to `end`
 abbrev pub Follows : Config → App → List Stamped → System → List Stamped → System → Type 0

@@ -1,10 +1,13 @@
 -- What the services do (OSEK OS 2.2.3, sections 13.2, 13.4 and 13.5).
-use Rattle.std.specs.Prelude.{ℕ, ◌-◌, ◌==◌, List, [], ◌∷◌, ◌++◌, Bool, true, false, cond, length, ltb, set, bit_and, bit_or}
+use Rattle.std.specs.Prelude.{ℕ, ◌==◌, List, [], ◌∷◌, Bool, true, false, cond, length, ltb, set, bit_and, bit_or}
 use Rattle.sloth_base.specs.declared.config.Config.{Config}
 use Rattle.sloth_base.specs.declared.app.App.{App}
+use Rattle.sloth_base.specs.declared.service.ObjectKind.{ObjectKind}
+use Rattle.sloth_base.specs.declared.service.ObjectKind.TheVariants as object
 use Rattle.sloth_base.specs.declared.service.Service.{Service}
 use Rattle.sloth_base.specs.declared.service.Service.TheVariants as service
-use Rattle.sloth_base.specs.Status.{E_OK, E_OS_LIMIT, E_OS_STATE}
+use Rattle.sloth_base.specs.ServiceCodes.{is_service, object_kind}
+use Rattle.sloth_base.specs.Status.{E_OK}
 use Rattle.sloth_base.specs.ConfigRange.{scheduler_number}
 use Rattle.app_rules.specs.Code.{is_last}
 pub use Rattle.app_rules.specs.Code.{without_last}
@@ -87,20 +90,16 @@ is_task config t = ltb t (length config.tasks)
 abbrev pub is_resource : Config → ℕ → Bool
 is_resource config r = cond (r == scheduler_number) config.res_scheduler (ltb r (length config.resources))
 
--- the task or resource that a service names is there; what is released was taken last
-abbrev pub is_there : Config → (held : List ℕ) → Service → (object : ℕ) → Bool
-is_there config held service.ActivateTask t = is_task config t
-is_there config held service.TerminateTask object = true
-is_there config held service.ChainTask t = is_task config t
-is_there config held service.Schedule object = true
-is_there config held service.GetTaskID object = true
-is_there config held service.GetTaskState t = is_task config t
-is_there config held service.GetResource r = is_resource config r
-is_there config held service.ReleaseResource r = is_last r held
-is_there config held service.SetEvent t = is_task config t
-is_there config held service.ClearEvent object = true
-is_there config held service.GetEvent t = is_task config t
-is_there config held service.WaitEvent object = true
+-- an object of a kind, by its number
+abbrev pub is_object : Config → ObjectKind → ℕ → Bool
+is_object config object.Nothing number = true
+is_object config object.Task t = is_task config t
+is_object config object.Resource r = is_resource config r
+
+-- what a service names is there; what is released was taken last
+abbrev pub is_there : Config → (held : List ℕ) → Service → (number : ℕ) → Bool
+is_there config held s number =
+    cond (is_service s service.ReleaseResource) (is_last number held) (is_object config (object_kind s) number)
 
 -- ---- outcomes
 
@@ -116,32 +115,10 @@ pub data Outcome : Type 0 where
   GoesOn : (status : ℕ) → System → Outcome
   Leaves : System → Outcome
 
--- `object` is the service's task or resource, `mask` that of its events
-abbrev pub outcome : Service → (object mask caller : ℕ) → System → Outcome
-outcome service.ActivateTask t mask caller s =
-    if_suspended (task s t).state (GoesOn E_OK (activated (answered E_OK caller s) t)) (GoesOn E_OS_LIMIT (answered E_OS_LIMIT caller s))
-outcome service.TerminateTask t mask caller s = Leaves (ended caller s)
-outcome service.ChainTask t mask caller s =
-    cond (t == caller) (Leaves (activated (ended caller s) caller))
-    (if_suspended (task s t).state (Leaves (activated (ended caller s) t)) (GoesOn E_OS_LIMIT (answered E_OS_LIMIT caller s)))
-outcome service.Schedule t mask caller s =
-    GoesOn E_OK (with_task s caller (record (answers E_OK (task s caller)) { raised = false; owed = true }))
-outcome service.GetTaskID t mask caller s = GoesOn E_OK (answered_with caller caller s)
-outcome service.GetTaskState t mask caller s = GoesOn E_OK (answered_with (state_number caller t (task s t).state) caller s)
-outcome service.GetResource r mask caller s =
-    GoesOn E_OK (with_task s caller (record (answers E_OK (task s caller)) { held = (task s caller).held ++ (r ∷ []) }))
-outcome service.ReleaseResource r mask caller s =
-    GoesOn E_OK (with_task s caller (record (answers E_OK (task s caller)) { held = without_last (task s caller).held }))
-outcome service.SetEvent t mask caller s =
-    if_suspended (task s t).state (GoesOn E_OS_STATE (answered E_OS_STATE caller s)) (GoesOn E_OK (set_events t mask (answered E_OK caller s)))
-outcome service.ClearEvent t mask caller s =
-    GoesOn E_OK (with_task s caller (record (answers E_OK (task s caller)) { events = bit_and (task s caller).events (4294967295 - mask) }))
-outcome service.GetEvent t mask caller s =
-    if_suspended (task s t).state (GoesOn E_OS_STATE (answered E_OS_STATE caller s)) (GoesOn E_OK (answered_with (task s t).events caller s))
-outcome service.WaitEvent t mask caller s =
-    cond (bit_and (task s caller).events mask == 0)
-    (Leaves (with_task s caller (waits mask (task s caller))))
-    (GoesOn E_OK (answered E_OK caller s))
+-- a fact on the system behind an outcome
+abbrev pub IsAfter : (System → Type 0) → Outcome → Type 0
+IsAfter P (GoesOn status after) = P after
+IsAfter P (Leaves after) = P after
 
 -- ---- entries
 

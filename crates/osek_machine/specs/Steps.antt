@@ -15,7 +15,8 @@ use Rattle.sloth_base.specs.Named.{function}
 use Rattle.sloth_base.specs.Named as named
 use Rattle.osek_machine.specs.Priority.{IsTop, IsDue}
 use Rattle.osek_machine.specs.Meaning.{Meant, meaning}
-use Rattle.osek_machine.specs.Services.{if_suspended, activated, is_there, Outcome, GoesOn, Leaves, outcome, entered}
+use Rattle.osek_machine.specs.Services.{if_suspended, activated, is_there, Outcome, GoesOn, Leaves, entered}
+use Rattle.osek_machine.specs.Outcomes.{outcome}
 
 -- every event but an admit empties `fresh`
 abbrev pub settled : System → System
@@ -60,7 +61,7 @@ pub record Serves (config : Config) (app : App) (t : ℕ) (served : Service) (s 
   pub at : IsAt app s t (op.Serve call)
   pub same : call.service ≡ served
   pub names : is_there config (task s t).held served call.object ≡ true
-  pub is : outcome served call.object call.mask t s ≡ answer
+  pub is : outcome config served call.object call.mask t s ≡ answer
 
 -- the next state after an event
 abbrev pub OsekStep : Config → App → Event → System → System → Type 0

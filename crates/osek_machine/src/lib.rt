@@ -3,5 +3,7 @@
 //! that the next state can be computed.
 #![tactic(auto)]
 
+pub mod change;
 pub mod laws;
+pub mod plan;
 pub mod state;

@@ -2,12 +2,11 @@
 use Rattle.std.proofs.Common.{◌≡◌, ◌∙◌, ℕ, zero, suc, ◌<◌, ◌≤◌, ◌⊎◌, inl, inr, List, [], ◌∷◌, Bool, true, false, cond, ltb, length, get_or, set, Option, Some, None, bit_and, bit_or, refl, sym, ap, subst, arith}
 use Rattle.std.specs.Prelude.{◌&&◌, ◌==◌, not, is_some, slice_get}
 use Rattle.std.specs.List.{list_all}
-use Rattle.std.proofs.lemmas.Bool.{lt-ltb, le-ltb, ltb-true, cases_lt, and_parts, ne_eqb}
+use Rattle.std.proofs.lemmas.Bool.{lt-ltb, le-ltb, ltb-true, cases_lt, and_parts, ne_eqb, false≢true}
 use Rattle.std.proofs.lemmas.List.{set-set, get_or-set_same, length-set}
 use Rattle.std.proofs.lemmas.Option.{slice_get-get_or, slice_get_past}
 use Rattle.sloth_base.specs.Options.{is_number}
 use Rattle.sloth_base.specs.ServiceCodes.{code_of}
-use Rattle.sloth_base.specs.declared.service.TheConstants.{E_OK}
 use Rattle.sloth_base.specs.declared.config.Config.{Config}
 use Rattle.sloth_base.specs.declared.app.App.{App}
 use Rattle.sloth_base.specs.declared.app.Func.{Func}
@@ -24,12 +23,17 @@ use Rattle.osek_machine.specs.declared.state.TaskState.TheVariants as mode
 use Rattle.osek_machine.specs.State.{Frame, Task, System, sleeping, task, with_task}
 use Rattle.osek_machine.specs.Priority.{is_active}
 use Rattle.osek_machine.specs.Meaning.{Meant, execution, accessed, loaded, stored, register, going_on, writes, is_own, registers_of, on_some, if_true}
-use Rattle.osek_machine.specs.Services.{if_suspended, is_task, is_there, woken, with_events, set_events, answers, answered, Outcome, GoesOn, Leaves, outcome, starts}
+use Rattle.osek_machine.specs.Services.{if_suspended, is_there, woken, with_events, set_events, Outcome, GoesOn, Leaves, starts}
+use Rattle.osek_machine.specs.Outcomes.{shown, Decision, Does, IfSuspended, If, plan_in, outcome_of, OnPlans, decision, outcome}
+use Rattle.osek_machine.specs.Outcomes as one_by_one
+use Rattle.osek_machine.proofs.Outcomes.{on_tested}
+use Rattle.osek_machine.specs.declared.change.TaskChange.{TaskChange}
+use Rattle.osek_machine.specs.declared.plan.Other.{Other}
 use Rattle.osek_machine.specs.Steps.{settled}
 use Rattle.osek_machine.specs.Next.{is_ready, is_top, is_position, operation_of, operation_at, meaning_of, served, going_on_with, leaving, executed, answer_to, next_state}
-use Rattle.osek_run.specs.declared.change.TaskChange.TheVariants as change
-use Rattle.osek_run.specs.declared.plan.Other.TheVariants as other
-use Rattle.osek_run.specs.declared.plan.Plan.{Plan}
+use Rattle.osek_machine.specs.declared.change.TaskChange.TheVariants as change
+use Rattle.osek_machine.specs.declared.plan.Other.TheVariants as other
+use Rattle.osek_machine.specs.declared.plan.Plan.{Plan}
 use Rattle.osek_run.specs.Changes.{changed, woken_by}
 use Rattle.osek_run.specs.Plans.{with_change, with_other, carried_out, plan, write_plan, service_plan, item_plan, item_behind, is_inside}
 use Rattle.osek_run.specs.Running.{next_operation, own_operation, run_plan, call_in, call_plan, serving_plan, running_plan, entry_change, entry_plan, back_plan}
@@ -219,27 +223,23 @@ module _ (config : Config) (app : App) (t : ℕ) (s : System) where
 
 -- ---- services
 
--- the outcome of a plan
-abbrev made : Option ℕ → System → Outcome
-made (Some status) s = GoesOn status s
-made None s = Leaves s
-
 -- the outcome that a plan of task t has
 abbrev outcome_by : ℕ → System → Plan → Outcome
-outcome_by t s p = made p.answer (carried_out t p s)
+outcome_by t s p = shown p.answer (carried_out t p s)
 
 -- one of two plans, by the state of a task
-by_state : (t : ℕ) (s : System) (m : TaskState) (a b : Outcome) (p q : Plan) → a ≡ outcome_by t s p → b ≡ outcome_by t s q
-    → if_suspended m a b ≡ outcome_by t s (if_suspended m p q)
-by_state t s mode.Suspended a b p q e f = e
-by_state t s mode.Ready a b p q e f = f
-by_state t s mode.Active a b p q e f = f
-by_state t s (mode.Waiting mask) a b p q e f = f
+by_state : (t : ℕ) (s : System) (m : TaskState) (a b : Outcome) (p q : Plan) → (m ≡ mode.Suspended → a ≡ outcome_by t s p)
+    → ((m ≡ mode.Suspended → ⊥) → b ≡ outcome_by t s q) → if_suspended m a b ≡ outcome_by t s (if_suspended m p q)
+by_state t s mode.Suspended a b p q e f = e refl
+by_state t s mode.Ready a b p q e f = f (λ x. cc)
+by_state t s mode.Active a b p q e f = f (λ x. cc)
+by_state t s (mode.Waiting mask) a b p q e f = f (λ x. cc)
 
 -- one of two plans, by a test
-by_test : (t : ℕ) (s : System) (c : Bool) (a b : Outcome) (p q : Plan) → a ≡ outcome_by t s p → b ≡ outcome_by t s q → cond c a b ≡ outcome_by t s (cond c p q)
-by_test t s true a b p q e f = e
-by_test t s false a b p q e f = f
+by_test : (t : ℕ) (s : System) (c : Bool) (a b : Outcome) (p q : Plan) → (c ≡ true → a ≡ outcome_by t s p) → (c ≡ false → b ≡ outcome_by t s q)
+    → cond c a b ≡ outcome_by t s (cond c p q)
+by_test t s true a b p q e f = e refl
+by_test t s false a b p q e f = f refl
 
 -- events are set in one change
 module _ (s : System) (t mask : ℕ) (lt : t < length s.tasks) where
@@ -270,36 +270,56 @@ module _ (s : System) (t mask : ℕ) (lt : t < length s.tasks) where
   events-set : set_events t mask s ≡ with_change t (change.AddEvents mask) s
   events-set = by_mode (task s t).state refl
 
+-- a task whose events are set is there
+abbrev IsReached : System → Other → Type 0
+IsReached s (other.AddEvents t mask) = t < length s.tasks
+IsReached s _ = Unit {0}
+
+-- no events are set
+abbrev sets_none : Other → Bool
+sets_none (other.AddEvents t mask) = false
+sets_none _ = true
+
+reached : (s : System) (o : Other) → sets_none o ≡ true → IsReached s o
+reached s (other.AddEvents t mask) e = absurd (false≢true e)
+reached s o e = tt
+
+module _ (t : ℕ) (s : System) where
+  besides-same : (c : TaskChange) (o : Other) → IsReached s o → one_by_one.with_other o (with_change t c s) ≡ with_other o (with_change t c s)
+  besides-same c (other.AddEvents u mask) lt =
+      events-set (with_change t c s) u mask (subst (λ n. u < n) (sym (length-set s.tasks t (changed c (task s t)))) lt)
+  besides-same c other.Nothing lt = refl
+  besides-same c o lt = refl
+
+  -- the outcome of a decision is that of the plan that is taken
+  decision-planned : (d : Decision) → OnPlans s (λ p. IsReached s p.other) d → outcome_of t s d ≡ outcome_by t s (plan_in s d)
+  decision-planned (Does p) h = ap (shown p.answer) (besides-same p.change p.other h)
+  decision-planned (IfSuspended u first second) h =
+      by_state t s (task s u).state (outcome_of t s first) (outcome_of t s second) (plan_in s first) (plan_in s second)
+      (λ e. decision-planned first (h.0 e)) (λ n. decision-planned second (h.1 n))
+  decision-planned (If test first second) h =
+      by_test t s test (outcome_of t s first) (outcome_of t s second) (plan_in s first) (plan_in s second)
+      (λ e. decision-planned first (h.0 e)) (λ n. decision-planned second (h.1 n))
+
 module _ (config : Config) (t : ℕ) (s : System) (count : length s.tasks ≡ length config.tasks) where
-  abbrev Planned : Service → ℕ → ℕ → Type 0
-  Planned srv object mask = outcome srv object mask t s ≡ outcome_by t s (service_plan srv object mask t s)
+  abbrev all-reached : Service → ℕ → ℕ → Type 0
+  all-reached srv object mask = OnPlans s (λ p. IsReached s p.other) (decision config srv object mask t s)
 
-  set_event-planned : (object mask : ℕ) → is_task config object ≡ true → Planned service.SetEvent object mask
-  set_event-planned object mask there =
-      let before = answered E_OK t s in
-      let inside : object < length before.tasks = subst (λ n. object < n) (sym (length-set s.tasks t (answers E_OK (task s t)) ∙ count)) (ltb-true object (length config.tasks) there) in
-      by_state t s (task s object).state _ _ _ _ refl (ap (GoesOn E_OK) (events-set before object mask inside))
+  sets-reached : (srv : Service) (object mask : ℕ) → is_there config (task s t).held srv object ≡ true → all-reached srv object mask
+  sets-reached service.SetEvent object mask there =
+      (λ _. tt, λ _. subst (λ n. object < n) (sym count) (ltb-true object (length config.tasks) there))
+  sets-reached srv object mask there =
+      on_tested s (λ p. IsReached s p.other) (λ p. sets_none p.other) (λ p. reached s p.other) (decision config srv object mask t s) refl
 
-  outcome-planned : (srv : Service) (object mask : ℕ) → is_there config (task s t).held srv object ≡ true → Planned srv object mask
-  outcome-planned service.ActivateTask object mask there = by_state t s (task s object).state _ _ _ _ refl refl
-  outcome-planned service.TerminateTask object mask there = refl
-  outcome-planned service.ChainTask object mask there =
-      by_test t s (object == t) _ _ _ _ refl (by_state t s (task s object).state _ _ _ _ refl refl)
-  outcome-planned service.Schedule object mask there = refl
-  outcome-planned service.GetTaskID object mask there = refl
-  outcome-planned service.GetTaskState object mask there = refl
-  outcome-planned service.GetResource object mask there = refl
-  outcome-planned service.ReleaseResource object mask there = refl
-  outcome-planned service.SetEvent object mask there = set_event-planned object mask there
-  outcome-planned service.ClearEvent object mask there = refl
-  outcome-planned service.GetEvent object mask there = by_state t s (task s object).state _ _ _ _ refl refl
-  outcome-planned service.WaitEvent object mask there = by_test t s (bit_and (task s t).events mask == 0) _ _ _ _ refl refl
+  outcome-planned : (srv : Service) (object mask : ℕ) → is_there config (task s t).held srv object ≡ true
+      → outcome config srv object mask t s ≡ outcome_by t s (service_plan config srv object mask t s)
+  outcome-planned srv object mask there = decision-planned t s (decision config srv object mask t s) (sets-reached srv object mask there)
 
   served-planned : (srv : Service) (o : Op) → served config srv t s o ≡ on_some (on_some (call_in o) (call_plan config srv t s)) (λ p. Some (outcome_by t s p))
   served-planned srv (op.Serve call) =
       let b = (code_of call.service == code_of srv) && is_there config (task s t).held srv call.object in
-      let p = service_plan srv call.object call.mask t s in
-      where_true b (Some (outcome srv call.object call.mask t s)) (Some (outcome_by t s p))
+      let p = service_plan config srv call.object call.mask t s in
+      where_true b (Some (outcome config srv call.object call.mask t s)) (Some (outcome_by t s p))
       (λ e. ap Some (outcome-planned srv call.object call.mask (and_parts _ _ e).1))
       ∙ sym (tested b (Some p) (λ x. Some (outcome_by t s x)))
   served-planned srv (op.Alu k a b c) = refl
@@ -337,11 +357,11 @@ module _ (config : Config) (app : App) (t : ℕ) (s : System) (count : length s.
       ∙ (chained serving (λ p. Some (outcome_by t s p)) go
       ∙ (under serving (λ p. go (outcome_by t s p)) (λ p. if_true (test p) (settling p)) same ∙ sym (filtered serving test settling)))
 
-  going-on : (status : ℕ) (answer : Option ℕ) (x : System) → going_on_with status (made answer x) ≡ if_true (is_number status answer) (Some (settled x))
+  going-on : (status : ℕ) (answer : Option ℕ) (x : System) → going_on_with status (shown answer x) ≡ if_true (is_number status answer) (Some (settled x))
   going-on status (Some v) x = refl
   going-on status None x = refl
 
-  leaving-so : (answer : Option ℕ) (x : System) → leaving (made answer x) ≡ if_true (not (is_some answer)) (Some (settled x))
+  leaving-so : (answer : Option ℕ) (x : System) → leaving (shown answer x) ≡ if_true (not (is_some answer)) (Some (settled x))
   leaving-so (Some v) x = refl
   leaving-so None x = refl
 

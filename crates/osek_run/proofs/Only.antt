@@ -18,7 +18,8 @@ use Rattle.osek_machine.specs.declared.state.TaskState.TheVariants as mode
 use Rattle.osek_machine.specs.State.{Frame, System, task, opening}
 use Rattle.osek_machine.specs.Priority.{rank, IsDue, IsTop}
 use Rattle.osek_machine.specs.Meaning.{Meant, meaning}
-use Rattle.osek_machine.specs.Services.{Outcome, GoesOn, Leaves, outcome}
+use Rattle.osek_machine.specs.Services.{Outcome, GoesOn, Leaves}
+use Rattle.osek_machine.specs.Outcomes.{outcome}
 use Rattle.osek_machine.specs.Steps.{IsAt, Executes, Serves, OsekStep}
 use Rattle.osek_machine.specs.Next.{next_state}
 use Rattle.osek_machine.specs.Runs.{Leads}
@@ -64,7 +65,7 @@ no_call app op.Return x frame outer symbols m e = refl
 
 module _ (config : Config) (app : App) (s : System) (t : ℕ) where
   abbrev of_call : Frame → List Frame → Op → Option Call → Event
-  of_call frame outer o (Some call) = answered t call.service (outcome call.service call.object call.mask t s)
+  of_call frame outer o (Some call) = answered t call.service (outcome config call.service call.object call.mask t s)
   of_call frame outer o None = event.Run t frame.func frame.item (shown (meaning app o (task s t).registers frame outer s.symbols))
 
   abbrev of_frames : List Frame → Event
@@ -109,7 +110,7 @@ module _ (config : Config) (app : App) (s : System) (t : ℕ) where
   serving : (served : Service) (answer : Outcome) → Serves config app t served s answer → answered t served answer ≡ only
   serving served answer h =
       sym (at_operation (op.Serve h.call) h.at
-      ∙ (ap (λ x. answered t x (outcome x h.call.object h.call.mask t s)) h.same ∙ ap (answered t served) h.is))
+      ∙ (ap (λ x. answered t x (outcome config x h.call.object h.call.mask t s)) h.same ∙ ap (answered t served) h.is))
 
 -- ---- one task is due
 

@@ -29,7 +29,10 @@ use Rattle.osek_machine.specs.declared.state.TaskState.TheVariants as mode
 use Rattle.osek_machine.specs.State.{Frame, Task, System, sleeping, task, with_task}
 use Rattle.osek_machine.specs.Priority.{is_active}
 use Rattle.osek_machine.specs.Meaning.{is_own, registers_of, on_some, if_true, register}
-use Rattle.osek_machine.specs.Services.{if_suspended, is_task, is_there}
+use Rattle.osek_machine.specs.Services.{is_task, is_there}
+use Rattle.osek_machine.specs.Outcomes.{OnPlans, all_plans, decision}
+use Rattle.osek_machine.proofs.Outcomes.{on_tested, on_taken}
+use Rattle.osek_machine.specs.declared.change.TaskChange.{TaskChange}
 use Rattle.osek_machine.specs.Steps.{settled}
 use Rattle.osek_machine.specs.Next.{is_ready, is_top, is_position, operation_of, next_state}
 use Rattle.osek_machine.proofs.Next.{step_of}
@@ -39,16 +42,40 @@ use Rattle.osek_valid.proofs.Apart.{at_task}
 use Rattle.osek_valid.proofs.Facts.{Facts, facts}
 use Rattle.osek_valid.proofs.Steps.{step_valid}
 use Rattle.osek_valid.proofs.Tidy.{tidy}
-use Rattle.osek_run.specs.declared.change.TaskChange.TheVariants as change
-use Rattle.osek_run.specs.declared.plan.Other.{Other}
-use Rattle.osek_run.specs.declared.plan.Other.TheVariants as other
-use Rattle.osek_run.specs.declared.plan.Plan.{Plan}
+use Rattle.osek_machine.specs.declared.change.TaskChange.TheVariants as change
+use Rattle.osek_machine.specs.declared.plan.Other.{Other}
+use Rattle.osek_machine.specs.declared.plan.Other.TheVariants as other
+use Rattle.osek_machine.specs.declared.plan.Plan.{Plan}
 use Rattle.osek_run.specs.Frames.{CanMove, HasWord, out_of}
 use Rattle.osek_run.specs.Changes.{changed, Allows}
 use Rattle.osek_run.specs.Plans.{with_change, with_other, carried_out, plan, write_plan, service_plan, item_plan, item_behind, load_of, is_inside, HasOther, HasRoom}
 use Rattle.osek_run.specs.Running.{IsComputed, own_operation, run_plan, call_in, call_plan, serving_plan, running_plan, entry_change, entry_plan, back_plan}
 use Rattle.osek_run.specs.Steps.{answer_plan, leave_plan, follows, IsRead, IsSound}
 use Rattle.osek_run.proofs.Follows.{InFunction, own-operation, enter-follows, run-follows, call-follows, left-follows, back-follows}
+
+-- ---- plans of services
+
+-- nothing is done besides
+abbrev is_nothing : Other → Bool
+is_nothing other.Nothing = true
+is_nothing _ = false
+
+-- a change that a service makes of its caller
+abbrev is_own_change : TaskChange → Bool
+is_own_change (change.Answer status) = true
+is_own_change (change.AnswerWith value) = true
+is_own_change change.End = true
+is_own_change (change.Wait mask) = true
+is_own_change change.Pause = true
+is_own_change (change.Take resource) = true
+is_own_change change.Release = true
+is_own_change (change.ClearEvents mask) = true
+is_own_change _ = false
+
+own-changes : (config : Config) (srv : Service) (object mask t : ℕ) (s : System)
+    → all_plans (λ p. is_own_change p.change) (decision config srv object mask t s) ≡ true
+own-changes config service.ActivateTask object mask t s = refl
+own-changes config srv object mask t s = refl
 
 -- ---- numbers that differ
 
@@ -301,41 +328,44 @@ module _ {config : Config} {app : App} {s : System} (sound : IsSound config app 
     -- ---- services
 
     abbrev plan_of : Service → ℕ → ℕ → Plan
-    plan_of srv object mask = service_plan srv object mask t s
-
-    either : (m : TaskState) (p q : Plan) → Roomy p → Roomy q → Roomy (if_suspended m p q)
-    either mode.Suspended p q a b = a
-    either mode.Ready p q a b = b
-    either mode.Active p q a b = b
-    either (mode.Waiting mask) p q a b = b
-
-    one_of : (c : Bool) (p q : Plan) → Roomy p → Roomy q → Roomy (cond c p q)
-    one_of true p q a b = a
-    one_of false p q a b = b
+    plan_of srv object mask = service_plan config srv object mask t s
 
     there : (u : ℕ) → is_task config u ≡ true → u < length s.tasks
     there u e = in_tasks u (ltb-true u (length config.tasks) e)
 
+    -- the other task that a service changes is there
+    besides-there : (srv : Service) (object mask : ℕ) → is_there config k.held srv object ≡ true → OnPlans s (λ p. HasOther p.other s) (decision config srv object mask t s)
+    besides-there service.ActivateTask object mask e = (λ _. there object e, λ _. tt)
+    besides-there service.ChainTask object mask e = (λ _. in_tasks t lt, λ _. (λ _. there object e, λ _. tt))
+    besides-there service.SetEvent object mask e = (λ _. tt, λ _. there object e)
+    besides-there srv object mask e =
+        on_tested s (λ p. HasOther p.other s) (λ p. is_nothing p.other) (λ p. nothing-there p.other) (decision config srv object mask t s) refl
+      where
+        nothing-there : (o : Other) → is_nothing o ≡ true → HasOther o s
+        nothing-there other.Nothing h = tt
+        nothing-there o h = absurd (false≢true h)
+
+    -- there is room for each change that a service makes of its caller, where it holds few resources
+    own-allowed : (c : TaskChange) → is_own_change c ≡ true → length (changed c k).held ≤ 33 → Allows c k
+    own-allowed change.End e holds = tt
+    own-allowed (change.Take r) e holds = let long = length-append k.held (r ∷ []) in (moves t, omega (arith, long, holds))
+    own-allowed (change.Answer status) e holds = moves t
+    own-allowed (change.AnswerWith value) e holds = moves t
+    own-allowed (change.Wait mask) e holds = moves t
+    own-allowed change.Pause e holds = moves t
+    own-allowed change.Release e holds = moves t
+    own-allowed (change.ClearEvents mask) e holds = moves t
+    own-allowed c e holds = absurd (false≢true e)
+
     service-room : (srv : Service) (object mask : ℕ) → is_there config k.held srv object ≡ true
         → length (changed (plan_of srv object mask).change k).held ≤ 33 → Roomy (plan_of srv object mask)
-    service-room service.ActivateTask object mask e holds =
-        either (task s object).state _ _ (moves t, there object e) (moves t, tt)
-    service-room service.TerminateTask object mask e holds = (tt, tt)
-    service-room service.ChainTask object mask e holds =
-        one_of (object == t) _ _ (tt, in_tasks t lt) (either (task s object).state _ _ (tt, there object e) (moves t, tt))
-    service-room service.Schedule object mask e holds = (moves t, tt)
-    service-room service.GetTaskID object mask e holds = (moves t, tt)
-    service-room service.GetTaskState object mask e holds = (moves t, tt)
-    service-room service.GetResource object mask e holds =
-        let long = length-append k.held (object ∷ []) in ((moves t, omega (arith, long, holds)), tt)
-    service-room service.ReleaseResource object mask e holds = (moves t, tt)
-    service-room service.SetEvent object mask e holds =
-        either (task s object).state _ _ (moves t, tt) (moves t, there object e)
-    service-room service.ClearEvent object mask e holds = (moves t, tt)
-    service-room service.GetEvent object mask e holds =
-        either (task s object).state _ _ (moves t, tt) (moves t, tt)
-    service-room service.WaitEvent object mask e holds =
-        one_of (bit_and k.events mask == 0) _ _ (moves t, tt) (moves t, tt)
+    service-room srv object mask e holds =
+        let d = decision config srv object mask t s in (
+          on_taken s (λ p. length (changed p.change k).held ≤ 33 → Allows p.change k) d
+              (on_tested s (λ p. length (changed p.change k).held ≤ 33 → Allows p.change k) (λ p. is_own_change p.change) (λ p. own-allowed p.change) d (own-changes config srv object mask t s))
+              holds,
+          on_taken s (λ p. HasOther p.other s) d (besides-there srv object mask e),
+        )
 
   -- ---- events
 
@@ -390,7 +420,7 @@ module _ {config : Config} {app : App} {s : System} (sound : IsSound config app 
       let o = on_some_from (own_operation app (task s t)) _ p top.1 in
       let call = on_some_from (call_in o.0) (call_plan config srv t s) p o.2 in
       let found = if_true_some ((code_of call.0.service == code_of srv) && is_there config (task s t).held srv call.0.object) _ p call.2 in
-      let same = some_one (service_plan srv call.0.object call.0.mask t s) p found.1 in
+      let same = some_one (service_plan config srv call.0.object call.0.mask t s) p found.1 in
       let holds = subst (λ (q : Plan). length (changed q.change (task s t)).held ≤ 33) (sym same) (few_held e t lt p next) in
       room-of t lt _ p found.1 (service-room t lt srv call.0.object call.0.mask (and_parts _ _ found.0).1 holds)
 

@@ -34,16 +34,9 @@ module _ (config : Config) (app : App) (s : System) (sound : IsSound config app 
   settled-differ e next own h = subst AreDistinct (sym (settles config app e s next own h)) tt
 
   fresh-differ : (e : Event) (next : System) → OsekStep config app e s next → AreDistinct next.fresh
-  fresh-differ event.Boot next h = settled-differ event.Boot next refl h
   fresh-differ (event.Admit t) next h =
       subst (λ (x : System). AreDistinct x.fresh) (sym h.2) (admitted-differ t (task s t).state refl)
-  fresh-differ (event.Enter t) next h = settled-differ (event.Enter t) next refl h
-  fresh-differ (event.Run t func item result) next h = settled-differ (event.Run t func item result) next refl h
-  fresh-differ (event.Call t served status) next h = settled-differ (event.Call t served status) next refl h
-  fresh-differ (event.Left t served) next h = settled-differ (event.Left t served) next refl h
-  fresh-differ (event.Back t) next h = settled-differ (event.Back t) next refl h
-  fresh-differ event.Idle next h = settled-differ event.Idle next refl h
-  fresh-differ event.Stray next h = absurd h
+  fresh-differ e next h = settled-differ e next refl h
 
   step-sound : (e : Event) (next : System) → OsekStep config app e s next → IsSound config app next
   step-sound e next h = record {

@@ -6,7 +6,7 @@ use Rattle.sloth_base.specs.Named.{undeclared}
 use Rattle.osek_machine.specs.State.{Task, sleeping}
 use Rattle.osek_machine.specs.declared.state.TaskState.TheVariants as mode
 use Rattle.osek_machine.specs.Steps.{autostarted}
-use Rattle.osek_run.specs.declared.change.TaskChange.TheVariants as change
+use Rattle.osek_machine.specs.declared.change.TaskChange.TheVariants as change
 use Rattle.osek_run.specs.Changes.{changed}
 
 -- so many of the first tasks are activated, where they are to start by themselves

@@ -6,13 +6,13 @@ use Rattle.sloth_base.specs.declared.event.Event.{Event}
 use Rattle.sloth_base.specs.declared.event.Stamped.{Stamped}
 use Rattle.app_rules.specs.WellFormed.{WellFormed}
 use Rattle.osek_machine.specs.State.{System, opening}
-use Rattle.osek_machine.specs.InTime.{admitted_task}
+use Rattle.osek_machine.specs.InTime.{admitted_line}
 use Rattle.osek_machine.specs.Steps.{OsekStep}
 use Rattle.osek_machine.specs.Runs.{Leads}
 
 -- an event is no admit
 abbrev pub IsOwn : Event → Type 0
-IsOwn e = admitted_task e ≡ None
+IsOwn e = admitted_line e ≡ None
 
 -- no event is an admit
 abbrev pub AreOwn : List Stamped → Type 0

@@ -2,29 +2,25 @@
 use Rattle.std.specs.Prelude.{ℕ, ◌+◌, ◌*◌, ◌<◌, ◌≤◌, ◌==◌, ◌&&◌, List, [], Bool}
 use Rattle.std.specs.Prelude.{cond, length, get_or, set, leb, ltb, bit_and, Option, Some, None, slice_get}
 use Rattle.sloth_base.specs.Arithmetic.{complement, size_of, register_result, number_result, branch_holds}
+use Rattle.sloth_base.specs.declared.config.Config.{Config}
 use Rattle.sloth_base.specs.declared.app.App.{App}
 use Rattle.sloth_base.specs.declared.app.Func.{Func}
 use Rattle.sloth_base.specs.declared.app.Op.{Op}
 use Rattle.sloth_base.specs.declared.app.Op.TheVariants as op
 use Rattle.sloth_base.specs.declared.app.Width.{Width}
 use Rattle.sloth_base.specs.declared.service.Service.{Service}
-use Rattle.sloth_base.specs.declared.service.Service.TheVariants as service
-use Rattle.sloth_base.specs.declared.service.TheConstants.{E_OK, E_OS_LIMIT, E_OS_STATE}
-use Rattle.osek_machine.specs.State.{Frame, System, task, with_task}
+use Rattle.osek_machine.specs.State.{Frame, System, task}
 use Rattle.osek_machine.specs.Meaning.{register, seen_in, on_some, if_true, accessed, loaded, stored}
-use Rattle.osek_machine.specs.Services.{if_suspended, state_number}
-use Rattle.osek_run.specs.declared.change.TaskChange.{TaskChange}
-use Rattle.osek_run.specs.declared.change.TaskChange.TheVariants as change
-use Rattle.osek_run.specs.declared.plan.Other.{Other}
-use Rattle.osek_run.specs.declared.plan.Other.TheVariants as other
-use Rattle.osek_run.specs.declared.plan.Plan.{Plan}
-use Rattle.osek_run.specs.Changes.{changed, Allows}
+pub use Rattle.osek_machine.specs.Outcomes.{plan}
+use Rattle.osek_machine.specs.Outcomes.{plan_in, decision}
+use Rattle.osek_machine.specs.declared.change.TaskChange.TheVariants as change
+use Rattle.osek_machine.specs.declared.plan.Other.{Other}
+use Rattle.osek_machine.specs.declared.plan.Other.TheVariants as other
+use Rattle.osek_machine.specs.declared.plan.Plan.{Plan}
+pub use Rattle.osek_machine.specs.Changes.{with_change}
+use Rattle.osek_run.specs.Changes.{Allows}
 
--- the system after a change of one task
-abbrev pub with_change : ℕ → TaskChange → System → System
-with_change t c s = with_task s t (changed c (task s t))
-
--- the system after what an event does besides
+-- the system after what an event does besides; events are set in one change
 abbrev pub with_other : Other → System → System
 with_other other.Nothing s = s
 with_other (other.Activate t) s = with_change t change.Activate s
@@ -50,32 +46,9 @@ pub record HasRoom (t : ℕ) (p : Plan) (s : System) : Type 0 where
 
 -- ---- services
 
--- a plan
-abbrev pub plan : Option ℕ → TaskChange → Other → Plan
-plan answer c o = record { answer = answer; change = c; other = o }
-
--- what a service does; `object` is its task or resource, `mask` that of its events
-abbrev pub service_plan : Service → (object mask caller : ℕ) → System → Plan
-service_plan service.ActivateTask t mask caller s =
-    if_suspended (task s t).state (plan (Some E_OK) (change.Answer E_OK) (other.Activate t)) (plan (Some E_OS_LIMIT) (change.Answer E_OS_LIMIT) other.Nothing)
-service_plan service.TerminateTask t mask caller s = plan None change.End other.Nothing
-service_plan service.ChainTask t mask caller s =
-    cond (t == caller) (plan None change.End (other.Activate caller))
-    (if_suspended (task s t).state (plan None change.End (other.Activate t)) (plan (Some E_OS_LIMIT) (change.Answer E_OS_LIMIT) other.Nothing))
-service_plan service.Schedule t mask caller s = plan (Some E_OK) change.Pause other.Nothing
-service_plan service.GetTaskID t mask caller s = plan (Some E_OK) (change.AnswerWith caller) other.Nothing
-service_plan service.GetTaskState t mask caller s = plan (Some E_OK) (change.AnswerWith (state_number caller t (task s t).state)) other.Nothing
-service_plan service.GetResource r mask caller s = plan (Some E_OK) (change.Take r) other.Nothing
-service_plan service.ReleaseResource r mask caller s = plan (Some E_OK) change.Release other.Nothing
-service_plan service.SetEvent t mask caller s =
-    if_suspended (task s t).state (plan (Some E_OS_STATE) (change.Answer E_OS_STATE) other.Nothing)
-    (plan (Some E_OK) (change.Answer E_OK) (other.AddEvents t mask))
-service_plan service.ClearEvent t mask caller s = plan (Some E_OK) (change.ClearEvents mask) other.Nothing
-service_plan service.GetEvent t mask caller s =
-    if_suspended (task s t).state (plan (Some E_OS_STATE) (change.Answer E_OS_STATE) other.Nothing)
-    (plan (Some E_OK) (change.AnswerWith (task s t).events) other.Nothing)
-service_plan service.WaitEvent t mask caller s =
-    cond (bit_and (task s caller).events mask == 0) (plan None (change.Wait mask) other.Nothing) (plan (Some E_OK) (change.Answer E_OK) other.Nothing)
+-- what a service does in a state; `object` is its task or resource, `mask` that of its events
+abbrev pub service_plan : Config → Service → (object mask caller : ℕ) → System → Plan
+service_plan config served object mask caller s = plan_in s (decision config served object mask caller s)
 
 -- ---- items that are no services
 

@@ -15,9 +15,9 @@ use Rattle.osek_machine.specs.Priority.{is_active}
 use Rattle.osek_machine.specs.Meaning.{is_own, registers_of, on_some, if_true}
 use Rattle.osek_machine.specs.Services.{is_there}
 use Rattle.osek_machine.specs.Next.{is_ready, is_top, is_position}
-use Rattle.osek_run.specs.declared.change.TaskChange.TheVariants as change
-use Rattle.osek_run.specs.declared.plan.Other.TheVariants as other
-use Rattle.osek_run.specs.declared.plan.Plan.{Plan}
+use Rattle.osek_machine.specs.declared.change.TaskChange.TheVariants as change
+use Rattle.osek_machine.specs.declared.plan.Other.TheVariants as other
+use Rattle.osek_machine.specs.declared.plan.Plan.{Plan}
 use Rattle.osek_run.specs.Plans.{plan, item_plan, service_plan}
 
 -- the numbers in an operation are in range
@@ -62,7 +62,7 @@ call_in op.Return = None
 abbrev pub call_plan : Config → Service → ℕ → System → Call → Option Plan
 call_plan config served t s call =
     if_true ((code_of call.service == code_of served) && is_there config (task s t).held served call.object)
-    (Some (service_plan served call.object call.mask t s))
+    (Some (service_plan config served call.object call.mask t s))
 
 -- the plan of a service, where that is the next item of the running task
 abbrev pub serving_plan : Config → App → ℕ → Service → System → Option Plan

@@ -11,7 +11,7 @@ use Rattle.osek_machine.specs.Meaning.{on_some, if_true}
 use Rattle.osek_machine.specs.Steps.{settled}
 use Rattle.osek_valid.specs.Valid.{Valid, AreDistinct}
 use Rattle.osek_valid.specs.Apart.{Apart}
-use Rattle.osek_run.specs.declared.plan.Plan.{Plan}
+use Rattle.osek_machine.specs.declared.plan.Plan.{Plan}
 use Rattle.osek_run.specs.Frames.{CanMove}
 use Rattle.osek_run.specs.Plans.{carried_out}
 use Rattle.osek_run.specs.Running.{IsComputed, own_operation, serving_plan}

@@ -3,7 +3,6 @@
 
 pub mod above;
 pub mod arithmetic;
-pub mod change;
 pub mod data;
 pub mod events;
 pub mod frame;
@@ -12,7 +11,6 @@ pub mod held;
 pub mod items;
 pub mod laws;
 pub mod osek;
-pub mod plan;
 pub mod priority;
 pub mod room;
 pub mod services;

@@ -8,7 +8,7 @@ ghost use Rattle.osek_machine.specs.Services.{answers, answers_with};
 ghost use Rattle.osek_run.specs.Frames.{CanMove};
 ghost use Rattle.osek_run.specs.Changes.{Allows, changed, entry, woken_by};
 
-use crate::change::TaskChange;
+use osek_machine::change::TaskChange;
 use crate::frame::FrameRoom;
 use crate::held::Held;
 use crate::stack::Stack;

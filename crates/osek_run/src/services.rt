@@ -2,18 +2,19 @@
 ghost use Rattle.std.specs.Prelude.{◌≡◌, ◌<◌, ◌==◌, cond, Some, None, length, bit_and};
 ghost use Rattle.osek_machine.specs.State.{task};
 ghost use Rattle.osek_machine.specs.Services.{if_suspended, is_resource, is_task, is_there, state_number};
+ghost use Rattle.sloth_base.specs.declared.config.Config.{Config as AnyConfig};
 ghost use Rattle.osek_run.specs.Plans.{plan, service_plan};
 ghost use Rattle.osek_run.specs.Running.{call_in, call_plan};
 
-use crate::change::TaskChange;
-use crate::plan::{Other, Plan};
 use crate::room::TaskRoom;
 use crate::store::{Store, is_suspended};
+use osek_machine::change::TaskChange;
+use osek_machine::plan::{Other, Plan};
 use osek_machine::state::TaskState;
 use sloth_base::app::{Call, Op};
 use sloth_base::config::Config;
 use sloth_base::numbers::RES_SCHEDULER;
-use sloth_base::service::{E_OK, E_OS_LIMIT, E_OS_STATE, Service};
+use sloth_base::service::{E_OK, E_OS_LIMIT, E_OS_STATE, ObjectKind, Service};
 
 // The state of a task; one that is not there is Suspended.
 fn state_of(store: &Store, t: u32) -> TaskState
@@ -143,7 +144,7 @@ fn wait_event(store: &Store, mask: u32, caller: u32) -> Plan
 
 // What a service does for its caller.
 fn service_plan(store: &Store, service: Service, object: u32, mask: u32, caller: u32) -> Plan
-    ensures { result ≡ service_plan service object mask caller store.now }
+    ensures { (config : AnyConfig) → result ≡ service_plan config service object mask caller store.now }
 {
     match service {
         Service::ActivateTask => activate_task(store, object),
@@ -185,19 +186,13 @@ fn is_resource(config: &Config, resource: u32) -> bool
 fn is_there(config: &Config, task: &TaskRoom, service: Service, object: u32) -> bool
     ensures { result ≡ is_there config.now task.now.held service object }
 {
-    match service {
-        Service::ActivateTask => is_task(config, object),
-        Service::TerminateTask => true,
-        Service::ChainTask => is_task(config, object),
-        Service::Schedule => true,
-        Service::GetTaskID => true,
-        Service::GetTaskState => is_task(config, object),
-        Service::GetResource => is_resource(config, object),
-        Service::ReleaseResource => task.holds_last(object),
-        Service::SetEvent => is_task(config, object),
-        Service::ClearEvent => true,
-        Service::GetEvent => is_task(config, object),
-        Service::WaitEvent => true,
+    if service.is(Service::ReleaseResource) {
+        return task.holds_last(object);
+    }
+    match service.object_kind() {
+        ObjectKind::Nothing => true,
+        ObjectKind::Task => is_task(config, object),
+        ObjectKind::Resource => is_resource(config, object),
     }
 }
 

@@ -8,17 +8,16 @@ use Rattle.sloth_base.specs.declared.app.App.{App}
 use Rattle.sloth_base.specs.declared.event.Event.{Event}
 use Rattle.sloth_base.specs.declared.event.Event.TheVariants as event
 use Rattle.sloth_base.specs.declared.service.Service.{Service}
-use Rattle.sloth_base.specs.declared.service.Service.TheVariants as service
 use Rattle.osek_machine.specs.declared.state.TaskState.{TaskState}
 use Rattle.osek_machine.specs.declared.state.TaskState.TheVariants as mode
 use Rattle.osek_machine.specs.State.{Task, System, sleeping, task, with_task, opening, zero_registers}
-use Rattle.sloth_base.specs.Status.{E_OK, E_OS_LIMIT, E_OS_STATE}
 use Rattle.sloth_base.specs.Named.{declaration}
 use Rattle.osek_machine.specs.Priority.{is_in, is_active, rank, IsTop}
-use Rattle.osek_machine.specs.Services.{if_suspended, activated, answers, answers_with, answered, answered_with, ended, waits, woken, with_events, set_events, Outcome, GoesOn, Leaves, outcome, starts, state_number}
+use Rattle.osek_machine.specs.Services.{activated, with_events, Outcome, GoesOn, Leaves, IsAfter, starts}
+use Rattle.osek_machine.specs.Outcomes.{decision, outcome}
+use Rattle.osek_machine.proofs.Outcomes.{by_suspended, KeptByOthers, outcome_keeps_all}
 use Rattle.osek_machine.specs.Steps.{settled, autostarted, admitted, OsekStep, Executes, Serves}
 use Rattle.osek_valid.specs.Apart.{priority_of, static_priority, AreTwo, Apart}
-use Rattle.osek_valid.proofs.Serving.{by_suspended}
 use Rattle.osek_valid.proofs.Steps.{autostarted_at, asleep_at}
 
 -- ---- priorities
@@ -76,53 +75,15 @@ module _ (config : Config) where
       at_task s t u (record (task s t) { events = events }) (Same u (task s u)) (itself u (task s u))
       (λ e. let Q : ℕ → Type 0 = λ x. Same u (task s u) (record (task s x) { events = events }) in subst Q e (λ h. (h, refl)))
 
-  woken_calm : (c : ℕ) (m : TaskState) (events t : ℕ) (s : System) → Calm c s (woken m events t s)
-  woken_calm c mode.Suspended events t s = λ u n. itself u (task s u)
-  woken_calm c mode.Ready events t s = λ u n. itself u (task s u)
-  woken_calm c mode.Active events t s = λ u n. itself u (task s u)
-  woken_calm c (mode.Waiting mask) events t s =
-      cond_both (bit_and events mask == 0) s (activated s t) (Calm c s) (λ _ u n. itself u (task s u)) (λ _. readied c s t)
+  calm_besides : (c : ℕ) (s : System) → KeptByOthers (Calm c s)
+  calm_besides c s = record {
+    activates = λ x t h. then c s x (activated x t) h (readied c x t);
+    sets = λ x t events h. then c s x (with_events x t events) h (eventful c x t events);
+    stores = λ x symbols h. h;
+  }
 
-  set_events_calm : (c : ℕ) (s : System) (t mask : ℕ) → Calm c s (set_events t mask s)
-  set_events_calm c s t mask =
-      let events = bit_or (task s t).events mask in
-      then c s (with_events s t events) (woken (task s t).state events t (with_events s t events)) (eventful c s t events) (woken_calm c (task s t).state events t (with_events s t events))
-
-  abbrev pub CalmAnswer : ℕ → System → Outcome → Type 0
-  CalmAnswer c s (GoesOn status after) = Calm c s after
-  CalmAnswer c s (Leaves after) = Calm c s after
-
-  pub outcome_calm : (sv : Service) (o m c : ℕ) (s : System) → CalmAnswer c s (outcome sv o m c s)
-  outcome_calm service.ActivateTask t m c s =
-      by_suspended (task s t).state (GoesOn E_OK (activated (answered E_OK c s) t)) (GoesOn E_OS_LIMIT (answered E_OS_LIMIT c s)) (CalmAnswer c s)
-      (λ _. then c s (answered E_OK c s) (activated (answered E_OK c s) t) (own c s (answers E_OK (task s c))) (readied c (answered E_OK c s) t))
-      (λ _. own c s (answers E_OS_LIMIT (task s c)))
-  outcome_calm service.TerminateTask o m c s =
-      own c s (record (task s c) { state = mode.Suspended; registers = zero_registers; frames = []; events = 0; raised = false })
-  outcome_calm service.ChainTask t m c s =
-      let gone = own c s (record (task s c) { state = mode.Suspended; registers = zero_registers; frames = []; events = 0; raised = false }) in
-      cond_both (t == c) (Leaves (activated (ended c s) c)) (if_suspended (task s t).state (Leaves (activated (ended c s) t)) (GoesOn E_OS_LIMIT (answered E_OS_LIMIT c s)))
-      (CalmAnswer c s)
-      (λ _. then c s (ended c s) (activated (ended c s) c) gone (readied c (ended c s) c))
-      (λ _. by_suspended (task s t).state (Leaves (activated (ended c s) t)) (GoesOn E_OS_LIMIT (answered E_OS_LIMIT c s)) (CalmAnswer c s)
-      (λ _. then c s (ended c s) (activated (ended c s) t) gone (readied c (ended c s) t))
-      (λ _. own c s (answers E_OS_LIMIT (task s c))))
-  outcome_calm service.Schedule o m c s = own c s (record (answers E_OK (task s c)) { raised = false; owed = true })
-  outcome_calm service.GetTaskID o m c s = own c s (answers_with c (task s c))
-  outcome_calm service.GetTaskState t m c s = own c s (answers_with (state_number c t (task s t).state) (task s c))
-  outcome_calm service.GetResource q m c s = own c s _
-  outcome_calm service.ReleaseResource q m c s = own c s _
-  outcome_calm service.SetEvent t m c s =
-      by_suspended (task s t).state (GoesOn E_OS_STATE (answered E_OS_STATE c s)) (GoesOn E_OK (set_events t m (answered E_OK c s))) (CalmAnswer c s)
-      (λ _. own c s (answers E_OS_STATE (task s c)))
-      (λ _. then c s (answered E_OK c s) (set_events t m (answered E_OK c s)) (own c s (answers E_OK (task s c))) (set_events_calm c (answered E_OK c s) t m))
-  outcome_calm service.ClearEvent o m c s = own c s _
-  outcome_calm service.GetEvent t m c s =
-      by_suspended (task s t).state (GoesOn E_OS_STATE (answered E_OS_STATE c s)) (GoesOn E_OK (answered_with (task s t).events c s)) (CalmAnswer c s)
-      (λ _. own c s (answers E_OS_STATE (task s c))) (λ _. own c s (answers_with (task s t).events (task s c)))
-  outcome_calm service.WaitEvent o m c s =
-      cond_both (bit_and (task s c).events m == 0) (Leaves (with_task s c (waits m (task s c)))) (GoesOn E_OK (answered E_OK c s)) (CalmAnswer c s)
-      (λ _. own c s (waits m (task s c))) (λ _. own c s (answers E_OK (task s c)))
+  pub outcome_calm : (sv : Service) (o m c : ℕ) (s : System) → IsAfter (Calm c s) (outcome config sv o m c s)
+  outcome_calm sv o m c s = outcome_keeps_all (Calm c s) (calm_besides c s) c s (own c s) (decision config sv o m c s)
 
   -- ---- the order
 
@@ -220,8 +181,8 @@ module _ (config : Config) where
   run_calm app t func item result s next h =
       subst (Calm t s) (sym h.is) (own t s (record (task s t) { registers = h.meant.registers; frames = h.meant.frames }))
 
-  answer_calm : (app : App) (t : ℕ) (served : Service) (s : System) (answer : Outcome) → Serves config app t served s answer → CalmAnswer t s answer
-  answer_calm app t served s answer h = subst (CalmAnswer t s) h.is (outcome_calm served h.call.object h.call.mask t s)
+  answer_calm : (app : App) (t : ℕ) (served : Service) (s : System) (answer : Outcome) → Serves config app t served s answer → IsAfter (Calm t s) answer
+  answer_calm app t served s answer h = subst (IsAfter (Calm t s)) h.is (outcome_calm served h.call.object h.call.mask t s)
 
   pub boot_calm : (s : System) (u : ℕ) → Same u (task s u) (get_or (autostarted config.tasks s.tasks) u sleeping)
   boot_calm s u = autostarted_at (Same u (task s u)) config.tasks s.tasks u (itself u (task s u)) (λ e. absurd cc)

@@ -1,6 +1,6 @@
 -- In a valid state each item has a meaning, and a task that runs has a next event.
 use Rattle.std.proofs.Common.{◌≡◌, ℕ, zero, suc, ◌+◌, ◌<◌, ◌≤◌, ◌==◌, ◌⊎◌, List, [], ◌∷◌, ◌++◌, Bool, true, false, cond, ltb, ap, ◌∙◌, length, get_or, map, refl, sym, subst, arith, inl, inr, Some, None, Option, bit_and}
-use Rattle.std.proofs.lemmas.Bool.{lt-ltb, le-leb, and_from, or_right, cond-true, cases_eq, eq-eqb, ne_eqb}
+use Rattle.std.proofs.lemmas.Bool.{lt-ltb, le-leb, and_from, or_right, cond-true, cond_both, cases_eq, eq-eqb, ne_eqb}
 use Rattle.std.proofs.lemmas.Nat.{and_le_r}
 use Rattle.sloth_base.specs.declared.config.Config.{Config}
 use Rattle.sloth_base.specs.declared.app.App.{App}
@@ -18,17 +18,22 @@ use Rattle.osek_machine.specs.State.{Frame, Task, System, task, with_task}
 use Rattle.sloth_base.specs.Named.{function, operation, symbol_size, no_symbol, label_of, nowhere}
 use Rattle.osek_machine.specs.Priority.{is_in, IsTop}
 use Rattle.osek_machine.specs.Meaning.{Meant, meaning, loads, stores, accessed, register, is_own, registers_of, execution, target, on_some, returned}
-use Rattle.osek_machine.specs.InTime.{admitted_task}
+use Rattle.osek_machine.specs.InTime.{admitted_line}
+use Rattle.sloth_base.specs.ServiceCodes.{is_service, object_kind}
+use Rattle.sloth_base.specs.declared.service.ObjectKind.{ObjectKind}
+use Rattle.sloth_base.specs.declared.service.ObjectKind.TheVariants as object
 use Rattle.sloth_base.specs.declared.service.Service.{Service}
 use Rattle.sloth_base.specs.declared.service.Service.TheVariants as service
+use Rattle.sloth_base.proofs.Services.{same_service}
 use Rattle.std.specs.List.{list_all}
 use Rattle.std.proofs.lemmas.List.{append_assoc}
 use Rattle.std.proofs.lemmas.Option.{slice_get-get_or}
-use Rattle.osek_machine.specs.Services.{is_there, is_resource, Outcome, GoesOn, Leaves, outcome}
+use Rattle.osek_machine.specs.Services.{is_there, is_resource, Outcome, GoesOn, Leaves, is_object}
+use Rattle.osek_machine.specs.Outcomes.{outcome}
 use Rattle.osek_machine.specs.Steps.{settled, IsAt, OsekStep}
 use Rattle.osek_machine.proofs.Tests.{on_some_is, if_true_is}
 use Rattle.sloth_base.specs.Arithmetic.{size_of}
-use Rattle.app_rules.specs.AppRange.{IsRegister, IsOp, IsLabel, IsResource, AreOperands}
+use Rattle.app_rules.specs.AppRange.{IsRegister, IsOp, IsLabel, IsResource, IsObject}
 use Rattle.app_rules.specs.Code.{serve, is_last}
 use Rattle.osek_valid.proofs.Facts.{Facts}
 use Rattle.osek_valid.specs.Valid.{held_by, AreCalls, IsCalledFrom, InState, IsValidTask, Valid}
@@ -184,22 +189,16 @@ module _ (config : Config) (app : App) (w : Facts config app) (t : ℕ) (k : Tas
       ap (is_last q) (r.held ∙ ap (λ l. held_by app outer ++ l) last.1 ∙ sym (append_assoc (held_by app outer) last.0 (q ∷ [])))
       ∙ last_of q (held_by app outer ++ last.0)
 
+  object_there : (kind : ObjectKind) (o : ℕ) → IsObject config kind o → is_object config kind o ≡ true
+  object_there object.Nothing o h = refl
+  object_there object.Task t h = lt-ltb _ _ h
+  object_there object.Resource q h = resource_there q h
+
   pub there : (sv : Service) (o m : ℕ) → Running config app t k frame outer (serve sv o m) → is_there config k.held sv o ≡ true
-  there sv o m r = by sv r (w.items frame.func frame.item (serve sv o m) r.item)
-    where
-      by : (sv : Service) → Running config app t k frame outer (serve sv o m) → AreOperands config sv o m → is_there config k.held sv o ≡ true
-      by service.ActivateTask r a = lt-ltb _ _ a.0
-      by service.TerminateTask r a = refl
-      by service.ChainTask r a = lt-ltb _ _ a.0
-      by service.Schedule r a = refl
-      by service.GetTaskID r a = refl
-      by service.GetTaskState r a = lt-ltb _ _ a.0
-      by service.GetResource r a = resource_there o a.0
-      by service.ReleaseResource r a = last_there o m r
-      by service.SetEvent r a = lt-ltb _ _ a.0
-      by service.ClearEvent r a = refl
-      by service.GetEvent r a = lt-ltb _ _ a.0
-      by service.WaitEvent r a = refl
+  there sv o m r =
+      cond_both (is_service sv service.ReleaseResource) (is_last o k.held) (is_object config (object_kind sv) o) (λ b. b ≡ true)
+      (λ e. last_there o m (subst (λ (x : Service). Running config app t k frame outer (serve x o m)) (same_service sv service.ReleaseResource e) r))
+      (λ _. object_there (object_kind sv) o (w.items frame.func frame.item (serve sv o m) r.item).0)
 
 module _ (config : Config) (app : App) where
   -- a task that runs is at an item of its function
@@ -220,7 +219,7 @@ module _ (config : Config) (app : App) where
 
   -- the top task, where it is Active and owes nothing, has a next event
   pub goes : (s : System) (t : ℕ) → Facts config app → Valid config app s → Apart config s → s.booted ≡ true → IsTop config s [] t → (task s t).state ≡ mode.Active
-      → (task s t).owed ≡ false → (e : Event) × (admitted_task e ≡ None) × (next : System) × OsekStep config app e s next
+      → (task s t).owed ≡ false → (e : Event) × (admitted_line e ≡ None) × (next : System) × OsekStep config app e s next
   goes s t w v a booted top active free =
       let p = position s t v top.declared active free in
       let r = running config app s t p.0 v top.declared p.1 in
@@ -249,8 +248,8 @@ module _ (config : Config) (app : App) where
           there config app w t (task s t) at.frame at.outer s.symbols v.sizes call.service call.object call.mask
           (running config app s t (op.Serve call) v top.declared at)
 
-      answered_by : (call : Call) → (at : IsAt app s t (op.Serve call)) → (answer : Outcome) → outcome call.service call.object call.mask t s ≡ answer
-          → (e : Event) × (admitted_task e ≡ None) × (next : System) × OsekStep config app e s next
+      answered_by : (call : Call) → (at : IsAt app s t (op.Serve call)) → (answer : Outcome) → outcome config call.service call.object call.mask t s ≡ answer
+          → (e : Event) × (admitted_line e ≡ None) × (next : System) × OsekStep config app e s next
       answered_by call at (GoesOn status after) e = (
         event.Call t call.service status,
         refl,
@@ -262,7 +261,7 @@ module _ (config : Config) (app : App) where
 
       by : (o : Op) → (at : IsAt app s t o)
           → ((m : Meant) × (meaning app o (task s t).registers at.frame at.outer s.symbols ≡ Some m)) ⊎ ((call : Call) × (o ≡ op.Serve call))
-          → (e : Event) × (admitted_task e ≡ None) × (next : System) × OsekStep config app e s next
+          → (e : Event) × (admitted_line e ≡ None) × (next : System) × OsekStep config app e s next
       by o at (inl m) = (
         event.Run t at.frame.func at.frame.item m.0.result,
         refl,

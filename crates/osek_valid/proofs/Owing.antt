@@ -1,7 +1,6 @@
 -- A task owes a `back` only where it reaches a Schedule: each step keeps that.
-use Rattle.std.proofs.Common.{◌≡◌, ℕ, ◌<◌, ◌==◌, List, [], ◌∷◌, ◌++◌, Bool, true, false, cond, set, refl, sym, ap, ◌∙◌, subst, inl, inr, bit_and, bit_or}
-use Rattle.std.specs.Prelude.{◌-◌}
-use Rattle.std.proofs.lemmas.Bool.{cond_both, false≢true}
+use Rattle.std.proofs.Common.{◌≡◌, ℕ, List, [], ◌∷◌, Bool, true, false, not, refl, sym, ap, ◌∙◌, subst}
+use Rattle.std.proofs.lemmas.Bool.{false≢true, not-true}
 use Rattle.sloth_base.specs.declared.config.Config.{Config}
 use Rattle.sloth_base.specs.declared.app.App.{App}
 use Rattle.sloth_base.specs.declared.event.Event.{Event}
@@ -9,22 +8,42 @@ use Rattle.sloth_base.specs.declared.event.Event.TheVariants as event
 use Rattle.sloth_base.specs.declared.service.Service.{Service}
 use Rattle.sloth_base.specs.declared.service.Service.TheVariants as service
 use Rattle.sloth_base.specs.Named.{declaration}
-use Rattle.sloth_base.specs.Status.{E_OK, E_OS_LIMIT, E_OS_STATE}
+use Rattle.sloth_base.specs.ServiceCodes.{is_service}
+use Rattle.sloth_base.proofs.Services.{same_service}
 use Rattle.app_rules.specs.Code.{IsItem, serve, TaskReaches}
 use Rattle.stack_bounds.specs.Bounds.{ReachesSchedule}
-use Rattle.osek_machine.specs.declared.state.TaskState.{TaskState}
 use Rattle.osek_machine.specs.declared.state.TaskState.TheVariants as mode
-use Rattle.osek_machine.specs.State.{Frame, Task, System, sleeping, task, with_task, opening, zero_registers}
-use Rattle.osek_machine.specs.Services.{if_suspended, activated, answers, answers_with, answered, answered_with, ended, waits, woken, with_events, set_events, without_last, Outcome, GoesOn, Leaves, outcome, starts, entered, state_number}
+use Rattle.osek_machine.specs.State.{Frame, Task, System, sleeping, task, with_task, opening}
+use Rattle.osek_machine.specs.Services.{activated, with_events, Outcome, GoesOn, Leaves, IsAfter, starts}
+use Rattle.osek_machine.specs.Changes.{changed, with_change}
+use Rattle.osek_machine.specs.Outcomes.{OnPlans, all_plans, decision, outcome}
+use Rattle.osek_machine.specs.declared.change.TaskChange.{TaskChange}
+use Rattle.osek_machine.specs.declared.change.TaskChange.TheVariants as change
+use Rattle.osek_machine.specs.declared.plan.Plan.{Plan}
+use Rattle.osek_machine.proofs.Outcomes.{by_suspended, on_all, on_tested, KeptByOthers, outcome_keeps}
 use Rattle.osek_machine.specs.Steps.{OsekStep, Serves, admitted}
 use Rattle.osek_valid.specs.Valid.{Valid}
 use Rattle.osek_valid.specs.Together.{OwesBySchedule}
 use Rattle.osek_valid.proofs.Apart.{at_task}
 use Rattle.osek_valid.proofs.Facts.{Facts}
 use Rattle.osek_valid.proofs.Going.{running}
-use Rattle.osek_valid.proofs.Serving.{by_suspended}
 use Rattle.osek_valid.proofs.Stacks.{task_reaches}
 use Rattle.osek_valid.proofs.Steps.{autostarted_at, asleep_at}
+
+-- Schedule alone makes its caller owe a `back`
+abbrev is_pause : TaskChange → Bool
+is_pause change.Pause = true
+is_pause _ = false
+
+owed_before : (c : TaskChange) (k : Task) → is_pause c ≡ false → (changed c k).owed ≡ true → k.owed ≡ true
+owed_before change.Pause k e owed = absurd (false≢true (sym e))
+owed_before (change.ComeBack non) k e owed = absurd (false≢true owed)
+owed_before c k e owed = owed
+
+pauses_alone : (config : Config) (sv : Service) (o m c : ℕ) (s : System) → is_service sv service.Schedule ≡ false
+    → all_plans (λ p. not (is_pause p.change)) (decision config sv o m c s) ≡ true
+pauses_alone config service.Schedule o m c s e = absurd (false≢true (sym e))
+pauses_alone config sv o m c s e = refl
 
 module _ (app : App) where
   abbrev Owes : System → Type 0
@@ -42,59 +61,25 @@ module _ (app : App) where
   eventful : (s : System) (t events : ℕ) → Owes s → Owes (with_events s t events)
   eventful s t events each = one s t (record (task s t) { events = events }) each (each t)
 
-  woken_owes : (m : TaskState) (events t : ℕ) (s : System) → Owes s → Owes (woken m events t s)
-  woken_owes mode.Suspended events t s each = each
-  woken_owes mode.Ready events t s each = each
-  woken_owes mode.Active events t s each = each
-  woken_owes (mode.Waiting mask) events t s each =
-      cond_both (bit_and events mask == 0) s (activated s t) Owes (λ _. each) (λ _. readied s t each)
-
-  set_events_owes : (s : System) (t mask : ℕ) → Owes s → Owes (set_events t mask s)
-  set_events_owes s t mask each =
-      let events = bit_or (task s t).events mask in
-      woken_owes (task s t).state events t (with_events s t events) (eventful s t events each)
+  owes_besides : KeptByOthers Owes
+  owes_besides = record { activates = readied; sets = eventful; stores = λ s symbols each. each }
 
   -- ---- services
 
-  abbrev OwesAfter : Outcome → Type 0
-  OwesAfter (GoesOn status after) = Owes after
-  OwesAfter (Leaves after) = Owes after
+  module _ (config : Config) (s : System) (c : ℕ) (each : Owes s) where
+    -- a change of the caller with which it owes no more than before
+    own : (p : Plan) → not (is_pause p.change) ≡ true → Owes (with_change c p.change s)
+    own p h = one s c (changed p.change (task s c)) each (λ owed. each c (owed_before p.change (task s c) (not-true _ h) owed))
 
-  module _ (s : System) (c : ℕ) (each : Owes s) where
-    -- the caller goes on, or ends
-    on : (new : Task) → new.owed ≡ (task s c).owed → Owes (with_task s c new)
-    on new e = one s c new each (λ h. each c (sym e ∙ h))
-
-    over : Owes (ended c s)
-    over = on (record (task s c) { state = mode.Suspended; registers = zero_registers; frames = []; events = 0; raised = false }) refl
-
-    outcome_owes : (sv : Service) (o m : ℕ) → (sv ≡ service.Schedule → ReachesSchedule app c) → OwesAfter (outcome sv o m c s)
-    outcome_owes service.ActivateTask t m reaches =
-        by_suspended (task s t).state (GoesOn E_OK (activated (answered E_OK c s) t)) (GoesOn E_OS_LIMIT (answered E_OS_LIMIT c s)) OwesAfter
-        (λ _. readied (answered E_OK c s) t (on (answers E_OK (task s c)) refl)) (λ _. on (answers E_OS_LIMIT (task s c)) refl)
-    outcome_owes service.TerminateTask o m reaches = over
-    outcome_owes service.ChainTask t m reaches =
-        cond_both (t == c) (Leaves (activated (ended c s) c)) (if_suspended (task s t).state (Leaves (activated (ended c s) t)) (GoesOn E_OS_LIMIT (answered E_OS_LIMIT c s)))
-        OwesAfter
-        (λ _. readied (ended c s) c over)
-        (λ _. by_suspended (task s t).state (Leaves (activated (ended c s) t)) (GoesOn E_OS_LIMIT (answered E_OS_LIMIT c s)) OwesAfter
-        (λ _. readied (ended c s) t over) (λ _. on (answers E_OS_LIMIT (task s c)) refl))
-    outcome_owes service.Schedule o m reaches = one s c (record (answers E_OK (task s c)) { raised = false; owed = true }) each (λ _. reaches refl)
-    outcome_owes service.GetTaskID o m reaches = on (answers_with c (task s c)) refl
-    outcome_owes service.GetTaskState t m reaches = on (answers_with (state_number c t (task s t).state) (task s c)) refl
-    outcome_owes service.GetResource r m reaches = on (record (answers E_OK (task s c)) { held = (task s c).held ++ (r ∷ []) }) refl
-    outcome_owes service.ReleaseResource r m reaches = on (record (answers E_OK (task s c)) { held = without_last (task s c).held }) refl
-    outcome_owes service.SetEvent t m reaches =
-        by_suspended (task s t).state (GoesOn E_OS_STATE (answered E_OS_STATE c s)) (GoesOn E_OK (set_events t m (answered E_OK c s))) OwesAfter
-        (λ _. on (answers E_OS_STATE (task s c)) refl) (λ _. set_events_owes (answered E_OK c s) t m (on (answers E_OK (task s c)) refl))
-    outcome_owes service.ClearEvent o m reaches =
-        on (record (answers E_OK (task s c)) { events = bit_and (task s c).events (4294967295 - m) }) refl
-    outcome_owes service.GetEvent t m reaches =
-        by_suspended (task s t).state (GoesOn E_OS_STATE (answered E_OS_STATE c s)) (GoesOn E_OK (answered_with (task s t).events c s)) OwesAfter
-        (λ _. on (answers E_OS_STATE (task s c)) refl) (λ _. on (answers_with (task s t).events (task s c)) refl)
-    outcome_owes service.WaitEvent o m reaches =
-        cond_both (bit_and (task s c).events m == 0) (Leaves (with_task s c (waits m (task s c)))) (GoesOn E_OK (answered E_OK c s)) OwesAfter
-        (λ _. on (waits m (task s c)) refl) (λ _. on (answers E_OK (task s c)) refl)
+    outcome_owes : (sv : Service) (o m : ℕ) → (sv ≡ service.Schedule → ReachesSchedule app c) → IsAfter Owes (outcome config sv o m c s)
+    outcome_owes sv o m reaches = outcome_keeps Owes owes_besides c s (decision config sv o m c s) (by (is_service sv service.Schedule) refl)
+      where
+        by : (b : Bool) → is_service sv service.Schedule ≡ b → OnPlans s (λ p. Owes (with_change c p.change s)) (decision config sv o m c s)
+        by true e =
+            on_all s (λ p. Owes (with_change c p.change s))
+            (λ p. one s c (changed p.change (task s c)) each (λ _. reaches (same_service sv service.Schedule e))) (decision config sv o m c s)
+        by false e =
+            on_tested s (λ p. Owes (with_change c p.change s)) (λ p. not (is_pause p.change)) own (decision config sv o m c s) (pauses_alone config sv o m c s e)
 
   -- ---- all events
 
@@ -103,8 +88,8 @@ module _ (app : App) where
   starts_owes t (frame ∷ outer) old = refl
 
   module _ (config : Config) (w : Facts config app) where
-    serves_owes : (t : ℕ) (served : Service) (s : System) (answer : Outcome) → Serves config app t served s answer → Valid config app s → Owes s → OwesAfter answer
-    serves_owes t served s answer h v each = subst OwesAfter h.is (outcome_owes s t each served h.call.object h.call.mask reaches)
+    serves_owes : (t : ℕ) (served : Service) (s : System) (answer : Outcome) → Serves config app t served s answer → Valid config app s → Owes s → IsAfter Owes answer
+    serves_owes t served s answer h v each = subst (IsAfter Owes) h.is (outcome_owes config s t each served h.call.object h.call.mask reaches)
       where
         reaches : served ≡ service.Schedule → ReachesSchedule app t
         reaches e =

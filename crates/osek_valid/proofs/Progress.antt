@@ -9,7 +9,7 @@ use Rattle.osek_machine.specs.declared.state.TaskState.{TaskState}
 use Rattle.osek_machine.specs.declared.state.TaskState.TheVariants as mode
 use Rattle.osek_machine.specs.State.{System, task}
 use Rattle.osek_machine.specs.Priority.{rank, IsDue, IsTop}
-use Rattle.osek_machine.specs.InTime.{admitted_task}
+use Rattle.osek_machine.specs.InTime.{admitted_line}
 use Rattle.osek_machine.specs.Steps.{OsekStep}
 use Rattle.osek_valid.proofs.Facts.{Facts}
 use Rattle.osek_valid.specs.Valid.{Valid}
@@ -100,20 +100,20 @@ module _ (config : Config) (s : System) where
           inl (best.which, record { declared = best.below; due = best.due; is_greatest = λ u lt due out. best.greatest u lt due; is_not_left_out = refl })
       by (inr none) = inr none
 
-  pub never_sticks : (app : App) → Facts config app → Valid config app s → Apart config s → (e : Event) × (admitted_task e ≡ None) × (next : System) × OsekStep config app e s next
+  pub never_sticks : (app : App) → Facts config app → Valid config app s → Apart config s → (e : Event) × (admitted_line e ≡ None) × (next : System) × OsekStep config app e s next
   never_sticks app w v a = by s.booted refl some_top
     where
       owing : (t : ℕ) → s.booted ≡ true → IsTop config s [] t → (task s t).state ≡ mode.Active → (o : Bool) → (task s t).owed ≡ o
-          → (e : Event) × (admitted_task e ≡ None) × (next : System) × OsekStep config app e s next
+          → (e : Event) × (admitted_line e ≡ None) × (next : System) × OsekStep config app e s next
       owing t booted top active true e = (event.Back t, refl, _, (booted, top, active, e, refl))
       owing t booted top active false e = goes config app s t w v a booted top active e
 
-      due : (t : ℕ) → s.booted ≡ true → IsTop config s [] t → IsDue s t → (e : Event) × (admitted_task e ≡ None) × (next : System) × OsekStep config app e s next
+      due : (t : ℕ) → s.booted ≡ true → IsTop config s [] t → IsDue s t → (e : Event) × (admitted_line e ≡ None) × (next : System) × OsekStep config app e s next
       due t booted top (inl ready) = (event.Enter t, refl, _, (booted, top, ready, (has_body config app w t top.declared).0, refl))
       due t booted top (inr active) = owing t booted top active (task s t).owed refl
 
       by : (b : Bool) → s.booted ≡ b → ((t : ℕ) × IsTop config s [] t) ⊎ ((t : ℕ) → t < length config.tasks → ¬ (IsDue s t))
-          → (e : Event) × (admitted_task e ≡ None) × (next : System) × OsekStep config app e s next
+          → (e : Event) × (admitted_line e ≡ None) × (next : System) × OsekStep config app e s next
       by false e top = (event.Boot, refl, _, (e, refl))
       by true e (inl top) = due top.0 e top.1 top.1.due
       by true e (inr none) = (event.Idle, refl, _, (e, none, refl))

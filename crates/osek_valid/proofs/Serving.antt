@@ -16,7 +16,9 @@ use Rattle.osek_machine.specs.declared.state.TaskState.TheVariants as mode
 use Rattle.osek_machine.specs.State.{Frame, Task, System, sleeping, task, with_task, zero_registers}
 use Rattle.sloth_base.specs.Named.{declaration, undeclared}
 use Rattle.sloth_base.specs.Status.{E_OK, E_OS_LIMIT, E_OS_STATE}
-use Rattle.osek_machine.specs.Services.{if_suspended, activated, answers, answers_with, answered, answered_with, ended, waits, woken, with_events, set_events, moved, Outcome, GoesOn, Leaves, outcome, state_number}
+use Rattle.osek_machine.specs.Services.{activated, answers, answers_with, answered, answered_with, ended, waits, woken, with_events, set_events, moved, Outcome, IsAfter, state_number}
+use Rattle.osek_machine.specs.Outcomes.{carried_out, shown, OnPlans, decision, outcome}
+use Rattle.osek_machine.proofs.Outcomes.{on_outcome}
 use Rattle.osek_machine.specs.Steps.{Serves}
 use Rattle.app_rules.specs.Code.{serve, falls, held_after, Pauses, Ends, is_in, without_last}
 use Rattle.osek_valid.proofs.Facts.{Facts}
@@ -47,13 +49,6 @@ pub covers_none : (d : ℕ) → Covers d 0
 covers_none d = omega (arith, and_le_l 0 d)
 
 -- ---- states of other tasks
-
-pub by_suspended : {X : Type 0} (m : TaskState) (first second : X) (P : X → Type 0) → (m ≡ mode.Suspended → P first) → ((m ≡ mode.Suspended → ⊥) → P second)
-    → P (if_suspended m first second)
-by_suspended mode.Suspended first second P f g = f refl
-by_suspended mode.Ready first second P f g = g (λ e. cc)
-by_suspended mode.Active first second P f g = g (λ e. cc)
-by_suspended (mode.Waiting mask) first second P f g = g (λ e. cc)
 
 module _ (config : Config) (app : App) where
   -- a Suspended task becomes Ready
@@ -143,10 +138,6 @@ extended_is config app w t mask declared some covers =
 
 -- ---- the services
 
-abbrev pub AnswerIsValid : Config → App → Outcome → Type 0
-AnswerIsValid config app (GoesOn status after) = Valid config app after
-AnswerIsValid config app (Leaves after) = Valid config app after
-
 module _ (config : Config) (app : App) (w : Facts config app) (s : System) (v : Valid config app s) (booted : s.booted ≡ true)
     (c : ℕ) (frame : Frame) (outer : List Frame) where
   abbrev k : Task
@@ -206,20 +197,23 @@ module _ (config : Config) (app : App) (w : Facts config app) (s : System) (v : 
         in_state = (record { holds = none; not_owed = r.free; not_raised = refl }, refl, refl);
       })
 
-  chained_is : (t m : ℕ) → Running config app c k frame outer (serve service.ChainTask t m) → AnswerIsValid config app (outcome service.ChainTask t m c s)
+  -- what holds behind each plan that a service may take
+  abbrev PlansAreValid : Service → ℕ → ℕ → Type 0
+  PlansAreValid sv o m = OnPlans s (λ p. IsAfter (Valid config app) (shown p.answer (carried_out c p s))) (decision config sv o m c s)
+
+  chained_is : (t m : ℕ) → Running config app c k frame outer (serve service.ChainTask t m) → PlansAreValid service.ChainTask t m
   chained_is t m r =
       let gone = ended_is service.ChainTask t m r (inr refl) in
       let new : Task = record k { state = mode.Suspended; registers = zero_registers; frames = []; events = 0; raised = false } in
-      let declared = (w.items frame.func frame.item (serve service.ChainTask t m) r.item).0 in
-      cond_both (t == c) (Leaves (activated (ended c s) c))
-      (if_suspended (task s t).state (Leaves (activated (ended c s) t)) (GoesOn E_OS_LIMIT (answered E_OS_LIMIT c s)))
-      (AnswerIsValid config app)
-      (λ _. activated_valid config app (ended c s) c gone booted r.declared
-      (ap (λ x. x.state) (get_or-set_same s.tasks c new sleeping (subst (λ n. c < n) (sym v.count) r.declared))))
-      (λ differs. by_suspended (task s t).state (Leaves (activated (ended c s) t)) (GoesOn E_OS_LIMIT (answered E_OS_LIMIT c s)) (AnswerIsValid config app)
-      (λ asleep. activated_valid config app (ended c s) t gone booted declared
-      (ap (λ x. x.state) (get_or-set_other s.tasks c t new sleeping (eqb-false t c differs)) ∙ asleep))
-      (λ _. answered_is (serve service.ChainTask t m) r refl (λ _. refl) E_OS_LIMIT))
+      let declared = (w.items frame.func frame.item (serve service.ChainTask t m) r.item).0 in (
+        λ _. activated_valid config app (ended c s) c gone booted r.declared
+            (ap (λ x. x.state) (get_or-set_same s.tasks c new sleeping (subst (λ n. c < n) (sym v.count) r.declared))),
+        λ differs. (
+          λ asleep. activated_valid config app (ended c s) t gone booted declared
+              (ap (λ x. x.state) (get_or-set_other s.tasks c t new sleeping (eqb-false t c differs)) ∙ asleep),
+          λ _. answered_is (serve service.ChainTask t m) r refl (λ _. refl) E_OS_LIMIT,
+        ),
+      )
 
   -- ---- resources
 
@@ -302,40 +296,41 @@ module _ (config : Config) (app : App) (w : Facts config app) (s : System) (v : 
 
   -- ---- all services
 
-  pub outcome_valid : (sv : Service) (o m : ℕ) → Running config app c k frame outer (serve sv o m) → AnswerIsValid config app (outcome sv o m c s)
-  outcome_valid service.ActivateTask t m r =
-      by_suspended (task s t).state (GoesOn E_OK (activated (answered E_OK c s) t)) (GoesOn E_OS_LIMIT (answered E_OS_LIMIT c s)) (AnswerIsValid config app)
-      (λ asleep. activated_valid config app (answered E_OK c s) t (answered_is (serve service.ActivateTask t m) r refl (λ _. refl) E_OK) booted
-      (w.items frame.func frame.item (serve service.ActivateTask t m) r.item).0 (same_state E_OK t ∙ asleep))
-      (λ _. answered_is (serve service.ActivateTask t m) r refl (λ _. refl) E_OS_LIMIT)
-  outcome_valid service.TerminateTask o m r = ended_is service.TerminateTask o m r (inl refl)
-  outcome_valid service.ChainTask t m r = chained_is t m r
-  outcome_valid service.Schedule o m r = schedules_is o m r
-  outcome_valid service.GetTaskID o m r = answered_with_is (serve service.GetTaskID o m) r refl (λ _. refl) c
-  outcome_valid service.GetTaskState t m r = answered_with_is (serve service.GetTaskState t m) r refl (λ _. refl) (state_number c t (task s t).state)
-  outcome_valid service.GetResource q m r = takes_is q m r
-  outcome_valid service.ReleaseResource q m r = releases_is q m r
-  outcome_valid service.SetEvent t m r =
-      by_suspended (task s t).state (GoesOn E_OS_STATE (answered E_OS_STATE c s)) (GoesOn E_OK (set_events t m (answered E_OK c s))) (AnswerIsValid config app)
-      (λ _. answered_is (serve service.SetEvent t m) r refl (λ _. refl) E_OS_STATE)
-      (λ awake. set_events_valid config app (answered E_OK c s) t m (answered_is (serve service.SetEvent t m) r refl (λ _. refl) E_OK) booted
-      (w.items frame.func frame.item (serve service.SetEvent t m) r.item).0 (λ e. awake (sym (same_state E_OK t) ∙ e))
-      (w.sets_declared frame.func frame.item t m r.item))
-  outcome_valid service.ClearEvent o m r =
+  plans_valid : (sv : Service) (o m : ℕ) → Running config app c k frame outer (serve sv o m) → PlansAreValid sv o m
+  plans_valid service.ActivateTask t m r = (
+    λ asleep. activated_valid config app (answered E_OK c s) t (answered_is (serve service.ActivateTask t m) r refl (λ _. refl) E_OK) booted
+        (w.items frame.func frame.item (serve service.ActivateTask t m) r.item).0 (same_state E_OK t ∙ asleep),
+    λ _. answered_is (serve service.ActivateTask t m) r refl (λ _. refl) E_OS_LIMIT,
+  )
+  plans_valid service.TerminateTask o m r = ended_is service.TerminateTask o m r (inl refl)
+  plans_valid service.ChainTask t m r = chained_is t m r
+  plans_valid service.Schedule o m r = schedules_is o m r
+  plans_valid service.GetTaskID o m r = answered_with_is (serve service.GetTaskID o m) r refl (λ _. refl) c
+  plans_valid service.GetTaskState t m r = answered_with_is (serve service.GetTaskState t m) r refl (λ _. refl) (state_number c t (task s t).state)
+  plans_valid service.GetResource q m r = takes_is q m r
+  plans_valid service.ReleaseResource q m r = releases_is q m r
+  plans_valid service.SetEvent t m r = (
+    λ _. answered_is (serve service.SetEvent t m) r refl (λ _. refl) E_OS_STATE,
+    λ awake. set_events_valid config app (answered E_OK c s) t m (answered_is (serve service.SetEvent t m) r refl (λ _. refl) E_OK) booted
+        (w.items frame.func frame.item (serve service.SetEvent t m) r.item).0 (λ e. awake (sym (same_state E_OK t) ∙ e))
+        (w.sets_declared frame.func frame.item t m r.item),
+  )
+  plans_valid service.ClearEvent o m r =
       on (serve service.ClearEvent o m) r refl (λ _. refl) (record (answers E_OK k) { events = bit_and k.events (4294967295 - m) }) refl refl refl refl refl
       (length-set k.registers 5 E_OK ∙ r.registers) (covers_part k.events (4294967295 - m) (declaration config c).events r.events)
-  outcome_valid service.GetEvent t m r =
-      by_suspended (task s t).state (GoesOn E_OS_STATE (answered E_OS_STATE c s)) (GoesOn E_OK (answered_with (task s t).events c s)) (AnswerIsValid config app)
-      (λ _. answered_is (serve service.GetEvent t m) r refl (λ _. refl) E_OS_STATE)
-      (λ _. answered_with_is (serve service.GetEvent t m) r refl (λ _. refl) (task s t).events)
-  outcome_valid service.WaitEvent o m r =
-      cond_both (bit_and k.events m == 0) (Leaves (with_task s c (waits m k))) (GoesOn E_OK (answered E_OK c s)) (AnswerIsValid config app)
-      (λ _. waits_is o m r) (λ _. answered_is (serve service.WaitEvent o m) r refl (λ _. refl) E_OK)
+  plans_valid service.GetEvent t m r = (
+    λ _. answered_is (serve service.GetEvent t m) r refl (λ _. refl) E_OS_STATE,
+    λ _. answered_with_is (serve service.GetEvent t m) r refl (λ _. refl) (task s t).events,
+  )
+  plans_valid service.WaitEvent o m r = (λ _. waits_is o m r, λ _. answered_is (serve service.WaitEvent o m) r refl (λ _. refl) E_OK)
+
+  pub outcome_valid : (sv : Service) (o m : ℕ) → Running config app c k frame outer (serve sv o m) → IsAfter (Valid config app) (outcome config sv o m c s)
+  outcome_valid sv o m r = on_outcome (IsAfter (Valid config app)) c s (decision config sv o m c s) (plans_valid sv o m r)
 
 pub serves_valid : (config : Config) (app : App) → Facts config app → (t : ℕ) (served : Service) (s : System) (answer : Outcome) → Valid config app s
-    → s.booted ≡ true → Serves config app t served s answer → AnswerIsValid config app answer
+    → s.booted ≡ true → Serves config app t served s answer → IsAfter (Valid config app) answer
 serves_valid config app w t served s answer v booted h =
     let at = running config app s t (op.Serve h.call) v h.top.declared h.at in
     let R : Service → Type 0 = λ x. Running config app t (task s t) h.at.frame h.at.outer (serve x h.call.object h.call.mask) in
-    subst (AnswerIsValid config app) h.is
+    subst (IsAfter (Valid config app)) h.is
     (outcome_valid config app w s v booted t h.at.frame h.at.outer served h.call.object h.call.mask (subst R h.same at))

@@ -19,7 +19,8 @@ use Rattle.osek_valid.proofs.Held.{held_at_begin}
 use Rattle.osek_valid.proofs.Stacks.{has_body}
 use Rattle.osek_valid.proofs.Going.{keeps, settles, runs_on}
 use Rattle.osek_valid.proofs.Items.{executes_valid}
-use Rattle.osek_valid.proofs.Serving.{covers_none, by_suspended, ready_task, activated_valid, serves_valid}
+use Rattle.osek_machine.proofs.Outcomes.{by_suspended}
+use Rattle.osek_valid.proofs.Serving.{covers_none, ready_task, activated_valid, serves_valid}
 
 -- ---- the opening
 

@@ -10,7 +10,7 @@ use Rattle.sloth_base.specs.declared.event.Stamped.{Stamped}
 use Rattle.app_rules.specs.WellFormed.{WellFormed}
 use Rattle.osek_machine.specs.State.{System, opening, task}
 use Rattle.osek_machine.specs.Priority.{IsTop}
-use Rattle.osek_machine.specs.InTime.{admitted_task}
+use Rattle.osek_machine.specs.InTime.{admitted_line}
 use Rattle.osek_machine.specs.Meaning.{Meant, meaning}
 use Rattle.osek_machine.specs.Steps.{IsAt, OsekStep}
 use Rattle.osek_machine.specs.Runs.{Leads}
@@ -49,7 +49,7 @@ ItemsMean = (config : Config) (app : App) (s : System) (t : ℕ) → WellFormed 
 
 -- there is a next event that is no admit
 abbrev pub HasNext : Config → App → System → Type 0
-HasNext config app s = (event : Event) × (admitted_task event ≡ None) × (next : System) × OsekStep config app event s next
+HasNext config app s = (event : Event) × (admitted_line event ≡ None) × (next : System) × OsekStep config app event s next
 
 -- where a task runs and owes no `back`, there is a next event that is no admit
 abbrev pub RunningGoesOn : Type 0

@@ -1,6 +1,7 @@
 -- How many instructions an item has, whatever the addresses are.
 use Rattle.std.proofs.Common.{◌≡◌, ◌∙◌, ℕ, zero, suc, ◌+◌, ◌*◌, ◌≤◌, ◌<◌, Bool, true, false, List, [], ◌∷◌, length, refl, sym, ap, subst, arith, length-append}
 use Rattle.std.specs.Prelude.{pos, if◌then◌else◌, nat_le}
+use Rattle.std.proofs.lemmas.Bool.{cond_both}
 use Rattle.sloth_base.specs.Named.{function}
 use Rattle.sloth_base.specs.declared.app.App.{App}
 use Rattle.sloth_base.specs.declared.app.Call.{Call}
@@ -8,11 +9,11 @@ use Rattle.sloth_base.specs.declared.app.Op.{Op}
 use Rattle.sloth_base.specs.declared.app.Op.TheVariants as op
 use Rattle.sloth_base.specs.declared.app.Width.{Width}
 use Rattle.sloth_base.specs.declared.places.Places.{Places}
+use Rattle.sloth_base.specs.ServiceCodes.{has_mask}
 use Rattle.sloth_base.specs.declared.service.Service.{Service}
-use Rattle.sloth_base.specs.declared.service.Service.TheVariants as service
 use Rattle.rv32_instr.specs.declared.InstrKind.{InstrKind}
 use Rattle.rv32_instr.specs.declared.InstrKind.TheVariants.{Auipc, Sw, Jal}
-use Rattle.rv32_expand.specs.Expansion.{zeros, calls, mask_of, served, distance, item_address, expanded}
+use Rattle.rv32_expand.specs.Expansion.{number_in, zeros, calls, mask_of, served, distance, item_address, expanded}
 use Rattle.rv32_expand.specs.Long.{size, nowhere}
 
 pub zeros_length : (n k : ℕ) → length (zeros n k) ≡ n
@@ -108,18 +109,7 @@ module _ (app : App) (long : Bool) where
 
 -- the mask of a service is loaded by two instructions
 mask_few : (s : Service) (mask : ℕ) → length (mask_of s mask) ≤ 2
-mask_few service.SetEvent mask = omega arith
-mask_few service.ClearEvent mask = omega arith
-mask_few service.WaitEvent mask = omega arith
-mask_few service.ActivateTask mask = omega arith
-mask_few service.TerminateTask mask = omega arith
-mask_few service.ChainTask mask = omega arith
-mask_few service.Schedule mask = omega arith
-mask_few service.GetTaskID mask = omega arith
-mask_few service.GetTaskState mask = omega arith
-mask_few service.GetResource mask = omega arith
-mask_few service.ReleaseResource mask = omega arith
-mask_few service.GetEvent mask = omega arith
+mask_few s mask = cond_both (has_mask s) (number_in 30 mask) [] (λ (xs : List InstrKind). length xs ≤ 2) (λ _. omega arith) (λ _. omega arith)
 
 -- from 1 to 36
 pub record IsFew (n : ℕ) : Type 0 where

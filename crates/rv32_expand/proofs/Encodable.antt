@@ -17,8 +17,8 @@ use Rattle.sloth_base.specs.declared.app.Op.TheVariants as op
 use Rattle.sloth_base.specs.declared.app.Width.{Width}
 use Rattle.sloth_base.specs.declared.app.Width.TheVariants as width
 use Rattle.sloth_base.specs.declared.places.Places.{Places}
+use Rattle.sloth_base.specs.ServiceCodes.{has_mask}
 use Rattle.sloth_base.specs.declared.service.Service.{Service}
-use Rattle.sloth_base.specs.declared.service.Service.TheVariants as service
 use Rattle.app_rules.specs.AppRange.{IsShort, IsAmount, IsNumberOf}
 use Rattle.rv32_instr.specs.Access.{load, store}
 use Rattle.rv32_instr.specs.Range.{Signed, Even, InRange, AreInRange}
@@ -116,18 +116,7 @@ zeros_fit zero k h = tt
 zeros_fit (suc n) k h = ((omega arith, omega arith, signed_small (4 * k) (omega arith)), zeros_fit n (k + 1) (omega arith))
 
 mask_fits : (s : Service) (mask : ℕ) → AreInRange (mask_of s mask)
-mask_fits service.SetEvent mask = numbers_fit 30 mask (omega arith)
-mask_fits service.ClearEvent mask = numbers_fit 30 mask (omega arith)
-mask_fits service.WaitEvent mask = numbers_fit 30 mask (omega arith)
-mask_fits service.ActivateTask mask = tt
-mask_fits service.TerminateTask mask = tt
-mask_fits service.ChainTask mask = tt
-mask_fits service.Schedule mask = tt
-mask_fits service.GetTaskID mask = tt
-mask_fits service.GetTaskState mask = tt
-mask_fits service.GetResource mask = tt
-mask_fits service.ReleaseResource mask = tt
-mask_fits service.GetEvent mask = tt
+mask_fits s mask = cond_both (has_mask s) (number_in 30 mask) [] AreInRange (λ _. numbers_fit 30 mask (omega arith)) (λ _. tt)
 
 -- under a mask of either kind
 either_fits : (mask : ℕ) (near far : List InstrKind) → (mask ≤ 2047 → AreInRange near) → AreInRange far → AreInRange (if nat_le mask 2047 then near else far)

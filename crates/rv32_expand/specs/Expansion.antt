@@ -1,5 +1,6 @@
 -- The instructions of each item. The last one, which commits the item, changes what task code sees; those before it use x30 and x31 alone.
 use Rattle.std.specs.Prelude.{ℕ, zero, suc, ◌+◌, ◌*◌, ℤ, pos, ◌-ℤ◌, neg_ℤ, Bool, true, false, if◌then◌else◌, nat_lt, nat_le, List, [], ◌∷◌, ◌++◌, length, get_or}
+use Rattle.sloth_base.specs.ServiceCodes.{has_mask}
 use Rattle.sloth_base.specs.declared.app.App.{App}
 use Rattle.sloth_base.specs.Named.{function, label_of, operation}
 use Rattle.sloth_base.specs.declared.app.Call.{Call}
@@ -12,7 +13,6 @@ use Rattle.sloth_base.specs.declared.app.ImmKind.TheVariants as imm
 use Rattle.sloth_base.specs.declared.app.BranchKind.{BranchKind}
 use Rattle.sloth_base.specs.declared.app.BranchKind.TheVariants as branch
 use Rattle.sloth_base.specs.declared.service.Service.{Service}
-use Rattle.sloth_base.specs.declared.service.Service.TheVariants as service
 use Rattle.sloth_base.specs.declared.places.Places.{Places}
 use Rattle.sloth_base.specs.Arithmetic.{hi, lo}
 use Rattle.sloth_base.specs.Blocks.{block_number}
@@ -123,18 +123,7 @@ calls address words target =
 
 -- the mask of the named events in x30, where the service has one
 abbrev pub mask_of : Service → ℕ → List InstrKind
-mask_of service.SetEvent mask = number_in 30 mask
-mask_of service.ClearEvent mask = number_in 30 mask
-mask_of service.WaitEvent mask = number_in 30 mask
-mask_of service.ActivateTask mask = []
-mask_of service.TerminateTask mask = []
-mask_of service.ChainTask mask = []
-mask_of service.Schedule mask = []
-mask_of service.GetTaskID mask = []
-mask_of service.GetTaskState mask = []
-mask_of service.GetResource mask = []
-mask_of service.ReleaseResource mask = []
-mask_of service.GetEvent mask = []
+mask_of s mask = if has_mask s then number_in 30 mask else []
 
 -- the jump to the service's block, from an address
 abbrev pub served : Places → Call → ℕ → List InstrKind

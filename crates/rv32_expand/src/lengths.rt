@@ -27,18 +27,7 @@ pub fn mask_length(service: Service) -> u32
     ensures is { (mask : ℕ) → result ≡ length (mask_of service mask) }
     ensures few { result ≤ 2 }
 {
-    match service {
-        Service::SetEvent | Service::ClearEvent | Service::WaitEvent => 2,
-        Service::ActivateTask
-        | Service::TerminateTask
-        | Service::ChainTask
-        | Service::Schedule
-        | Service::GetTaskID
-        | Service::GetTaskState
-        | Service::GetResource
-        | Service::ReleaseResource
-        | Service::GetEvent => 0,
-    }
+    if service.has_mask() { 2 } else { 0 }
 }
 
 /// How many instructions an operation has, where a branch is long or not.

@@ -121,20 +121,10 @@ fn mask_of(service: Service, mask: u32) -> Draft
     ensures is { result ≡ mask_of service mask }
     ensures few { length result ≤ 2 }
 {
-    match service {
-        Service::SetEvent | Service::ClearEvent | Service::WaitEvent => {
-            Draft::of(&[lui(X30, hi(mask)), addi(X30, X30, lo(mask))])
-        }
-        Service::ActivateTask
-        | Service::TerminateTask
-        | Service::ChainTask
-        | Service::Schedule
-        | Service::GetTaskID
-        | Service::GetTaskState
-        | Service::GetResource
-        | Service::ReleaseResource
-        | Service::GetEvent => Draft::of(&[]),
+    if service.has_mask() {
+        return Draft::of(&[lui(X30, hi(mask)), addi(X30, X30, lo(mask))]);
     }
+    Draft::of(&[])
 }
 
 /// The jump, from `at` on, to the block of a service.

@@ -7,3 +7,4 @@ pub mod Chaining
 pub mod Taking
 pub mod Stating
 pub mod Yielding
+pub mod Objects

@@ -1,8 +1,10 @@
 -- Service blocks.
-use Rattle.std.specs.Prelude.{ℕ, ◌≡◌, ◌<◌, ◌≤◌, List, [], ◌∷◌, slice_index}
+use Rattle.std.specs.Prelude.{ℕ, Bool, true, false, List, [], ◌∷◌, slice_index}
 use Rattle.sloth_base.specs.declared.image.Mark.{Mark}
 use Rattle.sloth_base.specs.declared.service.Service.{Service}
-use Rattle.sloth_base.specs.declared.service.Service.TheVariants.{ActivateTask, TerminateTask, ChainTask, Schedule, GetTaskID, GetTaskState, GetResource, ReleaseResource}
+use Rattle.sloth_base.specs.declared.service.Service.TheVariants.{ActivateTask, TerminateTask, ChainTask, Schedule, GetTaskID, GetTaskState, GetResource, ReleaseResource, SetEvent, ClearEvent, GetEvent, WaitEvent}
+use Rattle.sloth_base.specs.declared.service.ObjectKind.{ObjectKind}
+use Rattle.sloth_base.specs.ServiceCodes.{object_kind, IsObjectNumber}
 use Rattle.sloth_base.specs.declared.places.Levels.{Levels}
 use Rattle.rv32_instr.specs.declared.InstrKind.{InstrKind}
 use Rattle.service_gen.specs.ActivateTask.{Activates}
@@ -21,17 +23,22 @@ abbrev pub further_marks : Service → ℕ → List Mark
 further_marks Schedule at = back_mark (sum32 at way_back) ∷ []
 further_marks service at = []
 
--- the services whose code is generated so far; the object is a task, a resource, or 0 where there is none
+-- a service on events, whose code is generated elsewhere (OSEK OS 2.2.3, section 13.5)
+abbrev pub is_on_events : Service → Bool
+is_on_events SetEvent = true
+is_on_events ClearEvent = true
+is_on_events GetEvent = true
+is_on_events WaitEvent = true
+is_on_events _ = false
+
+-- the objects of a kind, where the code is not generated elsewhere
+abbrev pub HasBlockUnless : (elsewhere : Bool) → ObjectKind → ℕ → Type 0
+HasBlockUnless true kind object = ⊥
+HasBlockUnless false kind object = IsObjectNumber kind object
+
+-- the services whose code is generated here; the object is a task, a resource, or 0 where there is none
 abbrev pub HasBlock : Service → ℕ → Type 0
-HasBlock ActivateTask object = object < 30
-HasBlock TerminateTask object = object ≡ 0
-HasBlock ChainTask object = object < 30
-HasBlock Schedule object = object ≡ 0
-HasBlock GetTaskID object = object ≡ 0
-HasBlock GetTaskState object = object < 30
-HasBlock GetResource object = object ≤ 32
-HasBlock ReleaseResource object = object ≤ 32
-HasBlock service object = ⊥
+HasBlock service object = HasBlockUnless (is_on_events service) (object_kind service) object
 
 -- the code of a service with its object has the service's effect
 abbrev pub Serves : Service → ℕ → Levels → List InstrKind → Type 0

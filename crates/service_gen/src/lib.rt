@@ -2,7 +2,7 @@
 #![tactic(auto)]
 
 ghost use Rattle.std.specs.Prelude.{◌≡◌, ◌+◌, ◌*◌, ◌<◌, ◌≤◌, [], ◌∷◌, IfOk, length, slice_index};
-ghost use Rattle.sloth_base.specs.Blocks.{block_number, block_objects};
+ghost use Rattle.sloth_base.specs.Blocks.{block_number};
 ghost use Rattle.sloth_base.specs.ServiceCodes.{code_of};
 ghost use Rattle.block_parts.specs.Marks.{opening};
 ghost use Rattle.service_gen.specs.Block.{further_marks, HasBlock, Serves};
@@ -30,6 +30,7 @@ use std::alloc::{AllocError, Global};
 
 /// The block of a service with its object, at its address in the map. Its first instruction, under an opening mark,
 /// masks interrupts.
+#[tactic(auto, using(crate::proofs::Objects::few_objects))]
 pub fn block(
     alloc: Global,
     service: Service,
@@ -44,9 +45,8 @@ pub fn block(
     ensures size { IfOk result (λ block. length block.code ≤ 256) }
     ensures effect { IfOk result (λ block. Serves service object levels.now block.code) }
 {
-    let object = small(service, object);
-    let at = map.places.blocks[block_number(service, u32::from(object))];
-    let code = code(alloc, service, object, levels)?;
+    let at = map.places.blocks[block_number(service, object)];
+    let code = code(alloc, service, object as u8, levels)?;
     let marks = marks(alloc, service, at)?;
     Ok(Block {
         at,
@@ -65,25 +65,6 @@ fn marks(alloc: Global, service: Service, at: u32) -> Result<Vec<Mark>, AllocErr
         marks.push(back_mark(at.wrapping_add(WAY_BACK)))?;
     }
     Ok(marks)
-}
-
-/// The object's number.
-fn small(service: Service, object: u32) -> u8
-    requires { HasBlock service object }
-    ensures is { result ≡ object }
-    ensures below { result < block_objects }
-{
-    match service {
-        Service::ActivateTask => object as u8,
-        Service::TerminateTask => object as u8,
-        Service::ChainTask => object as u8,
-        Service::Schedule => object as u8,
-        Service::GetTaskID => object as u8,
-        Service::GetTaskState => object as u8,
-        Service::GetResource => object as u8,
-        Service::ReleaseResource => object as u8,
-        _ => unreachable!(),
-    }
 }
 
 /// The instructions.

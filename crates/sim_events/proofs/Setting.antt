@@ -19,7 +19,8 @@ use Rattle.event_gen.specs.SetEvent.{with_mask, HasNotSet, HasSet, HasWoken, Eve
 use Rattle.osek_machine.specs.declared.state.TaskState.{TaskState}
 use Rattle.osek_machine.specs.declared.state.TaskState.TheVariants as mode
 use Rattle.osek_machine.specs.State.{Task, System, task}
-use Rattle.osek_machine.specs.Services.{answers, answered, is_there, GoesOn, outcome, set_events, with_events, woken}
+use Rattle.osek_machine.specs.Services.{answers, answered, is_there, GoesOn, set_events, with_events, woken}
+use Rattle.osek_machine.specs.Outcomes.{outcome}
 use Rattle.osek_machine.specs.Steps.{settled}
 use Rattle.sim_relation.specs.Build.{Build, Fits}
 use Rattle.sim_relation.specs.Changes.{changed_to}
@@ -83,10 +84,10 @@ module _ (b : Build) (state : State) (s : System) (t : ℕ) (own : Task) (object
   abbrev done : System
   done = set_events object mask (answered E_OK t s)
 
-  outcome_at : outcome service.SetEvent is.opening.block.call.object is.opening.block.call.mask t s ≡ outcome service.SetEvent object mask t s
+  outcome_at : outcome b.config service.SetEvent is.opening.block.call.object is.opening.block.call.mask t s ≡ outcome b.config service.SetEvent object mask t s
   outcome_at =
-      ap (λ o. outcome service.SetEvent o is.opening.block.call.mask t s) goes_on.object_is
-      ∙ ap (λ m. outcome service.SetEvent object m t s) may.mask_is
+      ap (λ o. outcome b.config service.SetEvent o is.opening.block.call.mask t s) goes_on.object_is
+      ∙ ap (λ m. outcome b.config service.SetEvent object m t s) may.mask_is
 
   -- the task is Suspended
   not_set : HasNotSet object state end → Answers b s t service.SetEvent touched end

@@ -8,7 +8,8 @@ use Rattle.sloth_base.specs.Status.{E_OK, E_OS_STATE}
 use Rattle.sloth_base.specs.declared.service.Service.TheVariants as service
 use Rattle.event_gen.specs.GetEvent.{HasNotTold, HasTold, EventsTold}
 use Rattle.osek_machine.specs.State.{Task, System, task}
-use Rattle.osek_machine.specs.Services.{answered, answered_with, is_there, GoesOn, outcome}
+use Rattle.osek_machine.specs.Services.{answered, answered_with, is_there, GoesOn}
+use Rattle.osek_machine.specs.Outcomes.{outcome}
 use Rattle.sim_relation.specs.Build.{Build, Fits}
 use Rattle.sim_relation.specs.Stands.{Stands}
 use Rattle.sim_services.specs.Laws.{MayGoOn}
@@ -42,8 +43,8 @@ module _ (b : Build) (state : State) (s : System) (t : ℕ) (own : Task) (object
   abbrev told : System
   told = answered_with value t s
 
-  outcome_at : outcome service.GetEvent is.opening.block.call.object is.opening.block.call.mask t s ≡ outcome service.GetEvent object is.opening.block.call.mask t s
-  outcome_at = ap (λ o. outcome service.GetEvent o is.opening.block.call.mask t s) may.object_is
+  outcome_at : outcome b.config service.GetEvent is.opening.block.call.object is.opening.block.call.mask t s ≡ outcome b.config service.GetEvent object is.opening.block.call.mask t s
+  outcome_at = ap (λ o. outcome b.config service.GetEvent o is.opening.block.call.mask t s) may.object_is
 
   not_told : HasNotTold object state end → Answers b s t service.GetEvent touched end
   not_told h =

@@ -61,7 +61,8 @@ use Rattle.sim_image.proofs.Fitting.{here, zones_fit, stacks_are_apart, blocks_a
 use Rattle.sim_image.proofs.Images.{linked_is_image}
 use Rattle.sim_image.proofs.Items.{all_marks, mark_of_all, linked_items_stand}
 use Rattle.sim_image.proofs.Marks.{not_inside}
-use Rattle.sim_image.proofs.Serving.{of_code, some_code}
+use Rattle.sloth_base.proofs.Services.{of_code}
+use Rattle.sim_image.proofs.Serving.{some_code}
 use Rattle.sim_image.proofs.Placing.{items_are_placed}
 
 inside : {X : Type 0} (xs : List X) (t : ℕ) (e : X) → slice_get xs t ≡ Some e → t < length xs

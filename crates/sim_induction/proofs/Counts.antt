@@ -6,19 +6,19 @@ use Rattle.std.proofs.lemmas.List.Sums.{sum_by-cons, sum_by-append}
 use Rattle.sloth_base.specs.declared.event.Arrival.{Arrival}
 use Rattle.sloth_base.specs.declared.event.Stamped.{Stamped}
 use Rattle.sloth_base.specs.Arrivals.{moments}
-use Rattle.osek_machine.specs.InTime.{is_admit, admitted_task, admits_at, arrivals_at}
+use Rattle.osek_machine.specs.InTime.{is_admit, admitted_line, admits_at, arrivals_at}
 use Rattle.sloth_base.specs.Options.{is_number}
 use Rattle.sim_induction.specs.Admits.{admit_event}
 use Rattle.std.specs.List.{AllByRecursion}
 
-pub admits-cons : (i t : ℕ) (e : Stamped) (a : List Stamped) → admits_at i t (e ∷ a) ≡ cond (is_number t (admitted_task e.event) && (e.stamp.at == i)) 1 0 + admits_at i t a
-admits-cons i t e a = sum_by-cons (λ (e : Stamped). cond (is_number t (admitted_task e.event) && (e.stamp.at == i)) 1 0) e a
+pub admits-cons : (i t : ℕ) (e : Stamped) (a : List Stamped) → admits_at i t (e ∷ a) ≡ cond (is_number t (admitted_line e.event) && (e.stamp.at == i)) 1 0 + admits_at i t a
+admits-cons i t e a = sum_by-cons (λ (e : Stamped). cond (is_number t (admitted_line e.event) && (e.stamp.at == i)) 1 0) e a
 
 pub arrivals-cons : (i t : ℕ) (x : Arrival) (a : List Arrival) → arrivals_at i t (x ∷ a) ≡ cond ((x.line == t) && (x.at == i)) 1 0 + arrivals_at i t a
 arrivals-cons i t x a = sum_by-cons (λ (x : Arrival). cond ((x.line == t) && (x.at == i)) 1 0) x a
 
 pub admits-append : (i t : ℕ) (a b : List Stamped) → admits_at i t (a ++ b) ≡ admits_at i t a + admits_at i t b
-admits-append i t a b = sum_by-append (λ (e : Stamped). cond (is_number t (admitted_task e.event) && (e.stamp.at == i)) 1 0) a b
+admits-append i t a b = sum_by-append (λ (e : Stamped). cond (is_number t (admitted_line e.event) && (e.stamp.at == i)) 1 0) a b
 
 pub arrivals-append : (i t : ℕ) (a b : List Arrival) → arrivals_at i t (a ++ b) ≡ arrivals_at i t a + arrivals_at i t b
 arrivals-append i t a b = sum_by-append (λ (x : Arrival). cond ((x.line == t) && (x.at == i)) 1 0) a b
@@ -35,7 +35,7 @@ no_task i t at n (Some u) h = cc
 
 -- an event that is no admit counts for none
 pub other_counts : (i t : ℕ) (e : Stamped) (a : List Stamped) → is_admit e ≡ false → admits_at i t (e ∷ a) ≡ admits_at i t a
-other_counts i t e a h = admits-cons i t e a ∙ no_task i t e.stamp.at (admits_at i t a) (admitted_task e.event) h
+other_counts i t e a h = admits-cons i t e a ∙ no_task i t e.stamp.at (admits_at i t a) (admitted_line e.event) h
 
 pub others_count : (i t : ℕ) (a : List Stamped) → AllByRecursion (λ e. is_admit e ≡ false) a → admits_at i t a ≡ 0
 others_count i t [] h = refl

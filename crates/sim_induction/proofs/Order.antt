@@ -5,7 +5,7 @@ use Rattle.std.proofs.lemmas.List.{map-append}
 use Rattle.std.proofs.lemmas.List.Elements.{All-cons}
 use Rattle.sloth_base.specs.declared.event.Arrival.{Arrival}
 use Rattle.sloth_base.specs.declared.event.Stamped.{Stamped}
-use Rattle.osek_machine.specs.InTime.{is_admit, admitted_task, IsSubsequence, KeepsOrder}
+use Rattle.osek_machine.specs.InTime.{is_admit, admitted_line, IsSubsequence, KeepsOrder}
 use Rattle.sim_induction.specs.Admits.{admit_event}
 use Rattle.std.specs.List.{AllByRecursion}
 
@@ -13,7 +13,7 @@ abbrev pub Key : Type 0
 Key = ℕ × Option ℕ
 
 abbrev pub key : Stamped → Key
-key e = (e.stamp.at, admitted_task e.event)
+key e = (e.stamp.at, admitted_line e.event)
 
 abbrev pub keys : List Arrival → List Key
 keys arrivals = map (λ a. (a.at, Some a.line)) arrivals

@@ -1,5 +1,5 @@
 -- An instruction outside the stretches is a piece of the run.
-use Rattle.std.proofs.Common.{◌≡◌, ℕ, ◌+◌, ◌<◌, ◌≤◌, List, [], ◌∷◌, ◌++◌, length, refl, sym, ap, ◌∙◌, subst, arith, true, false, cond, inl, append-nil}
+use Rattle.std.proofs.Common.{◌≡◌, ℕ, ◌+◌, ◌<◌, ◌≤◌, List, [], ◌∷◌, ◌++◌, refl, sym, ap, ◌∙◌, subst, arith, true, false, cond, inl, append-nil}
 use Rattle.std.specs.Prelude.{map}
 use Rattle.std.proofs.lemmas.Bool.{not_from_false}
 use Rattle.sloth_base.specs.declared.event.Event.{Event}
@@ -27,35 +27,17 @@ use Rattle.sim_induction.proofs.MaskedRun.{going_moment}
 single_other : (what : Event) (k : ℕ) → IsSingle what → is_admit (stamp k k what) ≡ false
 single_other (event.Run t func item result) k h = refl
 single_other event.Idle k h = refl
-single_other event.Boot k h = absurd h
-single_other (event.Admit t) k h = absurd h
-single_other (event.Enter t) k h = absurd h
-single_other (event.Call t served status) k h = absurd h
-single_other (event.Left t served) k h = absurd h
-single_other (event.Back t) k h = absurd h
-single_other event.Stray k h = absurd h
+single_other what k h = absurd h
 
 single_spans : (what : Event) (k : ℕ) → IsSingle what → SpansFor what (stamp k k what)
 single_spans (event.Run t func item result) k h = refl
 single_spans event.Idle k h = refl
-single_spans event.Boot k h = absurd h
-single_spans (event.Admit t) k h = absurd h
-single_spans (event.Enter t) k h = absurd h
-single_spans (event.Call t served status) k h = absurd h
-single_spans (event.Left t served) k h = absurd h
-single_spans (event.Back t) k h = absurd h
-single_spans event.Stray k h = absurd h
+single_spans what k h = absurd h
 
 single_passes : (given : Setting) (past : List Stamped) (s : System) (k : ℕ) (what : Event) → IsSingle what → PassesOverArrivals given.config given.app past s k what
 single_passes given past s k (event.Run t func item result) h = tt
 single_passes given past s k event.Idle h = tt
-single_passes given past s k event.Boot h = absurd h
-single_passes given past s k (event.Admit t) h = absurd h
-single_passes given past s k (event.Enter t) h = absurd h
-single_passes given past s k (event.Call t served status) h = absurd h
-single_passes given past s k (event.Left t served) h = absurd h
-single_passes given past s k (event.Back t) h = absurd h
-single_passes given past s k event.Stray h = absurd h
+single_passes given past s k what h = absurd h
 
 -- what its events are: none or one
 record Alone (given : Setting) (k : ℕ) (whats : List Event) (s after : System) : Type 0 where

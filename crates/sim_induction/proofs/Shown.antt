@@ -54,13 +54,7 @@ stretch_long view first last =
 abbrev pub IsSingle : Event → Type 0
 IsSingle (event.Run t func item result) = Unit {0}
 IsSingle event.Idle = Unit {0}
-IsSingle event.Boot = ⊥
-IsSingle (event.Admit t) = ⊥
-IsSingle (event.Enter t) = ⊥
-IsSingle (event.Call t served status) = ⊥
-IsSingle (event.Left t served) = ⊥
-IsSingle (event.Back t) = ⊥
-IsSingle event.Stray = ⊥
+IsSingle _ = ⊥
 
 abbrev pub AreSingle : List Event → Type 0
 AreSingle whats = AllByRecursion IsSingle whats

@@ -1,5 +1,5 @@
 -- A run of an image is one of the abstract scheduler: the promise of the builder.
-use Rattle.std.specs.Prelude.{ℕ, ◌<◌, ◌≤◌, ◌≡◌, List, Bool, true, filter, nat_le, nat_lt, if◌then◌else◌, length, Some, None}
+use Rattle.std.specs.Prelude.{ℕ, ◌<◌, ◌≤◌, ◌≡◌, List, Bool, true, filter, nat_le, nat_lt, if◌then◌else◌, Some, None}
 use Rattle.sloth_base.specs.declared.config.Config.{Config}
 use Rattle.sloth_base.specs.declared.app.App.{App}
 use Rattle.sloth_base.specs.declared.image.Image.{Image}

@@ -1,6 +1,7 @@
 -- The jump of a call of a service: with a mask of events, or without.
-use Rattle.std.proofs.Common.{◌≡◌, ℕ, ◌+◌, ◌*◌, ◌<◌, ◌≤◌, List, [], ◌∷◌, length, get_or, refl, sym, ap, ◌∙◌, subst, arith, inl, inr}
+use Rattle.std.proofs.Common.{◌≡◌, ℕ, ◌+◌, ◌*◌, ◌<◌, ◌≤◌, Bool, true, false, List, [], ◌∷◌, length, get_or, refl, sym, ap, ◌∙◌, subst, arith, inl, inr}
 use Rattle.std.specs.Prelude.{◌⊎◌, All}
+use Rattle.std.proofs.lemmas.Bool.{cond_both}
 use Rattle.std.proofs.lemmas.List.Elements.{All-head, All-tail}
 use Rattle.std.proofs.lemmas.Nat.{or_of_32}
 use Rattle.sloth_base.specs.ConfigRange.{InRange}
@@ -8,8 +9,8 @@ use Rattle.sloth_base.specs.declared.app.Call.{Call}
 use Rattle.sloth_base.specs.declared.app.Op.TheVariants as op
 use Rattle.sloth_base.specs.declared.config.Config.{Config}
 use Rattle.sloth_base.specs.declared.service.Service.{Service}
-use Rattle.sloth_base.specs.declared.service.Service.TheVariants as service
-use Rattle.app_rules.specs.AppRange.{AreOperands, IsMask, no_event}
+use Rattle.sloth_base.specs.ServiceCodes.{has_mask}
+use Rattle.app_rules.specs.AppRange.{AreOperands, AreEvents, IsMask, no_event}
 use Rattle.app_rules.specs.AppRange as ranges
 use Rattle.app_rules.specs.Code.{IsItem}
 use Rattle.rv32_instr.specs.declared.InstrKind.{InstrKind}
@@ -34,19 +35,12 @@ module _ (config : Config) (range : InRange config) where
   mask_small : (mask : ℕ) → IsMask config mask → mask < 4294967296
   mask_small mask m = subst (λ x. x < 4294967296) (sym m.is) (union_small (m.first ∷ m.more) m.declared)
 
+  events_small : (has : Bool) (mask : ℕ) → AreEvents config has mask → mask < 4294967296
+  events_small true mask is = mask_small mask is
+  events_small false mask is = omega (arith, is)
+
   operands_small : (s : Service) (object mask : ℕ) → AreOperands config s object mask → mask < 4294967296
-  operands_small service.ActivateTask object mask is = let z = is.1 in omega arith
-  operands_small service.TerminateTask object mask is = let z = is.1 in omega arith
-  operands_small service.ChainTask object mask is = let z = is.1 in omega arith
-  operands_small service.Schedule object mask is = let z = is.1 in omega arith
-  operands_small service.GetTaskID object mask is = let z = is.1 in omega arith
-  operands_small service.GetTaskState object mask is = let z = is.1 in omega arith
-  operands_small service.GetResource object mask is = let z = is.1 in omega arith
-  operands_small service.ReleaseResource object mask is = let z = is.1 in omega arith
-  operands_small service.SetEvent object mask is = mask_small mask is.1
-  operands_small service.ClearEvent object mask is = mask_small mask is.1
-  operands_small service.GetEvent object mask is = let z = is.1 in omega arith
-  operands_small service.WaitEvent object mask is = mask_small mask is.1
+  operands_small s object mask is = events_small (has_mask s) mask is.1
 
 pub is_word : (b : Build) → Facts b.config b.app → (func item : ℕ) (call : Call) → IsItem b.app func item (op.Serve call) → call.mask < 4294967296
 is_word b w func item call is = operands_small b.config w.in_range.configuration call.service call.object call.mask (w.items func item (op.Serve call) is)
@@ -54,18 +48,9 @@ is_word b w func item call is = operands_small b.config w.in_range.configuration
 -- ---- the two kinds of jumps
 
 mask_cases : (s : Service) (mask : ℕ) → (mask_of s mask ≡ []) ⊎ (mask_of s mask ≡ number_in mask_register mask)
-mask_cases service.ActivateTask mask = inl refl
-mask_cases service.TerminateTask mask = inl refl
-mask_cases service.ChainTask mask = inl refl
-mask_cases service.Schedule mask = inl refl
-mask_cases service.GetTaskID mask = inl refl
-mask_cases service.GetTaskState mask = inl refl
-mask_cases service.GetResource mask = inl refl
-mask_cases service.ReleaseResource mask = inl refl
-mask_cases service.SetEvent mask = inr refl
-mask_cases service.ClearEvent mask = inr refl
-mask_cases service.GetEvent mask = inl refl
-mask_cases service.WaitEvent mask = inr refl
+mask_cases s mask =
+    cond_both (has_mask s) (number_in mask_register mask) [] (λ (xs : List InstrKind). (xs ≡ []) ⊎ (xs ≡ number_in mask_register mask)) (λ _. inr refl)
+    (λ _. inl refl)
 
 module _ (b : Build) (view : View) (func item : ℕ) (h : CallsService b view func item) (small : h.call.mask < 4294967296) where
   abbrev address : ℕ

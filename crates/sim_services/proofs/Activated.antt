@@ -15,7 +15,8 @@ use Rattle.block_parts.specs.Looks.{LooksSuspended}
 use Rattle.block_parts.specs.Back.{a0}
 use Rattle.osek_machine.specs.declared.state.TaskState.TheVariants as mode
 use Rattle.osek_machine.specs.State.{Task, System, task}
-use Rattle.osek_machine.specs.Services.{activated, answers, answered, is_there, GoesOn, outcome}
+use Rattle.osek_machine.specs.Services.{activated, answers, answered, is_there, GoesOn}
+use Rattle.osek_machine.specs.Outcomes.{outcome}
 use Rattle.osek_machine.specs.Steps.{settled}
 use Rattle.sim_relation.specs.Build.{Build, Fits}
 use Rattle.sim_relation.specs.Stands.{Stands}
@@ -80,7 +81,7 @@ module _ (b : Build) (state : State) (s : System) (t : ℕ) (own : Task) (object
     same_state : (task after object).state ≡ (task s object).state
     same_state = by_task (λ u (v : Task). v.state ≡ (task s u).state) s t (answers status (task s t)) among refl (λ u n. refl) object
 
-    module _ (next : System) (answer_is : outcome service.ActivateTask is.opening.block.call.object is.opening.block.call.mask t s ≡ GoesOn status next)
+    module _ (next : System) (answer_is : outcome b.config service.ActivateTask is.opening.block.call.object is.opening.block.call.mask t s ≡ GoesOn status next)
         (stands : Stands b (state_arrive (object ∷ []) middle) (settled next)) where
       answer : Answers b s t service.ActivateTask touched end
       answer =
@@ -94,8 +95,8 @@ module _ (b : Build) (state : State) (s : System) (t : ℕ) (own : Task) (object
   abbrev call : ℕ
   call = is.opening.block.call.object
 
-  outcome_at : (mask : ℕ) → outcome service.ActivateTask call mask t s ≡ outcome service.ActivateTask object mask t s
-  outcome_at mask = ap (λ o. outcome service.ActivateTask o mask t s) may.object_is
+  outcome_at : (mask : ℕ) → outcome b.config service.ActivateTask call mask t s ≡ outcome b.config service.ActivateTask object mask t s
+  outcome_at mask = ap (λ o. outcome b.config service.ActivateTask o mask t s) may.object_is
 
   pub activates : Answers b s t service.ActivateTask touched end
   activates =

@@ -13,7 +13,8 @@ use Rattle.block_parts.specs.Looks.{LooksSuspended}
 use Rattle.service_gen.specs.ChainTask.{HasChained, HasNotChained, Chained}
 use Rattle.osek_machine.specs.declared.state.TaskState.TheVariants as mode
 use Rattle.osek_machine.specs.State.{Task, System, task, zero_registers}
-use Rattle.osek_machine.specs.Services.{if_suspended, activated, answered, ended, is_there, Outcome, GoesOn, Leaves, outcome}
+use Rattle.osek_machine.specs.Services.{if_suspended, activated, answered, ended, is_there, Outcome, GoesOn, Leaves}
+use Rattle.osek_machine.specs.Outcomes.{outcome}
 use Rattle.osek_machine.specs.Steps.{settled}
 use Rattle.sim_relation.specs.Build.{Build, Fits}
 use Rattle.sim_relation.specs.Stands.{Stands}
@@ -49,16 +50,16 @@ module _ (b : Build) (state : State) (s : System) (t : ℕ) (own : Task) (object
   abbrev other_second : Outcome
   other_second = GoesOn E_OS_LIMIT (answered E_OS_LIMIT t s)
 
-  outcome_is : outcome service.ChainTask is.opening.block.call.object is.opening.block.call.mask t s
+  outcome_is : outcome b.config service.ChainTask is.opening.block.call.object is.opening.block.call.mask t s
       ≡ cond (object == t) (Leaves (activated (ended t s) t)) (if_suspended (task s object).state other_first other_second)
-  outcome_is = ap (λ o. outcome service.ChainTask o is.opening.block.call.mask t s) may.goes_on.object_is
+  outcome_is = ap (λ o. outcome b.config service.ChainTask o is.opening.block.call.mask t s) may.goes_on.object_is
 
-  of_itself : object ≡ t → outcome service.ChainTask is.opening.block.call.object is.opening.block.call.mask t s ≡ Leaves (activated (ended t s) t)
+  of_itself : object ≡ t → outcome b.config service.ChainTask is.opening.block.call.object is.opening.block.call.mask t s ≡ Leaves (activated (ended t s) t)
   of_itself e =
       outcome_is
       ∙ ap (λ (x : Bool). cond x (Leaves (activated (ended t s) t)) (if_suspended (task s object).state other_first other_second)) (eq-eqb object t e)
 
-  of_other : object ≢ t → outcome service.ChainTask is.opening.block.call.object is.opening.block.call.mask t s ≡ if_suspended (task s object).state other_first other_second
+  of_other : object ≢ t → outcome b.config service.ChainTask is.opening.block.call.object is.opening.block.call.mask t s ≡ if_suspended (task s object).state other_first other_second
   of_other n =
       outcome_is
       ∙ ap (λ (x : Bool). cond x (Leaves (activated (ended t s) t)) (if_suspended (task s object).state other_first other_second)) (ne_eqb object t n)
@@ -87,7 +88,7 @@ module _ (b : Build) (state : State) (s : System) (t : ℕ) (own : Task) (object
     -- this task is raised
     module _ (u : ℕ) (in_range : u < length b.config.tasks) (asleep : (task after u).state ≡ mode.Suspended) (raised : end ≡ state_arrive (u ∷ []) middle)
         (touches : AllByRecursion (Contains (u ∷ t ∷ [])) touched)
-        (answer_is : outcome service.ChainTask is.opening.block.call.object is.opening.block.call.mask t s ≡ Leaves (activated (ended t s) u)) where
+        (answer_is : outcome b.config service.ChainTask is.opening.block.call.object is.opening.block.call.mask t s ≡ Leaves (activated (ended t s) u)) where
       ends_so : Answers b s t service.ChainTask touched end
       ends_so =
           leaves_so b state s t own service.ChainTask is fits touched end u t touches names (activated (ended t s) u) answer_is

@@ -14,7 +14,8 @@ use Rattle.rv32_routine.specs.Kernel.{LeftAs}
 use Rattle.block_parts.specs.Back.{WentBack, a0, a1}
 use Rattle.osek_machine.specs.State.{Frame, Task, System, task}
 use Rattle.osek_machine.specs.Meaning.{going_on}
-use Rattle.osek_machine.specs.Services.{moved, is_there, Outcome, GoesOn, Leaves, outcome, answered, answered_with}
+use Rattle.osek_machine.specs.Services.{moved, is_there, Outcome, GoesOn, Leaves, answered, answered_with}
+use Rattle.osek_machine.specs.Outcomes.{outcome}
 use Rattle.osek_machine.specs.Steps.{OsekStep, Serves, settled}
 use Rattle.sim_induction.proofs.Stretched.{shows_call, shows_left}
 use Rattle.sim_relation.specs.Build.{Build, Fits}
@@ -143,7 +144,7 @@ module _ (b : Build) (state : State) (s : System) (t : ℕ) (called : Task) (ser
   module _ (touched : List ℕ) (end : State) (one other : ℕ) (touches : AllByRecursion (Contains (one ∷ other ∷ [])) touched)
       (names : is_there b.config called.held served opening.block.call.object ≡ true) where
     -- the call has this outcome
-    serves : (answer : Outcome) → outcome served opening.block.call.object opening.block.call.mask t s ≡ answer → Serves b.config b.app t served s answer
+    serves : (answer : Outcome) → outcome b.config served opening.block.call.object opening.block.call.mask t s ≡ answer → Serves b.config b.app t served s answer
     serves answer answer_is = record {
       top = is.top;
       call = opening.block.call;
@@ -163,7 +164,7 @@ module _ (b : Build) (state : State) (s : System) (t : ℕ) (called : Task) (ser
 
     -- the service answers this status
     pub answers_so : (status : ℕ) → slice_index end.core.registers a0 ≡ status → (after : System)
-        → outcome served opening.block.call.object opening.block.call.mask t s ≡ GoesOn status after → Stands b end (settled after)
+        → outcome b.config served opening.block.call.object opening.block.call.mask t s ≡ GoesOn status after → Stands b end (settled after)
         → word_at end.core.ram cur ≡ word_at state.core.ram cur → Answers b s t served touched end
     answers_so status status_is after answer_is stands current = record {
       one = one;
@@ -178,14 +179,14 @@ module _ (b : Build) (state : State) (s : System) (t : ℕ) (called : Task) (ser
 
     -- it answers this status and does nothing else
     pub answers_status : IsFollowed b frame.func frame.item → WentBack a0 state.core state end → (status : ℕ) → slice_index end.core.registers a0 ≡ status
-        → outcome served opening.block.call.object opening.block.call.mask t s ≡ GoesOn status (answered status t s) → Answers b s t served touched end
+        → outcome b.config served opening.block.call.object opening.block.call.mask t s ≡ GoesOn status (answered status t s) → Answers b s t served touched end
     answers_status followed back status status_is answer_is =
         answers_so status status_is (answered status t s) answer_is (behind_status followed end back status status_is) (ap (λ r. word_at r cur) back.left.ram)
 
     -- it answers a number besides
     pub answers_number : IsFollowed b frame.func frame.item → WentBack a1 state.core state end → slice_index end.core.registers a0 ≡ E_OK
         → (number : ℕ) → slice_index end.core.registers a1 ≡ number
-        → outcome served opening.block.call.object opening.block.call.mask t s ≡ GoesOn E_OK (answered_with number t s) → Answers b s t served touched end
+        → outcome b.config served opening.block.call.object opening.block.call.mask t s ≡ GoesOn E_OK (answered_with number t s) → Answers b s t served touched end
     answers_number followed back status_is number number_is answer_is =
         answers_so E_OK status_is (answered_with number t s) answer_is
         (behind followed end back.left back.pc back.x2 (set (set own.registers 5 E_OK) 6 number)
@@ -194,7 +195,7 @@ module _ (b : Build) (state : State) (s : System) (t : ℕ) (called : Task) (ser
         (ap (λ r. word_at r cur) back.left.ram)
 
     -- its caller leaves
-    pub leaves_so : (after : System) → outcome served opening.block.call.object opening.block.call.mask t s ≡ Leaves after → Stands b end (settled after)
+    pub leaves_so : (after : System) → outcome b.config served opening.block.call.object opening.block.call.mask t s ≡ Leaves after → Stands b end (settled after)
         → (word_at end.core.ram cur ≡ t + 1 → ⊥) → Answers b s t served touched end
     leaves_so after answer_is stands gone = record {
       one = one;

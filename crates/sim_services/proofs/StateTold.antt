@@ -13,7 +13,8 @@ use Rattle.service_gen.specs.GetTaskState.IsNumber.{running, preempted, waiting,
 use Rattle.osek_machine.specs.declared.state.TaskState.{TaskState}
 use Rattle.osek_machine.specs.declared.state.TaskState.TheVariants as mode
 use Rattle.osek_machine.specs.State.{Task, System, task}
-use Rattle.osek_machine.specs.Services.{is_there, outcome, state_number}
+use Rattle.osek_machine.specs.Services.{is_there, state_number}
+use Rattle.osek_machine.specs.Outcomes.{outcome}
 use Rattle.sim_relation.specs.Build.{Build, Fits}
 use Rattle.sim_relation.specs.ServiceWords.{active_word}
 use Rattle.sim_relation.specs.Stands.{Stands, IsLineOf}
@@ -96,4 +97,4 @@ tells_state b state s t own object touched end fits may told =
     answers_number b state s t own service.GetTaskState is fits touched end object object
     (touches b state s is.stands t object declared touched (slice_index end.core.registers a1) told.number)
     (subst (λ o. is_there b.config own.held service.GetTaskState o ≡ true) (sym may.object_is) may.names)
-    may.followed told.back told.status number number_at (ap (λ o. outcome service.GetTaskState o is.opening.block.call.mask t s) may.object_is)
+    may.followed told.back told.status number number_at (ap (λ o. outcome b.config service.GetTaskState o is.opening.block.call.mask t s) may.object_is)

@@ -3,7 +3,8 @@ use Rattle.std.proofs.Common.{◌≡◌, ℕ, ◌<◌, List, [], ◌∷◌, leng
 use Rattle.sloth_base.specs.Machine.{State}
 use Rattle.sloth_base.specs.Owners.{owners_in, AreTasks}
 use Rattle.service_gen.specs.ChainTask.{Chained, HasChained, HasNotChained}
-use Rattle.service_gen.specs.GetTaskState.{IsNumber, running, preempted, waiting, ready, suspended, StateTold}
+use Rattle.service_gen.specs.GetTaskState.{IsNumber, StateTold}
+use Rattle.service_gen.specs.GetTaskState.IsNumber.{running, preempted, waiting, ready, suspended}
 use Rattle.sim_relation.specs.Build.{Build}
 use Rattle.sim_services.specs.Served.{TouchesTasks}
 

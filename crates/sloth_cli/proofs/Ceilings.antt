@@ -1,5 +1,5 @@
 -- The runs of what is built keep the priority ceiling protocol.
-use Rattle.std.proofs.Common.{ℕ, List, Option, Some, None, length}
+use Rattle.std.proofs.Common.{ℕ, List, Option, Some, None}
 use Rattle.sloth_base.specs.declared.config.Config.{Config}
 use Rattle.sloth_base.specs.declared.app.App.{App}
 use Rattle.sloth_base.specs.Arrivals.{AreArrivals}

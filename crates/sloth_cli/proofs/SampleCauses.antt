@@ -1,5 +1,5 @@
 -- Why `sample` was not done, and what it did.
-use Rattle.std.proofs.Common.{◌≡◌, ℕ, List, length, refl, subst, arith}
+use Rattle.std.proofs.Common.{◌≡◌, ℕ, List, refl, subst, arith}
 use Rattle.sloth_base.specs.declared.config.Config.{Config}
 use Rattle.sloth_base.specs.declared.app.App.{App}
 use Rattle.sloth_base.specs.Arrivals.{AreArrivals}

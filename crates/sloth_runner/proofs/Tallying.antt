@@ -31,14 +31,7 @@ one-of events e kind =
 
 kind-below : (e : Event) → kind_of e < 9
 kind-below event.Boot = omega arith
-kind-below (event.Admit task) = omega arith
-kind-below (event.Enter task) = omega arith
-kind-below (event.Run task function item result) = omega arith
-kind-below (event.Call task service status) = omega arith
-kind-below (event.Left task service) = omega arith
-kind-below (event.Back task) = omega arith
-kind-below event.Idle = omega arith
-kind-below event.Stray = omega arith
+kind-below e = omega arith
 
 one-more : (events : List Stamped) (e : Stamped) → counted_one (counts_of events) e ≡ counts_of (events ++ e ∷ [])
 one-more events e =

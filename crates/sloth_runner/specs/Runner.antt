@@ -1,5 +1,5 @@
 -- A runner, between two instructions of its run.
-use Rattle.std.specs.Prelude.{ℕ, ◌≡◌, ◌+◌, ◌<◌, List, All, length, [], ◌∷◌, ◌++◌, Option, Some, None, Bool, false}
+use Rattle.std.specs.Prelude.{ℕ, ◌≡◌, ◌+◌, ◌<◌, List, All, [], ◌∷◌, ◌++◌, Option, Some, None, Bool, false}
 use Rattle.sloth_base.specs.Machine.{State}
 use Rattle.sloth_base.specs.ImageRange.{InFormat}
 use Rattle.sloth_base.specs.Arrivals.{AreArrivals}

@@ -9,6 +9,8 @@ use Rattle.sloth_base.specs.ImageRange.{AreNames, IsName, IsWord, begins_word, c
 use Rattle.sloth_base.specs.declared.event.Event.{Event}
 use Rattle.sloth_base.specs.declared.event.Event.TheVariants as event
 use Rattle.sloth_base.specs.declared.event.Stamped.{Stamped}
+use Rattle.sloth_base.specs.ServiceCodes.{service_name}
+use Rattle.sloth_base.proofs.Services.{of_name}
 use Rattle.sloth_base.specs.declared.service.Service.{Service}
 use Rattle.sloth_base.specs.declared.service.Service.TheVariants as service
 use Rattle.text_pieces.specs.Bytes.{has}
@@ -16,7 +18,7 @@ use Rattle.text_pieces.proofs.Places.{position_at}
 use Rattle.asm_lines.proofs.Cuts.{lacks, has_in, before_is, behind_is}
 use Rattle.trace_text.specs.EventLines.{IsPlace, IsTaskNumber, HasNumbers, IsLineOf, Has32Bits, counted_line}
 use Rattle.trace_text.specs.EventsRead.{◌>>=◌, first_word, other_words, number, place, task_number, service_named, run_in, call_in, left_in, more_in, is_single, single_in, of_task, event_in, stamped_in, word_of}
-use Rattle.trace_text.specs.Lines.{name_of, service_text, event_text}
+use Rattle.trace_text.specs.Lines.{name_of, event_text}
 use Rattle.trace_text.proofs.Digits.{decimal_lacks, number_back}
 
 -- ---- words
@@ -105,35 +107,10 @@ module _ (names : List (List ℕ)) (named : AreNames names) where
   short_names k =
       ⊎_elim (λ lt. (is_name k lt).short) (λ ge. subst (λ (t : List ℕ). length t ≤ 64) (sym (past k ge)) (omega arith)) (cases_lt k (length names))
 
-service_back : (s : Service) → service_named (service_text s) ≡ Some s
-unfolding service_named
-service_back service.ActivateTask = refl
-service_back service.TerminateTask = refl
-service_back service.ChainTask = refl
-service_back service.Schedule = refl
-service_back service.GetTaskID = refl
-service_back service.GetTaskState = refl
-service_back service.GetResource = refl
-service_back service.ReleaseResource = refl
-service_back service.SetEvent = refl
-service_back service.ClearEvent = refl
-service_back service.GetEvent = refl
-service_back service.WaitEvent = refl
-
-service_lacks : (s : Service) → has 32 (service_text s) ≡ false
+service_lacks : (s : Service) → has 32 (service_name s) ≡ false
 unfolding has
 service_lacks service.ActivateTask = refl
-service_lacks service.TerminateTask = refl
-service_lacks service.ChainTask = refl
-service_lacks service.Schedule = refl
-service_lacks service.GetTaskID = refl
-service_lacks service.GetTaskState = refl
-service_lacks service.GetResource = refl
-service_lacks service.ReleaseResource = refl
-service_lacks service.SetEvent = refl
-service_lacks service.ClearEvent = refl
-service_lacks service.GetEvent = refl
-service_lacks service.WaitEvent = refl
+service_lacks s = refl
 
 -- ---- events
 
@@ -182,18 +159,18 @@ module _ (tasks functions : List (List ℕ)) (named : AreNames tasks) (known : A
       ∙ one_after (number (other_words (other_words text))) (λ r. Some (event.Run t f i r)) r
       (ap (λ (w : List ℕ). number (other_words w)) behind_name ∙ (ap number (others_are (decimal i) (decimal r) digits) ∙ number_back r q)))
 
-  call_back : (t : ℕ) (s : Service) (v : ℕ) → v < 0x1_0000_0000 → call_in t (service_text s ++ 32 ∷ decimal v) ≡ Some (event.Call t s v)
+  call_back : (t : ℕ) (s : Service) (v : ℕ) → v < 0x1_0000_0000 → call_in t (service_name s ++ 32 ∷ decimal v) ≡ Some (event.Call t s v)
   unfolding call_in
   call_back t s v q =
-      let text = service_text s ++ 32 ∷ decimal v in
+      let text = service_name s ++ 32 ∷ decimal v in
       one_after (service_named (first_word text)) (λ s. number (other_words text) >>= (λ v. Some (event.Call t s v))) s
-      (ap service_named (first_is (service_text s) (decimal v) (service_lacks s)) ∙ service_back s)
+      (ap service_named (first_is (service_name s) (decimal v) (service_lacks s)) ∙ of_name s)
       ∙ one_after (number (other_words text)) (λ v. Some (event.Call t s v)) v
-      (ap number (others_are (service_text s) (decimal v) (service_lacks s)) ∙ number_back v q)
+      (ap number (others_are (service_name s) (decimal v) (service_lacks s)) ∙ number_back v q)
 
-  left_back : (t : ℕ) (s : Service) → left_in t (service_text s) ≡ Some (event.Left t s)
+  left_back : (t : ℕ) (s : Service) → left_in t (service_name s) ≡ Some (event.Left t s)
   unfolding left_in
-  left_back t s = one_after (service_named (service_text s)) (λ s. Some (event.Left t s)) s (service_back s)
+  left_back t s = one_after (service_named (service_name s)) (λ s. Some (event.Left t s)) s (of_name s)
 
   event_back : (e : Event) → HasNumbers (length tasks) (length functions) e → event_in tasks functions (event_text tasks functions e) ≡ Some e
   unfolding event_in is_single single_in more_in has
@@ -208,14 +185,14 @@ module _ (tasks functions : List (List ℕ)) (named : AreNames tasks) (known : A
       ∙ (with_more (codes "run") t (b ++ 32 ∷ (decimal i ++ 32 ∷ decimal r)) h.0 refl ∙ run_back t f i r h.1 h.2 h.3))
   event_back (event.Call t s v) h =
       let a = name_of tasks t in
-      cut_there (codes "call") (a ++ codes " " ++ service_text s ++ codes " " ++ decimal v) refl
-      ∙ (ap (of_task tasks functions (codes "call")) (three a (service_text s) (decimal v))
-      ∙ (with_more (codes "call") t (service_text s ++ 32 ∷ decimal v) h.0 refl ∙ call_back t s v h.1))
+      cut_there (codes "call") (a ++ codes " " ++ service_name s ++ codes " " ++ decimal v) refl
+      ∙ (ap (of_task tasks functions (codes "call")) (three a (service_name s) (decimal v))
+      ∙ (with_more (codes "call") t (service_name s ++ 32 ∷ decimal v) h.0 refl ∙ call_back t s v h.1))
   event_back (event.Left t s) h =
       let a = name_of tasks t in
-      cut_there (codes "left") (a ++ codes " " ++ service_text s) refl
-      ∙ (ap (of_task tasks functions (codes "left")) (two a (service_text s))
-      ∙ (with_more (codes "left") t (service_text s) h refl ∙ left_back t s))
+      cut_there (codes "left") (a ++ codes " " ++ service_name s) refl
+      ∙ (ap (of_task tasks functions (codes "left")) (two a (service_name s))
+      ∙ (with_more (codes "left") t (service_name s) h refl ∙ left_back t s))
   event_back (event.Back t) h = cut_there (codes "back") (name_of tasks t) refl ∙ alone (codes "back") t h refl
   event_back event.Idle h = refl
   event_back event.Stray h = refl

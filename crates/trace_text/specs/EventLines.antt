@@ -1,8 +1,9 @@
 -- The events that counted lines show.
-use Rattle.std.specs.Prelude.{◌≡◌, ◌<◌, ◌⊎◌, ℕ, List, length, ◌++◌}
+use Rattle.std.specs.Prelude.{◌≡◌, ◌<◌, ◌⊎◌, ℕ, List, length, ◌++◌, IfSome}
 use Rattle.sloth_base.specs.declared.event.Event.{Event}
 use Rattle.sloth_base.specs.declared.event.Event.TheVariants as event
 use Rattle.sloth_base.specs.declared.event.Stamped.{Stamped}
+use Rattle.sloth_base.specs.Events.{named_task}
 use Rattle.trace_text.specs.Lines.{counts_text, event_text}
 use Rattle.trace_text.specs.declared.print.Form.TheVariants as form
 
@@ -22,16 +23,10 @@ pub record IsTaskNumber (count n : ℕ) : Type 0 where
 
 -- the numbers in an event, with so many tasks and functions
 abbrev pub HasNumbers : (tasks functions : ℕ) → Event → Type 0
-HasNumbers tasks functions event.Boot = Unit {0}
-HasNumbers tasks functions (event.Admit t) = IsTaskNumber tasks t
-HasNumbers tasks functions (event.Enter t) = IsTaskNumber tasks t
 HasNumbers tasks functions (event.Run t function item result) =
     IsTaskNumber tasks t × IsPlace functions function × Has32Bits item × Has32Bits result
 HasNumbers tasks functions (event.Call t called status) = IsTaskNumber tasks t × Has32Bits status
-HasNumbers tasks functions (event.Left t called) = IsTaskNumber tasks t
-HasNumbers tasks functions (event.Back t) = IsTaskNumber tasks t
-HasNumbers tasks functions event.Idle = Unit {0}
-HasNumbers tasks functions event.Stray = Unit {0}
+HasNumbers tasks functions e = IfSome (named_task e) (λ t. IsTaskNumber tasks t)
 
 -- the counted line of an event without its LF, with the names of tasks and functions
 abbrev pub counted_line : List (List ℕ) → List (List ℕ) → Stamped → List ℕ

@@ -1,14 +1,12 @@
 -- How the one event is found that a counted line may show: word after word, read loosely. The line of that event is compared with the text.
 use Rattle.std.specs.Prelude.{ℕ, nat_lt, Bool, ◌||◌, if◌then◌else◌, List, []}
 use Rattle.std.specs.Prelude.{◌∷◌, codes, bytes_eq, position, Option, Some, None, option_and_then}
-use Rattle.sloth_base.specs.ServiceCodes.{services}
+pub use Rattle.sloth_base.specs.ServiceCodes.{service_named}
 use Rattle.sloth_base.specs.declared.event.Event.{Event}
 use Rattle.sloth_base.specs.declared.event.Event.TheVariants as event
 use Rattle.sloth_base.specs.declared.event.Stamped.{Stamped}
-use Rattle.sloth_base.specs.declared.service.Service.{Service}
 use Rattle.text_pieces.specs.Digits.{value_from, capped}
 use Rattle.asm_lines.specs.Operands.{before, behind}
-use Rattle.trace_text.specs.Lines.{service_text}
 
 infixl 10 ◌>>=◌
 -- goes on with what there is
@@ -40,15 +38,6 @@ place names word = do
 -- the number of a task; that of no task for `-`
 unfoldable pub task_number : List (List ℕ) → List ℕ → Option ℕ
 task_number tasks word = if bytes_eq word (codes "-") then Some 4294967295 else place tasks word
-
--- the first of these services that has this name
-abbrev pub service_among : List Service → List ℕ → Option Service
-service_among [] word = None
-service_among (s ∷ rest) word = if bytes_eq word (service_text s) then Some s else service_among rest word
-
--- the service of a name
-unfoldable pub service_named : List ℕ → Option Service
-service_named word = service_among services word
 
 -- a run of an item by a task, of which these words tell
 unfoldable pub run_in : ℕ → List (List ℕ) → List ℕ → Option Event

@@ -4,29 +4,13 @@ use Rattle.sloth_base.specs.declared.event.Event.{Event}
 use Rattle.sloth_base.specs.declared.event.Event.TheVariants as event
 use Rattle.sloth_base.specs.declared.event.Stamped.{Stamped}
 use Rattle.sloth_base.specs.declared.image.Image.{Image}
-use Rattle.sloth_base.specs.declared.service.Service.{Service}
-use Rattle.sloth_base.specs.declared.service.Service.TheVariants as service
+use Rattle.sloth_base.specs.ServiceCodes.{service_name}
 use Rattle.trace_text.specs.declared.print.Form.{Form}
 use Rattle.trace_text.specs.declared.print.Form.TheVariants as form
 
 -- the name of a number, or `-` where it names nothing, as 4,294,967,295
 abbrev pub name_of : List (List ℕ) → ℕ → List ℕ
 name_of names number = unwrap_or (slice_get names number) (codes "-")
-
--- the name of a service (OSEK OS 2.2.3, section 13)
-abbrev pub service_text : Service → List ℕ
-service_text service.ActivateTask = codes "ActivateTask"
-service_text service.TerminateTask = codes "TerminateTask"
-service_text service.ChainTask = codes "ChainTask"
-service_text service.Schedule = codes "Schedule"
-service_text service.GetTaskID = codes "GetTaskID"
-service_text service.GetTaskState = codes "GetTaskState"
-service_text service.GetResource = codes "GetResource"
-service_text service.ReleaseResource = codes "ReleaseResource"
-service_text service.SetEvent = codes "SetEvent"
-service_text service.ClearEvent = codes "ClearEvent"
-service_text service.GetEvent = codes "GetEvent"
-service_text service.WaitEvent = codes "WaitEvent"
 
 -- an event, with the names of tasks and functions
 abbrev pub event_text : List (List ℕ) → List (List ℕ) → Event → List ℕ
@@ -36,8 +20,8 @@ event_text tasks functions (event.Enter task) = codes "enter " ++ name_of tasks 
 event_text tasks functions (event.Run task function item result) =
     codes "run " ++ name_of tasks task ++ codes " " ++ name_of functions function ++ codes " " ++ decimal item ++ codes " " ++ decimal result
 event_text tasks functions (event.Call task called status) =
-    codes "call " ++ name_of tasks task ++ codes " " ++ service_text called ++ codes " " ++ decimal status
-event_text tasks functions (event.Left task called) = codes "left " ++ name_of tasks task ++ codes " " ++ service_text called
+    codes "call " ++ name_of tasks task ++ codes " " ++ service_name called ++ codes " " ++ decimal status
+event_text tasks functions (event.Left task called) = codes "left " ++ name_of tasks task ++ codes " " ++ service_name called
 event_text tasks functions (event.Back task) = codes "back " ++ name_of tasks task
 event_text tasks functions event.Idle = codes "idle"
 event_text tasks functions event.Stray = codes "stray"

@@ -3,14 +3,14 @@ use Rattle.std.specs.Prelude.{ℕ, zero, suc, ◌+◌, ◌-◌, ◌*◌, ◌/◌
 use Rattle.std.specs.Prelude.{find, Option, Some, None, if◌then◌else◌}
 use Rattle.std.specs.Int.{to_be_bytes, w32}
 use Rattle.hex.specs.Hex.{encode_lower}
-use Rattle.sloth_base.specs.ServiceCodes.{service_of}
+use Rattle.sloth_base.specs.ServiceCodes.{service_of, service_name}
 use Rattle.sloth_base.specs.declared.image.Image.{Image}
 use Rattle.sloth_base.specs.declared.image.Mark.{Mark}
 use Rattle.sloth_base.specs.declared.image.MarkKind.{MarkKind}
 use Rattle.sloth_base.specs.declared.image.MarkKind.TheVariants as kind
 use Rattle.sloth_base.specs.declared.service.Service.{Service}
 use Rattle.sloth_base.specs.MemoryMap.{memory_base}
-use Rattle.trace_text.specs.Lines.{name_of, service_text}
+use Rattle.trace_text.specs.Lines.{name_of}
 
 -- ---- words and marks
 
@@ -29,7 +29,7 @@ mark_on marks address = find (λ mark. mark.address == address) marks
 -- the name of a service, or `-` of a number that is none's
 abbrev pub called_text : Option Service → List ℕ
 called_text None = codes "-"
-called_text (Some service) = service_text service
+called_text (Some service) = service_name service
 
 -- what a mark of a kind says, with the names of functions
 abbrev pub kind_text : MarkKind → List (List ℕ) → Mark → List ℕ

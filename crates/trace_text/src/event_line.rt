@@ -4,14 +4,14 @@ ghost use Rattle.sloth_base.specs.ImageRange.{AreNames};
 ghost use Rattle.sloth_base.specs.declared.event.Stamped.{Stamped as AnyEvent};
 ghost use Rattle.trace_text.specs.EventLines.{HasNumbers, IsLineOf, IsPlace, IsTaskNumber, Has32Bits, counted_line};
 ghost use Rattle.trace_text.specs.EventsRead.{call_in, event_in, is_single, left_in, more_in, number, of_task, place};
-ghost use Rattle.trace_text.specs.EventsRead.{run_in, service_named, single_in, stamped_in, task_number};
+ghost use Rattle.trace_text.specs.EventsRead.{run_in, single_in, stamped_in, task_number};
 
 use crate::arrival_line::position;
 use crate::line_text::LineText;
-use crate::print::{push_counts, push_event, service_name};
+use crate::print::{push_counts, push_event};
 use sloth_base::event::{Event, Stamp, Stamped};
 use sloth_base::name::Name;
-use sloth_base::service::Service;
+use sloth_base::service::service_named;
 use text_pieces::bytes::{before, behind, same};
 use text_pieces::numerals::value;
 
@@ -57,22 +57,6 @@ fn task_number(tasks: &[Name], word: &[u8]) -> Option<u32>
         return Some(NO_TASK);
     }
     place(tasks, word)
-}
-
-// The service of a name.
-#[tactic(auto, unfolding(crate::specs::EventsRead::service_named))]
-fn service_named(word: &[u8]) -> Option<Service>
-    ensures { result ≡ service_named word.now }
-{
-    for code in 0..12 {
-        let Some(service) = Service::from_code(code) else {
-            return None;
-        };
-        if same(word, service_name(service)) {
-            return Some(service);
-        }
-    }
-    None
 }
 
 // A run of an item by a task.

@@ -7,7 +7,7 @@ ghost use Rattle.trace_text.specs.Listing.{called_text, line_at, mark_on, mark_t
 ghost use Rattle.sloth_base.specs.ServiceCodes.{service_of};
 
 use crate::line_text::LineText;
-use crate::print::{push_name, service_name};
+use crate::print::push_name;
 use sloth_base::image::{Image, Mark, MarkKind};
 use sloth_base::memory_map::MEMORY_BASE;
 use sloth_base::name::Name;
@@ -125,7 +125,7 @@ fn push_service(line: &mut LineText, code: u8)
     ensures short { length line.new ≤ length line.old + 15 }
 {
     match Service::from_code(code) {
-        Some(service) => line.push(service_name(service)),
+        Some(service) => line.push(service.name()),
         None => line.push(b"-"),
     }
 }

@@ -1,7 +1,7 @@
 //! Printing events.
 ghost use Rattle.std.specs.Prelude.{◌≡◌, ℕ, ◌+◌, ◌≤◌, ◌++◌, length};
 ghost use Rattle.sloth_base.specs.ImageRange.{InFormat};
-ghost use Rattle.trace_text.specs.Lines.{counts_text, event_text, line_of, name_of, service_text};
+ghost use Rattle.trace_text.specs.Lines.{counts_text, event_text, line_of, name_of};
 
 use crate::line_text::LineText;
 use sloth_base::event::{Event, Stamped};
@@ -60,27 +60,6 @@ pub(crate) fn push_name(line: &mut LineText, names: &[Name], number: u32)
     }
 }
 
-/// The name of a service.
-pub fn service_name(service: Service) -> &'static [u8]
-    ensures name { result.now ≡ service_text service }
-    ensures short { length result.now ≤ 15 }
-{
-    match service {
-        Service::ActivateTask => b"ActivateTask",
-        Service::TerminateTask => b"TerminateTask",
-        Service::ChainTask => b"ChainTask",
-        Service::Schedule => b"Schedule",
-        Service::GetTaskID => b"GetTaskID",
-        Service::GetTaskState => b"GetTaskState",
-        Service::GetResource => b"GetResource",
-        Service::ReleaseResource => b"ReleaseResource",
-        Service::SetEvent => b"SetEvent",
-        Service::ClearEvent => b"ClearEvent",
-        Service::GetEvent => b"GetEvent",
-        Service::WaitEvent => b"WaitEvent",
-    }
-}
-
 /// Appends an event, with names of at most 64 bytes.
 pub fn push_event(line: &mut LineText, event: &Event, tasks: &[Name], functions: &[Name])
     requires tasks { (k : ℕ) → length (name_of tasks.now k) ≤ 64 }
@@ -122,7 +101,7 @@ pub fn push_event(line: &mut LineText, event: &Event, tasks: &[Name], functions:
             line.push(b"call ");
             push_name(line, tasks, task);
             line.push(b" ");
-            line.push(service_name(service));
+            line.push(service.name());
             line.push(b" ");
             line.push_number(status);
         }
@@ -130,7 +109,7 @@ pub fn push_event(line: &mut LineText, event: &Event, tasks: &[Name], functions:
             line.push(b"left ");
             push_name(line, tasks, task);
             line.push(b" ");
-            line.push(service_name(service));
+            line.push(service.name());
         }
         Event::Back(task) => {
             line.push(b"back ");

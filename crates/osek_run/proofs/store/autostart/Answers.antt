@@ -3,7 +3,7 @@ use Rattle.std.proofs.lemmas.List.{get_or_default}
 use Rattle.sloth_base.specs.declared.config.TaskDecl.{TaskDecl}
 use Rattle.osek_machine.specs.State.{Task, sleeping}
 use Rattle.osek_run.specs.Changes.{changed}
-use Rattle.osek_run.specs.declared.change.TaskChange.TheVariants as change
+use Rattle.osek_machine.specs.declared.change.TaskChange.TheVariants as change
 use Rattle.osek_run.proofs.Started.{started-all, activates, passes_on}
 use Rattle.osek_run.proofs.store.autostart.Goals as goal
 use Rattle.osek_run.proofs.store.autostart.Goals.{then-items-t, else-items-t}

@@ -1,4 +1,4 @@
-use Rattle.std.proofs.Common.{arith, ◌∙◌, sym, ap, subst, List, length, ◌++◌, ◌∷◌, []}
+use Rattle.std.proofs.Common.{arith, ◌∙◌, sym, ap, subst, List, ◌++◌, ◌∷◌, []}
 use Rattle.sloth_base.specs.declared.event.Arrival.{Arrival}
 use Rattle.sloth_base.specs.Arrivals.{AreArrivals}
 use Rattle.sloth_refusal.specs.Order.{NoFault}

@@ -1,4 +1,4 @@
-use Rattle.std.proofs.Common.{◌≡◌, map, take, length, None}
+use Rattle.std.proofs.Common.{◌≡◌, map, take, None}
 use Rattle.sloth_base.specs.Arrivals.{AreArrivals}
 use Rattle.sloth_refusal.proofs.Kept.{Loop}
 use Rattle.text_pieces.specs.Names.{now}
