@@ -10,7 +10,7 @@ use sloth_base::list::List;
 use sloth_base::memory::NoMemory;
 use sloth_base::name::Name;
 use sloth_base::numbers::TaskId;
-use sloth_base::places::{Levels, Places};
+use sloth_base::places::{BLOCK_COUNT, Levels, Places};
 use sloth_region::extent::Extent;
 use sloth_region::map::Map;
 use std::alloc::Global;
@@ -110,7 +110,7 @@ pub fn map(alloc: Global) -> Result<Map, NoMemory>
             items: List::from_vec(Vec::from_slice(alloc, &[0x8000_1b74])?),
             first: List::from_vec(Vec::from_slice(alloc, &[0])?),
             symbols: List::from_vec(Vec::new(alloc)),
-            blocks: [0x8000_1000; 512],
+            blocks: [0x8000_1000; BLOCK_COUNT],
         },
         stacks: List::from_vec(Vec::from_slice(alloc, &[stack])?),
         tops: List::from_vec(Vec::from_slice(alloc, &[top])?),
