@@ -32,10 +32,6 @@ pub each_both : (P Q : Stamped → Type 0) (a : List Stamped) → AllByRecursion
 each_both P Q [] h k = tt
 each_both P Q (x ∷ a) h k = ((h.0, k.0), each_both P Q a h.1 k.1)
 
-pub each_moment : (P : Stamped → Type 0) (k : ℕ) (a : List ℕ) → ((l : ℕ) → P (admit_event (record { at = k; line = l }))) → AllByRecursion P (map admit_event (at_moment k a))
-each_moment P k [] h = tt
-each_moment P k (l ∷ a) h = (h l, each_moment P k a h)
-
 -- two lists, each event of the one before each of the other
 pub pairs-append : (R : Stamped → Stamped → Type 0) (a b : List Stamped) → EachPair R a → EachPair R b → AllByRecursion (λ x. AllByRecursion (R x) b) a → EachPair R (a ++ b)
 pairs-append R [] b h k c = k

@@ -37,10 +37,6 @@ pub booted_admits : (lines : List ℕ) (s : System) → (with_admits lines s).bo
 booted_admits [] s = refl
 booted_admits (t ∷ lines) s = booted_admits lines (admitted t s) ∙ booted_admitted t s
 
-pub with_admits-append : (a b : List ℕ) (s : System) → with_admits (a ++ b) s ≡ with_admits b (with_admits a s)
-with_admits-append [] b s = refl
-with_admits-append (t ∷ a) b s = with_admits-append a b (admitted t s)
-
 pub follows_admits : (c : Config) (app : App) (past : List Stamped) (a : List Arrival) (s : System) → s.booted ≡ true → AreOwned (owners_in c) (map (λ x. x.line) a)
     → Follows c app past s (map admit_event a) (with_admits (map (λ x. x.line) a) s)
 follows_admits c app past [] s b h = refl

@@ -48,10 +48,6 @@ pairs_apart from mid to a b h k p q =
 pub within_wider : (from to low high : ℕ) (a : List Stamped) → low ≤ from → to ≤ high → AllByRecursion (IsWithin from to) a → AllByRecursion (IsWithin low high) a
 within_wider from to low high a l h = each_map (IsWithin from to) (IsWithin low high) (λ e w. record { begins = let b = w.begins in omega arith; ordered = w.ordered; ends = let b = w.ends in omega arith; spans = w.spans }) a
 
-pub pieces_join : (P : Piece → Type 0) (a b : List Piece) → AllByRecursion P a → AllByRecursion P b → AllByRecursion P (a ++ b)
-pieces_join P [] b h k = k
-pieces_join P (x ∷ a) b h k = (h.0, pieces_join P a b h.1 k)
-
 -- ---- the induction
 
 module _ (given : Setting) (setting : IsSetting given) (R : State → System → Type 0) (progress : State → System → ℕ) (simulation : IsSimulation given R progress) where

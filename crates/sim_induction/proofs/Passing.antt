@@ -64,10 +64,6 @@ kept_admits (t ∷ lines) u s n =
     let e = kept_admitted t u s n in
     kept_admits lines u (admitted t s) (λ h. n (subst (λ v. v.state ≡ mode.Suspended) e h)) ∙ e
 
--- a task that admits made Ready is fresh, and no other becomes so
-abbrev Kept : System → System → Type 0
-Kept s z = (u : ℕ) → is_in u z.fresh ≡ false → task z u ≡ task s u
-
 kept_one : (t : ℕ) (s : System) (u : ℕ) → is_in u (admitted t s).fresh ≡ false → (task (admitted t s) u ≡ task s u) × (is_in u s.fresh ≡ false)
 kept_one t s u =
     admit_cases (λ z. is_in u z.fresh ≡ false → (task z u ≡ task s u) × (is_in u s.fresh ≡ false)) t s

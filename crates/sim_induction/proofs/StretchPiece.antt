@@ -1,7 +1,7 @@
 -- A stretch is a piece of the run.
 use Rattle.std.proofs.Common.{◌≡◌, ℕ, zero, suc, ◌+◌, ◌<◌, ◌≤◌, List, [], ◌∷◌, ◌++◌, length, take, refl, sym, ap, ◌∙◌, subst, arith, Bool, true, false, cond, inr, filter, Some}
 use Rattle.std.specs.Prelude.{map, not, Contains}
-use Rattle.std.proofs.lemmas.Bool.{not_from_true}
+use Rattle.std.proofs.lemmas.Bool.{not_from_true, true≢false}
 use Rattle.std.proofs.lemmas.List.{length-take}
 use Rattle.sloth_base.specs.declared.event.Arrival.{Arrival}
 use Rattle.sloth_base.specs.declared.event.Stamped.{Stamped}
@@ -46,9 +46,6 @@ within_admits from to a h = record { begins = h.0; ordered = omega arith; ends =
 
 -- an event of the counts from k to below k + 1 + j, with the arrivals of the counts behind k
 module _ (k j : ℕ) (t : Trace) (e : Stamped) (long : length t ≡ j) (from_is : e.stamp.from ≡ k) (at_is : e.stamp.at ≡ k + j) (other : is_admit e ≡ false) where
-  befores : List Stamped
-  befores = map admit_event (before_event (k + 1) t)
-
   pub masked_placed : EachPair IsOrdered (masked_events (k + 1) t e)
   masked_placed =
       pairs-append IsOrdered (map admit_event (before_event (k + 1) t)) (e ∷ map admit_event (behind_event (k + 1) t))
@@ -70,10 +67,7 @@ module _ (k j : ℕ) (t : Trace) (e : Stamped) (long : length t ≡ j) (from_is 
   masked_later =
       each-append (λ x. is_admit x ≡ true → k < x.stamp.at) (map admit_event (before_event (k + 1) t)) (e ∷ map admit_event (behind_event (k + 1) t))
       (each_arrival (λ x. is_admit x ≡ true → k < x.stamp.at) (IsFrom (k + 1) (k + 1 + j)) (λ a h z. omega arith) (before_event (k + 1) t) (before_within (k + 1) (k + 1 + j) (k + 1) t (omega arith) (omega arith)))
-      ((λ z. let q = other in absurd (true_false (sym z ∙ q))), each_arrival (λ x. is_admit x ≡ true → k < x.stamp.at) (IsFrom (k + 1) (k + 1 + j)) (λ a h z. omega arith) (behind_event (k + 1) t) (behind_within (k + 1) (k + 1 + j) (k + 1) t (omega arith) (omega arith)))
-    where
-      true_false : true ≡ false → ⊥
-      true_false z = cc
+      ((λ z. let q = other in absurd (true≢false (sym z ∙ q))), each_arrival (λ x. is_admit x ≡ true → k < x.stamp.at) (IsFrom (k + 1) (k + 1 + j)) (λ a h z. omega arith) (behind_event (k + 1) t) (behind_within (k + 1) (k + 1 + j) (k + 1) t (omega arith) (omega arith)))
 
   pub masked_stamps : IsWithin k (k + suc j) e → AllByRecursion (IsWithin k (k + suc j)) (masked_events (k + 1) t e)
   masked_stamps w =

@@ -36,101 +36,97 @@ use Rattle.sim_induction.proofs.Routes.{Entering, Masking, touches_parted, begin
 pub early_none : (t : Trace) → touched_lines t ≡ [] → early t ≡ []
 early_none t h = sym (lines_before 0 t) ∙ ap (map (λ a. a.line)) (nothing_before 0 t h)
 
-rest_none : (o : Option ℕ) (rest : List ℕ) → lines_of o rest ≡ [] → rest ≡ []
-rest_none None rest h = h
-rest_none (Some l) rest h = cc
-
--- ---- an entry
-
-pub enter_law : (given : Setting) (R : State → System → Type 0) (k : ℕ) (m : State) (s : System) (line : ℕ) (Effect : List ℕ → State → State → Type 0)
-    → 0 < k → m.core.mie ≡ true → line_to_take (arrived given.arrivals k m) ≡ Some line → line < given.view.owners.tasks
-    → (most : ℕ) → suc most ≤ stretch_limit given.config (Takes line) → (e : Entering given.arrivals most k m Effect) → lines_of (touched (entered (arrived given.arrivals k m))) (touched_lines e.trace) ≡ []
-    → (after : System) → OsekStep given.config given.app (event.Enter line) (with_admits (lines_at given.arrivals k) s) after
-    → R (state_arrive (late e.trace) e.last) (with_admits (late e.trace) after)
-    → StretchLaw given R k m s e.next e.trace e.end
-enter_law given R k m s line Effect after_boot enabled taken is_task most short e none after step related =
-    let n = arrived given.arrivals k m in
-    let t = touches_parted [] (touched (entered n)) (touched_lines e.trace) (subst (AllByRecursion (Contains [])) (sym none) tt) in
-    record {
-      finds = enabled;
-      goes = e.goes;
-      starts = begins_entered k n e.next line taken;
-      more = e.more;
-      few = let f = e.few in subst (λ o. suc e.more ≤ stretch_limit given.config (later_beginning o)) (sym taken) (omega arith);
-      steps = e.steps;
-      ends = e.ends;
-      lines = [];
-      few_lines = omega arith;
-      touches_first = t.0;
-      touches = t.1;
-      what = event.Enter line;
-      what_is = λ last regs cur. entered_event given.view k n e.next last line after_boot taken is_task;
-      after = after;
-      step_is = subst (λ lines. OsekStep given.config given.app (event.Enter line) (with_admits lines (with_admits (lines_at given.arrivals k) s)) after)
-          (sym (early_none e.trace (rest_none (touched (entered n)) (touched_lines e.trace) none))) step;
-      passes = λ past h. tt;
-      related = subst (λ x. R x (with_admits (late e.trace) after)) (sym e.late_behind) related;
-    }
-
 -- ---- a service
 
+-- the number of the task that has this word in the current-task word
 pub task_is : (tasks t : ℕ) → t < tasks → task_of tasks (t + 1) ≡ t
 task_is tasks t l =
     let one : t + 1 - 1 ≡ t = omega arith in
     ap (λ b. cond (b && nat_le (t + 1) tasks) (t + 1 - 1) 4294967295) (lt-ltb 0 (t + 1) (omega arith))
     ∙ ap (λ b. cond b (t + 1 - 1) 4294967295) (le-leb (t + 1) tasks (omega arith)) ∙ one
 
+-- what a call and a leave pass over is what the calling task passes over
 both_pass : (given : Setting) (past : List Stamped) (s : System) (k t : ℕ) (called : Service) (status : ℕ) (b : Bool) → PassesOver given.config given.app past s t k
     → PassesOverArrivals given.config given.app past s k (cond b (event.Call t called status) (event.Left t called))
 both_pass given past s k t called status true h = h
 both_pass given past s k t called status false h = h
 
-pub service_law : (given : Setting) → (R : State → System → Type 0) (k : ℕ) (m : State) (s : System) (t : ℕ) (called : Service) (mark : Mark) (most : ℕ) (Effect : List ℕ → State → State → Type 0)
-    → 0 < k → m.core.mie ≡ true → line_to_take (arrived given.arrivals k m) ≡ None
-    → mark_at given.view (entered (arrived given.arrivals k m)).pc ≡ Some mark → mark.kind ≡ kind.Opening → service_of mark.a ≡ Some called
-    → t < given.view.owners.tasks → word_at m.core.ram 0 ≡ t + 1
-    → s.booted ≡ true → IsTop given.config (with_admits (lines_at given.arrivals k) s) [] t → (task (with_admits (lines_at given.arrivals k) s) t).state ≡ mode.Active
-    → (e : Masking given.arrivals most k m Effect) → suc most ≤ stretch_limit given.config Masks → e.end.core.mie ≡ true → touched (entered (arrived given.arrivals k m)) ≡ None → (lines : List ℕ) → length lines ≤ touch_limit given.config Masks → AllByRecursion (Contains lines) (touched_lines e.trace)
-    → AreTasks (owners_in given.config) (early e.trace)
-    → (after : System) → OsekStep given.config given.app (served_event t called e.end) (with_admits (early e.trace) (with_admits (lines_at given.arrivals k) s)) after
-    → R (state_arrive (late e.trace) e.last) (with_admits (late e.trace) after)
+-- What is known of a service's code that begins at its opening mark with interrupts open, whose effect is such a one: where it begins, which
+-- task calls, what it leaves, and that it is a step of the abstract scheduler to a state that is related again.
+pub record ServesFrom (given : Setting) (R : State → System → Type 0) (k : ℕ) (m : State) (s : System) (t : ℕ) (called : Service) (most : ℕ)
+    (Effect : List ℕ → State → State → Type 0) (e : Masking given.arrivals most k m Effect) : Type 0 where
+  -- the beginning
+  pub after_boot : 0 < k
+  pub enabled : m.core.mie ≡ true
+  pub none : line_to_take (arrived given.arrivals k m) ≡ None
+  pub mark : Mark
+  pub at_mark : mark_at given.view (entered (arrived given.arrivals k m)).pc ≡ Some mark
+  pub opens : mark.kind ≡ kind.Opening
+  pub is_called : service_of mark.a ≡ Some called
+  -- the task that calls
+  pub is_task : t < given.view.owners.tasks
+  pub runs : word_at m.core.ram 0 ≡ t + 1
+  pub booted : s.booted ≡ true
+  pub top : IsTop given.config (with_admits (lines_at given.arrivals k) s) [] t
+  pub active : (task (with_admits (lines_at given.arrivals k) s) t).state ≡ mode.Active
+  -- the code
+  pub short : suc most ≤ stretch_limit given.config Masks
+  pub ends : e.end.core.mie ≡ true
+  pub untouched : touched (entered (arrived given.arrivals k m)) ≡ None
+  pub lines : List ℕ
+  pub few_lines : length lines ≤ touch_limit given.config Masks
+  pub touches : AllByRecursion (Contains lines) (touched_lines e.trace)
+  pub tasks_alone : AreTasks (owners_in given.config) (early e.trace)
+  -- the step
+  pub after : System
+  pub step_is : OsekStep given.config given.app (served_event t called e.end) (with_admits (early e.trace) (with_admits (lines_at given.arrivals k) s)) after
+  pub related : R (state_arrive (late e.trace) e.last) (with_admits (late e.trace) after)
+
+-- It is a stretch of a run.
+pub service_law : (given : Setting) (R : State → System → Type 0) (k : ℕ) (m : State) (s : System) (t : ℕ) (called : Service) (most : ℕ)
+    (Effect : List ℕ → State → State → Type 0) (e : Masking given.arrivals most k m Effect) → ServesFrom given R k m s t called most Effect e
     → StretchLaw given R k m s e.next e.trace e.end
-service_law given R k m s t called mark most Effect after_boot enabled none at_mark opens is_called is_task runs booted top active e short ends untouched lines few_lines touches tasks_alone after step related =
+service_law given R k m s t called most Effect e h =
     let n = arrived given.arrivals k m in
+    let admits = lines_at given.arrivals k in
     let first = seen_at given k m e.next in
     record {
-      finds = enabled;
+      finds = h.enabled;
       goes = e.goes;
-      starts = begins_masked k n e.next enabled e.off;
+      starts = begins_masked k n e.next h.enabled e.off;
       more = e.more;
-      few = let l = e.few in subst (λ o. suc e.more ≤ stretch_limit given.config (later_beginning o)) (sym none) (omega arith);
+      few = let l = e.few in let short = h.short in subst (λ o. suc e.more ≤ stretch_limit given.config (later_beginning o)) (sym h.none) (omega arith);
       steps = e.steps;
-      ends = ends;
-      lines = lines;
-      few_lines = subst (λ o. length lines ≤ touch_limit given.config (later_beginning o)) (sym none) few_lines;
-      touches_first = subst (λ o. IfSome o (Contains lines)) (sym untouched) tt;
-      touches = touches;
+      ends = h.ends;
+      lines = h.lines;
+      few_lines = subst (λ o. length h.lines ≤ touch_limit given.config (later_beginning o)) (sym h.none) h.few_lines;
+      touches_first = subst (λ o. IfSome o (Contains h.lines)) (sym h.untouched) tt;
+      touches = h.touches;
       what = served_event t called e.end;
       what_is = λ last regs cur.
-          opened_event given.view k n e.next last mark after_boot none at_mark
-          ∙ ap (λ v. marked_event v given.view mark first last) opens
-          ∙ ap (λ v. service_event v given.view first last) is_called
-          ∙ ap (λ v. cond (v == last.cur_after) (event.Call (task_of given.view.owners.tasks v) called (slice_index last.regs 10)) (event.Left (task_of given.view.owners.tasks v) called)) runs
-          ∙ ap (λ v. cond (t + 1 == last.cur_after) (event.Call v called (slice_index last.regs 10)) (event.Left v called)) (task_is given.view.owners.tasks t is_task)
+          opened_event given.view k n e.next last h.mark h.after_boot h.none h.at_mark
+          ∙ ap (λ v. marked_event v given.view h.mark first last) h.opens
+          ∙ ap (λ v. service_event v given.view first last) h.is_called
+          ∙ ap (λ v. cond (v == last.cur_after) (event.Call (task_of given.view.owners.tasks v) called (slice_index last.regs 10)) (event.Left (task_of given.view.owners.tasks v) called)) h.runs
+          ∙ ap (λ v. cond (t + 1 == last.cur_after) (event.Call v called (slice_index last.regs 10)) (event.Left v called)) (task_is given.view.owners.tasks t h.is_task)
           ∙ ap (λ v. cond (t + 1 == v) (event.Call t called (slice_index last.regs 10)) (event.Left t called)) cur
           ∙ ap (λ v. cond (t + 1 == word_at e.end.core.ram 0) (event.Call t called (slice_index v 10)) (event.Left t called)) regs;
-      after = after;
-      step_is = step;
-      passes = λ past h. both_pass given (past ++ map admit_event (before_event (k + 1) e.trace)) (with_admits (early e.trace) (with_admits (lines_at given.arrivals k) s)) k t called
+      after = h.after;
+      step_is = h.step_is;
+      passes = λ past p. both_pass given (past ++ map admit_event (before_event (k + 1) e.trace)) (with_admits (early e.trace) (with_admits admits s)) k t called
           (slice_index e.end.core.registers 10) (t + 1 == word_at e.end.core.ram 0)
-          (passes_inner given.config given.app past k t (with_admits (lines_at given.arrivals k) s) e.trace h (booted_admits (lines_at given.arrivals k) s ∙ booted) tasks_alone top active);
-      related = subst (λ x. R x (with_admits (late e.trace) after)) (sym e.late_behind) related;
+          (passes_inner given.config given.app past k t (with_admits admits s) e.trace p (booted_admits admits s ∙ h.booted) h.tasks_alone h.top h.active);
+      related = subst (λ x. R x (with_admits (late e.trace) h.after)) (sym e.late_behind) h.related;
     }
 
+-- ---- which event it is
+
+-- the call is left where the word of the current task has changed
 pub shows_left : (t : ℕ) (called : Service) (end : State) → (word_at end.core.ram 0 ≡ t + 1 → ⊥) → served_event t called end ≡ event.Left t called
 shows_left t called end h =
     ap (λ b. cond b (event.Call t called (slice_index end.core.registers 10)) (event.Left t called)) (ne_eqb (t + 1) (word_at end.core.ram 0) (λ e. h (sym e)))
 
+-- else it is answered
 pub shows_call : (t : ℕ) (called : Service) (end : State) → word_at end.core.ram 0 ≡ t + 1 → served_event t called end ≡ event.Call t called (slice_index end.core.registers 10)
 shows_call t called end h =
     ap (λ b. cond b (event.Call t called (slice_index end.core.registers 10)) (event.Left t called)) (eq-eqb (t + 1) (word_at end.core.ram 0) (sym h))

@@ -176,14 +176,31 @@ module _ (b : Build) (view : View) (arrivals : List Arrival) (count : ℕ) (stat
 
       stretch : StretchLaw (setting_of b view arrivals) (Stands b) count state s e.next e.trace e.end
       stretch =
-          service_law (setting_of b view arrivals) (Stands b) count state s t served opens.block.mark most Effect
-          after_boot stands.fixed.open_to_lines none
-          (ap (λ o. mark_at view (enter o n).pc) none ∙ ap (mark_at view) pc_is ∙ opens.block.marked) opens.block.opens opens.block.calls
-          (let v = ap (λ (o : Owners). o.tasks) setting.owners in let h = here.declared in omega arith) op.current
-          stands.tidy.booted top here.active e short (ap (λ (x : State). x.core.mie) e.late_behind ∙ a.stands.fixed.open_to_lines) untouched (a.one ∷ a.other ∷ []) (omega arith) a.touches early_tasks
-          a.after
-          (subst (λ (x : State). OsekStep b.config b.app (served_event t served x) s2 a.after) (sym e.late_behind) a.step_is)
-          (stands_arrived b (late e.trace) e.last a.after few in_range.1 a.stands)
+          service_law (setting_of b view arrivals) (Stands b) count state s t served most Effect e
+          (record {
+            after_boot = after_boot;
+            enabled = stands.fixed.open_to_lines;
+            none = none;
+            mark = opens.block.mark;
+            at_mark = ap (λ o. mark_at view (enter o n).pc) none ∙ ap (mark_at view) pc_is ∙ opens.block.marked;
+            opens = opens.block.opens;
+            is_called = opens.block.calls;
+            is_task = let v = ap (λ (o : Owners). o.tasks) setting.owners in let h = here.declared in omega arith;
+            runs = op.current;
+            booted = stands.tidy.booted;
+            top = top;
+            active = here.active;
+            short = short;
+            ends = ap (λ (x : State). x.core.mie) e.late_behind ∙ a.stands.fixed.open_to_lines;
+            untouched = untouched;
+            lines = a.one ∷ a.other ∷ [];
+            few_lines = omega arith;
+            touches = a.touches;
+            tasks_alone = early_tasks;
+            after = a.after;
+            step_is = subst (λ (x : State). OsekStep b.config b.app (served_event t served x) s2 a.after) (sym e.late_behind) a.step_is;
+            related = stands_arrived b (late e.trace) e.last a.after few in_range.1 a.stands;
+          })
 
   -- the machine is as the service's contract asks
   pub can_serve : (place : ℕ) × CanServe offset code t place n.core
