@@ -1,10 +1,10 @@
 -- The events that counted lines show.
-use Rattle.std.specs.Prelude.{◌≡◌, ◌<◌, ◌⊎◌, ℕ, List, length, ◌++◌, IfSome}
+use Rattle.std.specs.Prelude.{◌≡◌, ◌<◌, ◌⊎◌, ℕ, List, length, IfSome}
 use Rattle.sloth_base.specs.declared.event.Event.{Event}
 use Rattle.sloth_base.specs.declared.event.Event.TheVariants as event
 use Rattle.sloth_base.specs.declared.event.Stamped.{Stamped}
 use Rattle.sloth_base.specs.Events.{named_task}
-use Rattle.trace_text.specs.Lines.{counts_text, event_text}
+use Rattle.trace_text.specs.Lines.{line_with}
 use Rattle.trace_text.specs.declared.print.Form.TheVariants as form
 
 -- a number of 32 bits
@@ -30,7 +30,7 @@ HasNumbers tasks functions e = IfSome (named_task e) (λ t. IsTaskNumber tasks t
 
 -- the counted line of an event without its LF, with the names of tasks and functions
 abbrev pub counted_line : List (List ℕ) → List (List ℕ) → Stamped → List ℕ
-counted_line tasks functions e = counts_text form.Counted e ++ event_text tasks functions e.event
+counted_line tasks functions e = line_with tasks functions form.Counted e
 
 -- the text is the counted line of an event whose numbers name tasks and functions, or no task
 pub record IsLineOf (tasks functions : List (List ℕ)) (e : Stamped) (text : List ℕ) : Type 0 where

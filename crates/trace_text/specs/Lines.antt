@@ -31,6 +31,10 @@ abbrev pub counts_text : Form → Stamped → List ℕ
 counts_text form.Counted e = decimal e.stamp.from ++ codes " " ++ decimal e.stamp.at ++ codes " "
 counts_text form.Bare e = []
 
--- the line of an event, without its LF
+-- the line of an event, without its LF, with the names of tasks and functions
+abbrev pub line_with : List (List ℕ) → List (List ℕ) → Form → Stamped → List ℕ
+line_with tasks functions form e = counts_text form e ++ event_text tasks functions e.event
+
+-- with those of an image
 abbrev pub line_of : Image → Form → Stamped → List ℕ
-line_of image form e = counts_text form e ++ event_text image.tasks image.funcs e.event
+line_of image form e = line_with image.tasks image.funcs form e

@@ -1,0 +1,5 @@
+pub mod Moments
+pub mod Walking
+pub mod TraceText
+pub mod Exact
+pub mod Judging

@@ -1,0 +1,45 @@
+-- What a text in the counted form shows, and its first line that shows nothing.
+use Rattle.std.specs.Prelude.{ℕ, ◌+◌, ◌≤◌, ◌≡◌, ◌≢◌, List, [], ◌∷◌, ◌++◌, length, All}
+use Rattle.sloth_base.specs.declared.event.Stamped.{Stamped}
+use Rattle.asm_lines.specs.Operands.{behind}
+use Rattle.trace_text.specs.EventLines.{IsLineOf, counted_line}
+use Rattle.trace_text.specs.Texts.{lines_with}
+use Rattle.trace_text.specs.declared.print.Form.TheVariants as form
+
+-- the text of events in the counted form
+abbrev pub text_of : List (List ℕ) → List (List ℕ) → List Stamped → List ℕ
+text_of tasks functions events = lines_with tasks functions form.Counted events
+
+-- an event has a line: its numbers are of 32 bits, and name tasks and functions, or no task
+abbrev pub HasLine : List (List ℕ) → List (List ℕ) → Stamped → Type 0
+HasLine tasks functions e = IsLineOf tasks functions e (counted_line tasks functions e)
+
+-- the text is that of these events
+pub record Shows (tasks functions : List (List ℕ)) (events : List Stamped) (text : List ℕ) : Type 0 where
+  pub lines : All (HasLine tasks functions) events
+  pub is : text ≡ text_of tasks functions events
+
+-- line k is the first that is no event's, or not ended by LF
+pub record IsFirstBad (tasks functions : List (List ℕ)) (text : List ℕ) (k : ℕ) : Type 0 where
+  pub front : List Stamped
+  pub rest : List ℕ
+  pub lines : All (HasLine tasks functions) front
+  pub is : text ≡ text_of tasks functions front ++ rest
+  pub line : k ≡ length front + 1
+  pub more : rest ≢ []
+  pub bad : (e : Stamped) (after : List ℕ) → HasLine tasks functions e → rest ≡ counted_line tasks functions e ++ 10 ∷ after → ⊥
+
+-- the first line of the text is this event's, and an LF ends it
+pub record Begins (tasks functions : List (List ℕ)) (text : List ℕ) (e : Stamped) : Type 0 where
+  pub line : HasLine tasks functions e
+  pub is : text ≡ counted_line tasks functions e ++ 10 ∷ behind 10 text
+
+-- the first line is no event's, or no LF ends it
+abbrev pub BeginsWithNone : List (List ℕ) → List (List ℕ) → List ℕ → Type 0
+BeginsWithNone tasks functions text = (e : Stamped) (after : List ℕ) → HasLine tasks functions e → text ≡ counted_line tasks functions e ++ 10 ∷ after → ⊥
+
+-- these events were read, and this is left of the text
+pub record HasRead (tasks functions : List (List ℕ)) (text : List ℕ) (events : List Stamped) (rest : List ℕ) : Type 0 where
+  pub lines : All (HasLine tasks functions) events
+  pub is : text ≡ text_of tasks functions events ++ rest
+  pub few : length events + length rest ≤ length text

@@ -1,0 +1,14 @@
+//! Laws of the definitions.
+ghost use Rattle.std.specs.Prelude.{◌≡◌, ℕ, List};
+ghost use Rattle.sloth_base.specs.declared.app.App.{App};
+ghost use Rattle.sloth_base.specs.declared.config.Config.{Config};
+ghost use Rattle.sloth_base.specs.declared.event.Arrival.{Arrival};
+ghost use Rattle.app_rules.specs.WellFormed.{WellFormed};
+ghost use Rattle.trace_check.specs.Answer.{IsVerdict};
+ghost use Rattle.trace_check.specs.declared.verdict.Verdict.{Verdict};
+
+/// A text has one verdict.
+pub fn one_verdict()
+    ensures { (config : Config) (app : App) (arrivals : List Arrival) (text : List ℕ) (n : ℕ) (one other : Verdict) → WellFormed config app →
+        IsVerdict config app arrivals text n one → IsVerdict config app arrivals text n other → one ≡ other }
+{}
