@@ -1,7 +1,7 @@
 //! The interrupt controller of the machine: 32 lines, each with a pending, an enable and a level byte.
 #![tactic(auto)]
 
-ghost use Rattle.std.specs.Prelude.{◌≡◌, ◌<◌, ◌+◌, slice_set, slice_index};
+ghost use Rattle.std.specs.Prelude.{◌≡◌, ◌<◌, ◌+◌, ◌==◌, slice_set, slice_index};
 ghost use Rattle.std.specs.Option.{ForSome};
 
 use sloth_base::numbers::Line;
@@ -105,12 +105,27 @@ impl Controller {
         self.pending[usize::from(line.0)] = 0;
     }
 
+    /// Whether the line is pending.
+    pub fn is_pending(&self, line: Line) -> bool
+        requires { line < 32 }
+        ensures { result ≡ (slice_index self.now.pending line == 1) }
+    {
+        self.pending[usize::from(line.0)] == 1
+    }
+
+    /// Whether the line is enabled.
+    pub fn is_enabled(&self, line: Line) -> bool
+        requires { line < 32 }
+        ensures { result ≡ (slice_index self.now.enabled line == 1) }
+    {
+        self.enabled[usize::from(line.0)] == 1
+    }
+
     fn may_take(&self, level: u8, line: Line) -> bool
         requires { line < 32 }
         ensures { result ≡ may_take self.now level line }
     {
-        let place = usize::from(line.0);
-        self.pending[place] == 1 && self.enabled[place] == 1 && self.levels[place] > level
+        self.is_pending(line) && self.is_enabled(line) && self.levels[usize::from(line.0)] > level
     }
 
     fn better(&self, best: Option<Line>, line: Line) -> Line

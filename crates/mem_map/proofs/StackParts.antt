@@ -194,6 +194,7 @@ module _ (config : Config) (app : App) (stacks : Stacks) (needs : AreNeeds confi
             let o = needs.parts.words t in
             omega (arith, e, w, a, o);
         apart = meet;
+        nested = over;
       }
 
 -- ---- as the calls give them

@@ -8,7 +8,7 @@ use Rattle.sloth_region.specs.declared.extent.Extent.{Extent}
 use Rattle.sloth_region.specs.declared.map.Map.{Map}
 use Rattle.sloth_region.specs.Region.{aligned, IsBelow}
 use Rattle.stack_bounds.specs.declared.stacks.Stacks.{Stacks}
-use Rattle.stack_bounds.specs.Bounds.{IsBasic, MayMeet, bytes_of, offset_of}
+use Rattle.stack_bounds.specs.Bounds.{IsBasic, MayBePreempted, MayMeet, bytes_of, offset_of}
 use Rattle.mem_map.specs.Zones.{data_zone, stack_of, nowhere, all_stacks}
 use Rattle.mem_map.specs.Run.{room_for}
 
@@ -76,7 +76,7 @@ abbrev pub PartsApart : Stacks → Map → (t u : ℕ) → Type 0
 PartsApart stacks map t u = (top_of map t + bytes_of stacks u ≤ top_of map u) ⊎ (top_of map u + bytes_of stacks t ≤ top_of map t)
 
 -- All basic tasks have one stack, and each extended task one of its own. A task has its bytes below its top, and tasks that may have
--- something there at once have parts that are apart.
+-- something there at once have parts that are apart: of two basic ones, that of the task that may be entered over the other lies below.
 pub record HasStacks (config : Config) (app : App) (stacks : Stacks) (map : Map) : Type 0 where
   pub count : length map.stacks ≡ length config.tasks
   pub tops : length map.tops ≡ length config.tasks
@@ -93,3 +93,5 @@ pub record HasStacks (config : Config) (app : App) (stacks : Stacks) (map : Map)
   pub within : (t : ℕ) → t < length config.tasks → top_of map t ≤ (stack_of map t).base + (stack_of map t).len
   pub whole : (t : ℕ) → t < length config.tasks → top_of map t % 4 ≡ 0
   pub apart : (t u : ℕ) → t < length config.tasks → u < length config.tasks → t ≢ u → MayMeet config app t u → PartsApart stacks map t u
+  pub nested : (t u : ℕ) → IsBasic config t → IsBasic config u → MayBePreempted config app u
+      → (declaration config u).priority < (declaration config t).priority → top_of map t + bytes_of stacks u ≤ top_of map u

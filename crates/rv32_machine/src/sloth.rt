@@ -1,5 +1,5 @@
 //! A bus of RAM and the interrupt controller.
-ghost use Rattle.std.specs.Prelude.{◌≡◌, ◌<◌, IfOk, slice_set};
+ghost use Rattle.std.specs.Prelude.{◌≡◌, ◌<◌, ◌==◌, IfOk, slice_set, slice_index};
 ghost use Rattle.sloth_base.specs.ImageRange.{InFormat};
 ghost use Rattle.rv32_machine.specs.Start.{sloth_start};
 
@@ -50,6 +50,22 @@ impl SlothBus {
         ensures { self.new ≡ record self.old { lines = record self.old.lines { pending = slice_set self.old.lines.pending line 1 } } }
     {
         self.controller.arrive(line);
+    }
+
+    /// Whether the line is pending.
+    pub fn is_pending(&self, line: Line) -> bool
+        requires { line < 32 }
+        ensures { result ≡ (slice_index self.now.lines.pending line == 1) }
+    {
+        self.controller.is_pending(line)
+    }
+
+    /// Whether the line is enabled.
+    pub fn is_enabled(&self, line: Line) -> bool
+        requires { line < 32 }
+        ensures { result ≡ (slice_index self.now.lines.enabled line == 1) }
+    {
+        self.controller.is_enabled(line)
     }
 }
 

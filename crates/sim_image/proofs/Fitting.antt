@@ -19,6 +19,7 @@ use Rattle.mem_map.specs.Zones.{HasZones, code_zone, data_zone, all_stacks, nowh
 use Rattle.mem_map.specs.Stacks.{HasStacks, top_of}
 use Rattle.stack_bounds.specs.declared.stacks.Stacks.{Stacks}
 use Rattle.stack_bounds.specs.Bounds.{MayMeet, bytes_of}
+use Rattle.sim_laws.specs.Nested.{HasNestedParts}
 use Rattle.sim_image.specs.Symbols.{HasSymbols}
 use Rattle.sim_image.specs.Zones.{IsInCode, RoomForCalls, is_in, build_of, ZonesFit, StacksAreApart, BlocksArePlaced}
 use Rattle.sim_image.proofs.Data.{symbols_are_apart}
@@ -120,6 +121,9 @@ module _ (config : Config) (app : App) (map : Map) (stacks : Stacks) (back : ℕ
       (λ (x : top_of map t + bytes_of stacks u ≤ top_of map u). inl (omega (arith, x)))
       (λ (x : top_of map u + bytes_of stacks t ≤ top_of map t). inr (omega (arith, x)))
       (s.apart t u l m (λ e. ne (sym e)) may)
+
+  pub parts_nested : HasStacks config app stacks map → HasNestedParts b
+  parts_nested s t u basic other may less = let below = s.nested t u basic other may less in omega (arith, below)
 
   pub placed : (block : Block) → All InRange block.code → IsInCode map block → BlockStands memory block → IsPlaced b (block.at - 0x8000_0000) block.code
   placed block r c s =

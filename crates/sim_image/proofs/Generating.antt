@@ -57,7 +57,7 @@ use Rattle.sim_image.specs.Zones.{build_of, IsInCode}
 use Rattle.sim_image.specs.Standing.{ItemsStand, item_block}
 use Rattle.sim_image.specs.Generated.{Has, IsBuiltBy, BuiltIsGenerated, BuiltIsInPlace}
 use Rattle.sim_image.proofs.Apart.{blocks_apart}
-use Rattle.sim_image.proofs.Fitting.{here, zones_fit, stacks_are_apart, blocks_are_placed, code_from, code_to, part_inside}
+use Rattle.sim_image.proofs.Fitting.{here, zones_fit, stacks_are_apart, parts_nested, blocks_are_placed, code_from, code_to, part_inside}
 use Rattle.sim_image.proofs.Images.{linked_is_image}
 use Rattle.sim_image.proofs.Items.{all_marks, mark_of_all, linked_items_stand}
 use Rattle.sim_image.proofs.Marks.{not_inside}
@@ -328,6 +328,7 @@ module _ (config : Config) (app : App) (levels : Levels) (map : Map) (stacks : S
     idle = idle;
     prologues = prologue;
     stacks = stacks_are_apart config app map stacks back image.memory g.linked.zones g.linked.has_stacks;
+    nested = parts_nested config app map stacks back image.memory g.linked.zones g.linked.has_stacks;
     items = λ func item l. item_stands b image func item has_items (item_of func item l) (range func item (item_of func item l));
     operations = λ func item l. operations func item (item_of func item l);
     way_back = λ func item call l e s. has_way_back func item (item_of func item l) call e s;

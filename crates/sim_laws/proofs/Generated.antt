@@ -90,6 +90,7 @@ module _ (b : Build) (image : Image) (levels : Levels) (map : Map) (g : IsGenera
     idle = g.idle;
     prologues = prologue;
     stacks = g.stacks;
+    nested = g.nested;
     items = g.items;
     operations = g.operations;
     way_back = g.way_back;

@@ -3,6 +3,7 @@ pub mod Bounded
 pub mod Steady
 pub mod Masks
 pub mod Meeting
+pub mod Nesting
 pub mod Dispatch
 pub mod Whole
 pub mod Generated

@@ -1,25 +1,28 @@
 -- Every run of a kernel in place is one of the abstract scheduler.
-use Rattle.std.proofs.Common.{◌≡◌, ℕ, ◌+◌, ◌-◌, ◌*◌, ◌/◌, ◌<◌, ◌≤◌, Bool, List, [], ◌∷◌, length, sym, ◌∙◌, subst, arith, true, false, ⊎_elim}
+use Rattle.std.proofs.Common.{◌≡◌, ℕ, ◌+◌, ◌-◌, ◌*◌, ◌/◌, ◌<◌, ◌≤◌, Bool, List, [], ◌∷◌, length, sym, ◌∙◌, subst, arith, true, false, ⊎_elim, filter, Some}
 use Rattle.std.specs.Prelude.{◌&&◌, map, replicate, nat_le, nat_lt, if◌then◌else◌}
 use Rattle.std.proofs.lemmas.Bool.{cases_lt, le-ltb}
 use Rattle.sloth_base.specs.declared.event.Arrival.{Arrival}
 use Rattle.sloth_base.specs.declared.image.Image.{Image}
-use Rattle.sloth_base.specs.Arrivals.{moments}
+use Rattle.sloth_base.specs.Arrivals.{moments, AreArrivals}
 use Rattle.sloth_base.specs.Machine.{State}
 use Rattle.sloth_region.specs.Layout.{cur}
 use Rattle.rv32_instr.specs.Ram.{word_at}
 use Rattle.rv32_machine.specs.Start.{start}
+use Rattle.rv32_machine.specs.Run.{state_after, arrived}
 use Rattle.rv32_routine.specs.Trace.{late}
 use Rattle.rv32_expand.proofs.Counts.{size_is, size_few}
 use Rattle.rv32_expand.proofs.InRangeOf.{frame_of}
 use Rattle.rv32_expand.specs.Expansion.{item_address, is_long, expansion}
 use Rattle.sloth_base.specs.Named.{operation}
 use Rattle.observe.specs.Observe.{View, view_of_image}
-use Rattle.osek_machine.specs.State.{Frame, System, task}
-use Rattle.sim_induction.specs.Sound.{Sound}
+use Rattle.osek_machine.specs.State.{Frame, System, task, opening}
+use Rattle.osek_machine.specs.Runs.{Leads}
+use Rattle.sim_induction.specs.Sound.{Sound, events_of, stands_before}
 use Rattle.sim_induction.specs.Admits.{IsSetting, lines_at, with_admits, admit_event}
 use Rattle.sim_induction.specs.Laws.{BootLaw}
 use Rattle.sim_induction.specs.Related.{IsSimulation}
+use Rattle.sim_induction.proofs.Boot.{whole_run}
 use Rattle.sim_induction.proofs.Follow.{booted_admits, leads_admits}
 use Rattle.sim_induction.proofs.Invariants.{With, along_events, simulation_with, boot_with}
 use Rattle.sim_induction.proofs.Schedule.{owned_at}
@@ -36,10 +39,12 @@ use Rattle.sim_items.specs.Outside.{setting_of}
 use Rattle.sim_items.specs.Progress.{passed_at, passed_in, progress_in}
 use Rattle.sim_laws.specs.Bounded.{IsBounded}
 use Rattle.sim_laws.specs.Kernel.{Kernel}
+use Rattle.sim_laws.specs.Standing.{StandsNested}
 use Rattle.sim_laws.specs.Steady.{IsSteady}
 use Rattle.sim_laws.proofs.Bounded.{arrive_fits, bounds_stay}
 use Rattle.sim_laws.proofs.Steady.{steady_stays, opening_steady}
 use Rattle.sim_laws.proofs.Dispatch.{advance}
+use Rattle.sim_laws.proofs.Nesting.{stack_nested}
 
 -- ---- the measure is at most 40
 
@@ -130,3 +135,18 @@ module _ (b : Build) (image : Image) (kernel : Kernel b image) where
   sound_kernel =
       sound b.config b.app image R (progress_in b) kernel.tasks
       (λ arrivals are. let setting = is_setting b.config b.app image arrivals kernel.tasks are in (simulation arrivals setting, booting arrivals setting))
+
+  -- at each count that finds MIE 1 the relation stands
+  pub stands_kernel : (arrivals : List Arrival) (n count : ℕ) (state : State) → AreArrivals (owners_in b.config) arrivals → n ≤ 1000000 → count < n
+      → state_after count arrivals (start image) ≡ Some state → state.core.mie ≡ true
+      → (s : System) × Leads b.config b.app (filter (stands_before count) (events_of image arrivals n)) (opening b.config b.app) s
+      × StandsNested b (arrived arrivals count state) s
+  stands_kernel arrivals n count state are bound before after enabled =
+      let setting = is_setting b.config b.app image arrivals kernel.tasks are in
+      let whole = whole_run (setting_of b view arrivals) setting R (progress_in b) (simulation arrivals setting) (start image) (booting arrivals setting) n in
+      let found = whole.mirrors count before state after enabled in
+      let related = found.2 in
+      (found.0, found.1, record {
+        stands = related.base;
+        nested = stack_nested b found.0 related.system.valid related.system.owing kernel.nested related.base.stack related.base.active.falling;
+      })

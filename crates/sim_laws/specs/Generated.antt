@@ -26,6 +26,7 @@ use Rattle.sim_entries.specs.Generated.{HasOneBody}
 use Rattle.sim_items.specs.Place.{ItemStands}
 use Rattle.sim_items.specs.Outside.{HasIdle}
 use Rattle.sim_laws.specs.Kernel.{Kernel, IsKnown, WayBackStands}
+use Rattle.sim_laws.specs.Nested.{HasNestedParts}
 
 -- the prologue of a task stands where the map has the handler of its line
 pub record HasPrologue (b : Build) (levels : Levels) (map : Map) (t : ℕ) : Type 0 where
@@ -58,6 +59,7 @@ pub record IsGenerated (b : Build) (image : Image) (levels : Levels) (map : Map)
   pub idle : HasIdle b (view_of_image image)
   pub prologues : (t : ℕ) → t < length b.config.tasks → HasPrologue b levels map t
   pub stacks : (t u : ℕ) → t < length b.config.tasks → u < length b.config.tasks → u ≢ t → MayMeet b.config b.app t u → AreApart b t u
+  pub nested : HasNestedParts b
   pub items : (func item : ℕ) → item < length (function b.app func).items → ItemStands b (view_of_image image) func item
   pub operations : (func item : ℕ) → item < length (function b.app func).items → IsKnown b (view_of_image image) func item
   pub way_back : WayBackStands b (view_of_image image)

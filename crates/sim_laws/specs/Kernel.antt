@@ -9,6 +9,7 @@ use Rattle.sloth_base.specs.Named.{operation, function}
 use Rattle.sloth_base.specs.MemoryMap.{memory_base}
 use Rattle.app_rules.specs.WellFormed.{WellFormed}
 use Rattle.stack_bounds.specs.Bounds.{MayMeet}
+use Rattle.sim_laws.specs.Nested.{HasNestedParts}
 use Rattle.prio_levels.specs.Levels.{AreLevels}
 use Rattle.rv32_expand.specs.Expansion.{item_address, expansion}
 use Rattle.service_blocks.specs.Calls.{ServesCall}
@@ -79,6 +80,7 @@ pub record Kernel (b : Build) (image : Image) : Type 0 where
   pub prologues : (t : ℕ) → t < length b.config.tasks → PrologueStands b t
   -- the parts of tasks that may have something there at once
   pub stacks : (t u : ℕ) → t < length b.config.tasks → u < length b.config.tasks → u ≢ t → MayMeet b.config b.app t u → AreApart b t u
+  pub nested : HasNestedParts b
   pub items : (func item : ℕ) → item < length (function b.app func).items → ItemStands b (view_of_image image) func item
   pub operations : (func item : ℕ) → item < length (function b.app func).items → IsKnown b (view_of_image image) func item
   pub way_back : WayBackStands b (view_of_image image)

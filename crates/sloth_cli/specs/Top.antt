@@ -13,6 +13,7 @@ use Rattle.sloth_refusal.specs.Order.{IsLeast}
 use Rattle.rv32_expand.specs.InPlace.{ItemsInPlace}
 use Rattle.osek_blocking.specs.Protocol.{KeepsCeilingProtocol}
 use Rattle.sim_induction.specs.Sound.{Sound, events_of}
+use Rattle.sim_states.specs.Shown.{ShowsStates}
 use Rattle.sloth_io.specs.Counts.{Rose, Stays}
 use Rattle.sloth_io.specs.Sink.{Output, gains, GainsPart}
 use Rattle.sloth_io.specs.Store.{Files, Holds, KeepsOthers, IsMissing, IsTooLong, IsUnwritten, fits}
@@ -138,6 +139,8 @@ RunsKeepProtocol config app image =
 pub record IsImageOf (config : Config) (app : App) (image : Image) : Type 0 where
   -- every run of the image, whatever lines arrive, is one of the abstract scheduler
   pub sound : Sound config app image
+  -- and the machine shows the task states of the abstract scheduler at each count that finds interrupts open
+  pub shows : ShowsStates config app image
   -- so a Ready task is blocked by one lower task at most, and resources are held by one task at a time
   pub protocol : RunsKeepProtocol config app image
   -- the items of the task code stand in the image, each with its mark on its last instruction

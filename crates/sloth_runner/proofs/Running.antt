@@ -97,7 +97,7 @@ after-is : (r0 r : Runner) (k : ℕ) → Ran r0 r k → state_after k (given r0)
 after-is r0 r k ran =
     ap (λ n. state_after n (given r0) (start (image_of r0))) (sym ran.count)
     ∙ ap (λ A. state_after (count_of r) A (start (image_of r0))) (sym ran.arrivals)
-    ∙ ap (λ (i : Image). state_after (count_of r) (given r) (start i)) (sym ran.image) ∙ ran.running.after
+    ∙ ap (λ (i : Image). state_after (count_of r) (given r) (start i)) (sym ran.image) ∙ ran.running.ran.after
 
 halted-is : (r0 r : Runner) (k : ℕ) (e : RunEnd) → Ran r0 r k → (h : Halted r e) → moment (given r0) k (sloth_state r.machine) ≡ Halts h.0
 halted-is r0 r k e ran h =

@@ -18,9 +18,11 @@ use Rattle.observe.proofs.Moments.{here-from, behind-from}
 use Rattle.observe.proofs.Growing.{observe-nothing}
 use Rattle.rv32_machine.specs.Start.{start}
 use Rattle.rv32_machine.specs.Advance.{Outcome, Goes, advance}
+use Rattle.rv32_machine.specs.declared.machine.Machine.{Machine}
+use Rattle.rv32_machine.specs.declared.sloth.SlothBus.{SlothBus}
 use Rattle.rv32_machine.specs.Run.{Moment, moment, moment_of, arrived, run, run_from, steps_of, state_after}
 use Rattle.sim_induction.specs.Sound.{events_of}
-use Rattle.sloth_runner.specs.Runner.{AreLines, HasDone, HandsOut, Advanced, Adds, IsRunning, image_of, given, count_of, sloth_state, run_steps}
+use Rattle.sloth_runner.specs.Runner.{AreLines, HasRun, HasDone, HasArrived, HasExecuted, HandsOut, Advanced, Adds, IsRunning, image_of, given, count_of, sloth_state, run_steps}
 use Rattle.sloth_runner.specs.declared.runner.Runner.{Runner}
 use Rattle.rv32_machine.proofs.Runs.{after_more, run_more}
 use Rattle.std.proofs.lemmas.List.Elements.{All-take, All-drop}
@@ -30,14 +32,22 @@ front-is zero xs = refl
 front-is (suc n) [] = refl
 front-is (suc n) (x ∷ xs) = ap (λ ys. x ∷ ys) (front-is n xs)
 
+-- what doesn't fall from a moment on doesn't fall from an earlier one on
+pub weaker : (m n : ℕ) (A : List Arrival) → n ≤ m → NeverFalls m A → NeverFalls n A
+weaker m n [] le h = tt
+weaker m n (a ∷ A) le h = (omega arith, h.1)
+
+in-order : (r : Runner) (image : Image) (k : ℕ) → HasRun r image k → NeverFalls 0 (given r)
+in-order r image k ran = weaker 1 0 (given r) (omega arith) ran.arrivals.ordered
+
 -- the state with the arrivals of the next moment
-pub arrived-is : (r : Runner) (image : Image) (k : ℕ) (h : List Arrival) (m : State) → HasDone r image k
+pub arrived-is : (r : Runner) (image : Image) (k : ℕ) (h : List Arrival) (m : State) → HasRun r image k
     → h ≡ take (length (here r.count r.coming.now)) r.coming.now → m ≡ state_arrive (map (λ a. a.line) h) (sloth_state r.machine)
     → m ≡ arrived (given r) k (sloth_state r.machine)
 arrived-is r image k h m st e n =
     let H : ℕ → List Arrival → List Arrival = λ c xs. take (length (here c xs)) xs in
     let mine : h ≡ moments k (k + 1) (given r) =
-    e ∙ ap (λ c. H c r.coming.now) st.count ∙ ap (H k) st.coming ∙ front-is _ (from k (given r)) ∙ here-from 0 k (given r) st.fed.ordered in
+    e ∙ ap (λ c. H c r.coming.now) st.count ∙ ap (H k) st.coming ∙ front-is _ (from k (given r)) ∙ here-from 0 k (given r) (in-order r image k st) in
     n ∙ ap (λ g. state_arrive (map (λ a. a.line) g) (sloth_state r.machine)) mine
 
 map-append : (xs : List Moment) (m : Moment) → steps_of (xs ++ m ∷ []) ≡ steps_of xs ++ m.step ∷ []
@@ -48,12 +58,28 @@ map-append (x ∷ xs) m = ap (λ ss. x.step ∷ ss) (map-append xs m)
 steps-more : (k : ℕ) (A : List Arrival) (m0 m n : State) (s : Step) → state_after k A m0 ≡ Some m → moment A k m ≡ Goes s n → steps_of (run (k + 1) A m0) ≡ steps_of (run k A m0) ++ s ∷ []
 steps-more k A m0 m n s h g = ap steps_of (run_more k A m0 m n s h g) ∙ map-append (run k A m0) (moment_of A k m s n)
 
--- what the machine does at a moment
-pub moment-is : (r : Runner) (image : Image) (k : ℕ) (h : List Arrival) (m : State) (c : ℕ) (o : Outcome) → HasDone r image k
-    → h ≡ take (length (here r.count r.coming.now)) r.coming.now → m ≡ state_arrive (map (λ a. a.line) h) (sloth_state r.machine) → c ≡ r.machine.count → advance c m ≡ o
-    → moment (given r) k (sloth_state r.machine) ≡ o
-moment-is r image k h m c o st e n ec q =
-    ap (advance k) (sym (arrived-is r image k h m st e n)) ∙ ap (λ x. advance x m) (sym (ec ∙ st.executed)) ∙ q
+-- what the machine does at a moment, behind its arrivals
+pub moment-is : (r a : Runner) (o : Outcome) → r.machine.count ≡ count_of r → HasArrived r a → advance a.machine.count (sloth_state a.machine) ≡ o
+    → moment (given r) (count_of r) (sloth_state r.machine) ≡ o
+moment-is r a o e arrived does =
+    ap (advance (count_of r)) (sym arrived.state) ∙ ap (λ c. advance c (sloth_state a.machine)) (sym (arrived.executed ∙ e)) ∙ does
+
+-- the machine after an instruction
+pub machine-more : (r a q : Runner) (image : Image) (step : Step) → HasRun r image (count_of r) → HasArrived r a → HasExecuted a q step
+    → given q ≡ given r → q.coming.now ≡ a.coming.now → HasRun q image (count_of r + 1)
+machine-more r a q image step ran arrived executed same coming =
+    let k : ℕ = count_of r in
+    let A : List Arrival = given r in
+    let L : List Arrival → Type 0 = AreLines in
+    let goes = moment-is r a (Goes step (sloth_state q.machine)) ran.executed arrived executed.goes in
+    record {
+      arrivals = subst (λ B. AreArrivals (owners_named image) B) (sym same) ran.arrivals;
+      lines = subst L (sym coming) arrived.lines;
+      after = ap (λ B. state_after (k + 1) B (start image)) same ∙ after_more k A (start image) (sloth_state r.machine) (sloth_state q.machine) step ran.after goes;
+      coming = coming ∙ arrived.coming ∙ ap (behind k) ran.coming ∙ behind-from 0 k A (in-order r image k ran) ∙ ap (from (k + 1)) (sym same);
+      count = executed.count ∙ ap (λ c. c + 1) arrived.count;
+      executed = executed.executed ∙ ap (λ c. c + 1) (arrived.executed ∙ ran.executed);
+    }
 
 -- the events that an instruction adds
 pub adds-is : (r : Runner) (image : Image) (k : ℕ) (s : Step) (n : State) (o : Observer) → HasDone r image k
@@ -63,61 +89,63 @@ pub adds-is : (r : Runner) (image : Image) (k : ℕ) (s : Step) (n : State) (o :
 adds-is r image k s n o st g fed view arrivals =
     let F : List Step = run_steps image (given r) k in
     let f = fed F (events_of image (given r) k) st.fed in
-    ap (observe (view_of_image image) (given r)) (steps-more k (given r) (start image) (sloth_state r.machine) n s st.after g)
+    ap (observe (view_of_image image) (given r)) (steps-more k (given r) (start image) (sloth_state r.machine) n s st.ran.after g)
     ∙ ap (λ w. observe w (given r) (F ++ s ∷ [])) (sym (view ∙ st.view)) ∙ ap (λ B. observe (view_of o) B (F ++ s ∷ [])) (sym arrivals) ∙ sym f.told
-
--- the runner after an instruction whose events were all handed out
-pub stands-more : (r q : Runner) (image : Image) (k : ℕ) (s : Step) (o : Observer) → HasDone r image k
-    → moment (given r) k (sloth_state r.machine) ≡ Goes s (sloth_state q.machine)
-    → ((steps : List Step) (events : List Stamped) → Fed r.observer steps events → Fed o (steps ++ s ∷ []) events) → view_of o ≡ view_of r.observer → arrivals_of o ≡ given r → expected_of o ≡ expected_of r.observer + 1
-    → ((steps : List Step) (events : List Stamped) → Fed o steps events → Fed q.observer steps (events ++ remaining o)) → view_of q.observer ≡ view_of o → arrivals_of q.observer ≡ arrivals_of o → expected_of q.observer ≡ expected_of o
-    → remaining q.observer ≡ []
-    → q.coming.now ≡ behind r.count r.coming.now → q.count ≡ r.count + 1 → q.machine.count ≡ r.machine.count + 1 → AreLines q.coming.now
-    → HasDone q image (k + 1)
-stands-more r q image k s o st g fed view arrivals expected fed2 view2 arrivals2 expected2 none coming count executed lines =
-    let A : List Arrival = given r in
-    let same : given q ≡ A = arrivals2 ∙ arrivals in
-    let F : List Step = run_steps image A k in
-    let E : List Stamped = events_of image A k in
-    let coming_is : q.coming.now ≡ from (k + 1) A =
-    coming ∙ ap (λ c. behind c r.coming.now) st.count ∙ ap (behind k) st.coming ∙ behind-from 0 k A st.fed.ordered in
-    let more = steps-more k A (start image) (sloth_state r.machine) (sloth_state q.machine) s st.after g in
-    let adds = adds-is r image k s (sloth_state q.machine) o st g fed view arrivals in
-    let f = fed2 (F ++ s ∷ []) E (fed F E st.fed) in
-    let G : List Step → Type 0 = λ K. Fed q.observer K (E ++ remaining o) in
-    let H : List Stamped → Type 0 = λ es. Fed q.observer (run_steps image A (k + 1)) es in
-    let P : List Arrival → Type 0 = λ B. Fed q.observer (run_steps image B (k + 1)) (events_of image B (k + 1)) in
-    record {
-      format = st.format;
-      arrivals = subst (λ B. AreArrivals (owners_named image) B) (sym same) st.arrivals;
-      lines = lines;
-      view = view2 ∙ view ∙ st.view;
-      after = ap (λ B. state_after (k + 1) B (start image)) same ∙ after_more k A (start image) (sloth_state r.machine) (sloth_state q.machine) s st.after g;
-      fed = subst P (sym same) (subst H (sym adds) (subst G (sym more) f));
-      drained = none;
-      coming = coming_is ∙ ap (from (k + 1)) (sym same);
-      count = count ∙ ap (λ c. c + 1) st.count;
-      executed = executed ∙ ap (λ c. c + 1) st.executed;
-      expected = expected2 ∙ expected ∙ ap (λ c. c + 1) st.expected;
-    }
-
-pub running-at : (q : Runner) (k : ℕ) → HasDone q q.image.now k → IsRunning q
-running-at q k st = let P : ℕ → Type 0 = λ n. HasDone q q.image.now n in subst P (sym st.count) st
 
 -- the events of an instruction that was done
 pub advanced-adds : (r p : Runner) → IsRunning r → (a : Advanced r p) → given p ≡ given r → Adds (image_of r) (given r) (count_of r) (remaining p.observer)
 advanced-adds r p st a arrivals = adds-is r (image_of r) (count_of r) a.step (sloth_state p.machine) p.observer st a.goes a.fed a.view arrivals
 
--- the runner behind it, once they were handed out
+-- what the machine has done, with another observer of the same arrivals
+ran-beside : (p q : Runner) (image : Image) (k : ℕ) → HasRun p image k → given q ≡ given p → q.machine ≡ p.machine → q.coming.now ≡ p.coming.now → q.count ≡ p.count
+    → HasRun q image k
+ran-beside p q image k ran same machine coming count =
+    let L : List Arrival → Type 0 = AreLines in
+    record {
+      arrivals = subst (λ B. AreArrivals (owners_named image) B) (sym same) ran.arrivals;
+      lines = subst L (sym coming) ran.lines;
+      after = ap (λ B. state_after k B (start image)) same ∙ ran.after ∙ ap (λ (m : Machine SlothBus). Some (sloth_state m)) (sym machine);
+      coming = coming ∙ ran.coming ∙ ap (from k) (sym same);
+      count = count ∙ ran.count;
+      executed = ap (λ (m : Machine SlothBus). m.count) machine ∙ ran.executed;
+    }
+
+-- the runner behind an instruction whose events were all handed out
+done-more : (r p q : Runner) → IsRunning r → Advanced r p → given p ≡ given r → HandsOut p.observer q.observer
+    → view_of q.observer ≡ view_of p.observer → arrivals_of q.observer ≡ arrivals_of p.observer → expected_of q.observer ≡ expected_of p.observer → remaining q.observer ≡ []
+    → HasRun q (image_of r) (count_of r + 1) → HasDone q (image_of r) (count_of r + 1)
+done-more r p q st a arrivals hands view same expected none ran =
+    let image : Image = image_of r in
+    let k : ℕ = count_of r in
+    let A : List Arrival = given r in
+    let F : List Step = run_steps image A k in
+    let E : List Stamped = events_of image A k in
+    let more = steps-more k A (start image) (sloth_state r.machine) (sloth_state p.machine) a.step st.ran.after a.goes in
+    let adds = advanced-adds r p st a arrivals in
+    let fed = hands (F ++ a.step ∷ []) E (a.fed F E st.fed) in
+    let G : List Step → Type 0 = λ K. Fed q.observer K (E ++ remaining p.observer) in
+    let H : List Stamped → Type 0 = λ es. Fed q.observer (run_steps image A (k + 1)) es in
+    let P : List Arrival → Type 0 = λ B. Fed q.observer (run_steps image B (k + 1)) (events_of image B (k + 1)) in
+    record {
+      format = st.format;
+      ran = ran;
+      view = view ∙ a.view ∙ st.view;
+      fed = subst P (sym (same ∙ arrivals)) (subst H (sym adds) (subst G (sym more) fed));
+      drained = none;
+      expected = expected ∙ a.expected ∙ ap (λ c. c + 1) st.expected;
+    }
+
+running-at : (q : Runner) (k : ℕ) → HasDone q q.image.now k → IsRunning q
+running-at q k st = let P : ℕ → Type 0 = λ n. HasDone q q.image.now n in subst P (sym st.ran.count) st
+
+-- the runner behind an instruction, once its events were handed out
 pub running-behind : (r p q : Runner) → IsRunning r → Advanced r p → image_of q ≡ image_of r → given p ≡ given r → HandsOut p.observer q.observer
     → view_of q.observer ≡ view_of p.observer → arrivals_of q.observer ≡ arrivals_of p.observer → expected_of q.observer ≡ expected_of p.observer → remaining q.observer ≡ []
-    → sloth_state q.machine ≡ sloth_state p.machine → q.coming.now ≡ p.coming.now → q.count ≡ p.count → q.machine.count ≡ p.machine.count → IsRunning q
-running-behind r p q st a image arrivals hands view same expected none machine coming count executed =
+    → q.machine ≡ p.machine → q.coming.now ≡ p.coming.now → q.count ≡ p.count → IsRunning q
+running-behind r p q st a image arrivals hands view same expected none machine coming count =
     let P : Image → Type 0 = λ i. HasDone q i (count_of r + 1) in
-    let L : List Arrival → Type 0 = AreLines in
-    running-at q (count_of r + 1) (subst P (sym image)
-    (stands-more r q (image_of r) (count_of r) a.step p.observer st (a.goes ∙ ap (Goes a.step) (sym machine)) a.fed a.view arrivals a.expected
-    hands view same expected none (coming ∙ a.coming) (count ∙ a.count) (executed ∙ a.executed) (subst L (sym coming) a.lines)))
+    let ran = ran-beside p q (image_of r) (count_of r + 1) a.ran same machine coming count in
+    running-at q (count_of r + 1) (subst P (sym image) (done-more r p q st a arrivals hands view same expected none ran))
 
 -- lines of a front and of a back
 pub lines-take : (n : ℕ) (A : List Arrival) → AreLines A → AreLines (take n A)
@@ -125,10 +153,6 @@ lines-take n A h = All-take (λ (a : Arrival). a.line < 32) n A h
 
 pub lines-drop : (n : ℕ) (A : List Arrival) → AreLines A → AreLines (drop n A)
 lines-drop n A h = All-drop (λ (a : Arrival). a.line < 32) n A h
-
-pub weaker : (m n : ℕ) (A : List Arrival) → n ≤ m → NeverFalls m A → NeverFalls n A
-weaker m n [] le h = tt
-weaker m n (a ∷ A) le h = (omega arith, h.1)
 
 -- lines that have owners are lines of the controller
 pub controller-lines : (owners : Owners) (A : List Arrival) → owners.tasks ≤ 30 → All (λ (a : Arrival). IsOwned owners a.line) A → AreLines A

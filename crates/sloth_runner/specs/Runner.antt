@@ -15,7 +15,7 @@ use Rattle.observe.specs.Progress.{Fed, remaining, view_of, arrivals_of, expecte
 use Rattle.observe.specs.declared.observer.Observer.{Observer}
 use Rattle.sim_induction.specs.Sound.{events_of}
 use Rattle.rv32_machine.specs.Start.{start}
-use Rattle.rv32_machine.specs.Advance.{Goes, Halts}
+use Rattle.rv32_machine.specs.Advance.{Goes, Halts, advance}
 use Rattle.rv32_machine.specs.State.{state}
 use Rattle.rv32_machine.specs.declared.machine.Machine.{Machine}
 use Rattle.rv32_machine.specs.declared.sloth.SlothBus.{SlothBus}
@@ -23,6 +23,7 @@ use Rattle.sloth_base.specs.Take.{entered}
 use Rattle.sloth_base.specs.Owners.{owners_named}
 use Rattle.rv32_instr.specs.declared.stop.Stop.{Stop}
 use Rattle.rv32_machine.specs.Run.{Stopping, moment, arrived, run, steps_of, state_after, stop_of}
+use Rattle.sloth_runner.specs.declared.runner.Halt.{Halt}
 use Rattle.sloth_runner.specs.declared.runner.Printer.{Printer}
 use Rattle.sloth_runner.specs.declared.runner.Runner.{Runner}
 use Rattle.sloth_runner.specs.declared.runner.RunEnd.{RunEnd}
@@ -95,18 +96,22 @@ count_of runner = runner.count
 abbrev pub AreLines : List Arrival → Type 0
 AreLines arrivals = All (λ arrival. arrival.line < 32) arrivals
 
--- k instructions are done, and all their finished events were handed out
-pub record HasDone (runner : Runner) (image : Image) (k : ℕ) : Type 0 where
-  pub format : InFormat image
+-- k instructions are done on its machine
+pub record HasRun (runner : Runner) (image : Image) (k : ℕ) : Type 0 where
   pub arrivals : AreArrivals (owners_named image) (given runner)
   pub lines : AreLines runner.coming.now
-  pub view : view_of runner.observer ≡ view_of_image image
   pub after : state_after k (given runner) (start image) ≡ Some (sloth_state runner.machine)
-  pub fed : Fed runner.observer (run_steps image (given runner) k) (events_of image (given runner) k)
-  pub drained : remaining runner.observer ≡ []
   pub coming : runner.coming.now ≡ from k (given runner)
   pub count : runner.count ≡ k
   pub executed : runner.machine.count ≡ k
+
+-- k instructions are done, and all their finished events were handed out
+pub record HasDone (runner : Runner) (image : Image) (k : ℕ) : Type 0 where
+  pub format : InFormat image
+  pub ran : HasRun runner image k
+  pub view : view_of runner.observer ≡ view_of_image image
+  pub fed : Fed runner.observer (run_steps image (given runner) k) (events_of image (given runner) k)
+  pub drained : remaining runner.observer ≡ []
   pub expected : expected_of runner.observer ≡ k
 
 -- between two instructions
@@ -121,6 +126,26 @@ IsFresh runner = IsRunning runner × (runner.count ≡ 0)
 abbrev pub Adds : Image → List Arrival → ℕ → List Stamped → Type 0
 Adds image arrivals k events = events_of image arrivals (k + 1) ≡ events_of image arrivals k ++ events
 
+-- the arrivals of the moment have come
+pub record HasArrived (old new : Runner) : Type 0 where
+  pub state : sloth_state new.machine ≡ arrived (given old) (count_of old) (sloth_state old.machine)
+  pub coming : new.coming.now ≡ behind old.count old.coming.now
+  pub lines : AreLines new.coming.now
+  pub count : count_of new ≡ count_of old
+  pub executed : new.machine.count ≡ old.machine.count
+
+-- the machine did one instruction, which shows this step
+pub record HasExecuted (old new : Runner) (step : Step) : Type 0 where
+  pub goes : advance old.machine.count (sloth_state old.machine) ≡ Goes step (sloth_state new.machine)
+  pub shown : step.count ≡ old.machine.count
+  pub count : count_of new ≡ count_of old + 1
+  pub executed : new.machine.count ≡ old.machine.count + 1
+
+-- the machine stops at the next one, there and so
+pub record HaltsAt (old : Runner) (halt : Halt) : Type 0 where
+  pub halts : advance old.machine.count (sloth_state old.machine) ≡ Halts halt.stop
+  pub pc : halt.pc ≡ (entered (sloth_state old.machine)).pc
+
 -- an instruction was done, and its step fed to the observer, which has its events
 pub record Advanced (old new : Runner) : Type 0 where
   pub step : Step
@@ -128,10 +153,7 @@ pub record Advanced (old new : Runner) : Type 0 where
   pub fed : (steps : List Step) (events : List Stamped) → Fed old.observer steps events → Fed new.observer (steps ++ step ∷ []) events
   pub view : view_of new.observer ≡ view_of old.observer
   pub expected : expected_of new.observer ≡ expected_of old.observer + 1
-  pub coming : new.coming.now ≡ behind old.count old.coming.now
-  pub lines : AreLines new.coming.now
-  pub count : count_of new ≡ count_of old + 1
-  pub executed : new.machine.count ≡ old.machine.count + 1
+  pub ran : HasRun new (image_of old) (count_of old + 1)
 
 -- an instruction was done, and its events' lines were put
 pub record Went (old new : Runner) (before after : Printer) (t u : Output) : Type 0 where

@@ -1,10 +1,12 @@
-//! Runs of an image: the text of what is observed, or the numbers of its events.
+//! Runs of an image: the text of what is observed, the numbers of its events, or the states of its tasks at a count.
 #![tactic(auto)]
 
 pub mod laws;
 pub mod runner;
+pub mod sight;
 pub mod summary;
 pub mod tally;
 
 pub use runner::{RunEnd, Runner};
+pub use sight::{Seen, Sight};
 pub use tally::Tally;

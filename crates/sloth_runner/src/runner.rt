@@ -1,5 +1,5 @@
 //! Runs an image, and prints what is observed.
-ghost use Rattle.std.specs.Prelude.{◌≡◌, ◌<◌, ◌≤◌, ◌∷◌, [], OnOk, OnErr, map, IfOk, IfSome, IfNone, OnSome, length};
+ghost use Rattle.std.specs.Prelude.{◌≡◌, ◌<◌, ◌≤◌, ◌∷◌, [], OnOk, OnErr, map, IfOk, IfErr, IfSome, IfNone, OnSome, length};
 ghost use Rattle.sloth_base.specs.ImageRange.{InFormat};
 ghost use Rattle.sloth_base.specs.Arrivals.{AreArrivals};
 ghost use Rattle.sloth_base.specs.Owners.{owners_named};
@@ -10,7 +10,7 @@ ghost use Rattle.observe.specs.Progress.{remaining, view_of, arrivals_of, expect
 ghost use Rattle.sloth_runner.specs.Runner.{AreLines, sloth_state, lines_of, HandsOut};
 
 use observe::observer::Observer;
-use rv32_machine::{Machine, SlothBus, Stop};
+use rv32_machine::{Machine, SlothBus, Step, Stop};
 use sloth_base::event::{Arrival, Event, Stamped};
 use sloth_base::image::Image;
 use sloth_base::memory::NoMemory;
@@ -23,6 +23,13 @@ use trace_text::print::{Form, print};
 pub enum RunEnd {
     Whole,
     Stopped { pc: u32, stop: Stop },
+}
+
+// Where the machine stops, and why.
+#[derive(Clone, Copy)]
+pub(crate) struct Halt {
+    pub(crate) pc: u32,
+    pub(crate) stop: Stop,
 }
 
 // Prints events in a form, and knows whether the last one was an idle.
@@ -105,16 +112,16 @@ fn arrive(machine: &mut Machine<SlothBus>, arrivals: &[Arrival])
 /// An image in its run. It keeps the image and the arrivals, lent.
 #[derive(Drop)]
 pub struct Runner<'a> {
-    image: &'a Image,
-    machine: Machine<SlothBus>,
+    pub(crate) image: &'a Image,
+    pub(crate) machine: Machine<SlothBus>,
     pub(crate) observer: Observer<'a>,
     // The arrivals of the next moment and of later ones.
-    coming: &'a [Arrival],
+    pub(crate) coming: &'a [Arrival],
     pub(crate) count: u32,
 }
 
 impl<'a> Runner<'a> {
-    ghost use Rattle.sloth_runner.specs.Runner.{IsFresh, IsRunning, Advanced, Went, Broke, Halted, image_of, count_of, given, run_text, run_end};
+    ghost use Rattle.sloth_runner.specs.Runner.{IsFresh, IsRunning, HasRun, HasArrived, HasExecuted, HaltsAt, Advanced, Went, Broke, Halted, image_of, count_of, given, run_text, run_end};
 
     /// A runner that has run nothing, with all memory of a run.
     pub fn new(
@@ -139,6 +146,38 @@ impl<'a> Runner<'a> {
         })
     }
 
+    // The lines of the next moment's arrivals become pending.
+    pub(crate) fn arrive_now(&mut self)
+        requires { HasRun self.old (image_of self.old) (count_of self.old) }
+        ensures arrived { HasArrived self.old self.new }
+        ensures image { image_of self.new ≡ image_of self.old }
+        ensures observer { self.new.observer ≡ self.old.observer }
+    {
+        let (here, behind) = self.coming.split_at(passing(self.coming, self.count));
+        self.coming = behind;
+        arrive(&mut self.machine, here);
+    }
+
+    // One instruction, unless the machine stops at it.
+    pub(crate) fn execute(&mut self) -> Result<Step, Halt>
+        requires few { count_of self.old < 1000000 }
+        requires executed { self.old.machine.count ≡ count_of self.old }
+        ensures ok { IfOk result (HasExecuted self.old self.new) }
+        ensures err { IfErr result (HaltsAt self.old) }
+        ensures coming { self.new.coming.now ≡ self.old.coming.now }
+        ensures image { image_of self.new ≡ image_of self.old }
+        ensures observer { self.new.observer ≡ self.old.observer }
+    {
+        let pc = self.machine.next_pc();
+        match self.machine.step() {
+            Ok(step) => {
+                self.count += 1;
+                Ok(step)
+            }
+            Err(stop) => Err(Halt { pc, stop }),
+        }
+    }
+
     // One instruction, unless the machine stops at it. Its finished events are left with the observer.
     pub(crate) fn advance(&mut self) -> Option<RunEnd>
         requires few { count_of self.old < 1000000 }
@@ -148,17 +187,17 @@ impl<'a> Runner<'a> {
         ensures image { image_of self.new ≡ image_of self.old }
         ensures arrivals { given self.new ≡ given self.old }
     {
-        let (here, behind) = self.coming.split_at(passing(self.coming, self.count));
-        self.coming = behind;
-        arrive(&mut self.machine, here);
-        let pc = self.machine.next_pc();
-        let step = match self.machine.step() {
-            Err(stop) => return Some(RunEnd::Stopped { pc, stop }),
-            Ok(step) => step,
-        };
-        self.count += 1;
-        self.observer.feed(&step);
-        None
+        self.arrive_now();
+        match self.execute() {
+            Ok(step) => {
+                self.observer.feed(&step);
+                None
+            }
+            Err(halt) => Some(RunEnd::Stopped {
+                pc: halt.pc,
+                stop: halt.stop,
+            }),
+        }
     }
 
     // One instruction: the machine stops, or its events' lines are put.

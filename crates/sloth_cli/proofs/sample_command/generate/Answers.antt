@@ -10,6 +10,7 @@ returns-clause-image c =
     let built = c.in_ok-config.ensures in
     record {
       sound = built.sound;
+      shows = built.shows;
       protocol = runs-keep _ _ _ _ _ built.in_range built.accepted built.sound;
       items = built.items;
       format = built.format;

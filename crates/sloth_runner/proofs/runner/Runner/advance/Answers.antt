@@ -1,34 +1,44 @@
-use Rattle.std.proofs.Common.{List, ◌∙◌, ◌+◌, ap, take, drop, refl, subst, sym}
+use Rattle.std.proofs.Common.{◌≡◌, ◌∙◌, ◌+◌, List, [], ◌∷◌, ◌++◌, ap, subst}
 use Rattle.sloth_base.specs.Machine.{State}
 use Rattle.sloth_base.specs.Take.{entered}
-use Rattle.sloth_base.specs.declared.event.Arrival.{Arrival}
-use Rattle.sloth_runner.specs.Runner.{AreLines, count_of, image_of}
+use Rattle.sloth_base.specs.declared.event.Stamped.{Stamped}
+use Rattle.sloth_base.specs.declared.step.Step.{Step}
+use Rattle.observe.specs.Progress.{Fed, view_of, arrivals_of, expected_of}
+use Rattle.observe.specs.declared.observer.Observer.{Observer}
+use Rattle.rv32_machine.specs.Advance.{Goes, Halts}
+use Rattle.sloth_runner.specs.declared.runner.Runner.{Runner}
+use Rattle.sloth_runner.specs.Runner.{HasExecuted, image_of, sloth_state}
 use Rattle.sloth_runner.specs.declared.runner.RunEnd.TheVariants as ends
-use Rattle.sloth_runner.proofs.Turning.{moment-is, arrived-is, lines-drop}
+use Rattle.sloth_runner.proofs.Turning.{moment-is, machine-more}
 use Rattle.sloth_runner.proofs.runner.Runner.advance.Goals as goal
+
+pub returns-in-Ok-clause-went : goal.returns-in-Ok-clause-went
+returns-in-Ok-clause-went c =
+    let r = c.args.self.now in
+    let a = c.arrive_now.new.self in
+    let q = c.execute.new.self in
+    let step = c.in-Ok.step in
+    let observer : q.observer ≡ r.observer = c.execute.ensures.observer ∙ c.arrive_now.ensures.observer in
+    let F : Observer → Type 0 = λ o. (steps : List Step) (events : List Stamped) → Fed o steps events → Fed c.feed.new.self (steps ++ step ∷ []) events in
+    let behind : Runner = record q { observer = c.feed.new.self } in
+    let ok = c.in-Ok.ensures.ok in
+    let executed : HasExecuted a behind step = record { goes = ok.goes; shown = ok.shown; count = ok.count; executed = ok.executed } in
+    record {
+      step = step;
+      goes = moment-is r a (Goes step (sloth_state q.machine)) c.requires.running.ran.executed c.arrive_now.ensures.arrived ok.goes;
+      fed = subst F observer c.feed.ensures.fed;
+      view = c.feed.ensures.view ∙ ap view_of observer;
+      expected = c.feed.ensures.expected ∙ ap (λ (o : Observer). expected_of o + 1) observer;
+      ran = machine-more r a behind (image_of r) step c.requires.running.ran c.arrive_now.ensures.arrived executed
+          (c.feed.ensures.arrivals ∙ ap arrivals_of observer) c.execute.ensures.coming;
+    }
 
 pub returns-in-Err-clause-halted : goal.returns-in-Err-clause-halted
 returns-in-Err-clause-halted c =
     let r = c.args.self.now in
-    let front = c.split_at.ensures.front ∙ ap (λ n. take n r.coming.now) c.passing.ensures in (
-      c.in-Err.stop,
-      moment-is r (image_of r) (count_of r) c.split_at.result.0.now _ _ _ c.requires.running front c.arrive.ensures.state c.arrive.ensures.count c.in-Err.ensures.err,
-      ap (λ pc. ends.Stopped pc c.in-Err.stop) (c.next_pc-pc.ensures ∙ ap (λ (m : State). (entered m).pc) (arrived-is r (image_of r) (count_of r) c.split_at.result.0.now _ c.requires.running front c.arrive.ensures.state)),
+    let a = c.arrive_now.new.self in
+    let halt = c.in-Err.ensures.err in (
+      c.in-Err.halt.stop,
+      moment-is r a (Halts c.in-Err.halt.stop) c.requires.running.ran.executed c.arrive_now.ensures.arrived halt.halts,
+      ap (λ pc. ends.Stopped pc c.in-Err.halt.stop) (halt.pc ∙ ap (λ (m : State). (entered m).pc) c.arrive_now.ensures.arrived.state),
     )
-
-pub returns-clause-went : goal.returns-clause-went
-returns-clause-went c =
-    let r = c.args.self.now in
-    let L : List Arrival → Type 0 = AreLines in
-    record {
-      step = c.in-Ok.step;
-      goes = moment-is r (image_of r) (count_of r) c.split_at.result.0.now _ _ _ c.requires.running
-          (c.split_at.ensures.front ∙ ap (λ n. take n r.coming.now) c.passing.ensures) c.arrive.ensures.state c.arrive.ensures.count c.in-Ok.ensures.ok;
-      fed = c.feed.ensures.fed;
-      view = c.feed.ensures.view;
-      expected = c.feed.ensures.expected;
-      coming = c.split_at.ensures.back ∙ ap (λ n. drop n r.coming.now) c.passing.ensures;
-      lines = subst L (sym c.split_at.ensures.back) (lines-drop _ r.coming.now c.requires.running.lines);
-      count = refl;
-      executed = c.in-Ok.ensures.count ∙ ap (λ n. n + 1) c.arrive.ensures.count;
-    }

@@ -18,15 +18,17 @@ returns-clause-fresh c =
     let e = c.in_ok-observer.ensures in (
       record {
         format = c.requires.format;
-        arrivals = subst (λ B. AreArrivals (owners_named c.args.image.now) B) (sym e.arrivals) c.requires.arrivals;
-        lines = controller-lines (owners_named c.args.image.now) c.args.arrivals.now c.requires.format.few_tasks c.requires.arrivals.lines_owned;
+        ran = record {
+          arrivals = subst (λ B. AreArrivals (owners_named c.args.image.now) B) (sym e.arrivals) c.requires.arrivals;
+          lines = controller-lines (owners_named c.args.image.now) c.args.arrivals.now c.requires.format.few_tasks c.requires.arrivals.lines_owned;
+          after = ap (λ (m : State). Some m) (sym c.in_ok-machine.ensures.state);
+          coming = sym (ap (from 0) e.arrivals ∙ from-later 0 0 c.args.arrivals.now (weaker 1 0 c.args.arrivals.now (omega arith) c.requires.arrivals.ordered) (omega arith));
+          count = refl;
+          executed = c.in_ok-machine.ensures.count;
+        };
         view = e.view;
-        after = ap (λ (m : State). Some m) (sym c.in_ok-machine.ensures.state);
         fed = first-fed o c.args.image.now e.fed;
         drained = e.drained;
-        coming = sym (ap (from 0) e.arrivals ∙ from-later 0 0 c.args.arrivals.now (weaker 1 0 c.args.arrivals.now (omega arith) c.requires.arrivals.ordered) (omega arith));
-        count = refl;
-        executed = c.in_ok-machine.ensures.count;
         expected = e.expected;
       },
       refl,

@@ -37,7 +37,7 @@ count_events-requires c =
     let P : List ℕ → Type 0 = λ counts. All (λ number. number + length (remaining p.observer) < 2 ^ 32) counts in
     record {
       room = subst P (sym c.loop-self.invariant.counts)
-          (room-of c.args.self.now r p (count_of r) c.loop-self.invariant.ran c.in_default.ensures.went c.advance.ensures.arrivals c.requires.fresh.0.arrivals.few (omega arith));
+          (room-of c.args.self.now r p (count_of r) c.loop-self.invariant.ran c.in_default.ensures.went c.advance.ensures.arrivals c.requires.fresh.0.ran.arrivals.few (omega arith));
     }
 
 pub loop-self-preserved : goal.loop-self-preserved
@@ -49,8 +49,8 @@ loop-self-preserved c =
     let q : Runner = record { image = p.image; machine = p.machine; observer = c.count_events.new.observer; coming = p.coming; count = p.count } in
     let P : ℕ → Type 0 = λ k. Ran r0 q k in
     let running = running-behind r p q c.loop-self.invariant.ran.running advanced c.advance.ensures.image c.advance.ensures.arrivals c.count_events.ensures.fed
-    c.count_events.ensures.view c.count_events.ensures.arrivals c.count_events.ensures.expected c.count_events.ensures.drained refl refl refl refl in
-    let more = advanced.count in
+    c.count_events.ensures.view c.count_events.ensures.arrivals c.count_events.ensures.expected c.count_events.ensures.drained refl refl refl in
+    let more = advanced.ran.count in
     record {
       ran = subst P (sym more) (ran-more r0 r q (count_of r) c.loop-self.invariant.ran running more c.advance.ensures.image (c.count_events.ensures.arrivals ∙ c.advance.ensures.arrivals));
       few = omega (arith, more);

@@ -1,0 +1,2 @@
+mod Loads
+pub mod Places

@@ -1,0 +1,64 @@
+//! The states of tasks, as the memory and the interrupt controller of the machine show them.
+#![tactic(auto)]
+
+ghost use Rattle.std.specs.Prelude.{◌≡◌, ◌≤◌, ◌<◌, ◌+◌, ◌%◌};
+ghost use Rattle.rv32_instr.specs.Ram.{word_at};
+ghost use Rattle.sloth_inspect.specs.States.{state_in, states_in};
+
+use osek_machine::state::TaskState;
+use rv32_machine::{Bus, SlothBus};
+use sloth_base::app::Width;
+use sloth_base::numbers::Line;
+use sloth_region::layout::{active, wait};
+
+/// The address of RAM, which begins with the service words.
+const RAM: u32 = 0x8000_0000;
+
+/// How many tasks there are at most.
+pub const TASKS: usize = 30;
+
+// The word at an offset in RAM.
+fn word(bus: &mut SlothBus, offset: u32) -> u32
+    requires aligned { offset % 4 ≡ 0 }
+    requires inside { offset + 4 ≤ 2097152 }
+    ensures is { result ≡ word_at bus.old.ram offset }
+    ensures same { bus.new ≡ bus.old }
+{
+    match bus.load(RAM + offset, Width::Word) {
+        Ok(word) => word,
+        Err(_) => unreachable!(),
+    }
+}
+
+// The state of a task.
+#[tactic(auto, unfolding(crate::specs::States::state_in))]
+fn state(bus: &mut SlothBus, task: u8) -> TaskState
+    requires { task < 30 }
+    ensures is { result ≡ state_in bus.old task }
+    ensures same { bus.new ≡ bus.old }
+{
+    if word(bus, active(task) as u32) == 1 {
+        return TaskState::Active;
+    }
+    if !bus.is_enabled(Line(task)) {
+        return TaskState::Waiting(word(bus, wait(task) as u32));
+    }
+    if bus.is_pending(Line(task)) {
+        TaskState::Ready
+    } else {
+        TaskState::Suspended
+    }
+}
+
+/// The states of so many tasks, as the machine shows them; an unused place has Suspended. The bus keeps its contents.
+pub fn states(bus: &mut SlothBus, tasks: u32) -> [TaskState; TASKS]
+    requires { tasks ≤ 30 }
+    ensures states { result ≡ states_in bus.old tasks }
+    ensures same { bus.new ≡ bus.old }
+{
+    let mut states = [TaskState::Suspended; TASKS];
+    for task in 0..tasks {
+        states[task as usize] = state(bus, task as u8);
+    }
+    states
+}

@@ -1,0 +1,16 @@
+use Rattle.std.proofs.Common.{◌≡◌, ◌≤◌, ◌+◌, ◌-◌}
+use Rattle.sloth_runner.specs.Runner.{HasRun, image_of, given, count_of}
+use Rattle.sloth_runner.specs.Sight.{IsLast}
+use Rattle.sloth_runner.proofs.runner.Runner.state_at.Given as goal
+
+abbrev pub invariant-loop-self : goal.invariant-loop-self
+invariant-loop-self l = record {
+  ran : HasRun l.self (image_of l.fn.self) (count_of l.self);
+  image : image_of l.self ≡ image_of l.fn.self;
+  arrivals : given l.self ≡ given l.fn.self;
+  last : IsLast (image_of l.fn.self) (given l.fn.self) (count_of l.self) l.last;
+  few : count_of l.self ≤ l.fn.k + 1;
+}
+
+abbrev pub decreases-loop-self : goal.decreases-loop-self
+decreases-loop-self l = l.fn.k + 1 - count_of l.self

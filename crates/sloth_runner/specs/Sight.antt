@@ -1,0 +1,57 @@
+-- What a run shows of its tasks at a count.
+use Rattle.std.specs.Prelude.{ℕ, ◌≡◌, ◌+◌, ◌<◌, ◌≤◌, List, length, Option, Some, None, true, false, if◌then◌else◌}
+use Rattle.sloth_base.specs.declared.image.Image.{Image}
+use Rattle.sloth_base.specs.declared.event.Arrival.{Arrival}
+use Rattle.sloth_base.specs.Machine.{State}
+use Rattle.rv32_instr.specs.Memory.{memory_of}
+use Rattle.rv32_machine.specs.Start.{start}
+use Rattle.rv32_machine.specs.Run.{arrived, state_after}
+use Rattle.osek_machine.specs.declared.state.TaskState.{TaskState}
+use Rattle.sloth_inspect.specs.States.{states_in}
+use Rattle.sloth_runner.specs.declared.runner.RunEnd.TheVariants as ends
+use Rattle.sloth_runner.specs.declared.sight.Seen.{Seen}
+use Rattle.sloth_runner.specs.declared.sight.Sight.{Sight}
+use Rattle.sloth_runner.specs.declared.sight.Sight.TheVariants as sights
+use Rattle.sloth_runner.specs.Runner.{run_end}
+
+-- the states of the image's tasks, as a state of the machine shows them
+abbrev pub task_states : Image → State → List TaskState
+task_states image state = states_in (memory_of state.core) (length image.tasks)
+
+-- all counts from one to below another find MIE 0
+abbrev pub AreMasked : Image → List Arrival → (from to : ℕ) → Type 0
+AreMasked image arrivals from to =
+    (count : ℕ) (state : State) → from ≤ count → count < to → state_after count arrivals (start image) ≡ Some state → state.core.mie ≡ false
+
+-- Of the counts below a number this is the last one that finds MIE 1, and these are the states there: after the arrivals of the count, and
+-- before a line is taken.
+pub record IsSeen (image : Image) (arrivals : List Arrival) (below : ℕ) (seen : Seen) : Type 0 where
+  pub state : State
+  pub within : seen.count < below
+  pub after : state_after seen.count arrivals (start image) ≡ Some state
+  pub enabled : state.core.mie ≡ true
+  pub tasks : seen.tasks ≡ task_states image (arrived arrivals seen.count state)
+  pub last : AreMasked image arrivals (seen.count + 1) below
+
+-- What a run of k + 1 instructions shows: where and why it stops; or that no count up to k finds MIE 1; or the last count that does, with
+-- the states there.
+abbrev pub IsSight : Image → List Arrival → ℕ → Sight → Type 0
+IsSight image arrivals k (sights.Stopped pc stop) = run_end image arrivals (k + 1) ≡ ends.Stopped pc stop
+IsSight image arrivals k sights.Booting = (run_end image arrivals (k + 1) ≡ ends.Whole) × AreMasked image arrivals 0 (k + 1)
+IsSight image arrivals k (sights.At seen) = (run_end image arrivals (k + 1) ≡ ends.Whole) × IsSeen image arrivals (k + 1) seen
+
+-- ---- on the way
+
+-- what is seen of a state at a count: the tasks' states, where it finds MIE 1
+abbrev pub seen_at : Image → ℕ → State → Option Seen
+seen_at image count state = if state.core.mie then Some (record { count = count; tasks = task_states image state }) else None
+
+-- what was seen last at the counts below this one
+abbrev pub IsLast : Image → List Arrival → ℕ → Option Seen → Type 0
+IsLast image arrivals below None = AreMasked image arrivals 0 below
+IsLast image arrivals below (Some seen) = IsSeen image arrivals below seen
+
+-- what a run shows that does not stop, of what was seen last
+abbrev pub sight_of : Option Seen → Sight
+sight_of None = sights.Booting
+sight_of (Some seen) = sights.At seen
