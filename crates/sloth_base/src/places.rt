@@ -3,7 +3,7 @@
 use crate::list::List;
 
 /// The levels of the tasks, of the resources' ceilings and of RES_SCHEDULER (entry 32 of `ceiling`).
-#[derive(Clone, Copy, Debug, PartialEq, Eq)]
+#[derive(Clone, Copy)]
 pub struct Levels {
     pub task: [u8; 30],
     pub ceiling: [u8; 33],
