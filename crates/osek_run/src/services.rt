@@ -234,5 +234,5 @@ pub fn call_plan(
     if call.service.code() != served.code() || !there {
         return None;
     }
-    Some(service_plan(store, served, call.object, call.mask, t))
+    Some(service_plan(config, store, served, call.object, call.mask, t))
 }
