@@ -144,7 +144,7 @@ module _ (config : Config) (app : App) (levels : Levels) (map : Map) (stacks : S
       omega (arith, s, f, c)
 
   item_of : (func item : ℕ) → item < length (function app func).items → IsItem app func item
-  item_of func item l = record { declared = is_declared app.funcs func item l; slice_get_within = l }
+  item_of func item l = record { declared = is_declared app.funcs func item l; inside = l }
 
   pub stand : ItemsStand app map.places image.memory image.marks
   stand =
