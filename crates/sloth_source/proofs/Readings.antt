@@ -1,7 +1,6 @@
 -- From the readers of the stages to the readings of the texts.
 use Rattle.std.proofs.Common.{◌≡◌, ◌∙◌, ℕ, List, sym, ap, inl, inr}
 use Rattle.sloth_base.specs.declared.config.Config.{Config}
-use Rattle.sloth_base.specs.declared.app.App.{App}
 use Rattle.sloth_base.specs.declared.refusal.BuildError.{BuildError}
 use Rattle.sloth_base.specs.declared.refusal.BuildError.TheVariants as error
 use Rattle.sloth_refusal.specs.Order.{NoFault, ErrorIs}
@@ -9,11 +8,7 @@ use Rattle.oil_lex.specs.Tokens.{Lexeme, AreTokens, TextFault}
 use Rattle.oil_parse.specs.Faults.{GrammarFault}
 use Rattle.oil_parse.proofs.Texts.{one_tree, grammar_of}
 use Rattle.oil_model.specs.Configs.{config_of}
-use Rattle.app_rules.specs.WellFormed.{CycleFault, RuleFault}
-use Rattle.asm_parse.specs.AppTexts.{SourceTextFault}
 use Rattle.sloth_source.specs.OilText.{OilText, OilErrorIs}
-use Rattle.sloth_source.specs.SourceText.{HasApp, SourceErrorIs}
-use Rattle.sloth_source.specs.Texts.{ErrorIs as TextsErrorIs}
 
 -- a text declares one configuration
 pub one_configuration : (text : List ℕ) (config other : Config) → OilText text config → OilText text other → config ≡ other
