@@ -18,6 +18,7 @@ use Rattle.rv32_routine.proofs.Arrivals.{other_bytes}
 use Rattle.rv32_routine.proofs.Spread.{spread, spread_from}
 use Rattle.rv32_routine.proofs.Whole.{masked}
 use Rattle.rv32_routine.proofs.Leave.{leave_owes, behind}
+use Rattle.block_parts.proofs.Landing.{lands}
 use Rattle.block_parts.proofs.Returning.{goes_back}
 use Rattle.block_parts.proofs.Busy.{Finds, looks_owe}
 use Rattle.service_gen.proofs.Ending.{ends_owe, ended_below, has_ended}
