@@ -75,7 +75,7 @@ module _ (config : Config) (n : ℕ) (arrivals : List Arrival) (events : List St
           ending_left config arrivals events small lines n h.stamped rising end.ends left.0
           ((scan_ends n left.0 events (scan_start arrivals) end scans).1 (omega arith, left.1.behind)) left.1
 
-  never : NeverInTime config n arrivals events → InTime config n arrivals events → ⊥
+  never : NeverInTime n arrivals events → InTime config n arrivals events → ⊥
   never (inl none) h = let scan = scan_is config n arrivals events h in some_none scan.0 (sym scan.1 ∙ none)
     where
       some_none : (s : Scan) → Some s ≡ None → ⊥
