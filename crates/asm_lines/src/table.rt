@@ -8,7 +8,7 @@ use sloth_base::service::{ObjectKind, Service, service_named};
 use text_pieces::bytes::same;
 
 /// A statement by its first word.
-#[derive(Clone, Copy, Debug, PartialEq, Eq)]
+#[derive(Clone, Copy)]
 pub enum Mnemonic {
     Data,
     Task,

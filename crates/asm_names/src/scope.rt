@@ -54,7 +54,11 @@ fn service_kind(service: Service, place: usize) -> Kind
     match object {
         ObjectKind::Nothing => Kind::Event,
         ObjectKind::Task | ObjectKind::Resource => {
-            if place == 0 { object_name(object) } else { Kind::Event }
+            if place == 0 {
+                object_name(object)
+            } else {
+                Kind::Event
+            }
         }
     }
 }

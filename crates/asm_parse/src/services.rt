@@ -105,7 +105,11 @@ fn events_of(config: &Config, scope: &Scope, service: Service, operands: &[Opera
     ensures { result ≡ events_of config.now scope.now service operands.now }
 {
     if service.has_mask() {
-        return mask_of(config, scope, behind_object(service.object_kind(), operands));
+        return mask_of(
+            config,
+            scope,
+            behind_object(service.object_kind(), operands),
+        );
     }
     0
 }

@@ -6,14 +6,21 @@ use Rattle.rv32_routine.specs.Kernel.{CanRun, masking}
 use Rattle.rv32_routine.specs.Masked.{FromOpening}
 use Rattle.rv32_routine.specs.Owes.{Owes}
 use Rattle.rv32_routine.specs.Place.{at}
+use Rattle.rv32_routine.proofs.Longest.{longest, longest_le}
 use Rattle.rv32_routine.proofs.Spread.{spread, spread_is}
 use Rattle.rv32_routine.proofs.Whole.{serves, masked}
 
-pub opens : (offset n : ℕ) (code : List InstrKind) (c : Core) (E : List ℕ → State → State → Type 0) → CanRun offset (masking ∷ code) c → length code ≤ n
+-- with at most so many instructions, where no way through the code is longer
+pub opens_within : (offset n : ℕ) (code : List InstrKind) (c : Core) (E : List ℕ → State → State → Type 0) → CanRun offset (masking ∷ code) c → longest code 0 ≤ n
     → Owes offset (offset + 4 + 4 * length code) (offset + 4) code 0 E (at offset (spread c)) (masked (spread c)) → FromOpening n (at offset c) E
-opens offset n code c E can few owed =
+opens_within offset n code c E can few owed =
     let fits = can.inside in
     serves offset n code c E
     (record { there = can.controller; lines = can.lines; aligned = can.aligned; fits = omega arith; placed = can.placed })
     few
     (subst (λ x. Owes offset (offset + 4 + 4 * length code) (offset + 4) code 0 E (at offset x) (masked x)) (spread_is c can.registers can.zero) owed)
+
+-- with at most as many as there are
+pub opens : (offset n : ℕ) (code : List InstrKind) (c : Core) (E : List ℕ → State → State → Type 0) → CanRun offset (masking ∷ code) c → length code ≤ n
+    → Owes offset (offset + 4 + 4 * length code) (offset + 4) code 0 E (at offset (spread c)) (masked (spread c)) → FromOpening n (at offset c) E
+opens offset n code c E can few owed = let l = longest_le code 0 in opens_within offset n code c E can (omega (arith, few, l)) owed

@@ -2,9 +2,10 @@
 use Rattle.std.proofs.Common.{◌≡◌, ℕ, ◌<◌, inl, inr, ⊎_elim, Bool, true, false, ◌||◌, ◌&&◌, List, [], ◌∷◌, length, map, get_or, refl, sym, ap, ◌∙◌, subst, arith}
 use Rattle.std.specs.Prelude.{◌==◌, count_ones}
 use Rattle.std.specs.Bool.{Decides}
-use Rattle.std.proofs.lemmas.Bool.{false_from_ne_true, eqb-true, eq-eqb, or_cases, and_parts}
+use Rattle.std.proofs.lemmas.Bool.{false_from_ne_true, eqb-true, eq-eqb, or_cases, and_parts, and_from}
 use Rattle.std.proofs.lemmas.Nat.{ones_le_self}
 use Rattle.std.proofs.Math.ListN.{get_or-map}
+use Rattle.std.proofs.Math.Bool.{or-true}
 use Rattle.sloth_base.specs.declared.app.App.{App}
 use Rattle.sloth_base.specs.declared.refusal.Refusal.{Refusal}
 use Rattle.sloth_refusal.specs.Order.{NoFault}
@@ -20,7 +21,7 @@ use Rattle.call_graph.specs.Gathered.{Gathered}
 use Rattle.call_graph.specs.Ranks.{RanksOf}
 use Rattle.call_graph.proofs.Sets.{row_inside}
 use Rattle.call_graph.proofs.Counted.{counts_less}
-use Rattle.call_graph.proofs.Itself.{number_found, number_counts, both, Decides-calls, takes_are, are_takes, pauses_are, are_pauses, body_is, is_body}
+use Rattle.call_graph.proofs.Itself.{number_found, number_counts, Decides-calls, takes_are, are_takes, pauses_are, are_pauses, body_is, is_body}
 
 none_counted : count_ones 0 ≡ 0
 none_counted = omega (arith, ones_le_self 0)
@@ -62,11 +63,7 @@ module _ (app : App) (direct rows : List ℕ) (c : Closed app direct rows) where
     where
       by : Reaches app f g → reaches_by f (get_or rows f 0) g ≡ true
       by (inl e) = ap (λ b. b || has (get_or rows f 0) g) (eq-eqb f g e)
-      by (inr x) = let h = chained f g x.0 x.1 in ap (λ b. (f == g) || b) h ∙ or_yes (f == g)
-        where
-          or_yes : (b : Bool) → (b || true) ≡ true
-          or_yes true = refl
-          or_yes false = refl
+      by (inr x) = let h = chained f g x.0 x.1 in ap (λ b. (f == g) || b) h ∙ or-true (f == g)
 
   pub Decides-takes : (f r : ℕ) → Decides (takes_by app.funcs f (get_or rows f 0) r) (ReachesTaking app f r)
   Decides-takes f r =
@@ -77,7 +74,7 @@ module _ (app : App) (direct rows : List ℕ) (c : Closed app direct rows) where
             let y = takes_are app x.0 x.1 r parts.1 in
             (x.0, y.0, y.1, (Decides-reaches f x.0).0 parts.0, y.2),
         λ x. number_counts test (length app.funcs) x.0 x.4.known
-            (both (reaches_by f (get_or rows f 0) x.0) (takes_itself (func_of app.funcs x.0) r) ((Decides-reaches f x.0).1 x.3) (are_takes app x.0 x.4.known r x.1 x.2 x.4)),
+            (and_from (reaches_by f (get_or rows f 0) x.0) (takes_itself (func_of app.funcs x.0) r) ((Decides-reaches f x.0).1 x.3) (are_takes app x.0 x.4.known r x.1 x.2 x.4)),
       )
 
   pub Decides-pauses : (f : ℕ) → Decides (pauses_by app.funcs f (get_or rows f 0)) (ReachesPause app f)
@@ -89,7 +86,7 @@ module _ (app : App) (direct rows : List ℕ) (c : Closed app direct rows) where
             let y = pauses_are app x.0 x.1 parts.1 in
             (x.0, y.0, y.1, y.2, y.3, (Decides-reaches f x.0).0 parts.0, y.4, y.5),
         λ x. number_counts test (length app.funcs) x.0 x.6.known
-            (both (reaches_by f (get_or rows f 0) x.0) (pauses_itself (func_of app.funcs x.0)) ((Decides-reaches f x.0).1 x.5) (are_pauses app x.0 x.6.known x.1 x.3 x.4 x.2 x.6 x.7)),
+            (and_from (reaches_by f (get_or rows f 0) x.0) (pauses_itself (func_of app.funcs x.0)) ((Decides-reaches f x.0).1 x.5) (are_pauses app x.0 x.6.known x.1 x.3 x.4 x.2 x.6 x.7)),
       )
 
   pub Decides-used : (f t : ℕ) → Decides (used_by app.funcs rows f t) (TaskReaches app t f)
@@ -100,7 +97,7 @@ module _ (app : App) (direct rows : List ℕ) (c : Closed app direct rows) where
             let parts = and_parts (reaches_by x.0 (get_or rows x.0 0) f) (is_number t (func_of app.funcs x.0).task) x.2 in
             (x.0, (x.1, body_is t _ parts.1), (Decides-reaches x.0 f).0 parts.0),
         λ x. number_counts test (length app.funcs) x.0 x.1.0
-            (both (reaches_by x.0 (get_or rows x.0 0) f) (is_number t (func_of app.funcs x.0).task) ((Decides-reaches x.0 f).1 x.2) (is_body t _ x.1.1)),
+            (and_from (reaches_by x.0 (get_or rows x.0 0) f) (is_number t (func_of app.funcs x.0).task) ((Decides-reaches x.0 f).1 x.2) (is_body t _ x.1.1)),
       )
 
   -- ---- cycles

@@ -1,21 +1,9 @@
 -- Rows of bits, closed by way of one number after the other, have what chains of bits lead to.
 use Rattle.std.proofs.Common.{◌≡◌, ℕ, zero, suc, ◌<◌, Bool, true, false, ◌||◌, ◌&&◌, List, [], ◌∷◌, ◌++◌, length, refl, sym, ◌∙◌, subst, arith, ◌⊎◌, inl, inr, ⊎_elim}
 use Rattle.std.specs.Bool.{Decides}
-use Rattle.std.proofs.lemmas.Bool.{cases_eq}
+use Rattle.std.proofs.lemmas.Bool.{cases_eq, or_left, or_right, and_from}
 use Rattle.call_graph.specs.Rows.{row_has, RowChain}
 use Rattle.call_graph.proofs.Sets.{row_inside}
-
-or_left : (a b : Bool) → a ≡ true → (a || b) ≡ true
-or_left true b h = refl
-or_left false b h = cc
-
-or_right : (a b : Bool) → b ≡ true → (a || b) ≡ true
-or_right true b h = refl
-or_right false b h = h
-
-and_both : (a b : Bool) → a ≡ true → b ≡ true → (a && b) ≡ true
-and_both true b h k = k
-and_both false b h k = cc
 
 or_cases : (a b c : Bool) → (a || (b && c)) ≡ true → (a ≡ true) ⊎ ((b ≡ true) × (c ≡ true))
 or_cases true b c h = inl refl
@@ -32,7 +20,7 @@ module _ (rows : List ℕ) where
   grows k f g h = or_left (via k f g) (via k f k && via k k g) h
 
   through : (k f g : ℕ) → via k f k ≡ true → via k k g ≡ true → via (suc k) f g ≡ true
-  through k f g h i = or_right (via k f g) (via k f k && via k k g) (and_both (via k f k) (via k k g) h i)
+  through k f g h i = or_right (via k f g) (via k f k && via k k g) (and_from (via k f k) (via k k g) h i)
 
   -- a way to k or from k needs no k in the middle
   to_middle : (k f : ℕ) → via (suc k) f k ≡ true → via k f k ≡ true

@@ -3,7 +3,7 @@ use Rattle.std.proofs.Common.{◌≡◌, ℕ, zero, suc, ◌<◌, ◌⊎◌, inl
 use Rattle.std.specs.Prelude.{◌==◌}
 use Rattle.std.specs.Bool.{Decides}
 use Rattle.std.specs.List.{list_any}
-use Rattle.std.proofs.lemmas.Bool.{false≢true, eqb-true, eq-eqb, cases_eq, or_cases, and_parts}
+use Rattle.std.proofs.lemmas.Bool.{false≢true, eqb-true, eq-eqb, cases_eq, or_cases, and_parts, or_left, or_right}
 use Rattle.std.proofs.lemmas.List.{get_or_default}
 use Rattle.std.proofs.lemmas.List.Folds.{list_any_at}
 use Rattle.sloth_base.specs.declared.app.App.{App}
@@ -35,26 +35,14 @@ number_found test (suc n) h = ⊎_elim
     (λ b. (n, omega arith, b))
     (or_cases (any_below n test) (test n) h)
 
-yes_or : (a b : Bool) → a ≡ true → (a || b) ≡ true
-yes_or true b h = refl
-yes_or false b h = absurd (false≢true h)
-
-or_yes : (a b : Bool) → b ≡ true → (a || b) ≡ true
-or_yes true b h = refl
-or_yes false b h = h
-
-pub both : (a b : Bool) → a ≡ true → b ≡ true → (a && b) ≡ true
-both true b h k = k
-both false b h k = absurd (false≢true h)
-
 last_or_before : (i n : ℕ) → i < suc n → (i ≡ n) ⊎ (i < n)
 last_or_before i n l = ⊎_elim inl (λ ne. inr (omega (arith, l, ne))) (cases_eq i n)
 
 pub number_counts : (test : ℕ → Bool) (n i : ℕ) → i < n → test i ≡ true → any_below n test ≡ true
 number_counts test zero i l h = absurd (omega (arith, l))
 number_counts test (suc n) i l h = ⊎_elim
-    (λ e. or_yes (any_below n test) (test n) (ap test (sym e) ∙ h))
-    (λ before. yes_or (any_below n test) (test n) (number_counts test n i before h))
+    (λ e. or_right (any_below n test) (test n) (ap test (sym e) ∙ h))
+    (λ before. or_left (any_below n test) (test n) (number_counts test n i before h))
     (last_or_before i n l)
 
 -- ---- operations

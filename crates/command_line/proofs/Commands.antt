@@ -99,8 +99,3 @@ same-words (Samples seed img) (Samples other to) e l m =
 
 pub one-command : (words : List (List ℕ)) (c d : Command) → IsCommand words c → IsCommand words d → c ≡ d
 one-command words c d h i = same-words c d (sym h.0 ∙ i.0) h.1 i.1
-
--- the same of a command that builds, of one that runs an image file, and of one that lists one
-pub same-built : (words : List (List ℕ)) (b d : Building) → IsCommand words (Builds b) → IsCommand words (Builds d) → b ≡ d
-same-built words b d h i =
-    let parts = same-parts b.oil b.src b.img d.oil d.src d.img b.run d.run (sym h.0 ∙ i.0) h.1 i.1 in same-building b d parts.0 parts.1 parts.2 parts.3

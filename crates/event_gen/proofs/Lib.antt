@@ -2,4 +2,3 @@ pub mod Clearing
 pub mod Getting
 pub mod Setting
 pub mod Waiting
-pub mod Objects

@@ -21,7 +21,7 @@ use Rattle.rv32_routine.proofs.Whole.{masked}
 use Rattle.rv32_routine.proofs.Leave.{leave_owes, behind}
 use Rattle.block_parts.proofs.Returning.{goes_back}
 use Rattle.block_parts.proofs.Landing.{lands}
-use Rattle.block_parts.proofs.Serving.{opens}
+use Rattle.block_parts.proofs.Serving.{opens_within}
 use Rattle.block_parts.specs.Pieces.{back}
 use Rattle.event_gen.specs.Pieces.{finds_own, asks_set, answers_set, goes_to_rest, keeps, disables}
 use Rattle.event_gen.specs.WaitEvent.{MayWait, Waited, HasWaited, Waits, set_of, rested_ram, kept_ram}
@@ -286,8 +286,8 @@ module _ (offset task place own : ℕ) (c : Core) (h : MayWait offset task place
       (saved_owe (keeps ++ (disables ++ leave)) (Waited task place own) (behind 2 (behind 14 (offset + 4))) found (0x8000_0000 + 12 * (task + 1)) (rested_ram (spread c) task)
       (kept_owe (behind 3 (behind 14 (offset + 4)) + 108) none)))
 
-  runs_it : FromOpening 90 (at offset c) (Waited task place own)
-  runs_it = opens offset 90 body c (Waited task place own) h.goes_back.can_run (omega arith) body_owes
+  runs_it : FromOpening 85 (at offset c) (Waited task place own)
+  runs_it = opens_within offset 85 body c (Waited task place own) h.goes_back.can_run (omega arith) body_owes
 
 pub waits : Waits (masking ∷ body)
 waits = record { size = (let n : length (masking ∷ body) ≡ 91 = refl in omega arith); masks = (body, refl); runs = λ offset task place own core h. runs_it offset task place own core h }

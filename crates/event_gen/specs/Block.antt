@@ -4,7 +4,7 @@ use Rattle.sloth_base.specs.declared.service.Service.{Service}
 use Rattle.sloth_base.specs.declared.service.Service.TheVariants.{SetEvent, ClearEvent, GetEvent, WaitEvent}
 use Rattle.sloth_base.specs.ServiceCodes.{object_kind}
 use Rattle.rv32_instr.specs.declared.InstrKind.{InstrKind}
-use Rattle.service_gen.specs.Block.{is_on_events, HasBlockUnless}
+use Rattle.block_parts.specs.Objects.{is_on_events, HasBlockUnless}
 use Rattle.event_gen.specs.SetEvent.{SetsEvents}
 use Rattle.event_gen.specs.ClearEvent.{ClearsEvents}
 use Rattle.event_gen.specs.GetEvent.{TellsEvents}

@@ -70,8 +70,8 @@ pub record Waited (task place own : ℕ) (touched : List ℕ) (start end : State
   pub touches : touched ≡ []
   pub done : HasNotWaited task start end ⊎ HasWaited task place own start end
 
--- Code of WaitEvent: its first instruction masks, and at most 90 more lead to its effect, whatever lines arrive.
+-- Code of WaitEvent: its first instruction masks, and at most 85 more lead to its effect, whatever lines arrive.
 pub record Waits (code : List InstrKind) : Type 0 where
   pub size : length code ≤ 91
   pub masks : (rest : List InstrKind) × (code ≡ masking ∷ rest)
-  pub runs : (offset task place own : ℕ) (core : Core) → MayWait offset task place own code core → FromOpening 90 (at offset core) (Waited task place own)
+  pub runs : (offset task place own : ℕ) (core : Core) → MayWait offset task place own code core → FromOpening 85 (at offset core) (Waited task place own)

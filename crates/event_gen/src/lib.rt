@@ -25,7 +25,7 @@ use std::alloc::{AllocError, Global};
 
 /// The block of a service on events with its object, at its address in the map. Its first instruction, under an opening
 /// mark, masks interrupts.
-#[tactic(auto, using(crate::proofs::Objects::few_objects))]
+#[tactic(auto, using(block_parts::proofs::Objects::few_objects))]
 pub fn block(
     alloc: Global,
     service: Service,

@@ -6,6 +6,7 @@ use Rattle.std.proofs.lemmas.List.{append_assoc, length-append}
 use Rattle.std.proofs.lemmas.Slice.Zip.{AllZip-long}
 use Rattle.std.proofs.lemmas.List.Sums.{sum-map}
 use Rattle.std.proofs.lemmas.List.Elements.{All-nil, All-cons, All-append, Contains-get_or, Contains-append_left, Contains-append_right}
+use Rattle.std.proofs.lemmas.Option.{same_Some, slice_get_within}
 use Rattle.sloth_base.specs.ImageRange.{AreFields}
 use Rattle.sloth_base.specs.Named.{function, missing, no_item, operation}
 use Rattle.sloth_base.proofs.Services.{of_code}
@@ -24,6 +25,7 @@ use Rattle.sloth_base.specs.declared.service.Service.{Service}
 use Rattle.sloth_base.specs.declared.service.Service.TheVariants as service
 use Rattle.sloth_region.specs.declared.map.Map.{Map}
 use Rattle.app_rules.specs.AppRange.{IsOp, IsRegister}
+use Rattle.rv32_instr.specs.declared.InstrKind.{InstrKind}
 use Rattle.rv32_instr.specs.declared.block.Block.{Block}
 use Rattle.rv32_expand.specs.Expansion.{block_address}
 use Rattle.rv32_expand.specs.InPlace.{IsItem, IsOfItem, item_mark, mark_kind, mark_number}
@@ -48,7 +50,7 @@ use Rattle.image_gen.specs.Prologues.{Each, IsPrologue}
 use Rattle.image_gen.specs.Services.{AreServices, IsService, wanted_from}
 use Rattle.image_gen.proofs.Counting.{Located, few_items, located, before_within, block_at, length_blocks}
 use Rattle.image_gen.proofs.Each.{zip_append}
-use Rattle.image_gen.proofs.Rooming.{none, there, plain, marked, prologues_fit, services_fit, items_fit}
+use Rattle.image_gen.proofs.Rooming.{none, plain, marked, prologues_fit, services_fit, items_fit}
 
 -- ---- services by their numbers
 
@@ -68,9 +70,6 @@ found R n (false ∷ wanted) blocks (suc k) e h =
     let r = found R (n + 1) wanted blocks k e h in
     let same : (n + 1) + k ≡ n + suc k = omega arith in
     (r.0, r.1, subst (λ m. R m r.0) same r.2)
-
-some_same : {X : Type 0} (x y : X) → Some x ≡ Some y → x ≡ y
-some_same x y e = cc
 
 -- what is so place by place is so at each place
 zip_at : {A B : Type 0} (R : A → B → Type 0) (xs : List A) (ys : List B) (k : ℕ) (d : A) (e : B) → AllZip R xs ys → k < length xs → R (get_or xs k d) (get_or ys k e)
@@ -112,7 +111,7 @@ small_register r (inl e) = omega (arith, e)
 small_register r (inr h) = let a = h.1 in omega (arith, a)
 
 pub small_code : (s : Service) → code_of s ≤ 11
-small_code s = let l = there services (code_of s) s (of_code s) in omega (arith, l)
+small_code s = let l = slice_get_within services (code_of s) s (of_code s) in omega (arith, l)
 
 fields_of : (config : Config) (app : App) (f : Func) (o : Op) (functions func index : ℕ) → IsOp config app f o → func < functions → index ≤ 4095
     → AreFields functions (mark_kind o) (mark_number o) func index
@@ -148,7 +147,7 @@ module _ (config : Config) (app : App) (levels : Levels) (wanted : List Bool) (m
       let b : Block = get_or served k d in
       let P : List Mark → Type 0 = λ marks. All (λ (m : Mark). (m.address % 4 ≡ 0) × AreFields (length app.funcs) m.kind m.a m.b m.c) marks in
       let n : ℕ = get_or numbers k 0 in
-      let code = there services (block_code n) h.service h.is in
+      let code = slice_get_within services (block_code n) h.service h.is in
       let at = h.at in
       let even = blocks_even n in
       subst P (sym h.marks) (All-cons (λ (m : Mark). (m.address % 4 ≡ 0) × AreFields (length app.funcs) m.kind m.a m.b m.c) (opening b.at (block_code n)) (further_marks h.service b.at)
@@ -158,13 +157,25 @@ module _ (config : Config) (app : App) (levels : Levels) (wanted : List Bool) (m
       blocks_even : (k : ℕ) → slice_index map.places.blocks k % 4 ≡ 0
       blocks_even k = even_at map.places.blocks k may.planned.zones.blocks_aligned
 
+-- A block at this address, with these marks, whose code does this.
+pub record IsMade (address : ℕ) (marks : List Mark) (Effect : List InstrKind → Type 0) (block : Block) : Type 0 where
+  pub at : block.at ≡ address
+  pub marks_are : block.marks ≡ marks
+  pub effect : Effect block.code
+
+-- All blocks of an image, each made as it should be: the vectors, boot, the idle loop, a prologue for each task, the services that are
+-- called, and the items.
+pub record AreMade (config : Config) (app : App) (levels : Levels) (wanted : List Bool) (map : Map) (vectors boot idle : Block) (starts served own : List Block) : Type 0 where
+  pub vectors_made : IsMade 0x8000_0400 [] (AreJumps 32 map.handlers) vectors
+  pub boot_made : IsMade 0x8000_0480 [] (Boots config.tasks levels.task map.idle) boot
+  pub idle_made : IsMade map.idle (idle_mark map.idle ∷ []) Idles idle
+  pub count : length starts ≡ length config.tasks
+  pub each : Each (IsPrologue config app levels map) starts
+  pub serve : AreServices levels map wanted served
+  pub items : own ≡ item_blocks app map.places (length app.funcs)
+
 module _ (config : Config) (app : App) (levels : Levels) (wanted : List Bool) (map : Map) (may : MayGenerate config app levels wanted map)
-    (vectors boot idle : Block) (starts served own : List Block)
-    (vectors_at : vectors.at ≡ 0x8000_0400) (vectors_marks : vectors.marks ≡ []) (jumps : AreJumps 32 map.handlers vectors.code)
-    (boot_at : boot.at ≡ 0x8000_0480) (boot_marks : boot.marks ≡ []) (boots : Boots config.tasks levels.task map.idle boot.code)
-    (idle_at : idle.at ≡ map.idle) (idle_marks : idle.marks ≡ idle_mark map.idle ∷ []) (idles : Idles idle.code)
-    (count : length starts ≡ length config.tasks) (each : Each (IsPrologue config app levels map) starts)
-    (serve : AreServices levels map wanted served) (items : own ≡ item_blocks app map.places (length app.funcs)) where
+    (vectors boot idle : Block) (starts served own : List Block) (made : AreMade config app levels wanted map vectors boot idle starts served own) where
   abbrev all : List Block
   all = vectors ∷ boot ∷ idle ∷ (starts ++ (served ++ own))
 
@@ -189,12 +200,12 @@ module _ (config : Config) (app : App) (levels : Levels) (wanted : List Bool) (m
       let c = may.calls func item call is e in
       let number : ℕ = block_number call.service call.object in
       let small = c.0 in
-      let r = found (IsService levels map) 0 wanted served number c.1 serve in
+      let r = found (IsService levels map) 0 wanted served number c.1 made.serve in
       let same : 0 + number ≡ number = omega arith in
       let h : IsService levels map number r.0 = subst (λ n. IsService levels map n r.0) same r.2 in
       let code : block_code number ≡ code_of call.service = omega (arith, small) in
       let object : block_object number ≡ call.object = omega (arith, small) in
-      let its : h.service ≡ call.service = some_same h.service call.service (sym h.is ∙ ap service_of code ∙ of_code call.service) in
+      let its : h.service ≡ call.service = same_Some h.service call.service (sym h.is ∙ ap service_of code ∙ of_code call.service) in
       let place : r.0.at ≡ block_address map.places call.service call.object = h.at in
       let P : Service → Type 0 = λ s. ServesCall s (block_object number) levels r.0.code in
       let Q : ℕ → Type 0 = λ n. ServesCall call.service n levels r.0.code in
@@ -210,12 +221,12 @@ module _ (config : Config) (app : App) (levels : Levels) (wanted : List Bool) (m
 
   has_code : HasCode config app levels map all
   has_code = record {
-    vectors = record { block = vectors; among = (0, omega arith, refl); at = vectors_at; marks_are = vectors_marks; does = jumps };
-    boot = record { block = boot; among = (1, omega arith, refl); at = boot_at; marks_are = boot_marks; does = boots };
-    idle = record { block = idle; among = (2, omega arith, refl); at = idle_at; marks_are = idle_marks; does = idles };
+    vectors = record { block = vectors; among = (0, omega arith, refl); at = made.vectors_made.at; marks_are = made.vectors_made.marks_are; does = made.vectors_made.effect };
+    boot = record { block = boot; among = (1, omega arith, refl); at = made.boot_made.at; marks_are = made.boot_made.marks_are; does = made.boot_made.effect };
+    idle = record { block = idle; among = (2, omega arith, refl); at = made.idle_made.at; marks_are = made.idle_made.marks_are; does = made.idle_made.effect };
     prologues = λ t l.
-        let m : t < length starts = omega (arith, count, l) in
-        let p = each t none m in
+        let m : t < length starts = omega (arith, made.count, l) in
+        let p = made.each t none m in
         record { block = get_or starts t none; among = in_starts (get_or starts t none) (Contains-get_or starts t none m); at = p.at; marks_are = p.marks; does = p.enters };
     services = has_service;
   }
@@ -228,7 +239,7 @@ module _ (config : Config) (app : App) (levels : Levels) (wanted : List Bool) (m
       let here = Contains-get_or (item_blocks app map.places (length app.funcs)) k none (omega (arith, long, within)) in
       let there : Contains (item_blocks app map.places (length app.funcs)) (item_block app map.places func index) =
       subst (Contains (item_blocks app map.places (length app.funcs))) (block_at app map.places (length app.funcs) func index none is.declared is.inside) here in
-      in_own (item_block app map.places func index) (subst (λ bs. Contains bs (item_block app map.places func index)) (sym items) there)
+      in_own (item_block app map.places func index) (subst (λ bs. Contains bs (item_block app map.places func index)) (sym made.items) there)
 
   without : (b : Block) → b.marks ≡ [] → MarksAreOfItems app map.places b
   without b e = subst (All (IsOwnMark app map.places)) (sym e) (All-nil (IsOwnMark app map.places))
@@ -255,12 +266,12 @@ module _ (config : Config) (app : App) (levels : Levels) (wanted : List Bool) (m
 
   all_own : All (MarksAreOfItems app map.places) all
   all_own =
-      all_blocks (MarksAreOfItems app map.places) (without vectors vectors_marks) (without boot boot_marks) (with_one idle (idle_mark map.idle) idle_marks tt)
-      (λ k d l. without (get_or starts k d) (each k d l).marks)
+      all_blocks (MarksAreOfItems app map.places) (without vectors made.vectors_made.marks_are) (without boot made.boot_made.marks_are) (with_one idle (idle_mark map.idle) made.idle_made.marks_are tt)
+      (λ k d l. without (get_or starts k d) (made.each k d l).marks)
       (zip_all (IsService levels map) (MarksAreOfItems app map.places) (wanted_from 0 wanted) served
       (λ n b h. subst (All (IsOwnMark app map.places)) (sym h.marks)
-      (All-cons (IsOwnMark app map.places) (opening b.at (block_code n)) (further_marks h.service b.at) tt (by_further (IsOwnMark app map.places) h.service b.at tt))) serve)
-      (subst (All (MarksAreOfItems app map.places)) (sym items) items_own)
+      (All-cons (IsOwnMark app map.places) (opening b.at (block_code n)) (further_marks h.service b.at) tt (by_further (IsOwnMark app map.places) h.service b.at tt))) made.serve)
+      (subst (All (MarksAreOfItems app map.places)) (sym made.items) items_own)
 
   -- ---- the format of images
 
@@ -293,39 +304,39 @@ module _ (config : Config) (app : App) (levels : Levels) (wanted : List Bool) (m
   all_format : All (MarksInFormat (length app.funcs)) all
   all_format =
       let even = may.planned.zones.idle_aligned in
-      all_blocks (MarksInFormat (length app.funcs)) (no_mark vectors vectors_marks) (no_mark boot boot_marks) (one_mark idle (idle_mark map.idle) idle_marks (even, (refl, refl, refl)))
-      (λ k d l. no_mark (get_or starts k d) (each k d l).marks)
-      (served_format config app levels wanted map may served serve)
-      (subst (All (MarksInFormat (length app.funcs))) (sym items) items_format)
+      all_blocks (MarksInFormat (length app.funcs)) (no_mark vectors made.vectors_made.marks_are) (no_mark boot made.boot_made.marks_are) (one_mark idle (idle_mark map.idle) made.idle_made.marks_are (even, (refl, refl, refl)))
+      (λ k d l. no_mark (get_or starts k d) (made.each k d l).marks)
+      (served_format config app levels wanted map may served made.serve)
+      (subst (All (MarksInFormat (length app.funcs))) (sym made.items) items_format)
 
   few_blocks : length all ≤ 8192
   few_blocks =
       let few = may.well_formed.in_range.configuration.few_tasks in
       let numbers = may.planned.all_numbers in
       let wanted_few = wanted_long 0 wanted in
-      let served_long = AllZip-long (IsService levels map) (wanted_from 0 wanted) served serve in
-      let own_long : length own ≡ items_before app.funcs (length app.funcs) = ap length items ∙ length_blocks app map.places (length app.funcs) in
+      let served_long = AllZip-long (IsService levels map) (wanted_from 0 wanted) served made.serve in
+      let own_long : length own ≡ items_before app.funcs (length app.funcs) = ap length made.items ∙ length_blocks app map.places (length app.funcs) in
       let total = before_all app.funcs in
       let sum = sum-map (λ (f : Func). length f.items) app.funcs in
       let most = may.well_formed.in_range.limits.few_items in
       let rest = length-append starts (served ++ own) in
       let last = length-append served own in
-      omega (arith, few, numbers, wanted_few, served_long, own_long, total, sum, most, rest, last, count)
+      omega (arith, few, numbers, wanted_few, served_long, own_long, total, sum, most, rest, last, made.count)
 
   rooms : FitRooms (code_extents map (length config.tasks) wanted may.planned.sizes) all
   rooms =
-      let many = jumps.many in
-      let few = boots.size in
-      let word = idles.word in
+      let many = made.vectors_made.effect.many in
+      let few = made.boot_made.effect.size in
+      let word = made.idle_made.effect.word in
       let is = may.planned.addresses.idle in
       let even = may.planned.zones.idle_aligned in
-      let first = plain (record { base = 0x8000_0400; len = 128 }) vectors vectors_at (omega arith) refl (omega (arith, many)) vectors_marks in
-      let second = plain (record { base = 0x8000_0480; len = boot_bytes (length config.tasks) }) boot boot_at (omega arith) refl (omega (arith, few)) boot_marks in
-      let third = marked (record { base = map.idle; len = idle_bytes }) idle (idle_mark map.idle) idle_at (omega (arith, is)) even (omega (arith, word)) idle_marks
-      (omega (arith, idle_at)) (omega (arith, idle_at, word)) in
-      let rest = zip_append FitsRoom _ starts _ (served ++ own) (prologues_fit config app levels wanted map may starts count each)
-      (zip_append FitsRoom _ served _ own (services_fit config app levels wanted map may served serve)
-      (subst (FitRooms _) (sym items) (items_fit config app levels wanted map may))) in
+      let first = plain (record { base = 0x8000_0400; len = 128 }) vectors made.vectors_made.at (omega arith) refl (omega (arith, many)) made.vectors_made.marks_are in
+      let second = plain (record { base = 0x8000_0480; len = boot_bytes (length config.tasks) }) boot made.boot_made.at (omega arith) refl (omega (arith, few)) made.boot_made.marks_are in
+      let third = marked (record { base = map.idle; len = idle_bytes }) idle (idle_mark map.idle) made.idle_made.at (omega (arith, is)) even (omega (arith, word)) made.idle_made.marks_are
+      (omega (arith, made.idle_made.at)) (omega (arith, made.idle_made.at, word)) in
+      let rest = zip_append FitsRoom _ starts _ (served ++ own) (prologues_fit config app levels wanted map may starts made.count made.each)
+      (zip_append FitsRoom _ served _ own (services_fit config app levels wanted map may served made.serve)
+      (subst (FitRooms _) (sym made.items) (items_fit config app levels wanted map may))) in
       (first, (second, (third, rest)))
 
   pub gathered : (blocks : List Block) → blocks ≡ ((vectors ∷ boot ∷ idle ∷ starts) ++ served) ++ own → IsGathered config app levels wanted map blocks

@@ -38,9 +38,3 @@ pub skipped : (R : ℕ → Block → Type 0) (wanted : List Bool) (i : ℕ) (blo
 skipped R wanted i blocks l e h =
     let P : List ℕ → Type 0 = λ ns. AllZip R ns blocks in
     subst P (sym (next wanted i false l e ∙ append-nil (wanted_from 0 (take i wanted)))) h
-
-pub all_served : (R : ℕ → Block → Type 0) (wanted : List Bool) (i : ℕ) (blocks : List Block) → length wanted ≤ i
-    → AllZip R (wanted_from 0 (take i wanted)) blocks → AllZip R (wanted_from 0 wanted) blocks
-all_served R wanted i blocks l h =
-    let P : List Bool → Type 0 = λ w. AllZip R (wanted_from 0 w) blocks in
-    subst P (take_all i wanted l) h

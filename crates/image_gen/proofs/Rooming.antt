@@ -5,7 +5,7 @@ use Rattle.std.specs.Prelude as prelude
 use Rattle.std.specs.List.{AllZip, slice_get}
 use Rattle.std.proofs.lemmas.List.{get_or-take, length-append, length-take-le}
 use Rattle.std.proofs.lemmas.List.Elements.{All-nil, All-cons}
-use Rattle.std.proofs.lemmas.Option.{get_or_from_slice_get}
+use Rattle.std.proofs.lemmas.Option.{get_or_from_slice_get, slice_get_within}
 use Rattle.std.proofs.Math.ListN.{get_or-map, length-map}
 use Rattle.sloth_base.specs.Named.{operation}
 use Rattle.sloth_base.specs.declared.app.App.{App}
@@ -119,19 +119,12 @@ service_marks service.Schedule object levels code at number room h =
 service_marks s object levels code at number room h =
     let some = some_code s object levels code h in opening_alone at (4 * length code) number (omega (arith, some))
 
--- a place in a list where something is
-pub there : {X : Type 0} (xs : List X) (t : ℕ) (e : X) → slice_get xs t ≡ Some e → t < length xs
-there [] zero e h = absurd cc
-there [] (suc t) e h = absurd cc
-there (x ∷ xs) zero e h = omega arith
-there (x ∷ xs) (suc t) e h = let l = there xs t e h in omega (arith, l)
-
 -- a prologue has at most 141 instructions
 short_start : (config : Config) (app : App) (levels : Levels) (map : Map) (t : ℕ) (code : List InstrKind) → All (λ (f : Func). f.frame_words ≤ 32) app.funcs
     → EntersTask t config app levels map code → length code ≤ 141
 short_start config app levels map t code frames e =
     let short = (size e.decl.extended t (start_level e.decl t levels) (first_item map.places e.body) (frame_at (slice_index map.tops t) e.func.frame_words) e.func.frame_words code e.enters).1 in
-    let l = there app.funcs e.body e.func e.is_func in
+    let l = slice_get_within app.funcs e.body e.func e.is_func in
     let is = get_or_from_slice_get app.funcs e.body e.func e.func e.is_func in
     let P : Func → Type 0 = λ f. f.frame_words ≤ 32 in
     let few = subst P is (frames e.body e.func l) in

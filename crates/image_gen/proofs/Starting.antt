@@ -69,11 +69,3 @@ module _ (config : Config) (app : App) (levels : Levels) (wanted : List Bool) (m
     tops = (may.planned.has_stacks.tops, tops);
     items = (let n = first_long in omega (arith, n), firsts_inside);
   }
-
-  pub in_reach : AreInReach map.handlers
-  in_reach = record {
-    long = may.planned.addresses.lines;
-    aligned = λ line l. (may.planned.reach line l).0;
-    behind = λ line l. (may.planned.reach line l).1;
-    near = λ line l. (may.planned.reach line l).2;
-  }

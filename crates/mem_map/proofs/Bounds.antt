@@ -1,7 +1,7 @@
 -- How long the code, the data and the stacks are at most.
 use Rattle.std.proofs.Common.{◌≡◌, ◌≤◌, ◌<◌, ◌+◌, ◌-◌, ◌*◌, ◌%◌, ◌∙◌, ⊎_elim, ℕ, zero, suc, Bool, true, false, leb, List, [], ◌∷◌, length, get_or, refl, ap, subst, arith}
 use Rattle.std.specs.Prelude.{All, map, sum_by}
-use Rattle.std.proofs.lemmas.Bool.{leb-false}
+use Rattle.std.proofs.lemmas.Bool.{leb-false, cases_lt}
 use Rattle.std.proofs.lemmas.Grind.{get_or_default_zero}
 use Rattle.std.proofs.lemmas.List.Sums.{sum_by-cons}
 use Rattle.sloth_base.specs.Named.{function, missing, item_of}
@@ -14,7 +14,6 @@ use Rattle.app_rules.specs.AppRange.{AppInRange}
 use Rattle.rv32_expand.specs.InPlace.{IsItem}
 use Rattle.rv32_expand.specs.Sizes.{AreSizes, items_before}
 use Rattle.rv32_expand.proofs.Counts.{size_few}
-use Rattle.rv32_expand.proofs.Growth.{order}
 use Rattle.rv32_expand.proofs.InRangeOf.{frame_of}
 use Rattle.mem_map.specs.Run.{end_of, room_for}
 use Rattle.mem_map.specs.Plan.{service_bytes, item_bytes, symbol_bytes}
@@ -37,7 +36,7 @@ locate (body ∷ bodies) k d h =
     (λ (l : length body.items ≤ k). let r = locate bodies (k - length body.items) d (omega (arith, h)) in
     let e = r.is in let n = r.declared in
     record { func = suc r.func; index = r.index; declared = omega arith; inside = r.inside; is = omega (arith, e) })
-    (order k (length body.items))
+    (cases_lt k (length body.items))
 
 -- an item has an instruction, and at most 36
 abbrev pub IsSize : ℕ → Type 0
@@ -64,13 +63,6 @@ before_all (body ∷ funcs) =
     omega (arith, s, r)
 
 -- ---- ends
-
-pub end_is : {X : Type 0} (f : X → ℕ) (from : ℕ) (xs : List X) → end_of from (map f xs) ≡ from + sum_by f xs
-end_is f from [] = omega arith
-end_is f from (x ∷ xs) =
-    let s = sum_by-cons f x xs in
-    let r = end_is f (from + f x) xs in
-    omega (arith, s, r)
 
 pub items_end : (from : ℕ) (sizes : List ℕ) → All IsSize sizes → end_of from (map item_bytes sizes) ≤ from + 144 * length sizes
 items_end from [] few = omega arith

@@ -5,6 +5,7 @@ use Rattle.std.proofs.lemmas.Grind.{get_or_default_zero}
 use Rattle.std.proofs.lemmas.List.{get_or-take, length-take-le, length-map, get_or-map}
 use Rattle.std.proofs.lemmas.List.Elements.{All-map}
 use Rattle.std.proofs.lemmas.List.Sums.{sum-map, get_or-le-sum_by}
+use Rattle.std.proofs.lemmas.Bool.{cases_lt}
 use Rattle.sloth_base.specs.declared.app.App.{App}
 use Rattle.sloth_base.specs.declared.app.Func.{Func}
 use Rattle.sloth_base.specs.declared.app.Symbol.{Symbol}
@@ -13,7 +14,6 @@ use Rattle.sloth_base.specs.Blocks.{block_count}
 use Rattle.sloth_region.specs.declared.extent.Extent.{Extent}
 use Rattle.sloth_region.specs.declared.map.Map.{Map}
 use Rattle.sloth_region.specs.Region.{FollowWithin}
-use Rattle.rv32_expand.proofs.Growth.{order}
 use Rattle.stack_bounds.specs.declared.stacks.Stacks.{Stacks}
 use Rattle.mem_map.specs.Run.{end_of, extents_of}
 use Rattle.mem_map.specs.Plan.{MayPlan, HasAddresses, IsNear, prologue_at, services_at, items_at, code_end, data_end, service_bytes, item_bytes, symbol_bytes, prologue_extent, service_extents, code_extents, data_extents}
@@ -152,7 +152,7 @@ module _ (config : Config) (app : App) (sizes : List ℕ) (wanted : List Bool) (
         ⊎_elim
         (λ (l : line < n). let a = at.prologues line l in (omega (arith, a), omega (arith, a), omega (arith, a, f, l)))
         (λ (l : n ≤ line). let a = at.unused line l h in (omega (arith, a, e), omega (arith, a, e), omega (arith, a, e, f)))
-        (order line n)
+        (cases_lt line n)
 
     pub code_follows : FollowWithin 0x8000_0400 (code_end n wanted sizes) (code_extents plan n wanted sizes)
     code_follows =

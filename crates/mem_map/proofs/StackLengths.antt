@@ -16,25 +16,6 @@ room_more : (lengths : List ℕ) (len : ℕ) → room_for 16 (lengths ++ len ∷
 room_more [] len = omega arith
 room_more (l ∷ lengths) len = let r = room_more lengths len in omega (arith, r)
 
-pub none : (tasks : List TaskDecl) (stacks : Stacks) → first_own tasks ≡ 0 → AreLengths tasks stacks 0 []
-none tasks stacks e = record {
-  count = omega (arith, e);
-  shared = λ l. absurd (omega (arith, l, e));
-  own = λ t l. absurd (omega (arith, l));
-  some = All-nil (λ len. 1 ≤ len);
-  room = omega arith;
-}
-
-pub one : (tasks : List TaskDecl) (stacks : Stacks) (len : ℕ) → first_own tasks ≡ 1 → len ≡ shared_length stacks → 1 ≤ stacks.bounds.shared → stacks.bounds.shared ≤ 269824
-    → AreLengths tasks stacks 0 (len ∷ [])
-one tasks stacks len e is some small = record {
-  count = omega (arith, e);
-  shared = λ l. is;
-  own = λ t l. absurd (omega (arith, l));
-  some = All-cons (λ x. 1 ≤ x) len [] (omega (arith, is, some)) (All-nil (λ x. 1 ≤ x));
-  room = omega (arith, is, small);
-}
-
 module _ (tasks : List TaskDecl) (stacks : Stacks) (end : ℕ) (lengths : List ℕ) (h : AreLengths tasks stacks end lengths) where
   -- behind a basic task
   pub same : is_extended tasks end ≡ false → AreLengths tasks stacks (suc end) lengths

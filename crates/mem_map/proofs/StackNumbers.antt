@@ -53,9 +53,6 @@ module _ (tasks : List TaskDecl) where
       (λ no. let ne = eqb-false (own_before tasks n) n no in inr (omega (arith, l, ne), cond-false (own_before tasks n == n) 0 1 no))
       (cases_Bool (own_before tasks n == n))
 
-  pub first_small : first_own tasks ≤ 1
-  first_small = ⊎_elim (λ a. let e = a.1 in omega (arith, e)) (λ a. let e = a.1 in omega (arith, e)) all_or_less
-
   pub few_stacks : stack_count tasks ≤ n
   few_stacks = ⊎_elim (λ a. let e = a.1 in let f = a.0 in omega (arith, e, f)) (λ a. let e = a.1 in let f = a.0 in omega (arith, e, f)) all_or_less
 

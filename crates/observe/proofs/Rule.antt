@@ -2,6 +2,7 @@ use Rattle.std.proofs.Common.{◌≡◌, Bool, true, false, List, [], ◌∷◌,
 use Rattle.std.specs.Bool.{if◌then◌else◌}
 use Rattle.std.specs.Prelude.{not}
 use Rattle.std.specs.List.{flat_map, AllByRecursion}
+use Rattle.std.proofs.lemmas.Bool.{not-false, not-true}
 use Rattle.sloth_base.specs.declared.step.Step.{Step}
 use Rattle.observe.specs.Pieces.{Piece, Outside, Stretch, pieces, cut_off, is_outside, begins, steps_of, AllMasked, Begins, IsPiece, IsOpenPart, IsCut}
 
@@ -9,29 +10,21 @@ masked-push : (steps : List Step) (step : Step) → AllMasked steps → step.ena
 masked-push [] step h e = (e, tt)
 masked-push (next ∷ rest) step h e = (h.0, masked-push rest step h.1 e)
 
-not-true : (b : Bool) → not b ≡ false → b ≡ true
-not-true true h = refl
-not-true false h = cc
-
-not-false : (b : Bool) → not b ≡ true → b ≡ false
-not-false true h = cc
-not-false false h = refl
-
 all-masked : (opened : List Step) → IsOpenPart opened → AllMasked opened
 all-masked [] h = tt
 all-masked (first ∷ more) h = h.1
 
 -- a step that stands outside has no stretch before it, and begins none
 outside-is : (opened : List Step) (step : Step) → is_outside opened step ≡ true → (opened ≡ []) × (begins step ≡ false)
-outside-is [] step h = (refl, not-false (begins step) h)
+outside-is [] step h = (refl, not-true (begins step) h)
 outside-is (first ∷ more) step h = cc
 
 begins-is : (opened : List Step) (step : Step) → is_outside opened step ≡ false → IsOpenPart opened → Begins (opened ++ step ∷ [])
-begins-is [] step h o = not-true (begins step) h
+begins-is [] step h o = not-false (begins step) h
 begins-is (first ∷ more) step h o = o.0
 
 open-more : (opened : List Step) (step : Step) → is_outside opened step ≡ false → IsOpenPart opened → step.enabled_after ≡ false → IsOpenPart (opened ++ step ∷ [])
-open-more [] step h o e = (not-true (begins step) h, (e, tt))
+open-more [] step h o e = (not-false (begins step) h, (e, tt))
 open-more (first ∷ more) step h o e = (o.0, (o.1.0, masked-push more step o.1.1 e))
 
 -- the cut of what follows the steps of an open stretch

@@ -7,41 +7,30 @@ use Rattle.std.proofs.lemmas.Bool.{le-ltb, lt-ltb}
 use Rattle.std.proofs.lemmas.List.Folds.{list_any-append}
 use Rattle.std.proofs.Math.ListN.{set}
 use Rattle.std.proofs.lemmas.Grind.{get_or-set_at}
+use Rattle.std.proofs.Math.Bool.{or-false, and-false, or-true}
 use Rattle.sloth_base.specs.declared.event.Arrival.{Arrival}
 use Rattle.sloth_base.specs.declared.step.Step.{Step}
 use Rattle.observe.specs.Observe.{touches, is_early}
 use Rattle.sloth_base.specs.Options.{is_number}
 use Rattle.observe.specs.Touched.{was_touched, noted, HasPlace, Tells}
 
-or_false : (b : Bool) → (b || false) ≡ b
-or_false true = refl
-or_false false = refl
-
-and_false : (b : Bool) → (b && false) ≡ false
-and_false true = refl
-and_false false = refl
-
-or_true : (b : Bool) → (b || true) ≡ true
-or_true true = refl
-or_true false = refl
-
 any-more : (at line : ℕ) (steps : List Step) (step : Step) → list_any (touches at line) (steps ++ step ∷ []) ≡ (list_any (touches at line) steps || touches at line step)
-any-more at line steps step = list_any-append (touches at line) steps (step ∷ []) ∙ ap (λ b. list_any (touches at line) steps || b) (or_false (touches at line step))
+any-more at line steps step = list_any-append (touches at line) steps (step ∷ []) ∙ ap (λ b. list_any (touches at line) steps || b) (or-false (touches at line step))
 
 -- a step that does not touch the line
 any-same : (at line : ℕ) (steps : List Step) (step : Step) → is_number line step.touched ≡ false → list_any (touches at line) (steps ++ step ∷ []) ≡ list_any (touches at line) steps
-any-same at line steps step off = any-more at line steps step ∙ rw (off, and_false, or_false) refl
+any-same at line steps step off = any-more at line steps step ∙ rw (off, and-false, or-false) refl
 
 -- a step that does
 any-here : (at line : ℕ) (table : List ℕ) (count : ℕ) (steps : List Step) (step : Step) → Tells table count steps → step.count ≡ count → is_number line step.touched ≡ true
     → nat_lt at (step.count + 1) ≡ list_any (touches at line) (steps ++ step ∷ [])
 any-here at line table count steps step t e on = elim (leb_tells at step.count) [
   | inl early ↦ (let now : nat_lt at (step.count + 1) ≡ true = lt-ltb at (step.count + 1) (omega arith) in
-      now ∙ sym (any-more at line steps step ∙ rw (early.0, on, or_true) refl))
+      now ∙ sym (any-more at line steps step ∙ rw (early.0, on, or-true) refl))
   | inr late ↦ (let now : nat_lt at (step.count + 1) ≡ false = le-ltb at (step.count + 1) (omega arith) in
       let bound : slice_index table line ≤ count = t.earlier line in
       let before : nat_lt at (slice_index table line) ≡ false = le-ltb at (slice_index table line) (omega arith) in
-      now ∙ sym (any-more at line steps step ∙ rw (late.0, or_false) (sym (t.known line at) ∙ before)))
+      now ∙ sym (any-more at line steps step ∙ rw (late.0, or-false) (sym (t.known line at) ∙ before)))
 ]
 
 -- a step that touches no line

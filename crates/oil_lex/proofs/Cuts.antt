@@ -135,18 +135,11 @@ pub record Completed (t : List ℕ) (ts : List Lexeme) (n : ℕ) (ps : List Piec
 abbrev pub GoesOn : List ℕ → List ℕ → ℕ → List Lexeme → Type 0
 GoesOn t rest n ts = (ps : List Piece) → Cut rest ps → Completed t ts n ps
 
--- The loop's start.
-pub goes_on : (t : List ℕ) → GoesOn t t 1 []
-goes_on t ps c = record { pieces = ps; cut = c; tokens = refl; faults = λ r. (λ f. f, λ f. f) }
-
 -- One piece more.
 same_faults : (m : Meaning) → IsNoFault m → (n : ℕ) (F : Type 0) (r : Refusal) → (FaultBy m n r ⊎ F) ↔ F
 same_faults Nothing z n F r = (⊎_elim (λ f. absurd f) (λ f. f), inr)
 same_faults (IsToken k) z n F r = (⊎_elim (λ f. absurd f) (λ f. f), inr)
 same_faults (IsFault c) z n F r = absurd z
-
-piece_of : PieceKind × ℕ → List ℕ → Piece
-piece_of k rest = record { kind = k.0; bytes = take k.1 rest }
 
 abbrev front_meaning : PieceKind × ℕ → List ℕ → Meaning
 front_meaning k rest = meaning k.0 (take k.1 rest)

@@ -4,7 +4,7 @@ use Rattle.std.specs.Prelude.{◌==◌}
 use Rattle.std.specs.List.{prefix_len}
 use Rattle.std.specs.Char.{is_ascii_digit, is_ascii_alphabetic}
 use Rattle.std.proofs.Common.{append_assoc}
-use Rattle.std.proofs.lemmas.Bool.{lt-ltb, le-ltb, eqb-true, cases_lt}
+use Rattle.std.proofs.lemmas.Bool.{lt-ltb, le-ltb, eqb-true, cases_lt, and_parts, or_parts}
 use Rattle.std.proofs.lemmas.List.{append-nil, take-append-drop, get_or_past}
 use Rattle.std.proofs.lemmas.List.Folds.{length-prefix_len}
 use Rattle.std.proofs.Math.Seq.{get_or-append_seam, take-append_seam, drop-append_seam}
@@ -15,7 +15,7 @@ use Rattle.oil_lex.specs.declared.pieces.PieceKind.TheVariants as kind
 use Rattle.oil_lex.specs.Bytes.{class_of, is_word_byte, is_digit, is_hex_digit, is_quoted, is_not_lf, is_blank, is_plain_sign}
 use Rattle.oil_lex.specs.Pieces.{IsPiece, is_one_blank, is_line_comment, is_block_comment, is_word, is_decimal, is_hexadecimal, is_text, is_sign, is_slash, is_stray, is_unclosed_comment, is_unclosed_text_lf, is_unclosed_text_end, begins_hex, EachPasses, Stops, NeverCloses, BeginsWith}
 use Rattle.oil_lex.specs.Front.{front_piece, piece_by, number_piece, slash_piece, text_piece, comment_piece, comment_length}
-use Rattle.oil_lex.proofs.Lengths.{run_ends, run_front, never_closes, closes_behind, open_all, comment_length_le, open_front, both, no_byte, neither, either}
+use Rattle.oil_lex.proofs.Lengths.{run_ends, run_front, never_closes, closes_behind, open_all, comment_length_le, open_front, no_byte, either}
 
 -- a test that chose what it could not have chosen was false
 pub skip : (t : Bool) (x y z : Class) → (x ≡ z → ⊥) → cond t x y ≡ z → y ≡ z
@@ -81,7 +81,7 @@ front_is (is_decimal {b} {w} {rest} c a s h) = rw (c, h) (let e = run_ends is_di
 front_is (is_hexadecimal {x} {h} {w} {rest} q i a s) = rw (q, i) (let e = run_ends is_hex_digit w rest a s in pair kind.Hexadecimal _ _ (omega (arith, e)))
 front_is (is_text w {rest} a) = rw (append_assoc, text_is w (34 ∷ rest) a refl, get_or-append_seam w 34 rest 0) (pair kind.Text _ _ (omega (arith, length-append w (34 ∷ []))))
 front_is (is_sign c) = rw c refl
-front_is (is_slash {rest} h) = let p = neither (get_or rest 0 0 == 47) (get_or rest 0 0 == 42) h in rw (p.0, p.1) refl
+front_is (is_slash {rest} h) = let p = or_parts (get_or rest 0 0 == 47) (get_or rest 0 0 == 42) h in rw (p.0, p.1) refl
 front_is (is_stray c) = rw c refl
 front_is (is_unclosed_comment {w} n) = ap comment_piece (append-nil w) ∙ (comment_open w n ∙ pair kind.UnclosedComment _ _ (omega arith))
 front_is (is_unclosed_text_lf {w} {rest} a) = rw (text_is w (10 ∷ rest) a refl, get_or-append_seam w 10 rest 0) (pair kind.UnclosedText _ _ (omega arith))
@@ -176,10 +176,10 @@ decimal_stands b s c h =
 hex_at : (b : ℕ) (s : List ℕ) → begins_hex (b ∷ s) ≡ true → BeginsWith (b ∷ s) (kind.Hexadecimal, prefix_len is_hex_digit (drop 2 s) + 3)
 unfolding is_hex_digit
 hex_at b [] h = absurd (no_byte (b == 48) h)
-hex_at b (x ∷ []) h = absurd (no_byte ((x == 120) || (x == 88)) (both (b == 48) (((x == 120) || (x == 88)) && false) h).1)
+hex_at b (x ∷ []) h = absurd (no_byte ((x == 120) || (x == 88)) (and_parts (b == 48) (((x == 120) || (x == 88)) && false) h).1)
 hex_at b (x ∷ d ∷ s) h =
-    let p = both (b == 48) (((x == 120) || (x == 88)) && is_hex_digit d) h in
-    let q = both ((x == 120) || (x == 88)) (is_hex_digit d) p.1 in
+    let p = and_parts (b == 48) (((x == 120) || (x == 88)) && is_hex_digit d) h in
+    let q = and_parts ((x == 120) || (x == 88)) (is_hex_digit d) p.1 in
     subst (λ (y : ℕ). BeginsWith (y ∷ x ∷ d ∷ s) (kind.Hexadecimal, prefix_len is_hex_digit s + 3)) (sym (eqb-true b 48 p.0)) (hex_stands x d s q.0 q.1)
 
 number_stands : (b : ℕ) (s : List ℕ) → class_of b ≡ class.Digit → BeginsWith (b ∷ s) (number_piece (b ∷ s))

@@ -1,6 +1,6 @@
 -- Lengths of runs.
 use Rattle.std.proofs.Common.{◌≡◌, ℕ, ◌+◌, ◌-◌, ◌<◌, ◌≤◌, Bool, true, false, List, [], ◌∷◌, ◌++◌, length, drop, take, cond, refl, ap, arith, ◌∙◌, subst, add-one, suc, ◌&&◌, ◌||◌, not, ◌⊎◌, inl, inr, length-drop}
-use Rattle.std.proofs.lemmas.Bool.{eqb-true}
+use Rattle.std.proofs.lemmas.Bool.{eqb-true, and_parts}
 use Rattle.std.proofs.Math.Seq.{drop-cons}
 use Rattle.std.proofs.Math.ListN.{drop_of_length-le}
 use Rattle.std.proofs.lemmas.List.{take_all}
@@ -8,14 +8,6 @@ use Rattle.std.specs.List.{prefix_len}
 use Rattle.std.specs.Prelude.{◌==◌}
 use Rattle.oil_lex.specs.Pieces.{closes, EachPasses, Stops, NeverCloses}
 use Rattle.oil_lex.specs.Front.{comment_length}
-
-pub both : (a b : Bool) → (a && b) ≡ true → (a ≡ true) × (b ≡ true)
-both true b h = (refl, h)
-both false b h = cc
-
-pub neither : (a b : Bool) → (a || b) ≡ false → (a ≡ false) × (b ≡ false)
-neither true b h = cc
-neither false b h = (refl, h)
 
 pub either : (a b : Bool) → (not a && not b) ≡ false → (a ≡ true) ⊎ (b ≡ true)
 either true b h = inl refl
@@ -97,7 +89,7 @@ pub closes_is : (s : List ℕ) → closes s ≡ true → (r : List ℕ) × (s �
 closes_is [] h = cc
 closes_is (a ∷ []) h = absurd (no_byte (a == 42) h)
 closes_is (a ∷ b ∷ r) h =
-    let p = both (a == 42) (b == 47) h in
+    let p = and_parts (a == 42) (b == 47) h in
     (r, ap (λ x. x ∷ b ∷ r) (eqb-true a 42 p.0) ∙ ap (λ x. 42 ∷ x ∷ r) (eqb-true b 47 p.1))
 
 where_it_stands : (b : ℕ) (w r : List ℕ) → closes (b ∷ (w ++ 42 ∷ 47 ∷ r)) ≡ false → closes (b ∷ (w ++ 42 ∷ [])) ≡ false

@@ -1,7 +1,7 @@
 //! Tokens.
 
 /// What a token is.
-#[derive(Clone, Copy, Debug, PartialEq, Eq)]
+#[derive(Clone, Copy, Debug)]
 pub enum TokenKind {
     /// A letter or `_`, then letters, digits and `_`.
     Word,
@@ -14,7 +14,7 @@ pub enum TokenKind {
 }
 
 /// A token: what it is, the line that it stands on, counted from 1, and its bytes.
-#[derive(Clone, Copy, Debug, PartialEq, Eq)]
+#[derive(Clone, Copy)]
 pub struct Token<'a> {
     pub kind: TokenKind,
     pub line: u32,

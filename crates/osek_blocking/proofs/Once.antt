@@ -4,6 +4,7 @@ use Rattle.std.specs.Prelude.{◌≢◌}
 use Rattle.std.specs.Bool.{Decides}
 use Rattle.std.proofs.lemmas.Bool.{cases_eq, cases_Bool, eqb-false, cond-true, cond-false, lt-ltb, ltb-true, ltb-false, both_ways}
 use Rattle.std.proofs.lemmas.Bool.Decides.{Decides-and, Decides-ltb}
+use Rattle.std.proofs.lemmas.Option.{same_Some}
 use Rattle.sloth_base.specs.declared.config.Config.{Config}
 use Rattle.sloth_base.specs.declared.app.App.{App}
 use Rattle.sloth_base.specs.declared.event.Event.{Event}
@@ -15,7 +16,7 @@ use Rattle.osek_machine.specs.Priority.{is_in, is_active, IsTop}
 use Rattle.osek_machine.specs.Steps.{OsekStep}
 use Rattle.osek_machine.specs.Runs.{Leads, OsekRun}
 use Rattle.osek_machine.proofs.Leading.{follows_leads, leads-parts, one_step, one_end}
-use Rattle.osek_machine.proofs.Tests.{some_one, Decides-is_active, Decides-leb}
+use Rattle.osek_machine.proofs.Tests.{Decides-is_active, Decides-leb}
 use Rattle.osek_valid.specs.Apart.{priority_of, static_priority, IsActive, IsOver}
 use Rattle.osek_valid.proofs.Apart.{Same, rank_active, rank_ready}
 use Rattle.osek_blocking.specs.Blocking.{is_entry_of, up_to_entry, IsOfLower, IsRaisedTo, FindsFresh, IsBlockedBy, BlocksOnce}
@@ -210,14 +211,14 @@ module _ (config : Config) (app : App) (h : ℕ) (declared : h < length config.t
 
     runs : (t u func item result : ℕ) → Works config t s next → IsOfLower config h (event.Run t func item result) u → Blocks config h s u
     runs t u func item result f l =
-        let e = some_one t u l.works in
+        let e = same_Some t u l.works in
         subst (Blocks config h s) e (at_top t [] f.moves.top refl f.was (lower_is t u e l.lower))
 
     -- where h is not fresh it blocks
     at_work : (e : Event) (u : ℕ) → Effect config s next e → IsOfLower config h e u → is_in h s.fresh ≡ false → Blocks config h s u
     at_work (event.Run t func item result) u f l out = runs t u func item result f l
     at_work (event.Call t served status) u f l out =
-        let e = some_one t u l.works in
+        let e = same_Some t u l.works in
         subst (Blocks config h s) e (at_top t s.fresh f.moves.top out f.was (lower_is t u e l.lower))
     at_work e u f l out = let w = l.works in absurd cc
 
@@ -232,7 +233,7 @@ module _ (config : Config) (app : App) (h : ℕ) (declared : h < length config.t
         let k = runs t u func item result f l in
         (alone u k, inl k.raised)
     fresh_now (event.Call t served status) u b further alone is f l =
-        let e = some_one t u l.works in
+        let e = same_Some t u l.works in
         (sym e ∙ sym (cond-true _ t b (lt-ltb _ _ (lower_is t u e l.lower))), inr (refl, is))
     fresh_now e u b further alone is f l = let w = l.works in absurd cc
 

@@ -3,7 +3,7 @@
 use sloth_base::numbers::Reg;
 
 /// A change of one task. All but the first two, `Start` and `Resume` are changes of the task that runs.
-#[derive(Clone, Copy, Debug, PartialEq, Eq)]
+#[derive(Clone, Copy)]
 pub enum TaskChange {
     /// It becomes Ready.
     Activate,

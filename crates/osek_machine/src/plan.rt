@@ -4,7 +4,7 @@ use crate::change::TaskChange;
 use sloth_base::app::Width;
 
 /// What an event of one task does to another task, or to the data.
-#[derive(Clone, Copy, Debug, PartialEq, Eq)]
+#[derive(Clone, Copy)]
 pub enum Other {
     Nothing,
     /// This task becomes Ready.
@@ -24,7 +24,7 @@ pub enum Other {
 }
 
 /// What an item does, and the result or status that it shows; none where the task leaves.
-#[derive(Clone, Copy, Debug, PartialEq, Eq)]
+#[derive(Clone, Copy)]
 pub struct Plan {
     pub answer: Option<u32>,
     pub change: TaskChange,

@@ -6,7 +6,7 @@ use Rattle.std.proofs.lemmas.Bool.{ltb-true, leb-true, cases_lt, cases_eq, and_p
 use Rattle.std.proofs.lemmas.List.{get_or-set_same, length-map}
 use Rattle.std.proofs.lemmas.List.Sums.{get_or-le-sum_by, sum-map}
 use Rattle.std.proofs.lemmas.Map.Steps.{length-le_from_distinct_below}
-use Rattle.std.proofs.lemmas.Option.{slice_get_within, get_or_from_slice_get}
+use Rattle.std.proofs.lemmas.Option.{slice_get_within, get_or_from_slice_get, same_Some}
 use Rattle.std.proofs.Math.ListN.{get_or-eq_default}
 use Rattle.sloth_base.specs.Options.{is_number}
 use Rattle.sloth_base.specs.ServiceCodes.{code_of}
@@ -36,7 +36,7 @@ use Rattle.osek_machine.specs.declared.change.TaskChange.{TaskChange}
 use Rattle.osek_machine.specs.Steps.{settled}
 use Rattle.osek_machine.specs.Next.{is_ready, is_top, is_position, operation_of, next_state}
 use Rattle.osek_machine.proofs.Next.{step_of}
-use Rattle.osek_machine.proofs.Tests.{if_true_some, on_some_from, some_one, Decides-is_top}
+use Rattle.osek_machine.proofs.Tests.{if_true_some, on_some_from, Decides-is_top}
 use Rattle.osek_valid.specs.Valid.{IsFrame, IsCalledFrom, AreCalls, AreDistinct, Valid}
 use Rattle.osek_valid.proofs.Apart.{at_task}
 use Rattle.osek_valid.proofs.Facts.{Facts, facts}
@@ -171,7 +171,7 @@ module _ {config : Config} {app : App} {s : System} (sound : IsSound config app 
       let found = if_true_some (ltb frame.item (length (function app frame.func).items)) _ o e in
       let inside = ltb-true _ _ found.0 in
       in_range-so config app (function app frame.func) o
-      (w.items frame.func frame.item o (record { known = known-by frame.func frame.item inside; inside = inside; is = some_one _ _ found.1 }))
+      (w.items frame.func frame.item o (record { known = known-by frame.func frame.item inside; inside = inside; is = same_Some _ _ found.1 }))
 
   item-small : (frame : Frame) → IsFrame app frame → frame.item < 4294967295
   item-small frame h =
@@ -273,7 +273,7 @@ module _ {config : Config} {app : App} {s : System} (sound : IsSound config app 
     Roomy p = Allows p.change k × HasOther p.other s
 
     from_some : (p q : Plan) → Some p ≡ Some q → Roomy p → Roomy q
-    from_some p q e r = subst Roomy (some_one p q e) r
+    from_some p q e r = subst Roomy (same_Some p q e) r
 
     room-of : (p q : Plan) → Some p ≡ Some q → Roomy p → HasRoom t q s
     room-of p q e r = let same = from_some p q e r in record { declared = in_tasks t lt; allows = same.0; besides = same.1 }
@@ -284,7 +284,7 @@ module _ {config : Config} {app : App} {s : System} (sound : IsSound config app 
     has_word : (frames : List Frame) (frame : Frame) (word old : ℕ) → slice_get frames 0 ≡ Some frame → slice_get frame.words word ≡ Some old → HasWord word frames
     has_word [] frame word old e f = tt
     has_word (x ∷ outer) frame word old e f =
-        subst (λ (y : Frame). word < length y.words) (sym (some_one x frame e)) (slice_get_within frame.words word old f)
+        subst (λ (y : Frame). word < length y.words) (sym (same_Some x frame e)) (slice_get_within frame.words word old f)
 
     stored-in : (v y offset : ℕ) (wd : Width) (q : Plan) → if_true (is_inside s.symbols y wd offset) (Some (plan (Some v) change.MoveOn (other.Store y wd offset v))) ≡ Some q → Roomy q
     stored-in v y offset wd q e =
@@ -317,7 +317,7 @@ module _ {config : Config} {app : App} {s : System} (sound : IsSound config app 
     item-room (op.Invoke g) f frame q at e deep =
         let make = λ (called : Func). plan (Some 0) (change.Invoke g called.frame_words) other.Nothing in
         let found = on_some_from (slice_get app.funcs g) _ q e in
-        let same = some_one (make found.0) q found.2 in
+        let same = same_Some (make found.0) q found.2 in
         let long = subst (λ (p : Plan). length (changed p.change k).frames ≤ 64) (sym same) deep in
         subst Roomy same ((omega (arith, long), words-of g found.0 found.1), tt)
     item-room op.Return f frame q at e deep =
@@ -420,7 +420,7 @@ module _ {config : Config} {app : App} {s : System} (sound : IsSound config app 
       let o = on_some_from (own_operation app (task s t)) _ p top.1 in
       let call = on_some_from (call_in o.0) (call_plan config srv t s) p o.2 in
       let found = if_true_some ((code_of call.0.service == code_of srv) && is_there config (task s t).held srv call.0.object) _ p call.2 in
-      let same = some_one (service_plan config srv call.0.object call.0.mask t s) p found.1 in
+      let same = same_Some (service_plan config srv call.0.object call.0.mask t s) p found.1 in
       let holds = subst (λ (q : Plan). length (changed q.change (task s t)).held ≤ 33) (sym same) (few_held e t lt p next) in
       room-of t lt _ p found.1 (service-room t lt srv call.0.object call.0.mask (and_parts _ _ found.0).1 holds)
 

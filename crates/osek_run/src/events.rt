@@ -6,13 +6,13 @@ ghost use Rattle.osek_machine.specs.Next.{is_position};
 ghost use Rattle.osek_run.specs.Running.{back_plan, entry_change, entry_plan, running_plan, serving_plan};
 ghost use Rattle.osek_run.specs.Steps.{IsRead, answer_plan, leave_plan};
 
-use osek_machine::change::TaskChange;
 use crate::items::{own_operation, run_plan};
-use osek_machine::plan::{Other, Plan};
 use crate::priority::{is_active, is_ready, is_top};
 use crate::room::TaskRoom;
 use crate::services::{call_in, call_plan};
 use crate::store::Store;
+use osek_machine::change::TaskChange;
+use osek_machine::plan::{Other, Plan};
 use sloth_base::app::{App, Func};
 use sloth_base::config::Config;
 use sloth_base::service::Service;

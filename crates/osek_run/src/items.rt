@@ -7,12 +7,12 @@ ghost use Rattle.osek_run.specs.Plans.{branch_plan, item_behind, item_plan, jump
 ghost use Rattle.osek_run.specs.Running.{IsComputed, next_operation, own_operation, run_plan};
 
 use crate::arithmetic::{branch_holds, number_result, register_result};
-use osek_machine::change::TaskChange;
 use crate::frame::FrameRoom;
-use osek_machine::plan::{Other, Plan};
 use crate::priority::is_active;
 use crate::room::TaskRoom;
 use crate::store::Store;
+use osek_machine::change::TaskChange;
+use osek_machine::plan::{Other, Plan};
 use sloth_base::app::{App, Func, Op, Width};
 use sloth_base::numbers::Reg;
 

@@ -14,9 +14,9 @@ ghost use Rattle.osek_run.specs.Steps.{IsSound, Machine, follows};
 
 use crate::above::lines_above;
 use crate::events::{answer_plan, back_plan, entry_plan, leave_plan, running_plan};
-use osek_machine::plan::Plan;
 use crate::priority::is_idle;
 use crate::store::Store;
+use osek_machine::plan::Plan;
 use osek_machine::state::TaskState;
 use sloth_base::app::App;
 use sloth_base::config::Config;

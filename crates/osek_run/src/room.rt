@@ -8,10 +8,10 @@ ghost use Rattle.osek_machine.specs.Services.{answers, answers_with};
 ghost use Rattle.osek_run.specs.Frames.{CanMove};
 ghost use Rattle.osek_run.specs.Changes.{Allows, changed, entry, woken_by};
 
-use osek_machine::change::TaskChange;
 use crate::frame::FrameRoom;
 use crate::held::Held;
 use crate::stack::Stack;
+use osek_machine::change::TaskChange;
 use osek_machine::state::TaskState;
 use sloth_base::memory::NoMemory;
 use sloth_base::numbers::Reg;

@@ -2,7 +2,6 @@
 ghost use Rattle.std.specs.Prelude.{◌≡◌, ◌<◌, ◌==◌, cond, Some, None, length, bit_and};
 ghost use Rattle.osek_machine.specs.State.{task};
 ghost use Rattle.osek_machine.specs.Services.{if_suspended, is_resource, is_task, is_there, state_number};
-ghost use Rattle.sloth_base.specs.declared.config.Config.{Config as AnyConfig};
 ghost use Rattle.osek_run.specs.Plans.{plan, service_plan};
 ghost use Rattle.osek_run.specs.Running.{call_in, call_plan};
 
@@ -143,8 +142,15 @@ fn wait_event(store: &Store, mask: u32, caller: u32) -> Plan
 }
 
 // What a service does for its caller.
-fn service_plan(store: &Store, service: Service, object: u32, mask: u32, caller: u32) -> Plan
-    ensures { (config : AnyConfig) → result ≡ service_plan config service object mask caller store.now }
+fn service_plan(
+    config: &Config,
+    store: &Store,
+    service: Service,
+    object: u32,
+    mask: u32,
+    caller: u32,
+) -> Plan
+    ensures { result ≡ service_plan config.now service object mask caller store.now }
 {
     match service {
         Service::ActivateTask => activate_task(store, object),
@@ -234,5 +240,5 @@ pub fn call_plan(
     if call.service.code() != served.code() || !there {
         return None;
     }
-    Some(service_plan(store, served, call.object, call.mask, t))
+    Some(service_plan(config, store, served, call.object, call.mask, t))
 }

@@ -10,11 +10,11 @@ ghost use Rattle.osek_run.specs.Changes.{Allows, changed};
 ghost use Rattle.osek_run.specs.Plans.{HasOther, HasRoom, carried_out, is_inside, load_of, with_change, with_other};
 
 use crate::arithmetic::size_of;
-use osek_machine::change::TaskChange;
 use crate::data::Data;
 use crate::fresh::Fresh;
-use osek_machine::plan::{Other, Plan};
 use crate::room::TaskRoom;
+use osek_machine::change::TaskChange;
+use osek_machine::plan::{Other, Plan};
 use osek_machine::state::TaskState;
 use sloth_base::app::{App, Width};
 use sloth_base::config::Config;

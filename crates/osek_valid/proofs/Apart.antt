@@ -25,9 +25,6 @@ use Rattle.osek_valid.proofs.Steps.{autostarted_at, asleep_at}
 max_left : (a b : ℕ) → a ≤ max a b
 max_left a b = omega arith
 
-max_right : (a b c : ℕ) → c ≤ b → c ≤ max a b
-max_right a b c le = omega (arith, le)
-
 pub at_least_static : (config : Config) (t : ℕ) (k : Task) → static_priority config t ≤ priority_of config t k
 at_least_static config t k = max_left (static_priority config t) _
 

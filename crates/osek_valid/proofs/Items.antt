@@ -10,11 +10,11 @@ use Rattle.sloth_base.specs.declared.app.Op.TheVariants as op
 use Rattle.sloth_base.specs.declared.app.Width.{Width}
 use Rattle.osek_machine.specs.State.{Frame, Task, System, task, entry_frame}
 use Rattle.sloth_base.specs.Named.{function, label_of, nowhere}
-use Rattle.std.proofs.lemmas.Option.{get_or_from_slice_get}
+use Rattle.std.proofs.lemmas.Option.{get_or_from_slice_get, same_Some}
 use Rattle.osek_machine.specs.Meaning.{Meant, meaning, execution, writes, loads, stores, goes_to, accessed, stored, bytes_of, with_register, register, going_on, target, on_some, returned, loaded}
 use Rattle.osek_machine.specs.Services.{moved}
 use Rattle.osek_machine.specs.Steps.{Executes}
-use Rattle.osek_machine.proofs.Tests.{some_one, if_true_some, on_some_from}
+use Rattle.osek_machine.proofs.Tests.{if_true_some, on_some_from}
 use Rattle.app_rules.specs.Code.{falls, held_after}
 use Rattle.osek_valid.proofs.Facts.{Facts, GoesTo}
 use Rattle.app_rules.specs.WellFormed.{held_before}
@@ -58,7 +58,7 @@ accessed_is symbols y w offset bytes e = by (ltb y (length symbols) && leb (offs
   where
     by : (b : Bool) → (ltb y (length symbols) && leb (offset + size_of w) (length (get_or symbols y []))) ≡ b
         → cond b (Some (get_or symbols y [])) None ≡ Some bytes → (bytes ≡ get_or symbols y []) × (offset + size_of w ≤ length (get_or symbols y []))
-    by true t h = (sym (some_one _ _ h), leb-true _ _ (and_parts _ _ t).1)
+    by true t h = (sym (same_Some _ _ h), leb-true _ _ (and_parts _ _ t).1)
     by false t h = absurd cc
 
 module _ (config : Config) (app : App) (w : Facts config app) (t : ℕ) (k : Task) (frame : Frame) (outer : List Frame) (symbols : List (List ℕ)) where
@@ -69,7 +69,7 @@ module _ (config : Config) (app : App) (w : Facts config app) (t : ℕ) (k : Tas
   Fine m = IsValidTask config app t (after m) × (map length m.symbols ≡ map length symbols)
 
   fine : (m meant : Meant) → Some m ≡ Some meant → Fine m → Fine meant
-  fine m meant e f = subst Fine (some_one m meant e) f
+  fine m meant e f = subst Fine (same_Some m meant e) f
 
   module _ (o : Op) (r : Running config app t k frame outer o) where
     writes_fine : (rd value : ℕ) (meant : Meant) → falls o ≡ true → ((held : List ℕ) → held_after o held ≡ held)
@@ -119,7 +119,7 @@ module _ (config : Config) (app : App) (w : Facts config app) (t : ℕ) (k : Tas
   target_is : (l item : ℕ) → target app frame l ≡ Some item → (label_of (function app frame.func) l).item ≡ item
   target_is l item e =
       let found = on_some_from _ (λ found. Some found.item) item e in
-      ap (λ found. found.item) (get_or_from_slice_get (function app frame.func).labels l found.0 nowhere found.1) ∙ some_one _ item found.2
+      ap (λ found. found.item) (get_or_from_slice_get (function app frame.func).labels l found.0 nowhere found.1) ∙ same_Some _ item found.2
 
   label_fine : (o : Op) (l item : ℕ) (meant : Meant) → Running config app t k frame outer o → GoesTo app frame.func frame.item l
       → target app frame l ≡ Some item → goes_to item k.registers frame outer symbols ≡ Some meant → Fine meant

@@ -6,6 +6,7 @@ use Rattle.std.proofs.lemmas.Nat.{and_le_r, or_of_32}
 use Rattle.sloth_base.specs.ConfigRange.{IsUnionOf}
 use Rattle.sloth_base.specs.declared.config.EventDecl.{EventDecl}
 use Rattle.std.proofs.lemmas.List.Elements.{All-head, All-tail}
+use Rattle.std.proofs.Math.Bool.{and-true}
 use Rattle.sloth_base.specs.declared.config.Config.{Config}
 use Rattle.sloth_base.specs.declared.app.App.{App}
 use Rattle.osek_machine.specs.declared.state.TaskState.{TaskState}
@@ -88,11 +89,7 @@ module _ (config : Config) (app : App) (w : Facts config app) where
       at : (r : ℕ) → (o : Bool) → (task s t).owed ≡ o → is_in r (task s t).held ≡ true → ((task s t).owed ≡ true → (task s t).held ≡ [])
           → (task s t).raised ≡ ((declaration config t).non && not (task s t).owed) → (task s t).raised ≡ (declaration config t).non
       at r true e h owes is = absurd (nothing r h (owes e))
-      at r false e h owes is = is ∙ ap (λ b. (declaration config t).non && not b) e ∙ both (declaration config t).non
-        where
-          both : (b : Bool) → (b && true) ≡ b
-          both true = refl
-          both false = refl
+      at r false e h owes is = is ∙ ap (λ b. (declaration config t).non && not b) e ∙ and-true (declaration config t).non
 
       raised : (m : TaskState) → (task s t).state ≡ m → InState config t (task s t) m → (r : ℕ) → is_in r (task s t).held ≡ true
           → (task s t).raised ≡ (declaration config t).non

@@ -86,8 +86,24 @@ module _ (from to task level first place frame words : ℕ) (c : Core) (is_task 
     },
   )
 
+-- what a task that goes on behind a wait needs: the word of its context names one at `own`, apart from that of what it preempts
+pub record IsKept (from task level place own : ℕ) (c : Core) : Type 0 where
+  pub is_task : task < 30
+  pub low_level : level < 32
+  pub masked : c.mie ≡ false
+  pub previous : c.mpie ≡ true
+  pub past : idle_context ≤ place
+  pub inside : place + context_bytes ≤ 0x20_0000
+  pub is : word_at c.ram (resume task) ≡ 0x8000_0000 + own
+  pub aligned : own % 4 ≡ 0
+  pub own_past : 1024 ≤ own
+  pub own_inside : own + context_bytes ≤ 0x20_0000
+  pub apart : (own + context_bytes ≤ place) ⊎ (place + context_bytes ≤ own)
+  pub returns : word_at c.ram own % 4 ≡ 0
+  pub low : 1024 ≤ from
+
 -- a context is kept, at `own`
-module _ (from to task level place own : ℕ) (c : Core) (rest : List InstrKind) (is_task : task < 30) (low_level : level < 32) (masked : c.mie ≡ false) (previous : c.mpie ≡ true) (past : idle_context ≤ place) (inside : place + context_bytes ≤ 0x20_0000) (is : word_at c.ram (resume task) ≡ 0x8000_0000 + own) (aligned : own % 4 ≡ 0) (own_past : 1024 ≤ own) (own_inside : own + context_bytes ≤ 0x20_0000) (apart : (own + context_bytes ≤ place) ⊎ (place + context_bytes ≤ own)) (returns : word_at c.ram own % 4 ≡ 0) (low : 1024 ≤ from) where
+module _ (from to task level place own : ℕ) (c : Core) (rest : List InstrKind) (is_kept : IsKept from task level place own c) where
   abbrev R : List ℕ → State → State → Type 0
   R = Resumed task level place own
 
@@ -106,7 +122,7 @@ module _ (from to task level place own : ℕ) (c : Core) (rest : List InstrKind)
   kept : (k : ℕ) → k + 4 ≤ context_bytes → word_at ram (own + k) ≡ word_at c.ram (own + k)
   kept k within =
       word_at-other (with_entry (spread c) task place) (resume task) 0 (own + k) (inr (omega arith))
-      ∙ entry_keeps (spread c) task place (own + k) (grind (arith, apart)) (omega arith) (inr (omega arith)) (inr (omega arith))
+      ∙ entry_keeps (spread c) task place (own + k) (grind (arith, is_kept.apart)) (omega arith) (inr (omega arith)) (inr (omega arith))
 
   zero_more : own + 0 ≡ own
   zero_more = omega arith
@@ -144,7 +160,7 @@ module _ (from to task level place own : ℕ) (c : Core) (rest : List InstrKind)
     left = record {
       zero = other 0 (λ e. absurd (omega arith)) ∙ restored_other 27 5 ram own regs 0 (inl (lit< tt));
       registers = length-set loaded 10 E_OK ∙ long;
-      opened = previous;
+      opened = is_kept.previous;
       previous = refl;
       running = level_is;
       pending = refl;
@@ -173,7 +189,7 @@ module _ (from to task level place own : ℕ) (c : Core) (rest : List InstrKind)
   own_fits = omega arith
 
   restored_owe : (o : ℕ) → Owes from to o (restores 27 5 1 ++ (answers_wait ++ rest)) 0 R begun stored
-  restored_owe o = restores_owes from to R begun (answers_wait ++ rest) own aligned 27 5 1 o (o + 108) stored refl (lit< tt) refl own_fits (answered_owe (o + 108))
+  restored_owe o = restores_owes from to R begun (answers_wait ++ rest) own is_kept.aligned 27 5 1 o (o + 108) stored refl (lit< tt) refl own_fits (answered_owe (o + 108))
 
   sp_is : plus at_own (pos context_bytes) ≡ sp
   sp_is = omega arith
@@ -185,13 +201,13 @@ module _ (from to task level place own : ℕ) (c : Core) (rest : List InstrKind)
     inl (omega arith),
     (
       own,
-      record { is = omega arith; aligned = aligned; inside = omega arith },
+      record { is = omega arith; aligned = is_kept.aligned; inside = omega arith },
       pc,
       kept_pc,
       (
         c.mepc,
         refl,
-        masked,
+        is_kept.masked,
         (
           sp,
           sp_is,
@@ -209,7 +225,7 @@ module _ (from to task level place own : ℕ) (c : Core) (rest : List InstrKind)
     resume task,
     record { is = omega arith; aligned = omega arith; inside = omega arith },
     at_own,
-    kept_word (spread c) task place is_task past ∙ is,
+    kept_word (spread c) task place is_kept.is_task is_kept.past ∙ is_kept.is,
     record {
       passed = 33;
       lands = lands (o + 4) (omega arith);
@@ -268,7 +284,22 @@ module _ (task level first frame words : ℕ) (is_task : task < 30) (low_level :
       let E = Resumed task level place own in
       let sp = get_or c.registers 2 0 in
       let o = behind 15 (offset + 4 + 108) in
-      let chosen = resumed_owe offset to task level place own c (starts (0x8000_0000 + frame) words first) is_task low_level h.masked h.previous h.behind h.inside h.resumes h.own_aligned h.own_behind h.own_inside h.own_apart h.returns can.behind o (0x8000_0000 + place) sp 1 (small_offset can) in
+      let kept : IsKept offset task level place own c = record {
+        is_task = is_task;
+        low_level = low_level;
+        masked = h.masked;
+        previous = h.previous;
+        past = h.behind;
+        inside = h.inside;
+        is = h.resumes;
+        aligned = h.own_aligned;
+        own_past = h.own_behind;
+        own_inside = h.own_inside;
+        apart = h.own_apart;
+        returns = h.returns;
+        low = can.behind;
+      } in
+      let chosen = resumed_owe offset to task level place own c (starts (0x8000_0000 + frame) words first) kept o (0x8000_0000 + place) sp 1 (small_offset can) in
       whole_runs E h.jump can h.masked h.vector_word h.to_code
       (enters_owe offset to task level place c E (at (vector task) (spread c)) rest is_task h.masked h.x2 h.aligned h.behind h.inside h.apart can.behind offset chosen)
 

@@ -25,7 +25,3 @@ one_filled kinds i d h few =
     ∙ subst (λ (k : ℕ). set (take i kinds ++ nop ∷ rest) k (get_or kinds i d) ≡ take i kinds ++ get_or kinds i d ∷ rest) l (set-append_seam (take i kinds) nop rest (get_or kinds i d))
     ∙ sym (append_assoc (take i kinds) (get_or kinds i d ∷ []) rest)
     ∙ ap (λ (xs : List InstrKind). xs ++ rest) (sym (take_more kinds i d h))
-
-pub all_filled : (kinds : List InstrKind) (i : ℕ) → i ≡ length kinds → filled kinds i ≡ kinds ++ replicate (36 - length kinds) nop
-all_filled kinds i e =
-    ap (filled kinds) e ∙ ap (λ (xs : List InstrKind). xs ++ replicate (36 - length kinds) nop) (take_all (length kinds) kinds (omega arith))

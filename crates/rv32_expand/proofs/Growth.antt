@@ -2,6 +2,7 @@
 use Rattle.std.proofs.Common.{◌≡◌, ℕ, zero, suc, ◌+◌, ◌-◌, ◌*◌, ◌<◌, ◌≤◌, ◌⊎◌, inl, inr, ⊎_elim, Bool, true, false, length, refl, ap, subst, arith}
 use Rattle.std.specs.Prelude.{Option, Some, None}
 use Rattle.std.proofs.lemmas.List.{get_or_past}
+use Rattle.std.proofs.lemmas.Bool.{cases_lt}
 use Rattle.sloth_base.specs.Named.{function}
 use Rattle.sloth_base.specs.declared.app.App.{App}
 use Rattle.sloth_base.specs.declared.app.Func.{Func}
@@ -11,12 +12,6 @@ use Rattle.sloth_base.specs.declared.app.Op.TheVariants as op
 use Rattle.sloth_base.specs.Named.{item_of, no_item}
 use Rattle.rv32_expand.specs.Long.{Set, size, size_at, place, target_of, IsNear, IsWithin}
 use Rattle.rv32_expand.proofs.Counts.{size_few}
-
-pub order : (a b : ℕ) → (a < b) ⊎ (b ≤ a)
-order zero zero = inr (omega arith)
-order zero (suc b) = inl (omega arith)
-order (suc a) zero = inr (omega arith)
-order (suc a) (suc b) = ⊎_elim (λ h. inl (omega arith)) (λ h. inr (omega arith)) (order a b)
 
 -- only the length of a branch depends on the set
 pub size_alike : (app : App) (body : Func) (o : Op) → target_of body o ≡ None → (x y : Bool) → size app x o ≡ size app y o
@@ -94,7 +89,7 @@ module _ (app : App) (body : Func) (a b : Set) (within : IsWithin body a b) wher
       (λ h. grown i h (a i) (b i) refl refl)
       (λ (h : length body.items ≤ i). let t = beyond h in
       let e = size_alike app body (item_of body i).op t (a i) (b i) in omega (arith, e))
-      (order i (length body.items))
+      (cases_lt i (length body.items))
     where
       -- behind the last item there is no branch
       beyond : length body.items ≤ i → target_of body (item_of body i).op ≡ None
@@ -120,4 +115,4 @@ module _ (app : App) (body : Func) (a b : Set) (within : IsWithin body a b) wher
       let s = subst (λ (x : ℕ). place app body b t + place app body a x ≤ place app body a t + place app body b x) e (span-grown t (i - t)) in
       let l = subst (λ (x : ℕ). place app body a t ≤ place app body a x) e (place-later app body a t (i - t)) in
       (omega (arith, s, l), omega (arith, s, l, near.1)))
-      (order i t)
+      (cases_lt i t)

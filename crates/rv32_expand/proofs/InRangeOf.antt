@@ -2,6 +2,7 @@
 use Rattle.std.proofs.Common.{ℕ, ◌<◌, ◌≤◌, ⊎_elim, length, get_or, ap, arith}
 use Rattle.std.proofs.lemmas.List.{get_or_past}
 use Rattle.std.proofs.lemmas.List.Sums.{sum-map, get_or-le-sum_by}
+use Rattle.std.proofs.lemmas.Bool.{cases_lt}
 use Rattle.sloth_base.specs.Named.{function, missing}
 use Rattle.sloth_base.specs.declared.app.App.{App}
 use Rattle.sloth_base.specs.declared.app.Func.{Func}
@@ -9,20 +10,19 @@ use Rattle.sloth_base.specs.declared.app.Label.{Label}
 use Rattle.sloth_base.specs.Named.{label_of, nowhere}
 use Rattle.app_rules.specs.AppRange.{IsTaskCode}
 use Rattle.rv32_expand.specs.Passes.{IsSmall}
-use Rattle.rv32_expand.proofs.Growth.{order}
 
 pub frame_of : (app : App) → IsTaskCode app → (func : ℕ) → (function app func).frame_words ≤ 32
 frame_of app code func =
     ⊎_elim
     (λ (h : func < length app.funcs). let b = code.1.bodies func missing h in b.frame)
     (λ (h : length app.funcs ≤ func). let e = ap (λ (f : Func). f.frame_words) (get_or_past app.funcs func missing h) in omega (arith, e))
-    (order func (length app.funcs))
+    (cases_lt func (length app.funcs))
 
 label_in : (body : Func) → ((k : ℕ) → k < length body.labels → (label_of body k).item ≤ length body.items) → (k : ℕ) → (label_of body k).item ≤ length body.items
 label_in body inside k =
     ⊎_elim (λ h. inside k h)
     (λ (h : length body.labels ≤ k). let e = ap (λ (l : Label). l.item) (get_or_past body.labels k nowhere h) in omega (arith, e))
-    (order k (length body.labels))
+    (cases_lt k (length body.labels))
 
 pub small : (app : App) (code : IsTaskCode app) (func : ℕ) (d : Func) → func < length app.funcs → IsSmall app (get_or app.funcs func d)
 small app code func d h =

@@ -1,22 +1,17 @@
 -- The least set is one, and so are the lengths that it gives.
 use Rattle.std.proofs.Common.{◌≡◌, ◌∙◌, ℕ, suc, ◌+◌, ◌-◌, ◌<◌, ◌≤◌, ⊎_elim, Bool, true, false, List, [], ◌∷◌, length, get_or, refl, sym, ap, arith}
 use Rattle.std.proofs.lemmas.List.{ext_get_or}
+use Rattle.std.proofs.lemmas.Bool.{cases_lt}
+use Rattle.std.specs.Cmp.{both_ways}
 use Rattle.sloth_base.specs.Named.{function, missing}
 use Rattle.sloth_base.specs.declared.app.Func.{Func}
 use Rattle.rv32_expand.specs.InPlace.{IsItem}
 use Rattle.rv32_expand.specs.Laws.{LeastIsOne, SizesAreOne}
 use Rattle.rv32_expand.specs.Sizes.{items_before}
 use Rattle.rv32_expand.proofs.Agreeing.{size_same}
-use Rattle.rv32_expand.proofs.Growth.{order}
-
-both : (x y : Bool) → (x ≡ true → y ≡ true) → (y ≡ true → x ≡ true) → x ≡ y
-both true true f g = refl
-both false false f g = refl
-both true false f g = sym (f refl)
-both false true f g = g refl
 
 pub least_is_one : LeastIsOne
-least_is_one app body a b p q index target g = both (a index) (b index) (p.least b q.suffices index target g) (q.least a p.suffices index target g)
+least_is_one app body a b p q index target g = both_ways (a index) (b index) (p.least b q.suffices index target g) (q.least a p.suffices index target g)
 
 -- where the length with a number stands
 record IsAt (bodies : List Func) (k : ℕ) (d : Func) : Type 0 where
@@ -34,7 +29,7 @@ locate (body ∷ bodies) k d h =
     (λ (l : length body.items ≤ k). let r = locate bodies (k - length body.items) d (omega (arith, h)) in
     let e = r.is in let n = r.declared in
     record { func = suc r.func; index = r.index; declared = omega arith; inside = r.inside; is = omega (arith, e) })
-    (order k (length body.items))
+    (cases_lt k (length body.items))
 
 pub sizes_are_one : SizesAreOne
 sizes_are_one app xs ys p q = ext_get_or 0 xs ys (p.count ∙ sym q.count) same

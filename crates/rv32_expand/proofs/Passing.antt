@@ -4,6 +4,7 @@ use Rattle.std.specs.Prelude.{sum_by, ◌||◌, not}
 use Rattle.std.proofs.Math.Nat.{eq-or-lt_of_le}
 use Rattle.std.proofs.lemmas.List.{get_or_push, get_or_append_left, length-append, take_all}
 use Rattle.std.proofs.lemmas.List.Sums.{sum_by_push, sum_by_more}
+use Rattle.std.proofs.lemmas.Bool.{or_cases, or_parts, not-true}
 use Rattle.sloth_base.specs.declared.app.App.{App}
 use Rattle.sloth_base.specs.declared.app.Func.{Func}
 use Rattle.rv32_expand.specs.Long.{Set, IsBranchTo, IsNear, Suffices, IsWithin}
@@ -23,10 +24,6 @@ module _ (app : App) (body : Func) (old : List Bool) where
   last : (P : ℕ → Type 0) (i k : ℕ) → k < i + 1 → (k < i → P k) → P i → P k
   last P i k h f p = ⊎_elim (λ e. subst P (sym e) p) (λ l. f (omega arith)) (eq-or-lt_of_le {n = k} {m = i} (omega arith))
 
-  either : (x far : Bool) → (x || far) ≡ true → (x ≡ true) ⊎ (far ≡ true)
-  either true far e = inl refl
-  either false far e = inr e
-
   counted : (x far changed : Bool) (m n : ℕ) → (far ≡ true → x ≡ false) → m + cond changed 1 0 ≤ n → m + cond (x || far) 0 1 + cond (changed || far) 1 0 ≤ n + cond x 0 1
   counted true true changed m n f h = absurd (let e = f refl in cc)
   counted true false true m n f h = omega (arith, h)
@@ -35,10 +32,6 @@ module _ (app : App) (body : Func) (old : List Bool) where
   counted false true false m n f h = omega (arith, h)
   counted false false true m n f h = omega (arith, h)
   counted false false false m n f h = omega (arith, h)
-
-  neither : (changed far : Bool) → (changed || far) ≡ false → (changed ≡ false) × (far ≡ false)
-  neither true far e = absurd cc
-  neither false far e = (refl, e)
 
   pub goes_on : (i : ℕ) (new : List Bool) (changed far : Bool) → i < length body.items → length old ≡ length body.items → IsPassTo app body old i new changed → TellsFar app body (in_list old) i far
       → IsPassTo app body old (i + 1) (new ++ (in_list old i || far) ∷ []) (changed || far)
@@ -50,8 +43,8 @@ module _ (app : App) (body : Func) (old : List Bool) where
         (λ p e. ⊎_elim
         (λ x. w i t p x)
         (λ x. let f = tells.yes x in by other s w f.0 f.1 f.3 (other i) refl)
-        (either (in_list old i) far (sym (get_or_push new (in_list old i || far) false i so_far.count) ∙ e)));
-    near = λ e k h. let n = neither changed far e in
+        (or_cases (in_list old i) far (sym (get_or_push new (in_list old i || far) false i so_far.count) ∙ e)));
+    near = λ e k h. let n = or_parts changed far e in
         last (λ (k : ℕ). (target : ℕ) → IsBranchTo body k target → in_list old k ≡ false → IsNear app body (in_list old) k target) i k h
         (λ l. so_far.near n.0 k l) (λ t p o. tells.no n.1 t p o);
     fewer =
@@ -78,10 +71,6 @@ module _ (app : App) (body : Func) (old : List Bool) where
         omega (arith, w, c, f);
   }
 
-pub not_true : (b : Bool) → not b ≡ true → b ≡ false
-not_true true e = sym e
-not_true false e = refl
-
 -- where a pass changes nothing, the set is the least one
 pub shortest_of : (app : App) (body : Func) (long seen read new : List Bool) (changed : Bool) → seen ≡ long → read ≡ long
     → ((other : Set) → Suffices app body other → IsWithin body (in_list long) other) → IsPass app body seen new changed → not changed ≡ true
@@ -89,7 +78,7 @@ pub shortest_of : (app : App) (body : Func) (long seen read new : List Bool) (ch
 shortest_of app body long seen read new changed s r least pass stays lengths are = record {
   long = in_list long;
   is_least = record {
-    suffices = subst (λ (x : List Bool). Suffices app body (in_list x)) s (pass.done (not_true changed stays));
+    suffices = subst (λ (x : List Bool). Suffices app body (in_list x)) s (pass.done (not-true changed stays));
     least = least;
   };
   are_lengths = subst (λ (x : List Bool). AreLengths app body (in_list x) lengths) r are;

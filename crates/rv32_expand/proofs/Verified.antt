@@ -2,6 +2,7 @@
 use Rattle.std.proofs.Common.{◌≡◌, ◌∙◌, ℕ, ◌+◌, ◌-◌, ◌*◌, ◌%◌, ◌^◌, ◌<◌, ◌≤◌, ◌⊎◌, inl, inr, ⊎_elim, Bool, true, false, pos, length, refl, sym, ap, subst, arith}
 use Rattle.std.specs.Prelude.{negsuc, unsigned_abs, Some}
 use Rattle.std.proofs.lemmas.Int.{ints}
+use Rattle.std.proofs.lemmas.Bool.{cases_lt}
 use Rattle.sloth_base.specs.Named.{function, missing}
 use Rattle.sloth_base.specs.declared.app.App.{App}
 use Rattle.sloth_base.specs.declared.app.Call.{Call}
@@ -26,7 +27,6 @@ use Rattle.rv32_expand.specs.Laws.{ShortBranchesReach}
 use Rattle.rv32_expand.specs.Sizes.{AgreeWithSizes, Covers, IsVerified, IsWordAddress}
 use Rattle.rv32_expand.proofs.Agreeing.{told, reaches, least_same}
 use Rattle.rv32_expand.proofs.Counts.{calls_length, served_length, expanded_some}
-use Rattle.rv32_expand.proofs.Growth.{order}
 use Rattle.rv32_expand.proofs.InRangeOf.{frame_of, small}
 
 -- ---- branches
@@ -64,7 +64,7 @@ even_distance a b h k =
     let f : (a - b - 1 + 1) % 2 ≡ 0 = omega arith in ap (λ z. unsigned_abs z % 2) e ∙ minus (a - b - 1) f)
     (λ (l : a ≤ b). let e : distance a b ≡ pos (b - a) = omega (arith, ints) in
     let f : (b - a) % 2 ≡ 0 = omega arith in ap (λ z. unsigned_abs z % 2) e ∙ f)
-    (order b a)
+    (cases_lt b a)
   where
     minus : (n : ℕ) → (n + 1) % 2 ≡ 0 → unsigned_abs (negsuc n) % 2 ≡ 0
     minus n f = omega (arith, f)
@@ -97,7 +97,7 @@ module _ (config : Config) (app : App) (well : WellFormed config app) (func inde
     inside =
         ⊎_elim (λ h. h) (λ (h : length body.items ≤ (label_of body k).item).
         absurd (unbroken code.V5 (Breaks.runs_out ((label_of body k).item, inr (k, e, refl), h))))
-        (order (label_of body k).item (length body.items));
+        (cases_lt (label_of body k).item (length body.items));
   }
 
   -- an item that goes on has one behind it
@@ -106,17 +106,17 @@ module _ (config : Config) (app : App) (well : WellFormed config app) (func inde
     declared = item.declared;
     inside =
         ⊎_elim (λ h. h) (λ (h : length body.items ≤ index + 1). absurd (unbroken code.V5 (Breaks.runs_out (index + 1, inl (e, refl), h))))
-        (order (index + 1) (length body.items));
+        (cases_lt (index + 1) (length body.items));
   }
 
   -- a word of the frame
   in_frame : (word : ℕ) → (body.frame_words ≤ word → ⊥) → word < 32
   in_frame word n =
       let f = frame_of app (config, well.in_range) func in
-      ⊎_elim (λ (h : word < body.frame_words). omega arith) (λ h. absurd (n h)) (order word body.frame_words)
+      ⊎_elim (λ (h : word < body.frame_words). omega arith) (λ h. absurd (n h)) (cases_lt word body.frame_words)
 
   mask_small : (mask : ℕ) (P : Type 0) → ((32767 < mask) ⊎ P → ⊥) → mask ≤ 32767
-  mask_small mask P n = ⊎_elim (λ (h : 32767 < mask). absurd (n (inl h))) (λ h. h) (order 32767 mask)
+  mask_small mask P n = ⊎_elim (λ (h : 32767 < mask). absurd (n (inl h))) (λ h. h) (cases_lt 32767 mask)
 
 -- a body has a first item
 pub has_first : (config : Config) (app : App) → WellFormed config app → (func : ℕ) → func < length app.funcs → IsItem app func 0
@@ -125,7 +125,7 @@ has_first config app well func h = record {
   inside =
       ⊎_elim (λ k. k) (λ (k : length (function app func).items ≤ 0).
       absurd (well.no_fault (at_line (function app func).line code.V5) (func, h, BodyFault.at_header (omega arith))))
-      (order 0 (length (function app func).items));
+      (cases_lt 0 (length (function app func).items));
 }
 
 module _ (config : Config) (app : App) (well : WellFormed config app) (places : Places) (covers : Covers app places) (agree : AgreeWithSizes app places)

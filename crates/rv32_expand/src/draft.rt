@@ -11,7 +11,7 @@ use std::marker::Model;
 pub const LONGEST: usize = 36;
 
 /// The instructions of an item, the one that commits it last.
-#[derive(Clone, Copy, PartialEq, Eq, Debug)]
+#[derive(Clone, Copy)]
 pub struct Expansion {
     pub len: u32,
     /// Behind the last one stands `addi x0, x0, 0`.

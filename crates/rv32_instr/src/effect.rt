@@ -4,7 +4,7 @@ use sloth_base::app::Width;
 use sloth_base::numbers::Reg;
 
 /// What happens to a CSR.
-#[derive(Clone, Copy, Debug, PartialEq, Eq)]
+#[derive(Clone, Copy)]
 pub enum Change {
     /// It isn't written.
     Keep,
@@ -17,7 +17,7 @@ pub enum Change {
 }
 
 /// What an instruction does, its registers read.
-#[derive(Clone, Copy, Debug, PartialEq, Eq)]
+#[derive(Clone, Copy)]
 pub enum Effect {
     Nothing,
     /// A value for a register.

@@ -25,7 +25,7 @@ pub use encoding::encode;
 pub use stop::{Bad, Stop};
 
 /// One instruction: its mnemonic and its fields. `specs/Range.antt` has the ranges of the fields.
-#[derive(Clone, Copy, PartialEq, Eq, Debug)]
+#[derive(Clone, Copy)]
 pub enum InstrKind {
     /// `imm` is bits 31 to 12 of the number that is loaded.
     Lui { rd: Reg, imm: u32 },
@@ -82,7 +82,7 @@ pub enum InstrKind {
 }
 
 /// An instruction whose fields are in range, so that it has a word. Contracts see its kind.
-#[derive(Clone, Copy, PartialEq, Eq, Debug)]
+#[derive(Clone, Copy)]
 pub struct Instr {
     kind: InstrKind,
 }

@@ -16,7 +16,7 @@ pub enum Stop {
 }
 
 /// Why memory refuses an access. `Misaligned` comes first.
-#[derive(Clone, Copy, Debug, PartialEq, Eq)]
+#[derive(Clone, Copy)]
 pub enum Bad {
     Misaligned,
     Access,

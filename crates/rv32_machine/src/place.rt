@@ -20,7 +20,7 @@ const CONTROLLER: u32 = 0x1000_0000;
 const CONTROLLER_SIZE: u32 = 96;
 
 /// An offset in RAM, or in the controller.
-#[derive(Clone, Copy, Debug, PartialEq, Eq)]
+#[derive(Clone, Copy)]
 pub enum Place {
     Ram(u32),
     Controller(u32),

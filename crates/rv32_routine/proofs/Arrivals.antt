@@ -3,6 +3,7 @@ use Rattle.std.proofs.Common.{◌≡◌, ℕ, ◌<◌, List, [], ◌∷◌, ◌+
 use Rattle.std.specs.Prelude.{set, Bool, true, false, cond, ◌||◌, ◌&&◌, not, eqb, ◌≢◌}
 use Rattle.std.proofs.lemmas.Bool.{cases_eq, eq-eqb, ne_eqb, cases_Bool}
 use Rattle.std.proofs.lemmas.List.{length-set, get_or-set_same, get_or-set_other, ext_get_or, set_comm}
+use Rattle.std.proofs.Math.Bool.{or-false, and-false}
 use Rattle.sloth_base.specs.Arrive.{arrive}
 use Rattle.rv32_routine.specs.Owes.{AreOf}
 use Rattle.rv32_routine.specs.Trace.{Trace, touches, touched_of, untouched_of, early, late}
@@ -33,10 +34,6 @@ has (l ∷ a) k = eqb l k || has a k
 or_assoc : (x y z : Bool) → ((x || y) || z) ≡ (x || (y || z))
 or_assoc true y z = refl
 or_assoc false y z = refl
-
-or_false : (x : Bool) → (x || false) ≡ x
-or_false true = refl
-or_false false = refl
 
 both_one : (b : Bool) → ◌≡◌ {A = ℕ} (cond b 1 1) 1
 both_one true = refl
@@ -79,14 +76,6 @@ abbrev pub not_line : ℕ → List ℕ → List ℕ
 not_line k [] = []
 not_line k (l ∷ a) = cond (eqb l k) (not_line k a) (l ∷ not_line k a)
 
-and_true : (x : Bool) → (x && true) ≡ x
-and_true true = refl
-and_true false = refl
-
-and_false : (x : Bool) → (x && false) ≡ false
-and_false true = refl
-and_false false = refl
-
 -- a line is found among those of line k exactly where it is line k
 pub has_of_same : (k : ℕ) (a : List ℕ) → has (of_line k a) k ≡ has a k
 has_of_same k [] = refl
@@ -127,7 +116,7 @@ parted k a p =
     ∙ same_arrivals (of_line k a ++ not_line k a) a p (λ j.
     has-append (of_line k a) (not_line k a) j
     ∙ ⊎_elim
-    (λ e. ap (λ i. has (of_line k a) i || has (not_line k a) i) e ∙ ap (λ x. has (of_line k a) k || x) (has_not_same k a) ∙ or_false (has (of_line k a) k) ∙ has_of_same k a ∙ ap (has a) (sym e))
+    (λ e. ap (λ i. has (of_line k a) i || has (not_line k a) i) e ∙ ap (λ x. has (of_line k a) k || x) (has_not_same k a) ∙ or-false (has (of_line k a) k) ∙ has_of_same k a ∙ ap (has a) (sym e))
     (λ ne. ap (λ x. x || has (not_line k a) j) (has_of_other k a j ne) ∙ has_not_other k a j ne)
     (cases_eq j k))
 
@@ -193,18 +182,18 @@ spread_or : (f : ℕ → Bool) (l k : ℕ) (a : Bool) → ((f l && eqb l k) || (
 spread_or f l k a =
     ⊎_elim
     (λ e. ap (λ j. (f j && eqb l k) || (f k && a)) e ∙ ap (λ b. (f k && b) || (f k && a)) (eq-eqb l k e) ∙ both (f k) a ∙ ap (λ b. f k && (b || a)) (sym (eq-eqb l k e)))
-    (λ n. ap (λ b. (f l && b) || (f k && a)) (ne_eqb l k n) ∙ ap (λ b. b || (f k && a)) (and_false (f l)) ∙ ap (λ b. f k && (b || a)) (sym (ne_eqb l k n)))
+    (λ n. ap (λ b. (f l && b) || (f k && a)) (ne_eqb l k n) ∙ ap (λ b. b || (f k && a)) (and-false (f l)) ∙ ap (λ b. f k && (b || a)) (sym (ne_eqb l k n)))
     (cases_eq l k)
 
 has_touched : (t : Trace) (a : List ℕ) (k : ℕ) → has (touched_of t a) k ≡ (touches t k && has a k)
-has_touched t [] k = sym (and_false (touches t k))
+has_touched t [] k = sym (and-false (touches t k))
 has_touched t (l ∷ a) k =
     pick (touches t l) l (touched_of t a) k
     ∙ ap (λ x. (touches t l && eqb l k) || x) (has_touched t a k)
     ∙ spread_or (touches t) l k (has a k)
 
 has_untouched : (t : Trace) (a : List ℕ) (k : ℕ) → has (untouched_of t a) k ≡ (not (touches t k) && has a k)
-has_untouched t [] k = sym (and_false (not (touches t k)))
+has_untouched t [] k = sym (and-false (not (touches t k)))
 has_untouched t (l ∷ a) k =
     leave_out (touches t l) l (untouched_of t a) k
     ∙ ap (λ x. (not (touches t l) && eqb l k) || x) (has_untouched t a k)
@@ -216,7 +205,7 @@ later true l a e = or_assoc l a e
 later false l a e = refl
 
 here : (t l a e : Bool) → ((l || a) || ((t && false) || e)) ≡ (l || (a || e))
-here t l a e = ap (λ x. (l || a) || (x || e)) (and_false t) ∙ or_assoc l a e
+here t l a e = ap (λ x. (l || a) || (x || e)) (and-false t) ∙ or_assoc l a e
 
 taken_has : (t : Trace) (w : List ℕ) (k : ℕ) → has (taken t w) k ≡ ((touches t k && has w k) || has (early t) k)
 taken_has [] w k = refl
@@ -253,7 +242,7 @@ taken_has ((a, Some j) ∷ t) w k =
     ∙ ap (λ x. (b && waits) || x) (sym last)
 
 left_has : (t : Trace) (w : List ℕ) (k : ℕ) → has (left t w) k ≡ ((not (touches t k) && has w k) || has (late t) k)
-left_has [] w k = sym (or_false (has w k))
+left_has [] w k = sym (or-false (has w k))
 left_has ((a, None) ∷ t) w k =
     left_has t (w ++ a) k
     ∙ ap (λ x. (not (touches t k) && x) || has (late t) k) (has-append w a k)
@@ -274,7 +263,7 @@ left_has ((a, Some j) ∷ t) w k =
     ∙ ⊎_elim
     (λ e.
     ap (λ x. (not later_too && x) || rest) (ap (λ i. has (not_line i m) k) (sym e) ∙ has_not_same k m)
-    ∙ ap (λ x. x || rest) (and_false (not later_too))
+    ∙ ap (λ x. x || rest) (and-false (not later_too))
     ∙ ap (λ x. (not (x || later_too) && waits) || ((not (x || later_too) && arrives) || rest)) (sym (eq-eqb j k (sym e))))
     (λ n.
     ap (λ x. (not later_too && x) || rest) (has_not_other j m k n ∙ has-append w a k)
@@ -285,10 +274,10 @@ left_has ((a, Some j) ∷ t) w k =
 
 -- with none that wait, those taken up are the early ones, and those left the late ones
 pub taken_early : (t : Trace) (p : List ℕ) → arrive (taken t []) p ≡ arrive (early t) p
-taken_early t p = same_arrivals (taken t []) (early t) p (λ k. taken_has t [] k ∙ ap (λ x. x || has (early t) k) (and_false (touches t k)))
+taken_early t p = same_arrivals (taken t []) (early t) p (λ k. taken_has t [] k ∙ ap (λ x. x || has (early t) k) (and-false (touches t k)))
 
 pub left_late : (t : Trace) (p : List ℕ) → arrive (left t []) p ≡ arrive (late t) p
-left_late t p = same_arrivals (left t []) (late t) p (λ k. left_has t [] k ∙ ap (λ x. x || has (late t) k) (and_false (not (touches t k))))
+left_late t p = same_arrivals (left t []) (late t) p (λ k. left_has t [] k ∙ ap (λ x. x || has (late t) k) (and-false (not (touches t k))))
 
 pub are_of : (k : ℕ) (a : List ℕ) → AreOf k (of_line k a)
 are_of k [] = tt

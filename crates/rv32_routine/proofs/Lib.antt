@@ -3,6 +3,7 @@ pub mod Words
 pub mod Masked
 pub mod Machine
 pub mod Perform
+pub mod Longest
 pub mod Sound
 pub mod Whole
 pub mod Spread

@@ -9,18 +9,6 @@ use Rattle.rv32_instr.specs.Ram.{word_at, with_word, with_words}
 use Rattle.rv32_routine.specs.Owes.{Owes}
 use Rattle.rv32_routine.specs.Pieces.{saves, restores, clears, clears_words, registers_from, restored, cleared}
 
-pub length-saves : (n r b : ℕ) → length (saves n r b) ≡ n
-length-saves zero r b = refl
-length-saves (suc n) r b = ap suc (length-saves n (suc r) b)
-
-pub length-restores : (n r b : ℕ) → length (restores n r b) ≡ n
-length-restores zero r b = refl
-length-restores (suc n) r b = ap suc (length-restores n (suc r) b)
-
-pub length-clears : (n r : ℕ) → length (clears n r) ≡ n
-length-clears zero r = refl
-length-clears (suc n) r = ap suc (length-clears n (suc r))
-
 pub length-clears_words : (n k b : ℕ) → length (clears_words n k b) ≡ n
 length-clears_words zero k b = refl
 length-clears_words (suc n) k b = ap suc (length-clears_words n (suc k) b)

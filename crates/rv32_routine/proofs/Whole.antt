@@ -17,6 +17,7 @@ use Rattle.rv32_routine.specs.Place.{at, InPlace, AreWritten}
 use Rattle.rv32_routine.specs.Owes.{Owes}
 use Rattle.rv32_routine.specs.Kernel.{masking}
 use Rattle.rv32_routine.proofs.Arrivals.{taken_early, left_late, taken, left}
+use Rattle.rv32_routine.proofs.Longest.{longest, longest_le}
 use Rattle.rv32_routine.proofs.Masked.{masked_map, masked_step}
 use Rattle.rv32_routine.proofs.Machine.{step_at, touched_at, next_at, jump_at}
 use Rattle.rv32_routine.proofs.Sound.{Ended, Inside, run}
@@ -28,6 +29,9 @@ with_arrivals E start t x h =
     let e : state_arrive (taken t []) start ≡ state_arrive (early t) start = ap (λ p. record start { core = record start.core { pending = p } }) (taken_early t start.core.pending) in
     let f : state_arrive (left t []) last ≡ state_arrive (late t) last = ap (λ p. record last { core = record last.core { pending = p } }) (left_late t last.core.pending) in
     (last, subst (λ s. E (touched_lines t) s last) e h.1, h.2 ∙ f)
+
+few : (code : List InstrKind) (n : ℕ) → length code ≤ n → longest code 0 ≤ n
+few code n h = let l = longest_le code 0 in omega (arith, h, l)
 
 -- what holds of the state as a routine is entered
 pub record IsEntered (o : ℕ) (code : List InstrKind) (c : Core) : Type 0 where
@@ -42,7 +46,7 @@ pub handles : (o n : ℕ) (code : List InstrKind) (c : Core) (E : List ℕ → S
 handles o n code c E start e le h =
     let al = e.aligned in
     masked_map n (at o c) _ _ (with_arrivals E start)
-    (run o (o + 4 * length code) c.ram e.fits code 0 n o o c [] E start le (omega arith) al (omega arith) (omega arith) e.placed
+    (run o (o + 4 * length code) c.ram e.fits code 0 n o o c [] E start (few code n le) (omega arith) al (omega arith) (omega arith) e.placed
     (record { masked = e.masked; there = e.there; lines = e.lines; same = record { by = λ i a b. refl } }) h)
 
 mask_bits : (mie mpie : Bool) (c : Core) → with_csr c MSTATUS (bit_and (mstatus_of (record c { mie = mie; mpie = mpie })) 4294967287) ≡ record c { mie = false; mpie = mpie }
@@ -67,7 +71,7 @@ pub record IsOpened (o : ℕ) (code : List InstrKind) (c : Core) : Type 0 where
 abbrev pub masked : Core → Core
 masked c = record c { mie = false }
 
-pub serves : (o n : ℕ) (code : List InstrKind) (c : Core) (E : List ℕ → State → State → Type 0) → IsOpened o code c → length code ≤ n → Owes o (o + 4 + 4 * length code) (o + 4) code 0 E (at o c) (masked c) → FromOpening n (at o c) E
+pub serves : (o n : ℕ) (code : List InstrKind) (c : Core) (E : List ℕ → State → State → Type 0) → IsOpened o code c → longest code 0 ≤ n → Owes o (o + 4 + 4 * length code) (o + 4) code 0 E (at o c) (masked c) → FromOpening n (at o c) E
 serves o n code c E e le h =
     let al = e.aligned in
     let fits = e.fits in
@@ -98,5 +102,5 @@ jumps_in v o n imm code c E start fit p there e le h =
     subst (λ x. OnGoing x (λ next. Masked n next (λ trace end. WithArrivals E start ((a, touched (at v d)) ∷ trace) end))) (sym s)
     (subst (λ k. Masked n (at o d) (λ trace end. WithArrivals E start ((a, k) ∷ trace) end)) (sym t)
     (masked_map n (at o d) _ _ (λ trace end x. with_arrivals E start ((a, None) ∷ trace) end x)
-    (run o (o + 4 * length code) c.ram e.fits code 0 n o o c a E start le (omega arith) al (omega arith) (omega arith) e.placed
+    (run o (o + 4 * length code) c.ram e.fits code 0 n o o c a E start (few code n le) (omega arith) al (omega arith) (omega arith) e.placed
     (record { masked = e.masked; there = e.there; lines = e.lines; same = record { by = λ i a b. refl } }) h))))

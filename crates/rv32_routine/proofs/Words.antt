@@ -42,11 +42,6 @@ word_at-same ram o v h l =
     let e = bytes_of v l in
     cc
 
--- a word apart from the byte written
-pub word_at-byte : (ram : List ℕ) (p v o : ℕ) → (o + 4 ≤ p) ⊎ (p < o) → word_at (set ram p v) o ≡ word_at ram o
-unfolding word_at
-word_at-byte ram p v o h = grind (arith, get_or-set_other)
-
 -- the word depends on its four bytes
 pub word_at-agree : (r s : List ℕ) (o : ℕ) → ((i : ℕ) → o ≤ i → i < o + 4 → get_or r i 0 ≡ get_or s i 0) → word_at r o ≡ word_at s o
 unfolding word_at

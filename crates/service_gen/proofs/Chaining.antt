@@ -9,7 +9,6 @@ use Rattle.sloth_region.specs.Layout.{cur, active, words_high, controller_base}
 use Rattle.rv32_instr.specs.declared.InstrKind.{InstrKind}
 use Rattle.rv32_instr.specs.declared.InstrKind.TheVariants.{Lui, Addi}
 use Rattle.rv32_instr.specs.Ram.{word_at}
-use Rattle.sloth_base.specs.Arithmetic.{plus}
 use Rattle.rv32_routine.specs.Place.{at}
 use Rattle.rv32_routine.specs.Masked.{FromOpening}
 use Rattle.rv32_routine.specs.Owes.{AreOf, Owes, Pending}
@@ -18,10 +17,11 @@ use Rattle.rv32_routine.proofs.Arrivals.{other_bytes}
 use Rattle.rv32_routine.proofs.Spread.{spread, spread_from}
 use Rattle.rv32_routine.proofs.Whole.{masked}
 use Rattle.rv32_routine.proofs.Leave.{leave_owes, behind}
+use Rattle.block_parts.proofs.Landing.{lands}
 use Rattle.block_parts.proofs.Returning.{goes_back}
 use Rattle.block_parts.proofs.Busy.{Finds, looks_owe}
 use Rattle.service_gen.proofs.Ending.{ends_owe, ended_below, has_ended}
-use Rattle.block_parts.proofs.Serving.{opens}
+use Rattle.block_parts.proofs.Serving.{opens_within}
 use Rattle.service_gen.specs.Pieces.{asks, refuses}
 use Rattle.block_parts.specs.Pieces.{ends, busy, raises, back}
 use Rattle.block_parts.specs.Looks.{LooksSuspended}
@@ -140,8 +140,8 @@ module _ (offset task own place : ℕ) (c : Core) (h : MayChain offset task own 
         ),
       )
 
-  runs_it : FromOpening 68 (at offset c) (Chained task own place)
-  runs_it = opens offset 68 (body task) c (Chained task own place) h.goes_back.can_run (omega arith) body_owes
+  runs_it : FromOpening 63 (at offset c) (Chained task own place)
+  runs_it = opens_within offset 63 (body task) c (Chained task own place) h.goes_back.can_run (omega arith) body_owes
 
 pub chains : (task : ℕ) → Chains task (masking ∷ body task)
 chains task = record { size = (let n : length (masking ∷ body task) ≡ 69 = refl in omega arith); masks = (body task, refl); runs = λ offset own place core h. runs_it offset task own place core h }

@@ -7,4 +7,3 @@ pub mod Chaining
 pub mod Taking
 pub mod Stating
 pub mod Yielding
-pub mod Objects

@@ -20,7 +20,7 @@ use Rattle.rv32_routine.proofs.Whole.{masked}
 use Rattle.block_parts.proofs.Busy.{bit_arrives}
 use Rattle.block_parts.proofs.Landing.{lands}
 use Rattle.block_parts.proofs.Returning.{goes_back_with}
-use Rattle.block_parts.proofs.Serving.{opens}
+use Rattle.block_parts.proofs.Serving.{opens_within}
 use Rattle.service_gen.specs.Pieces.{asks_active, tells_active, asks_waiting, tells_resting}
 use Rattle.block_parts.specs.Pieces.{back}
 use Rattle.service_gen.specs.GetTaskState.{MayTellState, IsNumber, StateTold, TellsState}
@@ -190,8 +190,8 @@ module _ (offset task own : ℕ) (c : Core) (h : MayTellState offset task own (m
         ),
       )
 
-  runs_it : FromOpening 23 (at offset c) (StateTold task own)
-  runs_it = opens offset 23 (body task) c (StateTold task own) h.goes_back.can_run (omega arith) body_owes
+  runs_it : FromOpening 15 (at offset c) (StateTold task own)
+  runs_it = opens_within offset 15 (body task) c (StateTold task own) h.goes_back.can_run (omega arith) body_owes
 
 pub tells_state : (task : ℕ) → TellsState task (masking ∷ body task)
 tells_state task = record { size = (let n : length (masking ∷ body task) ≡ 24 = refl in omega arith); masks = (body task, refl); runs = λ offset own core h. runs_it offset task own core h }

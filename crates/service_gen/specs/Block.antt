@@ -1,12 +1,12 @@
 -- Service blocks.
-use Rattle.std.specs.Prelude.{ℕ, Bool, true, false, List, [], ◌∷◌, slice_index}
+use Rattle.std.specs.Prelude.{ℕ, List, [], ◌∷◌, slice_index}
 use Rattle.sloth_base.specs.declared.image.Mark.{Mark}
 use Rattle.sloth_base.specs.declared.service.Service.{Service}
-use Rattle.sloth_base.specs.declared.service.Service.TheVariants.{ActivateTask, TerminateTask, ChainTask, Schedule, GetTaskID, GetTaskState, GetResource, ReleaseResource, SetEvent, ClearEvent, GetEvent, WaitEvent}
-use Rattle.sloth_base.specs.declared.service.ObjectKind.{ObjectKind}
-use Rattle.sloth_base.specs.ServiceCodes.{object_kind, IsObjectNumber}
+use Rattle.sloth_base.specs.declared.service.Service.TheVariants.{ActivateTask, TerminateTask, ChainTask, Schedule, GetTaskID, GetTaskState, GetResource, ReleaseResource}
+use Rattle.sloth_base.specs.ServiceCodes.{object_kind}
 use Rattle.sloth_base.specs.declared.places.Levels.{Levels}
 use Rattle.rv32_instr.specs.declared.InstrKind.{InstrKind}
+use Rattle.block_parts.specs.Objects.{is_on_events, HasBlockUnless}
 use Rattle.service_gen.specs.ActivateTask.{Activates}
 use Rattle.service_gen.specs.TerminateTask.{Terminates}
 use Rattle.service_gen.specs.ChainTask.{Chains}
@@ -22,19 +22,6 @@ use Rattle.block_parts.specs.Marks.{back_mark}
 abbrev pub further_marks : Service → ℕ → List Mark
 further_marks Schedule at = back_mark (sum32 at way_back) ∷ []
 further_marks service at = []
-
--- a service on events, whose code is generated elsewhere (OSEK OS 2.2.3, section 13.5)
-abbrev pub is_on_events : Service → Bool
-is_on_events SetEvent = true
-is_on_events ClearEvent = true
-is_on_events GetEvent = true
-is_on_events WaitEvent = true
-is_on_events _ = false
-
--- the objects of a kind, where the code is not generated elsewhere
-abbrev pub HasBlockUnless : (elsewhere : Bool) → ObjectKind → ℕ → Type 0
-HasBlockUnless true kind object = ⊥
-HasBlockUnless false kind object = IsObjectNumber kind object
 
 -- the services whose code is generated here; the object is a task, a resource, or 0 where there is none
 abbrev pub HasBlock : Service → ℕ → Type 0

@@ -44,8 +44,8 @@ pub record HasNotChained (task own : ℕ) (touched : List ℕ) (start end : Stat
 abbrev pub Chained : ℕ → ℕ → ℕ → List ℕ → State → State → Type 0
 Chained task own place touched start end = HasChained task own place touched start end ⊎ HasNotChained task own touched start end
 
--- Code of ChainTask: its first instruction masks, and at most 68 more lead to its effect, whatever lines arrive.
+-- Code of ChainTask: its first instruction masks, and at most 63 more lead to its effect, whatever lines arrive.
 pub record Chains (task : ℕ) (code : List InstrKind) : Type 0 where
   pub size : length code ≤ 69
   pub masks : (rest : List InstrKind) × (code ≡ masking ∷ rest)
-  pub runs : (offset own place : ℕ) (core : Core) → MayChain offset task own place code core → FromOpening 68 (at offset core) (Chained task own place)
+  pub runs : (offset own place : ℕ) (core : Core) → MayChain offset task own place code core → FromOpening 63 (at offset core) (Chained task own place)

@@ -38,8 +38,8 @@ pub record StateTold (task own : ℕ) (touched : List ℕ) (start end : State) :
   pub number : IsNumber task own start.core touched (slice_index end.core.registers a1)
   pub back : WentBack a1 start.core start end
 
--- Code of GetTaskState: its first instruction masks, and at most 23 more lead to its effect, whatever lines arrive.
+-- Code of GetTaskState: its first instruction masks, and at most 15 more lead to its effect, whatever lines arrive.
 pub record TellsState (task : ℕ) (code : List InstrKind) : Type 0 where
   pub size : length code ≤ 24
   pub masks : (rest : List InstrKind) × (code ≡ masking ∷ rest)
-  pub runs : (offset own : ℕ) (core : Core) → MayTellState offset task own code core → FromOpening 23 (at offset core) (StateTold task own)
+  pub runs : (offset own : ℕ) (core : Core) → MayTellState offset task own code core → FromOpening 15 (at offset core) (StateTold task own)

@@ -81,7 +81,3 @@ module _ (b : Build) (view : View) (arrivals : List Arrival) (setting : IsSettin
         related = subst (λ x. Stands b x (with_admits (late route.trace) (started b))) (sym route.late_behind)
             (stands_arrived b (late route.trace) route.last (started b) few in_range.1 law.1);
       }
-
-  pub booted_behind : boot_stretch.after.booted ≡ true
-  unfolding boot_stretch
-  booted_behind = refl

@@ -35,10 +35,23 @@ pub record IsStored (ram words registers zeros : List ℕ) (place t frame : ℕ)
   pub link : word_at new below_word ≡ 0x8000_0000 + place
   pub activity : word_at new (active t) ≡ 1
 
-module _ (ram words registers zeros : List ℕ) (place t frame : ℕ) (size : length ram ≡ 2097152) (four : length words ≡ 4) (rest : length registers ≡ 27)
-    (declared : t < 30) (behind : idle_context ≤ place) (aligned : place % 4 ≡ 0) (inside : place + context_bytes ≤ 2097152) (frame_from : 1024 ≤ frame) (frame_inside : frame + 4 * length zeros ≤ 2097152)
-    (apart : (place + context_bytes ≤ frame) ⊎ (frame + 4 * length zeros ≤ place))
-    (small_words : (i : ℕ) → slice_index words i < 4294967296) (small_registers : (i : ℕ) → slice_index registers i < 4294967296) (small_zeros : (i : ℕ) → slice_index zeros i < 4294967296) where
+-- what such stores need: room for the context and the frame, apart from each other and behind the named words, and words to store
+pub record MayStore (ram words registers zeros : List ℕ) (place t frame : ℕ) : Type 0 where
+  pub size : length ram ≡ 2097152
+  pub four : length words ≡ 4
+  pub rest : length registers ≡ 27
+  pub declared : t < 30
+  pub behind : idle_context ≤ place
+  pub aligned : place % 4 ≡ 0
+  pub inside : place + context_bytes ≤ 2097152
+  pub frame_from : 1024 ≤ frame
+  pub frame_inside : frame + 4 * length zeros ≤ 2097152
+  pub apart : (place + context_bytes ≤ frame) ⊎ (frame + 4 * length zeros ≤ place)
+  pub small_words : (i : ℕ) → slice_index words i < 4294967296
+  pub small_registers : (i : ℕ) → slice_index registers i < 4294967296
+  pub small_zeros : (i : ℕ) → slice_index zeros i < 4294967296
+
+module _ (ram words registers zeros : List ℕ) (place t frame : ℕ) (may : MayStore ram words registers zeros place t frame) where
   abbrev ram1 : List ℕ
   ram1 = with_words ram (place + 20) registers
 
@@ -58,7 +71,7 @@ module _ (ram words registers zeros : List ℕ) (place t frame : ℕ) (size : le
   new = stored ram words registers zeros place t frame
 
   long1 : length ram1 ≡ 2097152
-  long1 = length-with_words registers ram (place + 20) ∙ size
+  long1 = length-with_words registers ram (place + 20) ∙ may.size
 
   long2 : length ram2 ≡ 2097152
   long2 = length-with_words words ram1 place ∙ long1
@@ -83,7 +96,7 @@ module _ (ram words registers zeros : List ℕ) (place t frame : ℕ) (size : le
   -- the context
   in_context : (i : ℕ) → place ≤ i → i < place + context_bytes → slice_index new i ≡ slice_index ram2 i
   in_context i x y =
-      get_or-with_words zeros ram5 frame i (⊎_elim (λ (z : place + context_bytes ≤ frame). inl (omega arith)) (λ (z : frame + 4 * length zeros ≤ place). inr (omega arith)) apart) ∙ high5 i (omega arith)
+      get_or-with_words zeros ram5 frame i (⊎_elim (λ (z : place + context_bytes ≤ frame). inl (omega arith)) (λ (z : frame + 4 * length zeros ≤ place). inr (omega arith)) may.apart) ∙ high5 i (omega arith)
 
   context_word : (p : ℕ) → place ≤ p → p + 4 ≤ place + context_bytes → word_at new p ≡ word_at ram2 p
   context_word p x y = word_at-agree new ram2 p (λ i a b. in_context i (omega arith) (omega arith))
@@ -92,17 +105,17 @@ module _ (ram words registers zeros : List ℕ) (place t frame : ℕ) (size : le
   word_is j h =
       let n = long1 in
       context_word (place + 4 * j) (omega arith) (omega arith)
-      ∙ word_at-with_words words ram1 place j (omega arith) (omega arith) small_words
+      ∙ word_at-with_words words ram1 place j (omega arith) (omega arith) may.small_words
 
   register_is : (j : ℕ) → j < 27 → word_at new (place + 20 + 4 * j) ≡ slice_index registers j
   register_is j h =
       context_word (place + 20 + 4 * j) (omega arith) (omega arith)
       ∙ word_at-others words ram1 place (place + 20 + 4 * j) (inr (omega arith))
-      ∙ word_at-with_words registers ram (place + 20) j (omega arith) (omega arith) small_registers
+      ∙ word_at-with_words registers ram (place + 20) j (omega arith) (omega arith) may.small_registers
 
   -- the frame
   frame_words : AreWords new frame zeros
-  frame_words = let n = long5 in written zeros ram5 frame (omega arith) small_zeros
+  frame_words = let n = long5 in written zeros ram5 frame (omega arith) may.small_zeros
 
   -- the named words
   low_word : (p : ℕ) → p + 4 ≤ idle_context → word_at new p ≡ word_at ram5 p

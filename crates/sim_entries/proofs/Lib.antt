@@ -8,4 +8,3 @@ pub mod Boot
 pub mod BootRoute
 pub mod EnterRoute
 pub mod Generated
-pub mod Kept

@@ -63,9 +63,21 @@ module _ (b : Build) (state : State) (s : System) (t place : ℕ) (fits : Fits b
         let y = fits.from t l in
         let z = fits.to t l in
         let n = cleared_long words in
-        is_stored old (preempted state) rest (cleared words) place t frame k.fixed.ram refl refl few30 sp.behind sp.aligned sp.inside (omega arith) (omega arith)
-        (subst (λ (w : ℕ). (place + 128 ≤ frame) ⊎ (frame + 4 * w ≤ place)) (sym (cleared_long words)) apart)
-        small_words (registers_small 27 5 state.core.registers sane.registers) (zeros_small words)
+        is_stored old (preempted state) rest (cleared words) place t frame (record {
+          size = k.fixed.ram;
+          four = refl;
+          rest = refl;
+          declared = few30;
+          behind = sp.behind;
+          aligned = sp.aligned;
+          inside = sp.inside;
+          frame_from = omega arith;
+          frame_inside = omega arith;
+          apart = subst (λ (w : ℕ). (place + 128 ≤ frame) ⊎ (frame + 4 * w ≤ place)) (sym (cleared_long words)) apart;
+          small_words = small_words;
+          small_registers = registers_small 27 5 state.core.registers sane.registers;
+          small_zeros = zeros_small words;
+        })
 
     -- The bytes are those, but that no context is kept for the task.
     module _ (new : List ℕ) (long : length new ≡ length (saved state t place frame words))

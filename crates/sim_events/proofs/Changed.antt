@@ -24,12 +24,6 @@ use Rattle.sim_services.specs.Opening.{IsFollowed}
 use Rattle.sim_services.specs.Served.{IsServed}
 use Rattle.sim_services.proofs.GoesOn.{active, behind_status}
 
--- an element that is replaced twice
-pub set_twice : (l : List Task) (i : ℕ) (x y : Task) → set (set l i x) i y ≡ set l i y
-set_twice [] i x y = refl
-set_twice (a ∷ l) zero x y = refl
-set_twice (a ∷ l) (suc i) x y = ap (λ r. a ∷ r) (set_twice l i x y)
-
 -- the task `u` has this state and the events `now`, by the word of them and its line
 pub record Changes (b : Build) (state : State) (s : System) (u : ℕ) (m : TaskState) (now word : ℕ) (pending enabled : List ℕ) : Type 0 where
   pub declared : u < length b.config.tasks

@@ -3,6 +3,7 @@ use Rattle.std.proofs.Common.{◌≡◌, ℕ, ◌-◌, ◌^◌, ◌<◌, List, [
 use Rattle.std.specs.Prelude.{slice_index, bit_and, Contains}
 use Rattle.std.specs.List.{AllByRecursion}
 use Rattle.std.proofs.lemmas.Nat.{and_le_l}
+use Rattle.std.proofs.lemmas.List.{set-set}
 use Rattle.sloth_base.specs.Machine.{State}
 use Rattle.sloth_base.specs.Status.{E_OK}
 use Rattle.sloth_base.specs.declared.service.Service.TheVariants as service
@@ -21,7 +22,7 @@ use Rattle.sim_relation.proofs.Parts.{this_task}
 use Rattle.sim_services.specs.Laws.{MayGoOn}
 use Rattle.sim_services.specs.Served.{IsServed, Answers}
 use Rattle.sim_services.proofs.GoesOn.{active, answers_so}
-use Rattle.sim_events.proofs.Changed.{Changes, among, current, stands_changed, set_twice}
+use Rattle.sim_events.proofs.Changed.{Changes, among, current, stands_changed}
 
 module _ (b : Build) (state : State) (s : System) (t : ℕ) (own : Task) (object : ℕ) (touched : List ℕ) (end : State) (fits : Fits b)
     (may : MayGoOn b state s t own service.ClearEvent object) (effect : EventsCleared t touched state end) where
@@ -89,7 +90,7 @@ module _ (b : Build) (state : State) (s : System) (t : ℕ) (own : Task) (object
   next_is : changed_to (settled (answered E_OK t s)) t (task s t).state now ≡ settled after
   next_is =
       ap (λ (x : Task). settled (with_task (answered E_OK t s) t (record x { state = (task s t).state; events = now }))) this
-      ∙ ap (λ l. settled (record s { tasks = l })) (set_twice s.tasks t (answers E_OK (task s t)) (record (answers E_OK (task s t)) { events = now }))
+      ∙ ap (λ l. settled (record s { tasks = l })) (set-set s.tasks t (answers E_OK (task s t)) (record (answers E_OK (task s t)) { events = now }))
 
   pub clears : Answers b s t service.ClearEvent touched end
   clears =

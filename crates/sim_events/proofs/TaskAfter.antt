@@ -2,6 +2,7 @@
 use Rattle.std.proofs.Common.{◌≡◌, ℕ, ◌<◌, length, refl, sym, ap, ◌∙◌, subst, Bool, true, false, cond}
 use Rattle.std.specs.Prelude.{◌≢◌, ◌==◌, bit_and}
 use Rattle.std.proofs.lemmas.Bool.{ne_eqb, eq-eqb}
+use Rattle.std.proofs.lemmas.List.{set-set}
 use Rattle.osek_machine.specs.declared.state.TaskState.{TaskState}
 use Rattle.osek_machine.specs.declared.state.TaskState.TheVariants as mode
 use Rattle.osek_machine.specs.State.{System, task, with_task}
@@ -12,7 +13,6 @@ use Rattle.sim_relation.specs.Changes.{changed_to}
 use Rattle.sim_relation.specs.ServiceWords.{IsWaitWord}
 use Rattle.sim_relation.specs.Stands.{IsLineOf}
 use Rattle.sim_relation.proofs.Parts.{this_task}
-use Rattle.sim_events.proofs.Changed.{set_twice}
 
 abbrev pub state_after : TaskState → ℕ → TaskState
 state_after (mode.Waiting mask) now = cond (bit_and now mask == 0) (mode.Waiting mask) mode.Ready
@@ -74,7 +74,7 @@ by_woken : (s : System) (u now w : ℕ) (c : Bool) → u < length s.tasks → (t
 by_woken s u now w true l e = ap (λ m. settled (with_task s u (record (task s u) { state = m; events = now }))) e
 by_woken s u now w false l e =
     ap (λ x. settled (with_task (with_events s u now) u (record x { state = mode.Ready }))) (this_task s u (record (task s u) { events = now }) l)
-    ∙ ap (λ l. settled (record s { tasks = l })) (set_twice s.tasks u (record (task s u) { events = now }) (record (task s u) { state = mode.Ready; events = now }))
+    ∙ ap (λ l. settled (record s { tasks = l })) (set-set s.tasks u (record (task s u) { events = now }) (record (task s u) { state = mode.Ready; events = now }))
 
 pub woken_is : (s : System) (u now : ℕ) (m : TaskState) → u < length s.tasks → (task s u).state ≡ m
     → settled (woken m now u (with_events s u now)) ≡ changed_to s u (state_after m now) now

@@ -98,7 +98,7 @@ wait_stretches b view arrivals count state s t fits setting after_boot stands o 
     let found : (place : ℕ) → CanServe block.offset block.code t place n.core → MayWait block.offset t place (kept_at n) block.code n.core =
     λ place can. may_wait b n s1 t block.offset place block.code fits there some block.placed can in
     going_on_stretches b view arrivals count state s t service.WaitEvent (λ object. Waits) fits setting after_boot stands o.goes_on block.serves.masks
-    90 (omega arith) (λ place. Waited t place (kept_at n)) (λ place touched from to e. touches_none b touched e.touches)
+    85 (omega arith) (λ place. Waited t place (kept_at n)) (λ place touched from to e. touches_none b touched e.touches)
     (λ place can. block.serves.runs block.offset t place (kept_at n) n.core (found place can))
     (λ place lines touched s2 end can may effect.
     wait_answers b (state_arrive lines n) s2 t (task s1 t) opens.opening.block.call.object place (kept_at n) touched end fits

@@ -1,7 +1,7 @@
 -- What the zones of an image give.
 use Rattle.std.proofs.Common.{◌≡◌, ◌≢◌, ◌≤◌, ◌<◌, ◌+◌, ◌-◌, ◌%◌, ◌&&◌, ℕ, zero, suc, Bool, true, false, List, [], ◌∷◌, length, get_or, refl, sym, ap, subst, inl, inr, ⊎_elim, arith}
 use Rattle.std.specs.Prelude.{All, nat_le, nat_lt, slice_index_or}
-use Rattle.std.proofs.lemmas.Bool.{leb-true, ltb-true, le-leb, lt-ltb, cases_lt}
+use Rattle.std.proofs.lemmas.Bool.{leb-true, ltb-true, le-leb, lt-ltb, cases_lt, and_parts, and_from, false_from_ne_true}
 use Rattle.sloth_base.specs.declared.app.App.{App}
 use Rattle.sloth_base.specs.declared.config.Config.{Config}
 use Rattle.sloth_region.specs.declared.extent.Extent.{Extent}
@@ -27,25 +27,13 @@ use Rattle.sim_image.proofs.Following.{follow_from_apart, ends}
 
 -- ---- tests
 
-both : (a b : Bool) → (a && b) ≡ true → (a ≡ true) × (b ≡ true)
-both true b e = (refl, e)
-both false b e = absurd cc
-
 inside : (e : Extent) (i : ℕ) → is_in e i ≡ true → (e.base ≤ 0x8000_0000 + i) × (0x8000_0000 + i < e.base + e.len)
 inside e i h =
-    let p = both (nat_le e.base (0x8000_0000 + i)) (nat_lt (0x8000_0000 + i) (e.base + e.len)) h in
+    let p = and_parts (nat_le e.base (0x8000_0000 + i)) (nat_lt (0x8000_0000 + i) (e.base + e.len)) h in
     (leb-true _ _ p.0, ltb-true _ _ p.1)
 
-and_true : (a b : Bool) → a ≡ true → b ≡ true → (a && b) ≡ true
-and_true true b d e = e
-and_true false b d e = absurd cc
-
 pub here : (e : Extent) (i : ℕ) → e.base ≤ 0x8000_0000 + i → 0x8000_0000 + i < e.base + e.len → is_in e i ≡ true
-here e i a b = and_true (nat_le e.base (0x8000_0000 + i)) (nat_lt (0x8000_0000 + i) (e.base + e.len)) (le-leb _ _ a) (lt-ltb _ _ b)
-
-not_true : (a : Bool) → (a ≡ true → ⊥) → a ≡ false
-not_true true h = absurd (h refl)
-not_true false h = refl
+here e i a b = and_from (nat_le e.base (0x8000_0000 + i)) (nat_lt (0x8000_0000 + i) (e.base + e.len)) (le-leb _ _ a) (lt-ltb _ _ b)
 
 -- ---- numbers that are multiples of 4
 
@@ -102,7 +90,7 @@ module _ (config : Config) (app : App) (map : Map) (stacks : Stacks) (back : ℕ
     few_tasks = z.few_tasks;
     elsewhere = λ i e. let h = (elsewhere i e).0 in omega (arith, h);
     outside = λ t i l e. let h = elsewhere i e in let s = part_inside parts t l in inl (omega (arith, h.1, s.0));
-    apart = λ i e. not_true (is_in (data_zone map) i) (λ d. let p = inside (code_zone map) i e in let q = inside (data_zone map) i d in let c = code_to in omega (arith, p.1, q.0, c));
+    apart = λ i e. false_from_ne_true (is_in (data_zone map) i) (λ d. let p = inside (code_zone map) i e in let q = inside (data_zone map) i d in let c = code_to in omega (arith, p.1, q.0, c));
     items = λ func index. aligned_at map.places.items (get_or map.places.first func 0 + index) z.items_aligned;
     blocks = λ func index call e. aligned_at map.places.blocks _ z.blocks_aligned;
     data_inside = λ i e. let p = inside (data_zone map) i e in let d = data_to in omega (arith, p.1, d);

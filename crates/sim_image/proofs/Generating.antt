@@ -5,7 +5,7 @@ use Rattle.std.specs.Prelude as prelude
 use Rattle.std.specs.List.{slice_get}
 use Rattle.std.proofs.lemmas.List.Elements.{All-contains}
 use Rattle.std.proofs.lemmas.List.Sorted.{All-permutation, Contains-permutation}
-use Rattle.std.proofs.lemmas.Option.{get_or_from_slice_get}
+use Rattle.std.proofs.lemmas.Option.{get_or_from_slice_get, slice_get_within}
 use Rattle.std.proofs.Math.ListN.{length-map}
 use Rattle.sloth_base.specs.Named.{function, missing, operation, body_of, IsBodyOf}
 use Rattle.sloth_base.specs.ServiceCodes.{code_of}
@@ -65,12 +65,6 @@ use Rattle.sloth_base.proofs.Services.{of_code}
 use Rattle.sim_image.proofs.Serving.{some_code}
 use Rattle.sim_image.proofs.Placing.{items_are_placed}
 
-inside : {X : Type 0} (xs : List X) (t : ℕ) (e : X) → slice_get xs t ≡ Some e → t < length xs
-inside [] zero e h = absurd cc
-inside [] (suc t) e h = absurd cc
-inside (x ∷ xs) zero e h = omega arith
-inside (x ∷ xs) (suc t) e h = let l = inside xs t e h in omega (arith, l)
-
 -- there is no item in a function that is not there
 is_declared : (funcs : List Func) (func item : ℕ) → item < length (get_or funcs func missing).items → func < length funcs
 is_declared [] zero item l = absurd (omega (arith, l))
@@ -122,7 +116,7 @@ module _ (config : Config) (app : App) (levels : Levels) (map : Map) (stacks : S
   one_body : (t : ℕ) → t < length config.tasks → HasOneBody b t
   one_body t l = λ f func e is.
       let same : function app f ≡ func = get_or_from_slice_get app.funcs f func missing e in
-      g.has_items.well_formed.in_range.tasks.one t f (body_of app.funcs t) (inside app.funcs f func e, ap (λ (x : Func). x.task) same ∙ is) (has_body t l)
+      g.has_items.well_formed.in_range.tasks.one t f (body_of app.funcs t) (slice_get_within app.funcs f func e, ap (λ (x : Func). x.task) same ∙ is) (has_body t l)
 
   prologue : (t : ℕ) → t < length config.tasks → HasPrologue b levels map t
   prologue t l =

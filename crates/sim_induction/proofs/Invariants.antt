@@ -51,7 +51,7 @@ module _ (given : Setting) (setting : IsSetting given) (R : State → System →
   admits_keep : (k : ℕ) (s : System) → s.booted ≡ true → J s → J (with_admits (lines_at given.arrivals k) s)
   admits_keep k s b j =
       along_events given.config given.app J keep_j (map admit_event (moments k (k + 1) given.arrivals)) s (with_admits (lines_at given.arrivals k) s)
-      (leads_admits given.config given.app (moments k (k + 1) given.arrivals) s b (owned_at (length given.config.tasks) k (k + 1) given.arrivals setting.lines)) j
+      (leads_admits given.config given.app (moments k (k + 1) given.arrivals) s b (owned_at given setting k)) j
 
   pub strengthen : (k : ℕ) (m : State) (s : System) → s.booted ≡ true → With R I J m s → Advances given R progress k m s → Advances given (With R I J) progress k m s
   strengthen k m s b w a = record {

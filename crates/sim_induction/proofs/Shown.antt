@@ -10,8 +10,11 @@ use Rattle.sloth_base.specs.declared.event.Event.{Event}
 use Rattle.sloth_base.specs.declared.event.Event.TheVariants as event
 use Rattle.sloth_base.specs.declared.event.Stamped.{Stamped}
 use Rattle.sloth_base.specs.declared.step.Step.{Step}
-use Rattle.observe.specs.Observe.{View, stretch_event, later_event, unentered_event, marked_event, service_event, task_of, mark_at, outside_events, events_of_kind, stamp}
+use Rattle.observe.specs.Observe.{View, stretch_event, later_event, unentered_event, marked_event, service_event, task_of, mark_at, outside_events, events_of_kind, stamp, entry_event}
 use Rattle.sloth_base.specs.ServiceCodes.{service_of}
+use Rattle.sloth_base.specs.Owners.{line_kind}
+use Rattle.sloth_base.specs.declared.lines.LineKind.{LineKind}
+use Rattle.sloth_base.specs.declared.lines.LineKind.TheVariants as line_of
 use Rattle.osek_machine.specs.InTime.{is_admit, SpansFor}
 
 -- an event that is no admit, and may have more than one instruction
@@ -42,8 +45,12 @@ unentered_long : (m : Option Mark) (view : View) (first last : Step) → IsLong 
 unentered_long (Some mark) view first last = marked_long mark.kind view mark first last
 unentered_long None view first last = (refl, λ e. tt)
 
+entry_long : (k : LineKind) → IsLong (entry_event k)
+entry_long (line_of.Task t) = (refl, λ e. tt)
+entry_long line_of.Unused = (refl, λ e. tt)
+
 later_long : (entered : Option ℕ) (view : View) (first last : Step) → IsLong (later_event entered view first last)
-later_long (Some line) view first last = (refl, λ e. tt)
+later_long (Some line) view first last = entry_long (line_kind view.owners line)
 later_long None view first last = unentered_long (mark_at view first.pc) view first last
 
 pub stretch_long : (view : View) (first last : Step) → IsLong (stretch_event view first last)

@@ -66,25 +66,26 @@ module _ (P : ℕ → Type 0) where
 -- ---- what holds of each line that is touched holds of the early ones
 
 module _ (P : ℕ → Type 0) where
+  by_line : (o : Option ℕ) (line : ℕ) (rest : List ℕ) (b : Bool) → (AllByRecursion P rest → b ≡ true → P line) → AllByRecursion P (lines_of o rest)
+      → (is_number line o || b) ≡ true → P line
+  by_line None line rest b later h is = later h is
+  by_line (Some l) line rest b later h is = at (l == line) refl
+    where
+      at : (c : Bool) → (l == line) ≡ c → P line
+      at true same = subst P (eqb-true l line same) h.0
+      at false other = later h.1 (sym (ap (λ c. c || b) other) ∙ is)
+
   of_touched : (t : Trace) (line : ℕ) → AllByRecursion P (touched_lines t) → touches t line ≡ true → P line
   of_touched [] line h is = absurd cc
-  of_touched (e ∷ t) line h is = by e.1 h is
-    where
-      by : (o : Option ℕ) → AllByRecursion P (lines_of o (touched_lines t)) → (is_number line o || touches t line) ≡ true → P line
-      by None h is = of_touched t line h is
-      by (Some l) h is = at (l == line) refl
-        where
-          at : (b : Bool) → (l == line) ≡ b → P line
-          at true same = subst P (eqb-true l line same) h.0
-          at false other = of_touched t line h.1 (sym (ap (λ b. b || touches t line) other) ∙ is)
+  of_touched (e ∷ t) line h is = by_line e.1 line (touched_lines t) (touches t line) (of_touched t line) h is
+
+  kept : (b : Bool) (line : ℕ) (u : List ℕ) → (b ≡ true → P line) → AllByRecursion P u → AllByRecursion P (cond b (line ∷ u) u)
+  kept true line u p h = (p refl, h)
+  kept false line u p h = h
 
   part_touched : (t : Trace) (a : List ℕ) → AllByRecursion P (touched_lines t) → AllByRecursion P (touched_of t a)
   part_touched t [] h = tt
-  part_touched t (line ∷ a) h = by (touches t line) refl
-    where
-      by : (b : Bool) → touches t line ≡ b → AllByRecursion P (cond b (line ∷ touched_of t a) (touched_of t a))
-      by true is = (of_touched t line h is, part_touched t a h)
-      by false is = part_touched t a h
+  part_touched t (line ∷ a) h = kept (touches t line) line (touched_of t a) (of_touched t line h) (part_touched t a h)
 
   rest_touched : (o : Option ℕ) (rest : List ℕ) → AllByRecursion P (lines_of o rest) → AllByRecursion P rest
   rest_touched None rest h = h

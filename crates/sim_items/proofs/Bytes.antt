@@ -85,9 +85,6 @@ stored_bytes w bytes offset value l =
     let e = length-low_bytes w value in
     ap (λ n. take offset bytes ++ (low_bytes w value ++ drop (offset + n) bytes)) (sym e) ∙ replaced (low_bytes w value) bytes offset (omega arith)
 
-pub length-stored : (w : Width) (bytes : List ℕ) (offset value : ℕ) → offset + size_of w ≤ length bytes → length (stored w bytes offset value) ≡ length bytes
-length-stored w bytes offset value l = ap (λ (r : List ℕ). length r) (stored_bytes w bytes offset value l) ∙ length-with_bytes (low_bytes w value) bytes offset
-
 -- ---- numbers
 
 -- the number in so many bytes from an offset on

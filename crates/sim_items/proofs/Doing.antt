@@ -362,4 +362,15 @@ module _ (b : Build) (state : State) (s : System) (t : ℕ) (fits : Fits b) (k :
       stores_from (op.StoreAt w rs y index mask) v.0 w rs y masked (lo (symbol_address b.places y)) h.0 inside v.1 v.2 (reaches_masked w y masked inside v.3) (h.0, (h.1, tt)) refl refl
 
   pub does : (o : Op) → IsStraight b.app frame.func o → P o
-  does = straight_cases b.app frame.func P of_registers of_number of_upper of_constant of_frame_load of_frame_store of_load of_store of_load_at of_store_at
+  does = straight_cases b.app frame.func P (record {
+    registers = of_registers;
+    number = of_number;
+    upper = of_upper;
+    constant = of_constant;
+    frame_load = of_frame_load;
+    frame_store = of_frame_store;
+    load = of_load;
+    store = of_store;
+    load_at = of_load_at;
+    store_at = of_store_at;
+  })

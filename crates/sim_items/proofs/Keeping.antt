@@ -1,7 +1,7 @@
 -- What an item that writes to RAM leaves there.
 use Rattle.std.proofs.Common.{◌≡◌, ℕ, zero, suc, ◌+◌, ◌*◌, ◌<◌, ◌≤◌, List, [], ◌∷◌, length, get_or, set, refl, sym, ap, ◌∙◌, subst, arith, ⊎_elim, inl, inr, Bool, true, false}
 use Rattle.std.specs.Prelude.{◌⊎◌, slice_index}
-use Rattle.std.proofs.lemmas.Bool.{cases_eq, cases_lt}
+use Rattle.std.proofs.lemmas.Bool.{cases_eq, cases_lt, false_from_ne_true}
 use Rattle.std.proofs.lemmas.List.{get_or-set_same, get_or-set_other, length-set}
 use Rattle.rv32_instr.specs.Ram.{word_at, with_word}
 use Rattle.rv32_routine.proofs.Words.{length-with_word, get_or-with_word, word_at-other, word_at-same}
@@ -27,23 +27,16 @@ same_keeps b ram s t = record { long = refl; low = λ i x y. refl; code = λ i h
 
 -- ---- writes to data
 
-not_true : (x : Bool) → (x ≡ true → ⊥) → x ≡ false
-not_true true h = absurd (h refl)
-not_true false h = refl
-
-clash : {X : Type 0} → true ≡ false → X
-clash e = cc
-
 module _ (b : Build) (fits : Fits b) (old new : List ℕ) (only : (i : ℕ) → b.is_data i ≡ false → slice_index new i ≡ slice_index old i) where
   -- a task's part of the stacks
   pub stack_stays : (u : ℕ) → u < length b.config.tasks → Agree old new (b.low u) (b.top u)
   stack_stays u h i x y =
-      only i (not_true (b.is_data i) (λ d. ⊎_elim (λ (l : i < b.low u). omega arith) (λ (l : b.top u ≤ i). omega arith) (fits.outside u i h (inr d))))
+      only i (false_from_ne_true (b.is_data i) (λ d. ⊎_elim (λ (l : i < b.low u). omega arith) (λ (l : b.top u ≤ i). omega arith) (fits.outside u i h (inr d))))
 
   pub data_keeps : (s : System) (t : ℕ) → length new ≡ length old → Keeps b old new s t
   data_keeps s t long = record {
     long = long;
-    low = λ i x y. only i (not_true (b.is_data i) (λ d. (let l = fits.elsewhere i (inr d) in omega arith)));
+    low = λ i x y. only i (false_from_ne_true (b.is_data i) (λ d. (let l = fits.elsewhere i (inr d) in omega arith)));
     code = λ i h. only i (fits.apart i h);
     others = λ u h n a. stack_stays u h;
   }

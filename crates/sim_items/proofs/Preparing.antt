@@ -218,10 +218,15 @@ module _ (b : Build) (state : State) (own : List ℕ) (frame : Frame) (long : Bo
 
   pub prepares_straight : (o : Op) → IsStraight b.app frame.func o → P o
   prepares_straight =
-      straight_cases b.app frame.func P
-      (λ kind rd rs1 rs2 h done k l. absurd (omega arith)) (λ kind rd rs1 number h done k l. absurd (omega arith)) (λ rd number h done k l. absurd (omega arith))
-      (λ rd value h. opens (op.Li rd value) value _ refl (λ th e one. e))
-      (λ rd word h done k l. absurd (omega arith)) (λ rs word h done k l. absurd (omega arith))
-      (λ w rd y offset h. opens (op.Load w rd y offset) (symbol_address b.places y + offset) _ refl (λ th e one. e))
-      (λ w rs y offset h. opens (op.Store w rs y offset) (symbol_address b.places y + offset) _ refl (λ th e one. e))
-      of_load_at of_store_at
+      straight_cases b.app frame.func P (record {
+        registers = λ kind rd rs1 rs2 h done k l. absurd (omega arith);
+        number = λ kind rd rs1 number h done k l. absurd (omega arith);
+        upper = λ rd number h done k l. absurd (omega arith);
+        constant = λ rd value h. opens (op.Li rd value) value _ refl (λ th e one. e);
+        frame_load = λ rd word h done k l. absurd (omega arith);
+        frame_store = λ rs word h done k l. absurd (omega arith);
+        load = λ w rd y offset h. opens (op.Load w rd y offset) (symbol_address b.places y + offset) _ refl (λ th e one. e);
+        store = λ w rs y offset h. opens (op.Store w rs y offset) (symbol_address b.places y + offset) _ refl (λ th e one. e);
+        load_at = of_load_at;
+        store_at = of_store_at;
+      })

@@ -1,7 +1,7 @@
 -- The bytes of a symbol, and accesses to them.
 use Rattle.std.proofs.Common.{◌≡◌, ℕ, ◌+◌, ◌-◌, ◌%◌, ◌<◌, ◌≤◌, List, [], length, get_or, set, sym, ap, ◌∙◌, subst, arith, ⊎_elim, inl, inr, true, false, Some, None, leb, ltb, cond}
 use Rattle.std.specs.Prelude.{◌≢◌, slice_index}
-use Rattle.std.proofs.lemmas.Bool.{cases_eq, cases_lt, and_from, lt-ltb, le-leb}
+use Rattle.std.proofs.lemmas.Bool.{cases_eq, cases_lt, and_from, lt-ltb, le-leb, true≢false}
 use Rattle.std.proofs.lemmas.List.{get_or-set_same, get_or-set_other, get_or_past}
 use Rattle.sloth_base.specs.Arithmetic.{size_of, extended}
 use Rattle.sloth_base.specs.declared.app.Width.{Width}
@@ -125,10 +125,7 @@ module _ (b : Build) (fits : Fits b) (ram : List ℕ) (symbols : List (List ℕ)
         (cases_lt i (place + offset)))
 
     pub only_data : (i : ℕ) → b.is_data i ≡ false → slice_index new i ≡ slice_index ram i
-    only_data i h = kept_outside i (λ k l e. clash (sym (is_data k l) ∙ sym (ap b.is_data e) ∙ h))
-      where
-        clash : true ≡ false → ⊥
-        clash e = cc
+    only_data i h = kept_outside i (λ k l e. true≢false (sym (is_data k l) ∙ sym (ap b.is_data e) ∙ h))
 
     abbrev pub symbols_now : List (List ℕ)
     symbols_now = set symbols y (stored w bytes offset value)

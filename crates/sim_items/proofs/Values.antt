@@ -4,6 +4,7 @@ use Rattle.std.specs.Prelude.{slice_index, int_lt, if◌then◌else◌, ◌==◌
 use Rattle.std.specs.List.{list_all, AllByRecursion}
 use Rattle.std.proofs.lemmas.Bool.{and_from, le-leb, lt-ltb}
 use Rattle.std.proofs.lemmas.Int.{ints}
+use Rattle.std.proofs.Math.Bool.{or-true}
 use Rattle.sloth_base.specs.declared.app.App.{App}
 use Rattle.sloth_base.specs.declared.app.Op.{Op}
 use Rattle.sloth_base.specs.declared.app.AluKind.{AluKind}
@@ -38,9 +39,6 @@ register_value alu.Sra rd rs1 rs2 pc x = refl
 register_value alu.Or rd rs1 rs2 pc x = refl
 register_value alu.And rd rs1 rs2 pc x = refl
 
-word_value : (z : ℤ) (n : ℕ) → z ≡ pos n → complement z ≡ n
-word_value z n e = ap complement e
-
 pub number_value : (kind : ImmKind) (rd rs1 : ℕ) (number : ℤ) (pc : ℕ) (x : List ℕ) → IsNumber kind number
     → effect (number_operation kind rd rs1 number) pc x ≡ Write rd (number_result kind (slice_index x rs1) (complement number))
 number_value imm.Addi rd rs1 number pc x h = refl
@@ -62,11 +60,7 @@ number_value imm.Srai rd rs1 number pc x h =
 own_test : (r : ℕ) → IsOwn r → is_own r ≡ true
 own_test r (inl e) = ap is_own e
 own_test r (inr h) =
-    ap (λ x. (r == 0) || (x && ltb r 30)) (le-leb 5 r h.0) ∙ ap (λ x. (r == 0) || x) (lt-ltb r 30 h.1) ∙ or_true (r == 0)
-  where
-    or_true : (x : Bool) → (x || true) ≡ true
-    or_true true = refl
-    or_true false = refl
+    ap (λ x. (r == 0) || (x && ltb r 30)) (le-leb 5 r h.0) ∙ ap (λ x. (r == 0) || x) (lt-ltb r 30 h.1) ∙ or-true (r == 0)
 
 abbrev pub AreOwn : List ℕ → Type 0
 AreOwn registers = AllByRecursion IsOwn registers

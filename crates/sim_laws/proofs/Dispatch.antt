@@ -86,9 +86,6 @@ use Rattle.sloth_base.specs.declared.places.Levels.{Levels}
 use Rattle.sloth_base.specs.declared.service.Service.{Service}
 use Rattle.sloth_base.specs.declared.service.Service.TheVariants as service
 
-clash : {X : Type 0} → true ≡ false → X
-clash e = cc
-
 -- ---- calls of well-formed task code
 
 module _ (b : Build) (image : Image) (kernel : Kernel b image) (t : ℕ) where

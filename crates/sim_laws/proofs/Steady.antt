@@ -3,6 +3,7 @@ use Rattle.std.proofs.Common.{◌≡◌, ℕ, ◌<◌, List, [], ◌++◌, lengt
 use Rattle.std.specs.Prelude.{Bool, ◌-◌, ◌⊎◌, get_or, not, ◌&&◌}
 use Rattle.app_rules.specs.Code.{Ends, Pauses}
 use Rattle.std.proofs.Math.ListN.{get_or-map}
+use Rattle.std.proofs.Math.Bool.{and-true}
 use Rattle.sloth_base.specs.declared.config.Config.{Config}
 use Rattle.sloth_base.specs.declared.app.App.{App}
 use Rattle.sloth_base.specs.declared.app.Call.{Call}
@@ -62,11 +63,7 @@ pub has_internal : (config : Config) (app : App) (s : System) (t : ℕ) (call : 
     → (task s t).raised ≡ (declaration config t).non
 has_internal config app s t call v declared at =
     let r = running config app s t (op.Serve call) v declared at in
-    r.raised ∙ ap (λ x. (declaration config t).non && not x) at.free ∙ with_true (declaration config t).non
-  where
-    with_true : (x : Bool) → (x && true) ≡ x
-    with_true true = refl
-    with_true false = refl
+    r.raised ∙ ap (λ x. (declaration config t).non && not x) at.free ∙ and-true (declaration config t).non
 
 -- a basic task that is Ready has no frames: it starts anew
 pub basic_anew : (config : Config) (app : App) (s : System) (t : ℕ) → Valid config app s → t < length config.tasks → (task s t).state ≡ mode.Ready

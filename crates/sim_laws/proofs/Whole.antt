@@ -4,6 +4,7 @@ use Rattle.std.specs.Prelude.{◌&&◌, map, replicate, nat_le, nat_lt, if◌the
 use Rattle.std.proofs.lemmas.Bool.{cases_lt, le-ltb}
 use Rattle.sloth_base.specs.declared.event.Arrival.{Arrival}
 use Rattle.sloth_base.specs.declared.image.Image.{Image}
+use Rattle.sloth_base.specs.Owners.{owners_in}
 use Rattle.sloth_base.specs.Arrivals.{moments, AreArrivals}
 use Rattle.sloth_base.specs.Machine.{State}
 use Rattle.sloth_region.specs.Layout.{cur}
@@ -145,8 +146,11 @@ module _ (b : Build) (image : Image) (kernel : Kernel b image) where
       let setting = is_setting b.config b.app image arrivals kernel.tasks are in
       let whole = whole_run (setting_of b view arrivals) setting R (progress_in b) (simulation arrivals setting) (start image) (booting arrivals setting) n in
       let found = whole.mirrors count before state after enabled in
-      let related = found.2 in
-      (found.0, found.1, record {
-        stands = related.base;
-        nested = stack_nested b found.0 related.system.valid related.system.owing kernel.nested related.base.stack related.base.active.falling;
-      })
+      let related = found.2 in (
+        found.0,
+        found.1,
+        record {
+          stands = related.base;
+          nested = stack_nested b found.0 related.system.valid related.system.owing kernel.nested related.base.stack related.base.active.falling;
+        },
+      )

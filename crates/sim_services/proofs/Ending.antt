@@ -56,9 +56,6 @@ module _ (b : Build) (state : State) (s : System) (t : ℕ) (called : Task) (ser
     stack : AreActive b s (t ∷ below)
     stack = subst (AreActive b s) stack_is k.active
 
-    run : RunsTask b state s t below
-    run = subst (Running b state s) stack_is k.running
-
     here : IsActive b s t
     here = falling_head b s t below stack.falling
 

@@ -112,7 +112,7 @@ module _ (b : Build) (view : View) (arrivals : List Arrival) (count : ℕ) (stat
       let declared = ltb-true object (length b.config.tasks) o.names in
       let there = k b view arrivals count state s t service.GetTaskState TellsState fits setting after_boot stands o.opens block.serves.masks in
       going_on_stretches b view arrivals count state s t service.GetTaskState TellsState fits setting after_boot stands o block.serves.masks
-      23 (omega arith) (λ place. StateTold object t) (λ place. state_touches b object t declared)
+      15 (omega arith) (λ place. StateTold object t) (λ place. state_touches b object t declared)
       (λ place can. block.serves.runs block.offset t start.core (record {
         goes_back = can.goes_back;
         level = can.level;
@@ -150,7 +150,7 @@ module _ (b : Build) (view : View) (arrivals : List Arrival) (count : ℕ) (stat
       let declared = ltb-true object (length b.config.tasks) o.goes_on.names in
       let there = k b view arrivals count state s t service.ChainTask Chains fits setting after_boot stands o.goes_on.opens block.serves.masks in
       going_on_stretches b view arrivals count state s t service.ChainTask Chains fits setting after_boot stands o.goes_on block.serves.masks
-      68 (omega arith) (λ place. Chained object t place)
+      63 (omega arith) (λ place. Chained object t place)
       (λ place. chain_touches b object t place declared (active_by_word b start found t there o.goes_on.opens.opening.current).declared)
       (λ place can. block.serves.runs block.offset t place start.core (record {
         goes_back = can.goes_back;

@@ -6,7 +6,7 @@ use crate::numbers::{FuncId, Reg, ResId, SymId, TaskId};
 use crate::service::Service;
 
 /// An operation on two registers.
-#[derive(Clone, Copy, Debug, PartialEq, Eq)]
+#[derive(Clone, Copy, Debug)]
 pub enum AluKind {
     Add,
     Sub,
@@ -21,7 +21,7 @@ pub enum AluKind {
 }
 
 /// An operation on a register and a number.
-#[derive(Clone, Copy, Debug, PartialEq, Eq)]
+#[derive(Clone, Copy, Debug)]
 pub enum ImmKind {
     Addi,
     Slti,
@@ -35,7 +35,7 @@ pub enum ImmKind {
 }
 
 /// A test of two registers.
-#[derive(Clone, Copy, Debug, PartialEq, Eq)]
+#[derive(Clone, Copy, Debug)]
 pub enum BranchKind {
     Beq,
     Bne,
@@ -56,7 +56,7 @@ pub enum Width {
 }
 
 /// A service with its operands: the task or resource, or 0; the mask of the events, or 0.
-#[derive(Clone, Copy, Debug, PartialEq, Eq)]
+#[derive(Clone, Copy, Debug)]
 pub struct Call {
     pub service: Service,
     pub object: u32,
@@ -64,7 +64,7 @@ pub struct Call {
 }
 
 /// What an item does.
-#[derive(Clone, Copy, Debug, PartialEq, Eq)]
+#[derive(Clone, Copy, Debug)]
 pub enum Op {
     Alu {
         kind: AluKind,
@@ -137,7 +137,7 @@ pub enum Op {
 }
 
 /// An item: one statement of a body that does something, and its line in the source.
-#[derive(Clone, Copy, Debug, PartialEq, Eq)]
+#[derive(Clone, Copy)]
 pub struct Item {
     pub line: u32,
     pub op: Op,

@@ -4,7 +4,7 @@ use crate::list::List;
 use crate::name::Name;
 
 /// What a mark says of the instruction at its address.
-#[derive(Clone, Copy, Debug, PartialEq, Eq)]
+#[derive(Clone, Copy, Debug)]
 pub enum MarkKind {
     /// It completes an item: `a` is the register of the result, `b` the function, `c` the item.
     Item,
@@ -19,7 +19,7 @@ pub enum MarkKind {
 }
 
 /// A mark on the instruction at an address.
-#[derive(Clone, Copy, Debug, PartialEq, Eq)]
+#[derive(Clone, Copy)]
 pub struct Mark {
     pub address: u32,
     pub kind: MarkKind,

@@ -34,7 +34,7 @@ impl Model for ResId {
 }
 
 /// A function of the task code: its place among the bodies, from 0.
-#[derive(Clone, Copy, Debug, PartialEq, Eq)]
+#[derive(Clone, Copy, Debug)]
 pub struct FuncId(pub u32);
 
 impl Model for FuncId {
@@ -48,7 +48,7 @@ impl Model for FuncId {
 }
 
 /// A named piece of data of the task code: its place among the `data` statements, from 0.
-#[derive(Clone, Copy, Debug, PartialEq, Eq)]
+#[derive(Clone, Copy, Debug)]
 pub struct SymId(pub u32);
 
 impl Model for SymId {

@@ -13,7 +13,7 @@ pub const BLOCK_OBJECTS: u32 = 40;
 pub const BLOCK_COUNT: usize = 512;
 
 /// The levels of the tasks, of the resources' ceilings and of RES_SCHEDULER (the last entry of `ceiling`).
-#[derive(Clone, Copy, Debug, PartialEq, Eq)]
+#[derive(Clone, Copy)]
 pub struct Levels {
     pub task: [u8; 30],
     pub ceiling: [u8; 33],

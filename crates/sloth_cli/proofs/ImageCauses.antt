@@ -37,17 +37,6 @@ broke-second old mid new one other a h =
 
 -- ---- `exec`
 
-pub loaded-ends : (f : Failure) (old new : Files) (sink : Output) (e : Execution) (file arr : List ℕ) → AreExecInputs old e file arr → LoadFailed f file arr
-    → FilesStay old new → CommandFailed f (world old sink) (world new sink) (Executes e)
-loaded-ends (failure.NotAnImage fault) old new sink e file arr inputs h stay = (record { file = file; inputs = (arr, inputs); faulty = h }, stay, refl)
-loaded-ends (failure.Refused r) old new sink e file arr inputs h stay =
-    (record { file = file; arr = arr; image = h.0; inputs = inputs; is_image = h.1; least = h.2 }, stay, refl)
-loaded-ends failure.NoMemory old new sink e file arr inputs h stay = (stay, refl)
-loaded-ends failure.ReadFault old new sink e file arr inputs h stay = absurd h
-loaded-ends failure.TooLong old new sink e file arr inputs h stay = absurd h
-loaded-ends failure.WriteFile old new sink e file arr inputs h stay = absurd h
-loaded-ends failure.Put old new sink e file arr inputs h stay = absurd h
-
 -- a run that ends so is one of `exec`
 exec-ends : (end : RunEnd) (old new : Files) (e : Execution) (text : List ℕ) → IsExecuted old e end text → FilesStay old new
     → Ends (end_status end) old new (Executes e) text

@@ -19,16 +19,6 @@ use Rattle.sloth_cli.specs.declared.top.Status.TheVariants as status
 use Rattle.sloth_cli.specs.declared.failure.Failure.{Failure}
 use Rattle.sloth_cli.specs.declared.failure.Failure.TheVariants as failure
 
-pub generate-ends : (f : Failure) (files : Files) (sink : Output) (seed : ℕ) (img : List ℕ) → SampleFailed f seed
-    → CommandFailed f (world files sink) (world files sink) (Samples seed img)
-generate-ends (failure.Refused r) files sink seed img h = (h, λ name. refl, refl)
-generate-ends failure.NoMemory files sink seed img h = (λ name. refl, refl)
-generate-ends failure.ReadFault files sink seed img h = absurd h
-generate-ends failure.TooLong files sink seed img h = absurd h
-generate-ends failure.WriteFile files sink seed img h = absurd h
-generate-ends failure.Put files sink seed img h = absurd h
-generate-ends (failure.NotAnImage fault) files sink seed img h = absurd h
-
 -- an image was built of the generated texts, and the generated arrivals are of its tasks
 pub record IsGenerated (seed : ℕ) (image : Image) : Type 0 where
   pub config : Config

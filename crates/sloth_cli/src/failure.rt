@@ -10,7 +10,7 @@ use sloth_io::sink::SinkFault;
 use sloth_io::store::StoreFault;
 
 /// Why a command was not done.
-#[derive(Clone, Copy, Debug, PartialEq, Eq)]
+#[derive(Clone, Copy)]
 pub enum Failure {
     Refused(Refusal),
     ReadFault,

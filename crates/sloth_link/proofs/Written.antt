@@ -22,12 +22,6 @@ pub length-with_bytes : (bytes memory : List ℕ) (o : ℕ) → length (with_byt
 length-with_bytes [] memory o = refl
 length-with_bytes (b ∷ bytes) memory o = length-with_bytes bytes (set memory o b) (o + 1) ∙ length-set memory o b
 
-pub with_bytes-append : (xs ys memory : List ℕ) (o : ℕ) → with_bytes memory o (xs ++ ys) ≡ with_bytes (with_bytes memory o xs) (o + length xs) ys
-with_bytes-append [] ys memory o = ap (λ k. with_bytes memory k ys) (let e : o ≡ o + 0 = omega arith in e)
-with_bytes-append (x ∷ xs) ys memory o =
-    with_bytes-append xs ys (set memory o x) (o + 1)
-    ∙ ap (λ k. with_bytes (with_bytes (set memory o x) (o + 1) xs) k ys) (let e : o + 1 + length xs ≡ o + suc (length xs) = omega arith in e)
-
 -- all other bytes stay
 pub other_byte : (bytes memory : List ℕ) (o i : ℕ) → (i < o) ⊎ (o + length bytes ≤ i) → slice_index (with_bytes memory o bytes) i ≡ slice_index memory i
 other_byte [] memory o i h = refl

@@ -82,11 +82,6 @@ module _ (F : Refusal → Type 0) where
 pub least_same : (F G : Refusal → Type 0) → ((r : Refusal) → F r → G r) → ((r : Refusal) → G r → F r) → (r : Refusal) → IsLeast F r → IsLeast G r
 least_same F G to from r l = record { is_fault = to r l.is_fault; is_least = λ s g. l.is_least s (from s g) }
 
-pub precedes_merge : (o : Option Refusal) (F : Refusal → Type 0) (m : Option Refusal) → Finds F m → (r : Refusal) → F r → Beaten (merge o m) r
-unfolding merge
-precedes_merge o F None f r x = absurd (f r x)
-precedes_merge o F (Some m) f r x = precedes_trans (lesser o m) m r (lesser_right o m) (f.is_least r x)
-
 -- One search more: G is what it looked for, and the rest H.
 pub kept_merge : (F G I H : Refusal → Type 0) (o m : Option Refusal) → Finds I m → ((r : Refusal) → G r → I r ⊎ H r) → ((r : Refusal) → I r → G r) → ((r : Refusal) → H r → G r)
     → Kept F G o → Kept F H (merge o m)
@@ -155,13 +150,6 @@ module _ {X : Type 0} (P : List X → X → Refusal → Type 0) (xs : List X) wh
 pub finds_true : (b : Bool) (m : Refusal) → Finds (λ r. (b ≡ true) × (r ≡ m)) (when b m)
 finds_true b m = finds_when (b ≡ true) b m (λ h. h) (λ h. h)
 
-pub finds_false : (b : Bool) (m : Refusal) → Finds (λ r. (b ≡ false) × (r ≡ m)) (when (not b) m)
-finds_false true m = λ r f. let t = f.0 in cc
-finds_false false m = record { is_fault = (refl, refl); is_least = λ r f. subst (λ (x : Refusal). Precedes m x) (sym f.1) (precedes_self m) }
-
-pub loop_start : {X : Type 0} (P : List X → X → Refusal → Type 0) (xs : List X) → Loop P xs 0 None
-loop_start P xs = kept_start (Somewhere P xs)
-
 -- The step in the words of a loop's body.
 pub loop_more : {X : Type 0} (P : List X → X → Refusal → Type 0) (xs : List X) (i : ℕ) (x : X) (o m o' : Option Refusal) → i < length xs → x ≡ get_or xs i x
     → Finds (P (take i xs) x) m → o' ≡ merge o m → Loop P xs i o → Loop P xs (i + 1) o'
@@ -170,9 +158,6 @@ loop_more P xs i x o m o' h e f q k =
 
 pub finds_true_is : (b : Bool) (r : Refusal) (m : Option Refusal) → m ≡ when b r → Finds (λ s. (b ≡ true) × (s ≡ r)) m
 finds_true_is b r m e = subst (Finds (λ s. (b ≡ true) × (s ≡ r))) (sym e) (finds_true b r)
-
-pub finds_false_is : (b : Bool) (r : Refusal) (m : Option Refusal) → m ≡ when (not b) r → Finds (λ s. (b ≡ false) × (s ≡ r)) m
-finds_false_is b r m e = subst (Finds (λ s. (b ≡ false) × (s ≡ r))) (sym e) (finds_false b r)
 
 -- A rule that is judged only where a test says so.
 pub finds_if : (F : Refusal → Type 0) (b : Bool) (m : Option Refusal) → (b ≡ true → Finds F m) → (b ≡ false → m ≡ None) → Finds (λ s. (b ≡ true) × F s) m

@@ -147,10 +147,6 @@ running-behind r p q st a image arrivals hands view same expected none machine c
     let ran = ran-beside p q (image_of r) (count_of r + 1) a.ran same machine coming count in
     running-at q (count_of r + 1) (subst P (sym image) (done-more r p q st a arrivals hands view same expected none ran))
 
--- lines of a front and of a back
-pub lines-take : (n : ℕ) (A : List Arrival) → AreLines A → AreLines (take n A)
-lines-take n A h = All-take (λ (a : Arrival). a.line < 32) n A h
-
 pub lines-drop : (n : ℕ) (A : List Arrival) → AreLines A → AreLines (drop n A)
 lines-drop n A h = All-drop (λ (a : Arrival). a.line < 32) n A h
 

@@ -4,5 +4,6 @@ mod OilParts
 mod SourceParts
 pub mod Unique
 pub mod Refusals
+pub mod RankedTexts
 mod Whole
 mod Named

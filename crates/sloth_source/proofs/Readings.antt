@@ -1,7 +1,6 @@
 -- From the readers of the stages to the readings of the texts.
 use Rattle.std.proofs.Common.{◌≡◌, ◌∙◌, ℕ, List, sym, ap, inl, inr}
 use Rattle.sloth_base.specs.declared.config.Config.{Config}
-use Rattle.sloth_base.specs.declared.app.App.{App}
 use Rattle.sloth_base.specs.declared.refusal.BuildError.{BuildError}
 use Rattle.sloth_base.specs.declared.refusal.BuildError.TheVariants as error
 use Rattle.sloth_refusal.specs.Order.{NoFault, ErrorIs}
@@ -9,11 +8,7 @@ use Rattle.oil_lex.specs.Tokens.{Lexeme, AreTokens, TextFault}
 use Rattle.oil_parse.specs.Faults.{GrammarFault}
 use Rattle.oil_parse.proofs.Texts.{one_tree, grammar_of}
 use Rattle.oil_model.specs.Configs.{config_of}
-use Rattle.app_rules.specs.WellFormed.{CycleFault, RuleFault}
-use Rattle.asm_parse.specs.AppTexts.{SourceTextFault}
 use Rattle.sloth_source.specs.OilText.{OilText, OilErrorIs}
-use Rattle.sloth_source.specs.SourceText.{HasApp, SourceErrorIs}
-use Rattle.sloth_source.specs.Texts.{ErrorIs as TextsErrorIs}
 
 -- a text declares one configuration
 pub one_configuration : (text : List ℕ) (config other : Config) → OilText text config → OilText text other → config ≡ other
@@ -28,30 +23,3 @@ grammar_refused text tokens (error.Refused r) are none h = inr (inl (record {
   is_least = λ s fault. h.is_least s ((grammar_of text tokens are none s).0 fault);
 }))
 grammar_refused text tokens error.Memory are none h = tt
-
-module _ (text : List ℕ) (config : Config) where
-  -- the least fault of the lines, names and limits
-  pub source_refused : (error : BuildError) → ErrorIs (SourceTextFault config text) error → SourceErrorIs text config error
-  source_refused (error.Refused r) h = inl h
-  source_refused error.Memory h = tt
-
-  -- the least function on a cycle of calls
-  pub cycle_refused : (app : App) (error : BuildError) → HasApp text config app → ErrorIs (CycleFault app) error → SourceErrorIs text config error
-  cycle_refused app (error.Refused r) has h = inr (inl (record { app = app; has_app = has; least = h }))
-  cycle_refused app error.Memory has h = tt
-
-  -- the least fault against the other rules
-  pub rule_refused : (app : App) (error : BuildError) → HasApp text config app → NoFault (CycleFault app) → ErrorIs (RuleFault config app) error
-      → SourceErrorIs text config error
-  rule_refused app (error.Refused r) has none h = inr (inr (record { app = app; has_app = has; no_cycle = none; least = h }))
-  rule_refused app error.Memory has none h = tt
-
--- the first refusal of the configuration is that of both texts
-pub oil_refused : (oil src : List ℕ) (error : BuildError) → OilErrorIs oil error → TextsErrorIs oil src error
-oil_refused oil src (error.Refused r) h = inl h
-oil_refused oil src error.Memory h = tt
-
--- so is that of the source, where the configuration has none
-pub code_refused : (oil src : List ℕ) (config : Config) (error : BuildError) → OilText oil config → SourceErrorIs src config error → TextsErrorIs oil src error
-code_refused oil src config (error.Refused r) t h = inr (record { config = config; configuration = t; refused = h })
-code_refused oil src config error.Memory t h = tt

@@ -1,3 +1,4 @@
 pub mod OilText
 pub mod SourceText
 pub mod Texts
+pub mod Ranked

@@ -3,8 +3,6 @@ use Rattle.std.specs.Prelude.{ℕ, ◌≡◌, ◌⊎◌, Some, List}
 use Rattle.sloth_base.specs.declared.config.Config.{Config}
 use Rattle.sloth_base.specs.declared.app.App.{App}
 use Rattle.sloth_base.specs.declared.refusal.Refusal.{Refusal}
-use Rattle.sloth_base.specs.declared.refusal.BuildError.{BuildError}
-use Rattle.sloth_base.specs.declared.refusal.BuildError.TheVariants as error
 use Rattle.sloth_refusal.specs.Order.{IsLeast, NoFault}
 use Rattle.app_rules.specs.WellFormed.{CycleFault, RuleFault}
 use Rattle.sloth_base.specs.Named.{declaration, function, IsBodyOf}
@@ -43,8 +41,3 @@ pub record HasRuleFault (text : List ℕ) (config : Config) (refusal : Refusal) 
 abbrev pub SourceRefusal : List ℕ → Config → Refusal → Type 0
 SourceRefusal text config refusal =
     IsLeast (SourceTextFault config text) refusal ⊎ (HasCycleFault text config refusal ⊎ HasRuleFault text config refusal)
-
--- why no task code was read: want of memory, or the refusal
-abbrev pub SourceErrorIs : List ℕ → Config → BuildError → Type 0
-SourceErrorIs text config (error.Refused refusal) = SourceRefusal text config refusal
-SourceErrorIs text config error.Memory = Unit {0}

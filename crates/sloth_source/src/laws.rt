@@ -4,6 +4,7 @@ ghost use Rattle.sloth_base.specs.declared.config.Config.{Config};
 ghost use Rattle.sloth_base.specs.declared.app.App.{App};
 ghost use Rattle.sloth_base.specs.declared.refusal.Refusal.{Refusal};
 ghost use Rattle.sloth_source.specs.Texts.{Accepted, FirstRefusal};
+ghost use Rattle.sloth_source.specs.Ranked.{HasRanks, EarlyRefusal};
 
 /// Texts have one meaning at most, and one refusal at most.
 pub fn one_meaning()
@@ -19,4 +20,16 @@ pub fn one_verdict()
         Accepted oil src config app → FirstRefusal oil src refusal → ⊥ }
     ensures not_neither { (oil src : List ℕ) →
         ((config : Config) (app : App) → Accepted oil src config app → ⊥) → ((refusal : Refusal) → FirstRefusal oil src refusal → ⊥) → ⊥ }
+{}
+
+/// The same before the rules of task code are judged: texts have one meaning at most, and one refusal at most, and not both. What is
+/// accepted has a meaning then too, and a refusal then is the first.
+pub fn one_ranked()
+    ensures meaning { (oil src : List ℕ) (config other : Config) (app another : App) →
+        HasRanks oil src config app → HasRanks oil src other another → (config ≡ other) × (app ≡ another) }
+    ensures refusal { (oil src : List ℕ) (refusal other : Refusal) → EarlyRefusal oil src refusal → EarlyRefusal oil src other → refusal ≡ other }
+    ensures not_both { (oil src : List ℕ) (config : Config) (app : App) (refusal : Refusal) →
+        HasRanks oil src config app → EarlyRefusal oil src refusal → ⊥ }
+    ensures accepted { (oil src : List ℕ) (config : Config) (app : App) → Accepted oil src config app → HasRanks oil src config app }
+    ensures first { (oil src : List ℕ) (refusal : Refusal) → EarlyRefusal oil src refusal → FirstRefusal oil src refusal }
 {}

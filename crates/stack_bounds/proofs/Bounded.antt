@@ -168,7 +168,15 @@ module _ (config : Config) (app : App) (ranks : Ranks) (table : List ℕ) (yield
 
   greatest_shared : IsGreatest (AreStacked config app) (total size) (most_stacked config.tasks yielding bytes)
   greatest_shared =
-      stacked.greatest (length config.tasks) priority size (IsBasic config) (MayBePreempted config app) counted best (λ t basic. basic.0) differ counts under above more bests
+      stacked.greatest (length config.tasks) priority size (IsBasic config) (MayBePreempted config app) counted best (record {
+        known = λ t basic. basic.0;
+        differ = differ;
+        counts = counts;
+        under = under;
+        above = above;
+        more = more;
+        bests = bests;
+      })
 
   pub bounds : AreBounds config app (record { bytes = bytes; shared = most_stacked config.tasks yielding bytes })
   bounds = record {

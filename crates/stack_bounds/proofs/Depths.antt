@@ -38,9 +38,6 @@ module _ (funcs : List Func) where
         (cases_lt f (length funcs));
   }
 
-  pub no_depth : (table : List ℕ) → length table ≡ length funcs → ((f : ℕ) → in_table table f ≡ 0) → IsTable funcs 0 table
-  no_depth table count none = record { count = count; calls = λ f l. none f }
-
   pub one_deeper : (depth next_depth : ℕ) (table next : List ℕ) → next_depth ≡ suc depth → AreCallable funcs → IsTable funcs depth table → length next ≡ length funcs
       → ((f : ℕ) → f < length funcs → in_table next f ≡ most_called funcs (in_table table) (func_of funcs f).items)
       → IsTable funcs next_depth next

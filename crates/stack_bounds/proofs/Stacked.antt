@@ -75,30 +75,33 @@ module _ (n : ℕ) (priority size : ℕ → ℕ) (Wanted Lower : ℕ → Type 0)
 
   -- ---- the greatest sum
 
-  -- counted : the sizes that count below a priority; best : a wanted number's size with those below it, 0 for another
-  module _ (counted : ℕ → ℕ → ℕ) (best : ℕ → ℕ) (known : (t : ℕ) → Wanted t → t < n)
-      (differ : (t u : ℕ) → t < u → u < n → priority t ≡ priority u → ⊥)
-      (counts : (p t : ℕ) → t < n → Counts p (counted p) t)
-      (under : (p t : ℕ) → IsUnder p t → counted p t ≡ size t)
-      (above : (p t : ℕ) → p ≤ priority t → counted p t ≡ 0)
-      (more : (p q t : ℕ) → p ≤ q → counted p t ≤ counted q t)
-      (bests : (t : ℕ) → t < n → (Wanted t × (best t ≡ sum_below n (counted (priority t)) + size t)) ⊎ ((Wanted t → ⊥) × (best t ≡ 0))) where
+  -- `counted` has the sizes that count below a priority, `best` a wanted number's size with those below it, and 0 for another
+  pub record AreCounted (counted : ℕ → ℕ → ℕ) (best : ℕ → ℕ) : Type 0 where
+    pub known : (t : ℕ) → Wanted t → t < n
+    pub differ : (t u : ℕ) → t < u → u < n → priority t ≡ priority u → ⊥
+    pub counts : (p t : ℕ) → t < n → Counts p (counted p) t
+    pub under : (p t : ℕ) → IsUnder p t → counted p t ≡ size t
+    pub above : (p t : ℕ) → p ≤ priority t → counted p t ≡ 0
+    pub more : (p q t : ℕ) → p ≤ q → counted p t ≤ counted q t
+    pub bests : (t : ℕ) → t < n → (Wanted t × (best t ≡ sum_below n (counted (priority t)) + size t)) ⊎ ((Wanted t → ⊥) × (best t ≡ 0))
+
+  module _ (counted : ℕ → ℕ → ℕ) (best : ℕ → ℕ) (are : AreCounted counted best) where
     abbrev lower : ℕ → ℕ
     lower t = sum_below n (counted (priority t))
 
     best_is : (t : ℕ) → Wanted t → lower t + size t ≤ max_below n best
     best_is t wanted = ⊎_elim
-        (λ yes. let at = max_below-at n best t (known t wanted) in let e = yes.1 in omega (arith, at, e))
+        (λ yes. let at = max_below-at n best t (are.known t wanted) in let e = yes.1 in omega (arith, at, e))
         (λ no. absurd (no.0 wanted))
-        (bests t (known t wanted))
+        (are.bests t (are.known t wanted))
 
     rising_le : (t : ℕ) (rest : List ℕ) → AreRising (t ∷ rest) → lower t + total size (t ∷ rest) ≤ max_below n best
     rising_le t [] h = let b = best_is t h in omega (arith, b)
     rising_le t (u ∷ rest) h =
         let rises = h.2 in
-        let none = above (priority t) t (omega arith) in
-        let all = under (priority u) t (h.0, h.1, rises) in
-        let gain = sum_below-gain n (counted (priority t)) (counted (priority u)) t (size t) (known t h.0) (λ i l. more (priority t) (priority u) i (omega (arith, rises))) (omega (arith, none, all)) in
+        let none = are.above (priority t) t (omega arith) in
+        let all = are.under (priority u) t (h.0, h.1, rises) in
+        let gain = sum_below-gain n (counted (priority t)) (counted (priority u)) t (size t) (are.known t h.0) (λ i l. are.more (priority t) (priority u) i (omega (arith, rises))) (omega (arith, none, all)) in
         let further = rising_le u rest h.3 in
         omega (arith, gain, further)
 
@@ -109,14 +112,14 @@ module _ (n : ℕ) (priority size : ℕ → ℕ) (Wanted Lower : ℕ → Type 0)
           (λ some. ⊎_elim
           (λ yes.
           let t = some.0 in
-          let stack = sorted (priority t) (counted (priority t)) n (counts (priority t)) differ in
+          let stack = sorted (priority t) (counted (priority t)) n (are.counts (priority t)) are.differ in
           let e = stack.2 in
           let f = total-append stack.0 t in
           let g = yes.1 in
           let h = some.2 in
           (stack.0 ++ t ∷ [], topped (priority t) n 0 stack.0 t stack.1 yes.0 (omega arith), omega (arith, e, f, g, h)))
           (λ no. let z = no.1 in let h = some.2 in ([], tt, omega (arith, z, h)))
-          (bests some.0 some.1))
+          (are.bests some.0 some.1))
           (max_below-some n best);
       none_greater = λ list. by list;
     }

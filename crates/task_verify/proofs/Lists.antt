@@ -2,7 +2,7 @@
 use Rattle.std.proofs.Common.{◌≡◌, ℕ, zero, suc, ◌-◌, ◌^◌, ◌<◌, ◌≤◌, Bool, true, false, ◌||◌, List, [], ◌∷◌, length, take, get_or, refl, ap, ◌∙◌, arith, ⊎_elim}
 use Rattle.std.specs.Prelude.{◌==◌}
 use Rattle.std.specs.List.{list_any}
-use Rattle.std.proofs.lemmas.Bool.{false≢true, or_cases, eq-eqb, eqb-true}
+use Rattle.std.proofs.lemmas.Bool.{false≢true, or_cases, eq-eqb, eqb-true, or_right}
 use Rattle.std.proofs.lemmas.Nat.Bits.{bit_at_above}
 use Rattle.std.proofs.Math.Seq.{take-nil}
 use Rattle.std.proofs.lemmas.List.{get_or_default}
@@ -36,35 +36,20 @@ popped [] ys n e h = h ∙ take-nil (n - 1)
 popped (x ∷ xs) ys n e h =
     let l : length (x ∷ xs) ≡ suc (n - 1) = omega (arith, e) in h ∙ taken (n - 1) (x ∷ xs) l
 
-pub same_lists : (xs ys : List ℕ) → length xs ≡ length ys → ((k : ℕ) → k < length xs → get_or xs k 0 ≡ get_or ys k 0) → xs ≡ ys
-same_lists [] [] e h = refl
-same_lists [] (y ∷ ys) e h = absurd (omega (arith, e))
-same_lists (x ∷ xs) [] e h = absurd (omega (arith, e))
-same_lists (x ∷ xs) (y ∷ ys) e h =
-    ap (λ a. a ∷ xs) (h 0 (omega arith)) ∙ ap (λ l. y ∷ l) (same_lists xs ys (omega (arith, e)) (λ k l. h (suc k) (omega (arith, l))))
-
 -- one of the numbers passes a test
 pub number_among : (test : ℕ → Bool) (xs : List ℕ) → list_any test xs ≡ true → (x : ℕ) × (test x ≡ true) × (is_in x xs ≡ true)
 number_among test [] h = absurd (false≢true h)
 number_among test (x ∷ xs) h = ⊎_elim
     (λ a. (x, a, ap (λ b. b || is_in x xs) (eq-eqb x x refl)))
-    (λ b. let r = number_among test xs b in (r.0, r.1, later (x == r.0) (is_in r.0 xs) r.2))
+    (λ b. let r = number_among test xs b in (r.0, r.1, or_right (x == r.0) (is_in r.0 xs) r.2))
     (or_cases (test x) (list_any test xs) h)
-  where
-    later : (a b : Bool) → b ≡ true → (a || b) ≡ true
-    later true b e = refl
-    later false b e = e
 
 pub among_number : (test : ℕ → Bool) (xs : List ℕ) (x : ℕ) → test x ≡ true → is_in x xs ≡ true → list_any test xs ≡ true
 among_number test [] x t h = absurd (false≢true h)
 among_number test (y ∷ ys) x t h = ⊎_elim
     (λ a. ap (λ b. b || list_any test ys) (ap test (eqb-true y x a) ∙ t))
-    (λ b. later (test y) (list_any test ys) (among_number test ys x t b))
+    (λ b. or_right (test y) (list_any test ys) (among_number test ys x t b))
     (or_cases (y == x) (is_in x ys) h)
-  where
-    later : (a b : Bool) → b ≡ true → (a || b) ≡ true
-    later true b e = refl
-    later false b e = e
 
 -- an item of a body, as the code reads it
 pub item_is : (f : Func) (items : List Item) (i : ℕ) (x : Item) → items ≡ f.items → i < length f.items → x ≡ get_or items i x → x ≡ item_of f i

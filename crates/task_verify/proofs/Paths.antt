@@ -1,7 +1,7 @@
 -- What is reached along the ways of a body is what its paths lead to.
 use Rattle.std.proofs.Common.{◌≡◌, ℕ, ◌+◌, ◌<◌, ◌≤◌, Bool, true, false, ◌⊎◌, inl, inr, List, [], ◌∷◌, ◌++◌, length, get_or, cond, not, ◌↔◌, Option, Some, None, refl, ap, sym, ◌∙◌, subst, ⊎_elim}
 use Rattle.std.specs.Prelude.{nat_lt}
-use Rattle.std.proofs.lemmas.Bool.{cases_lt, lt-ltb, true≢false, false≢true, false_from_ne_true}
+use Rattle.std.proofs.lemmas.Bool.{cases_lt, lt-ltb, true≢false, false≢true, false_from_ne_true, not-true}
 use Rattle.std.proofs.lemmas.List.{get_or_past}
 use Rattle.sloth_base.specs.declared.app.Func.{Func}
 use Rattle.sloth_base.specs.Named.{item_of, label_of, no_item}
@@ -89,10 +89,6 @@ reached_of f i between l p = reached_along f 0 i between l first p
 pub Decides-unreached : (f : Func) (marks : List Bool) (i : ℕ) → i < length f.items → (Marked marks i ↔ Reached f i)
     → Decides (not (get_or marks i false)) (IsUnreached f i)
 Decides-unreached f marks i l exact = (
-  λ e between path. true≢false (sym (exact.1 (reached_of f i between l path)) ∙ unmarked_of (get_or marks i false) e),
+  λ e between path. true≢false (sym (exact.1 (reached_of f i between l path)) ∙ not-true (get_or marks i false) e),
   λ none. ap not (false_from_ne_true (get_or marks i false) (λ m. let p = path_of (exact.0 m) in none p.0 p.1)),
 )
-  where
-    unmarked_of : (b : Bool) → not b ≡ true → b ≡ false
-    unmarked_of true e = absurd (false≢true e)
-    unmarked_of false e = refl

@@ -1,7 +1,7 @@
 -- A search along the ways of a body.
 use Rattle.std.proofs.Common.{◌≡◌, ℕ, ◌+◌, ◌<◌, ◌≤◌, Bool, true, false, ◌||◌, ◌⊎◌, inl, inr, List, [], ◌∷◌, ◌++◌, length, get_or, set, cond, Option, Some, None, ◌↔◌, refl, ap, sym, ◌∙◌, subst, arith, ⊎_elim}
 use Rattle.std.specs.Prelude.{◌==◌, ◌≢◌, nat_lt, MatchBool}
-use Rattle.std.proofs.lemmas.Bool.{cases_eq, cases_lt, or_cases, ltb-true, eqb-true, eq-eqb, true≢false, false≢true}
+use Rattle.std.proofs.lemmas.Bool.{cases_eq, cases_lt, or_cases, ltb-true, eqb-true, eq-eqb, true≢false, false≢true, or_left, or_right}
 use Rattle.std.proofs.lemmas.List.{get_or-set_same, get_or-set_other, get_or_past, length-set}
 use Rattle.std.proofs.lemmas.List.Folds.{list_any-append}
 use Rattle.sloth_base.specs.declared.app.Func.{Func}
@@ -15,19 +15,11 @@ use Rattle.task_verify.proofs.Paths.{closed_all}
 joined : (i x : ℕ) (xs : List ℕ) → is_in i (xs ++ x ∷ []) ≡ (is_in i xs || ((x == i) || false))
 joined i x xs = list_any-append (λ y. y == i) xs (x ∷ [])
 
-yes_or : (a b : Bool) → a ≡ true → (a || b) ≡ true
-yes_or true b e = refl
-yes_or false b e = absurd (false≢true e)
-
-or_yes : (a b : Bool) → b ≡ true → (a || b) ≡ true
-or_yes true b e = refl
-or_yes false b e = e
-
 in_front : (i x : ℕ) (xs : List ℕ) → is_in i xs ≡ true → is_in i (xs ++ x ∷ []) ≡ true
-in_front i x xs h = joined i x xs ∙ yes_or (is_in i xs) ((x == i) || false) h
+in_front i x xs h = joined i x xs ∙ or_left (is_in i xs) ((x == i) || false) h
 
 at_end : (x : ℕ) (xs : List ℕ) → is_in x (xs ++ x ∷ []) ≡ true
-at_end x xs = joined x x xs ∙ or_yes (is_in x xs) ((x == x) || false) (yes_or (x == x) false (eq-eqb x x refl))
+at_end x xs = joined x x xs ∙ or_right (is_in x xs) ((x == x) || false) (or_left (x == x) false (eq-eqb x x refl))
 
 front_or_end : (i x : ℕ) (xs : List ℕ) → is_in i (xs ++ x ∷ []) ≡ true → (is_in i xs ≡ true) ⊎ (x ≡ i)
 front_or_end i x xs h = ⊎_elim inl

@@ -2,8 +2,8 @@
 use Rattle.std.proofs.Common.{◌≡◌, ℕ, suc, ◌+◌, ◌%◌, ◌<◌, ◌≤◌, ◌⊎◌, inl, inr, Bool, true, false, ◌||◌, ◌&&◌, not, List, [], ◌∷◌, length, get_or, Option, Some, None, refl, sym, ap, subst, arith}
 use Rattle.std.specs.Prelude.{◌==◌, ◌≢◌, nat_lt, nat_le, is_some, is_none, bit_and}
 use Rattle.std.specs.Bool.{Decides}
-use Rattle.std.proofs.lemmas.Bool.{true≢false, false≢true, leb-true, le-leb, eqb-true, eq-eqb, ne_eqb, and_parts}
-use Rattle.std.proofs.lemmas.Bool.Decides.{Decides-and, Decides-or, Decides-not, Decides-ltb, Decides-like}
+use Rattle.std.proofs.lemmas.Bool.{true≢false, false≢true, leb-true, le-leb, eqb-true, eq-eqb, ne_eqb, and_parts, and_from}
+use Rattle.std.proofs.lemmas.Bool.Decides.{Decides-and, Decides-or, Decides-not, Decides-ltb, Decides-like, Decides-eqb}
 use Rattle.sloth_base.specs.declared.config.Config.{Config}
 use Rattle.sloth_base.specs.declared.app.App.{App}
 use Rattle.sloth_base.specs.declared.app.Func.{Func}
@@ -21,7 +21,7 @@ use Rattle.call_graph.specs.Bits.{has}
 use Rattle.call_graph.specs.Ranks.{RanksOf}
 use Rattle.call_graph.specs.Reached.{any_below}
 use Rattle.call_graph.specs.Rows.{is_get, is_pausing}
-use Rattle.call_graph.proofs.Itself.{number_found, number_counts, both, get_is, pausing_is, is_pausing_of}
+use Rattle.call_graph.proofs.Itself.{number_found, number_counts, get_is, pausing_is, is_pausing_of}
 use Rattle.task_verify.specs.Tests.{accesses_past, is_uneven, masks_past, leads_out, runs_out, is_ending, is_release, holds_any, releases_other, takes_held, leaves_holding, leaves_wrongly, is_unlisted, lacks, is_lacked, misuses, uses_undeclared, OperandsOf}
 use Rattle.task_verify.specs.Ways.{LeadsToLabels}
 use Rattle.task_verify.proofs.Lists.{number_among, among_number}
@@ -39,11 +39,8 @@ is_false false = (λ e. refl, λ e. refl)
 leb_decides : (a b : ℕ) → Decides (nat_le a b) (a ≤ b)
 leb_decides a b = (leb-true a b, le-leb a b)
 
-eqb_decides : (a b : ℕ) → Decides (a == b) (a ≡ b)
-eqb_decides a b = (eqb-true a b, eq-eqb a b)
-
 differs_decides : (a b : ℕ) → Decides (not (a == b)) (a ≢ b)
-differs_decides a b = Decides-not (a == b) (eqb_decides a b)
+differs_decides a b = Decides-not (a == b) (Decides-eqb a b)
 
 -- ---- accesses
 
@@ -181,7 +178,7 @@ module _ (config : Config) (app : App) (in_range : AppInRange config app) where
         (x.0, (reach x.0).0 parts.0, (decides x.0).0 parts.1),
     λ x.
         number_counts (λ t. has users t && test t) (length config.tasks) x.0 (in_range.tasks.declared x.0 x.1.0 x.1.1)
-        (both (has users x.0) (test x.0) ((reach x.0).1 x.1) ((decides x.0).1 x.2)),
+        (and_from (has users x.0) (test x.0) ((reach x.0).1 x.1) ((decides x.0).1 x.2)),
   )
 
   Decides-lacks : (t mask : ℕ) → Decides (lacks config t mask) (¬ (HasEvents (declaration config t) mask))

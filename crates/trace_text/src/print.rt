@@ -7,7 +7,6 @@ use crate::line_text::LineText;
 use sloth_base::event::{Event, Stamped};
 use sloth_base::image::Image;
 use sloth_base::name::Name;
-use sloth_base::service::Service;
 
 /// The form of an event line: with the counts of its first and last instruction in front, or bare.
 #[derive(Clone, Copy, Debug, PartialEq, Eq)]

@@ -14,8 +14,13 @@ returns c =
     let third = c.in_ok-append-3.ensures.items ∙ ap (λ (bs : List Block). bs ++ c.in_ok-own.own.items) second in
     gathered c.args.config.now c.args.app.now c.args.levels.now c.args.wanted.now c.args.map.now c.requires
     c.in_ok-vectors.field-0 c.in_ok-boot.field-0 c.in_ok-idle.field-0 c.in_ok-starts.starts.items c.in_ok-served.served.items c.in_ok-own.own.items
-    c.in_ok-vectors.ensures.at c.in_ok-vectors.ensures.marks c.in_ok-vectors.ensures.effect
-    c.in_ok-boot.ensures.at c.in_ok-boot.ensures.marks c.in_ok-boot.ensures.effect
-    c.in_ok-idle.ensures.at c.in_ok-idle.ensures.marks c.in_ok-idle.ensures.effect
-    c.in_ok-starts.ensures.count c.in_ok-starts.ensures.each c.in_ok-served.ensures c.in_ok-own.ensures
+    (record {
+      vectors_made = record { at = c.in_ok-vectors.ensures.at; marks_are = c.in_ok-vectors.ensures.marks; effect = c.in_ok-vectors.ensures.effect };
+      boot_made = record { at = c.in_ok-boot.ensures.at; marks_are = c.in_ok-boot.ensures.marks; effect = c.in_ok-boot.ensures.effect };
+      idle_made = record { at = c.in_ok-idle.ensures.at; marks_are = c.in_ok-idle.ensures.marks; effect = c.in_ok-idle.ensures.effect };
+      count = c.in_ok-starts.ensures.count;
+      each = c.in_ok-starts.ensures.each;
+      serve = c.in_ok-served.ensures;
+      items = c.in_ok-own.ensures;
+    })
     c.append-3.new.self.items third

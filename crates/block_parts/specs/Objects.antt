@@ -1,0 +1,19 @@
+-- The objects with which a generator makes the code of a service.
+use Rattle.std.specs.Prelude.{ℕ, Bool, true, false}
+use Rattle.sloth_base.specs.ServiceCodes.{IsObjectNumber}
+use Rattle.sloth_base.specs.declared.service.ObjectKind.{ObjectKind}
+use Rattle.sloth_base.specs.declared.service.Service.{Service}
+use Rattle.sloth_base.specs.declared.service.Service.TheVariants.{SetEvent, ClearEvent, GetEvent, WaitEvent}
+
+-- a service on events (OSEK OS 2.2.3, section 13.5)
+abbrev pub is_on_events : Service → Bool
+is_on_events SetEvent = true
+is_on_events ClearEvent = true
+is_on_events GetEvent = true
+is_on_events WaitEvent = true
+is_on_events _ = false
+
+-- the objects of a kind, where the code is not generated elsewhere
+abbrev pub HasBlockUnless : (elsewhere : Bool) → ObjectKind → ℕ → Type 0
+HasBlockUnless true kind object = ⊥
+HasBlockUnless false kind object = IsObjectNumber kind object
