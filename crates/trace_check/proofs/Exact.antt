@@ -67,7 +67,7 @@ module _ (config : Config) (app : App) (arrivals : List Arrival) (text : List �
 
   not_late : IsLate config app arrivals text n → Checked config app arrivals text n → ⊥
   not_late b c =
-      let P : List Stamped → Type 0 = λ l. InTime n arrivals l in
+      let P : List Stamped → Type 0 = λ l. InTime config n arrivals l in
       b.late (subst P (one_list c.events b.events c.shows b.shows) c.in_time)
 
   one_step : (j k : ℕ) → IsFirstStray config app text j → IsFirstStray config app text k → j ≡ k

@@ -1,7 +1,7 @@
 -- What the pass over a text has found: with one line more, and at its end.
 use Rattle.std.proofs.Common.{◌≡◌, ◌∙◌, ℕ, ◌+◌, ◌<◌, ◌≤◌, List, [], ◌∷◌, ◌++◌, Bool, true, false, Option, Some, None, length, get_or, refl, sym, ap, subst, arith}
-use Rattle.std.specs.Prelude.{◌==◌, All}
-use Rattle.std.proofs.lemmas.Bool.{eqb-true}
+use Rattle.std.specs.Prelude.{◌==◌, ◌≢◌, if◌then◌else◌, nat_lt, All}
+use Rattle.std.proofs.lemmas.Bool.{eqb-true, ltb-true}
 use Rattle.std.specs.Bool.{Decides}
 use Rattle.sloth_base.specs.Arrivals.{AreArrivals, NeverFalls}
 use Rattle.sloth_base.specs.declared.app.App.{App}
@@ -10,7 +10,10 @@ use Rattle.sloth_base.specs.declared.event.Arrival.{Arrival}
 use Rattle.sloth_base.specs.declared.event.Event.{Event}
 use Rattle.sloth_base.specs.declared.event.Event.TheVariants as event
 use Rattle.sloth_base.specs.declared.event.Stamped.{Stamped}
-use Rattle.osek_machine.specs.InTime.{InTime, admitted_task}
+use Rattle.sloth_base.specs.Events.{admitted_line}
+use Rattle.sloth_base.specs.Owners.{IsOwned, line_kind, owners_in}
+use Rattle.sloth_base.specs.declared.lines.LineKind.TheVariants as line_of
+use Rattle.osek_machine.specs.InTime.{InTime}
 use Rattle.trace_text.specs.EventLines.{HasNumbers}
 use Rattle.trace_time.specs.Counts.{AreSmall, IsSmall}
 use Rattle.trace_check.specs.TraceText.{HasLine, HasRead, Shows}
@@ -18,7 +21,7 @@ use Rattle.trace_check.specs.Walk.{StraysAt, Walked, Walking, Walk}
 use Rattle.trace_check.proofs.TraceText.{reads_all}
 
 -- the admits of events that have lines are of numbers of 32 bits
-line_small : (tasks functions : ℕ) (e : Event) → HasNumbers tasks functions e → IsSmall (admitted_task e)
+line_small : (tasks functions : ℕ) (e : Event) → HasNumbers tasks functions e → IsSmall (admitted_line e)
 line_small tasks functions event.Boot h = tt
 line_small tasks functions (event.Admit t) h = h.word
 line_small tasks functions (event.Enter t) h = tt
@@ -33,8 +36,16 @@ pub lines_small : (tasks functions : List (List ℕ)) (events : List Stamped) �
 lines_small tasks functions events h k d l = line_small (length tasks) (length functions) (get_or events k d).event (h k d l).numbers
 
 -- the lines of arrivals are numbers of 32 bits
-pub line_words : (tasks : ℕ) (arrivals : List Arrival) → tasks ≤ 30 → AreArrivals tasks arrivals → All (λ a. a.line < 4294967296) arrivals
-line_words tasks arrivals few are k d l = let below = are.lines_of_tasks k d l in omega (arith, few, below)
+line_word : (config : Config) → length config.tasks ≤ 30 → (line : ℕ) → IsOwned (owners_in config) line → line < 4294967296
+line_word config few line owned = by (nat_lt line (length config.tasks)) refl owned
+  where
+    by : (b : Bool) → nat_lt line (length config.tasks) ≡ b → ((if b then line_of.Task line else line_of.Unused) ≢ line_of.Unused) → line < 4294967296
+    by true e h = let below = ltb-true line (length config.tasks) e in omega (arith, below, few)
+    by false e h = absurd (h refl)
+
+pub line_words : (config : Config) (arrivals : List Arrival) → length config.tasks ≤ 30 → AreArrivals (owners_in config) arrivals
+    → All (λ a. a.line < 4294967296) arrivals
+line_words config arrivals few are k d l = line_word config few (get_or arrivals k d).line (are.lines_owned k d l)
 
 module _ (config : Config) (app : App) (events : List Stamped) (stray : Option ℕ) (walk : Walk) (h : Walking config app events stray walk) where
   pub stray_at : (k : ℕ) → stray ≡ Some k → StraysAt config app events k
@@ -54,8 +65,8 @@ shows_all tasks functions text rest events reads none =
     reads_all tasks functions text events rest reads (empty rest (eqb-true (length rest) 0 none))
 
 -- whether the events are in time, by equal numbers of instructions and arrivals
-pub in_time_at : (b : Bool) (m n : ℕ) (given arrivals : List Arrival) (events : List Stamped) → m ≡ n → given ≡ arrivals → Decides b (InTime m given events)
-    → Decides b (InTime n arrivals events)
-in_time_at b m n given arrivals events same_n same decides =
-    let P : ℕ → List Arrival → Type 0 = λ k list. Decides b (InTime k list events) in
-    subst (λ (k : ℕ). P k arrivals) same_n (subst (λ (list : List Arrival). P m list) same decides)
+pub in_time_at : (b : Bool) (set config : Config) (m n : ℕ) (given arrivals : List Arrival) (events : List Stamped) → set ≡ config → m ≡ n → given ≡ arrivals
+    → Decides b (InTime set m given events) → Decides b (InTime config n arrivals events)
+in_time_at b set config m n given arrivals events same_set same_n same decides =
+    let P : Config → ℕ → List Arrival → Type 0 = λ c k list. Decides b (InTime c k list events) in
+    subst (λ (c : Config). P c n arrivals) same_set (subst (λ (k : ℕ). P set k arrivals) same_n (subst (λ (list : List Arrival). P set m list) same decides))

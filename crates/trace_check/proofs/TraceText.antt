@@ -18,7 +18,8 @@ use Rattle.text_pieces.specs.Bytes.{has}
 use Rattle.asm_lines.specs.Operands.{before, behind}
 use Rattle.asm_lines.proofs.Cuts.{lacks, has_in, has_here, before_is, behind_is}
 use Rattle.trace_text.specs.EventLines.{HasNumbers, IsLineOf, Has32Bits, counted_line}
-use Rattle.trace_text.specs.Lines.{name_of, service_text, event_text}
+use Rattle.sloth_base.specs.ServiceCodes.{service_name}
+use Rattle.trace_text.specs.Lines.{name_of, event_text}
 use Rattle.trace_text.proofs.Digits.{writes}
 use Rattle.trace_text.proofs.EventsBack.{stamped_back}
 use Rattle.trace_check.specs.TraceText.{text_of, HasLine, Shows, IsFirstBad, Begins, BeginsWithNone, HasRead}
@@ -35,7 +36,7 @@ name_lacks (first ∷ rest) h =
     (lacks begins_word 10 refl (first ∷ []) (ap (λ b. b && true) h.word.0))
     (lacks continues_word 10 refl rest (list_all-from_AllPass continues_word rest h.word.1))
 
-service_lacks : (s : Service) → has 10 (service_text s) ≡ false
+service_lacks : (s : Service) → has 10 (service_name s) ≡ false
 unfolding has
 service_lacks service.ActivateTask = refl
 service_lacks service.TerminateTask = refl
@@ -99,10 +100,10 @@ module _ (tasks functions : List (List ℕ)) (named : AreNames tasks) (called : 
       (number_lacks result h.3)
   event_lacks (event.Call t s status) h =
       and _ (decimal status)
-      (and _ (codes " ") (and _ (service_text s) (and _ (codes " ") (and (codes "call ") (name_of tasks t) fixed.call (named_lacks tasks named t)) fixed.space) (service_lacks s)) fixed.space)
+      (and _ (codes " ") (and _ (service_name s) (and _ (codes " ") (and (codes "call ") (name_of tasks t) fixed.call (named_lacks tasks named t)) fixed.space) (service_lacks s)) fixed.space)
       (number_lacks status h.1)
   event_lacks (event.Left t s) h =
-      and _ (service_text s) (and _ (codes " ") (and (codes "left ") (name_of tasks t) fixed.left (named_lacks tasks named t)) fixed.space) (service_lacks s)
+      and _ (service_name s) (and _ (codes " ") (and (codes "left ") (name_of tasks t) fixed.left (named_lacks tasks named t)) fixed.space) (service_lacks s)
   event_lacks (event.Back t) h = and (codes "back ") (name_of tasks t) fixed.back (named_lacks tasks named t)
   event_lacks event.Idle h = fixed.idle
   event_lacks event.Stray h = fixed.stray

@@ -12,15 +12,9 @@ use Rattle.osek_machine.specs.Runs.{Leads, ReadySince}
 
 -- the moments after an event of moment `at` in state s: that of an admit that makes its task Ready is noted, an entry clears
 abbrev pub noted : Event → ℕ → System → List ℕ → List ℕ
-noted event.Boot at s moments = moments
 noted (event.Admit t) at s moments = if_suspended (task s t).state (set moments t at) moments
 noted (event.Enter t) at s moments = set moments t 0
-noted (event.Run t func item result) at s moments = moments
-noted (event.Call t served status) at s moments = moments
-noted (event.Left t served) at s moments = moments
-noted (event.Back t) at s moments = moments
-noted event.Idle at s moments = moments
-noted event.Stray at s moments = moments
+noted _ at s moments = moments
 
 -- The events lead to s, and the moment kept for each task is the number of the moments k such that the task has been Ready since an
 -- admit behind k: the moment of that admit, or 0 where there is none.

@@ -20,7 +20,7 @@ pub record Checked (config : Config) (app : App) (arrivals : List Arrival) (text
   pub events : List Stamped
   pub shows : Shows (task_names config) (func_names app) events text
   pub run : OsekRun config app events
-  pub in_time : InTime n arrivals events
+  pub in_time : InTime config n arrivals events
 
 -- all lines are events', and line k is the first with which the events are no run
 pub record IsFirstStray (config : Config) (app : App) (text : List ℕ) (k : ℕ) : Type 0 where
@@ -33,4 +33,4 @@ pub record IsLate (config : Config) (app : App) (arrivals : List Arrival) (text 
   pub events : List Stamped
   pub shows : Shows (task_names config) (func_names app) events text
   pub run : OsekRun config app events
-  pub late : InTime n arrivals events → ⊥
+  pub late : InTime config n arrivals events → ⊥

@@ -3,8 +3,8 @@ use Rattle.std.specs.Prelude.{ℕ, ◌+◌, ◌-◌, ◌<◌, ◌≤◌, ◌≡�
 use Rattle.sloth_base.specs.declared.config.Config.{Config}
 use Rattle.sloth_base.specs.declared.app.App.{App}
 use Rattle.sloth_base.specs.declared.event.Event.{Event}
-use Rattle.sloth_base.specs.declared.event.Event.TheVariants as event
 use Rattle.sloth_base.specs.declared.event.Stamped.{Stamped}
+use Rattle.sloth_base.specs.Events.{served_task}
 use Rattle.osek_machine.specs.State.{System, task, opening}
 use Rattle.osek_machine.specs.Priority.{is_active}
 use Rattle.osek_machine.specs.Steps.{OsekStep}
@@ -22,17 +22,14 @@ pub record Walk : Type 0 where
 abbrev pub task_passes : Config → System → List ℕ → ℕ → ℕ → Bool
 task_passes config s moments t k = cond (ltb t (length config.tasks) && is_active (task s t).state) (all_later (is_above config s t) moments k) true
 
+-- those that this task passes over, if there is one
+abbrev pub served_passes : Config → System → List ℕ → Option ℕ → ℕ → Bool
+served_passes config s moments None k = true
+served_passes config s moments (Some t) k = task_passes config s moments t k
+
 -- those that an event passes over which begins at moment k
 abbrev pub event_passes : Config → System → List ℕ → Event → ℕ → Bool
-event_passes config s moments (event.Call t served status) k = task_passes config s moments t k
-event_passes config s moments (event.Left t served) k = task_passes config s moments t k
-event_passes config s moments event.Boot k = true
-event_passes config s moments (event.Admit t) k = true
-event_passes config s moments (event.Enter t) k = true
-event_passes config s moments (event.Run t func item result) k = true
-event_passes config s moments (event.Back t) k = true
-event_passes config s moments event.Idle k = true
-event_passes config s moments event.Stray k = true
+event_passes config s moments e k = served_passes config s moments (served_task e) k
 
 -- the moments with one more, that of a task
 abbrev pub with_moment : Option (ℕ × ℕ) → List ℕ → List ℕ

@@ -1,6 +1,7 @@
 //! The verdict on a text.
 ghost use Rattle.std.specs.Prelude.{◌≡◌, ◌<◌, ◌↔◌, IfOk, length};
 ghost use Rattle.sloth_base.specs.Arrivals.{AreArrivals};
+ghost use Rattle.sloth_base.specs.Owners.{owners_in};
 ghost use Rattle.app_rules.specs.WellFormed.{WellFormed};
 ghost use Rattle.trace_check.specs.Verdicts.{Checked, func_names, task_names};
 ghost use Rattle.trace_check.specs.Answer.{IsVerdict};
@@ -62,14 +63,14 @@ fn judge(
     n: u32,
 ) -> Result<Verdict, NoMemory>
     requires well_formed { WellFormed config.now app.now }
-    requires arrivals { AreArrivals (length config.now.tasks) arrivals.now }
+    requires arrivals { AreArrivals (owners_in config.now) arrivals.now }
     requires short { length text.now < 4294967295 }
     ensures { IfOk result (λ v. IsVerdict config.now app.now arrivals.now text.now n v) }
 {
     let tasks = task_names(alloc, config)?;
     let funcs = func_names(alloc, app)?;
     let mut walk = Walk::new(alloc, config, app)?;
-    let mut timing = Timing::new(alloc, n, arrivals);
+    let mut timing = Timing::new(alloc, config, n, arrivals);
     let mut stray = None;
     let mut line = 0;
     let mut rest = text;
@@ -101,7 +102,7 @@ pub fn check(
     n: u32,
 ) -> Result<Verdict, NoMemory>
     requires well_formed { WellFormed config.now app.now }
-    requires arrivals { AreArrivals (length config.now.tasks) arrivals.now }
+    requires arrivals { AreArrivals (owners_in config.now) arrivals.now }
     requires short { length text.now < 4294967295 }
     ensures verdict { IfOk result (λ v. IsVerdict config.now app.now arrivals.now text.now n v) }
     ensures exact { IfOk result (λ v. (v ≡ Verdict.Yes) ↔ Checked config.now app.now arrivals.now text.now n) }

@@ -17,7 +17,7 @@ use Rattle.trace_command.proofs.Refused.{not-refused, one-way}
 
 module _ (oil src arr trace : List ℕ) (n : ℕ) where
   -- two verdicts on one text are the same
-  one_judged : (v w : Verdict) → IsJudged oil src arr trace n v → IsJudged oil src arr trace n w → v ≡ w
+  pub one_judged : (v w : Verdict) → IsJudged oil src arr trace n v → IsJudged oil src arr trace n w → v ≡ w
   one_judged v w a b =
       let same = one_meaning oil src a.config b.config a.app b.app a.accepted b.accepted in
       let P : Config → App → List Arrival → Type 0 = λ config app arrivals. IsVerdict config app arrivals trace n v in

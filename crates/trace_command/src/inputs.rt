@@ -1,6 +1,7 @@
 //! What a configuration, its task source and arrivals mean.
 ghost use Rattle.std.specs.Prelude.{◌<◌, IfOk, IfErr, length};
 ghost use Rattle.sloth_base.specs.Arrivals.{AreArrivals};
+ghost use Rattle.sloth_base.specs.Owners.{owners_in};
 ghost use Rattle.app_rules.specs.WellFormed.{WellFormed};
 ghost use Rattle.sloth_source.specs.Texts.{Accepted};
 ghost use Rattle.trace_command.specs.Inputs.{AreRead, InputsErrorIs, names_of};
@@ -30,7 +31,7 @@ pub fn read_inputs(alloc: Global, oil: &[u8], src: &[u8], arr: &[u8]) -> Result<
     ensures accepted { IfOk result (λ inputs. Accepted oil.now src.now inputs.config inputs.app) }
     ensures well_formed { IfOk result (λ inputs. WellFormed inputs.config inputs.app) }
     ensures read { IfOk result (λ inputs. AreRead (names_of inputs.config) arr.now inputs.arrivals.items) }
-    ensures in_range { IfOk result (λ inputs. AreArrivals (length inputs.config.tasks) inputs.arrivals.items) }
+    ensures in_range { IfOk result (λ inputs. AreArrivals (owners_in inputs.config) inputs.arrivals.items) }
     ensures refused { IfErr result (InputsErrorIs oil.now src.now arr.now) }
 {
     let Source { config, app, .. } = read(alloc, oil, src)?;

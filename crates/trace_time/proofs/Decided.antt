@@ -9,9 +9,11 @@ use Rattle.std.proofs.lemmas.List.{take-append-drop}
 use Rattle.std.proofs.lemmas.List.Sorted.{IsNonDecreasingBy-from_sort}
 use Rattle.std.proofs.lemmas.Option.{same_Some}
 use Rattle.sloth_base.specs.Arrivals.{NeverFalls}
+use Rattle.sloth_base.specs.declared.config.Config.{Config}
 use Rattle.sloth_base.specs.declared.event.Arrival.{Arrival}
 use Rattle.sloth_base.specs.declared.event.Stamped.{Stamped}
-use Rattle.osek_machine.specs.InTime.{InTime, AdmitsAll, LeavesOut, others, admitted_task, longest}
+use Rattle.sloth_base.specs.Events.{admitted_line}
+use Rattle.osek_machine.specs.InTime.{InTime, AdmitsAll, LeavesOut, others, longest}
 use Rattle.trace_time.specs.Scan.{Scan, scan_start, scanned, MayFollow, FollowsScan}
 use Rattle.trace_time.specs.Counts.{AreSmall, Ending, SameCounts, admit_numbers, arrival_number, may_leave, last_moment, times}
 use Rattle.trace_time.specs.Timed.{Kept, is_late, NeverInTime, TimedBy}
@@ -33,14 +35,14 @@ decides_counts admits arrivals xs ys p q sorted others b decides = (
 -- ---- the pass and the comparison
 
 starting : (arrivals : List Arrival) (events : List Stamped) → All (MayFollow (scan_start arrivals)) events
-starting arrivals events k d lt = by (admitted_task (get_or events k d).event)
+starting arrivals events k d lt = by (admitted_line (get_or events k d).event)
   where
     by : (o : Option ℕ) → FollowsScan (scan_start arrivals) o (get_or events k d).stamp.from (get_or events k d).stamp.at
     by (Some t) = omega arith
     by None = (omega arith, omega arith)
 
-scan_is : (n : ℕ) (arrivals : List Arrival) (events : List Stamped) → InTime n arrivals events → (end : Scan) × (scanned n (Some (scan_start arrivals)) events ≡ Some end)
-scan_is n arrivals events h =
+scan_is : (config : Config) (n : ℕ) (arrivals : List Arrival) (events : List Stamped) → InTime config n arrivals events → (end : Scan) × (scanned n (Some (scan_start arrivals)) events ≡ Some end)
+scan_is config n arrivals events h =
     scan_complete n events (scan_start arrivals) (omega arith) (record {
       stamped = h.stamped;
       placed = h.placed;
@@ -48,11 +50,11 @@ scan_is n arrivals events h =
       keeps = keeps_from_order arrivals events h.in_order;
     })
 
-module _ (n : ℕ) (arrivals : List Arrival) (events : List Stamped) (small : AreSmall events) (lines : All (λ a. a.line < 4294967296) arrivals) (rising : NeverFalls 1 arrivals) where
+module _ (config : Config) (n : ℕ) (arrivals : List Arrival) (events : List Stamped) (small : AreSmall events) (lines : All (λ a. a.line < 4294967296) arrivals) (rising : NeverFalls 1 arrivals) where
   abbrev count : ℕ
   count = length (admit_numbers events)
 
-  in_time_of : (end : Scan) → scanned n (Some (scan_start arrivals)) events ≡ Some end → Ending n arrivals events end.ends → InTime n arrivals events
+  in_time_of : (end : Scan) → scanned n (Some (scan_start arrivals)) events ≡ Some end → Ending config n arrivals events end.ends → InTime config n arrivals events
   in_time_of end h ending =
       let facts = scan_sound n events (scan_start arrivals) end (omega arith) h in
       record {
@@ -60,26 +62,26 @@ module _ (n : ℕ) (arrivals : List Arrival) (events : List Stamped) (small : Ar
         placed = facts.placed;
         in_order = order_from_keeps arrivals events facts.keeps;
         admitted =
-            ends_well arrivals events small lines n facts.stamped rising end.ends (λ k le. ((scan_ends n k events (scan_start arrivals) end h).0 le).1)
+            ends_well config arrivals events small lines n facts.stamped rising end.ends (λ k le. ((scan_ends n k events (scan_start arrivals) end h).0 le).1)
             (take count arrivals) (drop count arrivals) (sym (take-append-drop count arrivals)) ending.same ending.leaves;
       }
 
-  ending_is : (end : Scan) → scanned n (Some (scan_start arrivals)) events ≡ Some end → InTime n arrivals events → Ending n arrivals events end.ends
+  ending_is : (end : Scan) → scanned n (Some (scan_start arrivals)) events ≡ Some end → InTime config n arrivals events → Ending config n arrivals events end.ends
   ending_is end scans h = by h.admitted
     where
-      by : AdmitsAll n arrivals events ⊎ ((k : ℕ) × LeavesOut n arrivals events k) → Ending n arrivals events end.ends
-      by (inl all) = ending_all arrivals events small lines n h.stamped rising end.ends all
+      by : AdmitsAll n arrivals events ⊎ ((k : ℕ) × LeavesOut config n arrivals events k) → Ending config n arrivals events end.ends
+      by (inl all) = ending_all config arrivals events small lines n h.stamped rising end.ends all
       by (inr left) =
-          ending_left arrivals events small lines n h.stamped rising end.ends left.0
+          ending_left config arrivals events small lines n h.stamped rising end.ends left.0
           ((scan_ends n left.0 events (scan_start arrivals) end scans).1 (omega arith, left.1.behind)) left.1
 
-  never : NeverInTime n arrivals events → InTime n arrivals events → ⊥
-  never (inl none) h = let scan = scan_is n arrivals events h in some_none scan.0 (sym scan.1 ∙ none)
+  never : NeverInTime n arrivals events → InTime config n arrivals events → ⊥
+  never (inl none) h = let scan = scan_is config n arrivals events h in some_none scan.0 (sym scan.1 ∙ none)
     where
       some_none : (s : Scan) → Some s ≡ None → ⊥
       some_none s e = cc
   never (inr many) h =
-      let scan = scan_is n arrivals events h in
+      let scan = scan_is config n arrivals events h in
       let enough = (ending_is scan.0 scan.1 h).enough in
       omega (arith, enough, many)
 
@@ -87,10 +89,10 @@ module _ (n : ℕ) (arrivals : List Arrival) (events : List Stamped) (small : Ar
 
 module _ (kept : Kept) (rising : NeverFalls 1 kept.arrivals) (lines : All (λ a. a.line < 4294967296) kept.arrivals) (events : List Stamped) (small : AreSmall events) (timed : TimedBy events kept) where
   abbrev IsInTime : Type 0
-  IsInTime = InTime kept.n kept.arrivals events
+  IsInTime = InTime kept.config kept.n kept.arrivals events
 
   pub late_in_time : is_late kept ≡ true → Decides false IsInTime
-  late_in_time late = (λ e. absurd (false≢true e), λ h. absurd (never kept.n kept.arrivals events small lines rising (timed.late late) h))
+  late_in_time late = (λ e. absurd (false≢true e), λ h. absurd (never kept.config kept.n kept.arrivals events small lines rising (timed.late late) h))
 
   abbrev front : List ℕ → List Arrival
   front admits = take (length admits) kept.arrivals
@@ -107,7 +109,7 @@ module _ (kept : Kept) (rising : NeverFalls 1 kept.arrivals) (lines : All (λ a.
         by false e = ltb-false (length kept.arrivals) (length kept.admits) e
 
     ending_of : SameCounts kept.admits (map arrival_number (front kept.admits))
-        → may_leave kept.n kept.most kept.scan.ends (last_moment (front kept.admits)) (back kept.admits) ≡ true → Ending kept.n kept.arrivals events kept.scan.ends
+        → may_leave kept.n kept.most kept.scan.ends (last_moment (front kept.admits)) (back kept.admits) ≡ true → Ending kept.config kept.n kept.arrivals events kept.scan.ends
     ending_of same leaves =
         let is = (timed.timely early).admits in
         let long = ap length is in
@@ -126,7 +128,7 @@ module _ (kept : Kept) (rising : NeverFalls 1 kept.arrivals) (lines : All (λ a.
         let P : List ℕ → Type 0 = λ l. SameCounts l (map arrival_number (front l)) in (
           λ e. absurd (false≢true e),
           λ h.
-              let ending = ending_is kept.n kept.arrivals events small lines rising kept.scan (timed.timely early).scans h in
+              let ending = ending_is kept.config kept.n kept.arrivals events small lines rising kept.scan (timed.timely early).scans h in
               absurd (false≢true (decides.1 (subst P (sym is) ending.same))),
         )
 
@@ -135,10 +137,10 @@ module _ (kept : Kept) (rising : NeverFalls 1 kept.arrivals) (lines : All (λ a.
     decided decides b is = (yes, no)
       where
         yes : b ≡ true → IsInTime
-        yes e = in_time_of kept.n kept.arrivals events small lines rising kept.scan (timed.timely early).scans (ending_of (decides.0 refl) (sym is ∙ e))
+        yes e = in_time_of kept.config kept.n kept.arrivals events small lines rising kept.scan (timed.timely early).scans (ending_of (decides.0 refl) (sym is ∙ e))
 
         no : IsInTime → b ≡ true
         no h =
-            let ending = ending_is kept.n kept.arrivals events small lines rising kept.scan (timed.timely early).scans h in
+            let ending = ending_is kept.config kept.n kept.arrivals events small lines rising kept.scan (timed.timely early).scans h in
             let Q : List ℕ → ℕ → Type 0 = λ l most. may_leave kept.n most kept.scan.ends (last_moment (front l)) (back l) ≡ true in
-            is ∙ subst (λ (most : ℕ). Q kept.admits most) (sym (timed.timely early).most) (subst (λ (l : List ℕ). Q l (longest events)) (sym (timed.timely early).admits) ending.leaves)
+            is ∙ subst (λ (most : ℕ). Q kept.admits most) (sym (timed.timely early).most) (subst (λ (l : List ℕ). Q l (longest kept.config events)) (sym (timed.timely early).admits) ending.leaves)

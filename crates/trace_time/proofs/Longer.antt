@@ -3,10 +3,13 @@ use Rattle.std.proofs.Common.{◌≡◌, ◌∙◌, ℕ, suc, ◌+◌, ◌<◌, 
 use Rattle.std.specs.Prelude.{◌-◌, ◌||◌, ltb, slice_get}
 use Rattle.std.proofs.lemmas.Bool.{true≢false, ltb-true}
 use Rattle.std.proofs.lemmas.Option.{same_Some}
+use Rattle.sloth_base.specs.Stretches.{longest_stretch}
+use Rattle.sloth_base.specs.declared.config.Config.{Config}
 use Rattle.sloth_base.specs.declared.event.Arrival.{Arrival}
 use Rattle.sloth_base.specs.declared.event.Stamped.{Stamped}
 use Rattle.osek_machine.specs.Meaning.{on_some}
-use Rattle.osek_machine.specs.InTime.{admitted_task, is_boot, longest}
+use Rattle.sloth_base.specs.Events.{admitted_line, is_boot}
+use Rattle.osek_machine.specs.InTime.{longest}
 use Rattle.trace_time.specs.Scan.{Scan, scan_start, looked, scanned}
 use Rattle.trace_time.specs.Counts.{admit_numbers, with_admit, last_moment}
 use Rattle.trace_time.specs.Timed.{Kept, is_late, NeverInTime, Timely, TimedBy}
@@ -19,17 +22,19 @@ with_admit-append : (o : Option ℕ) (k : ℕ) (numbers more : List ℕ) → wit
 with_admit-append (Some t) k numbers more = refl
 with_admit-append None k numbers more = refl
 
-numbers_more : (events : List Stamped) (e : Stamped) → admit_numbers (events ++ e ∷ []) ≡ admit_numbers events ++ with_admit (admitted_task e.event) e.stamp.at []
+numbers_more : (events : List Stamped) (e : Stamped) → admit_numbers (events ++ e ∷ []) ≡ admit_numbers events ++ with_admit (admitted_line e.event) e.stamp.at []
 numbers_more [] e = refl
 numbers_more (x ∷ events) e =
-    ap (with_admit (admitted_task x.event) x.stamp.at) (numbers_more events e)
-    ∙ with_admit-append (admitted_task x.event) x.stamp.at (admit_numbers events) (with_admit (admitted_task e.event) e.stamp.at [])
+    ap (with_admit (admitted_line x.event) x.stamp.at) (numbers_more events e)
+    ∙ with_admit-append (admitted_line x.event) x.stamp.at (admit_numbers events) (with_admit (admitted_line e.event) e.stamp.at [])
 
-longest_more : (events : List Stamped) (e : Stamped) → longest (events ++ e ∷ []) ≡ cond (is_boot e.event) 160 (longest events)
-longest_more [] e = refl
-longest_more (x ∷ events) e = ap (cond (is_boot x.event) 160) (longest_more events e) ∙ by (is_boot x.event) (is_boot e.event)
+longest_more : (config : Config) (events : List Stamped) (e : Stamped)
+    → longest config (events ++ e ∷ []) ≡ cond (is_boot e.event) (longest_stretch config) (longest config events)
+longest_more config [] e = refl
+longest_more config (x ∷ events) e = ap (cond (is_boot x.event) (longest_stretch config)) (longest_more config events e) ∙ by (is_boot x.event) (is_boot e.event)
   where
-    by : (b c : Bool) → cond b 160 (cond c 160 (longest events)) ≡ cond c 160 (cond b 160 (longest events))
+    by : (b c : Bool) → cond b (longest_stretch config) (cond c (longest_stretch config) (longest config events))
+        ≡ cond c (longest_stretch config) (cond b (longest_stretch config) (longest config events))
     by true true = refl
     by true false = refl
     by false c = refl
@@ -38,7 +43,7 @@ longest_more (x ∷ events) e = ap (cond (is_boot x.event) 160) (longest_more ev
 never_more : (n : ℕ) (arrivals : List Arrival) (events : List Stamped) (e : Stamped) → NeverInTime n arrivals events → NeverInTime n arrivals (events ++ e ∷ [])
 never_more n arrivals events e (inl stops) = inl (scanned_more n (Some (scan_start arrivals)) events e ∙ ap (λ o. on_some o (λ x. looked n x e)) stops)
 never_more n arrivals events e (inr many) =
-    let long = ap length (numbers_more events e) ∙ length-append (admit_numbers events) (with_admit (admitted_task e.event) e.stamp.at []) in
+    let long = ap length (numbers_more events e) ∙ length-append (admit_numbers events) (with_admit (admitted_line e.event) e.stamp.at []) in
     inr (omega (arith, many, long))
 
 module _ (events : List Stamped) (old : Kept) (timed : TimedBy events old) (e : Stamped) where
@@ -49,7 +54,7 @@ module _ (events : List Stamped) (old : Kept) (timed : TimedBy events old) (e : 
     timely = λ early. absurd (true≢false (sym late ∙ early));
   }
 
-  module _ (early : is_late old ≡ false) (new : Kept) (n : new.n ≡ old.n) (arrivals : new.arrivals ≡ old.arrivals) where
+  module _ (early : is_late old ≡ false) (new : Kept) (config : new.config ≡ old.config) (n : new.n ≡ old.n) (arrivals : new.arrivals ≡ old.arrivals) where
     -- the pass stops
     pub stops_here : None ≡ looked old.n old.scan e → new.stopped ≡ true → TimedBy (events ++ e ∷ []) new
     stops_here stops stopped =
@@ -62,15 +67,15 @@ module _ (events : List Stamped) (old : Kept) (timed : TimedBy events old) (e : 
         }
 
     -- it goes on
-    pub goes_on : Some new.scan ≡ looked old.n old.scan e → new.admits ≡ old.admits ++ with_admit (admitted_task e.event) e.stamp.at []
-        → new.most ≡ cond (is_boot e.event) 160 old.most → new.stopped ≡ old.stopped → TimedBy (events ++ e ∷ []) new
+    pub goes_on : Some new.scan ≡ looked old.n old.scan e → new.admits ≡ old.admits ++ with_admit (admitted_line e.event) e.stamp.at []
+        → new.most ≡ cond (is_boot e.event) (longest_stretch old.config) old.most → new.stopped ≡ old.stopped → TimedBy (events ++ e ∷ []) new
     goes_on goes admits most stopped = record { late = λ late. inr (many (new.stopped) refl late); timely = λ _. timely }
       where
         was : Timely events old
         was = timed.timely early
 
         admits_is : new.admits ≡ admit_numbers (events ++ e ∷ [])
-        admits_is = admits ∙ (ap (λ (l : List ℕ). l ++ with_admit (admitted_task e.event) e.stamp.at []) was.admits ∙ sym (numbers_more events e))
+        admits_is = admits ∙ (ap (λ (l : List ℕ). l ++ with_admit (admitted_line e.event) e.stamp.at []) was.admits ∙ sym (numbers_more events e))
 
         timely : Timely (events ++ e ∷ []) new
         timely =
@@ -79,7 +84,10 @@ module _ (events : List Stamped) (old : Kept) (timed : TimedBy events old) (e : 
             record {
               scans = subst (λ (count : ℕ). P count new.arrivals) (sym n) (subst (λ (list : List Arrival). P old.n list) (sym arrivals) scans);
               admits = admits_is;
-              most = most ∙ (ap (cond (is_boot e.event) 160) was.most ∙ sym (longest_more events e));
+              most =
+                  most
+                  ∙ (ap (cond (is_boot e.event) (longest_stretch old.config)) was.most
+                  ∙ (sym (longest_more old.config events e) ∙ ap (λ (c : Config). longest c (events ++ e ∷ [])) (sym config)));
             }
 
         many : (b : Bool) → new.stopped ≡ b → is_late new ≡ true → length new.arrivals < length (admit_numbers (events ++ e ∷ []))

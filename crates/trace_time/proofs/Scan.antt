@@ -14,47 +14,32 @@ use Rattle.sloth_base.specs.declared.event.Stamp.{Stamp}
 use Rattle.sloth_base.specs.declared.event.Stamped.{Stamped}
 use Rattle.osek_machine.specs.Meaning.{on_some, if_true}
 use Rattle.osek_machine.proofs.Tests.{if_true_some, if_true_is, on_some_from}
-use Rattle.osek_machine.specs.InTime.{admitted_task, is_admit, IsAlone, SpansFor, IsStamped, StandsBefore, IsOrdered, IsSubsequence, KeepsOrder, others}
-use Rattle.trace_time.specs.Scan.{Scan, scan_start, behind_first, from_moment, is_single, is_stamped, after_admit, after_other, after_event, looked, scanned, key_of, arrival_key, front_admits, KeepsBehind, Keeps, FollowsScan, MayFollow}
+use Rattle.sloth_base.specs.Events.{admitted_line, is_single}
+use Rattle.osek_machine.specs.InTime.{is_admit, Spans, IsStamped, StandsBefore, IsOrdered, IsSubsequence, KeepsOrder, others}
+use Rattle.trace_time.specs.Scan.{Scan, scan_start, behind_first, from_moment, is_stamped, after_admit, after_other, after_event, looked, scanned, key_of, arrival_key, front_admits, KeepsBehind, Keeps, FollowsScan, MayFollow}
 use Rattle.trace_time.proofs.Subsequences.{sub_tail, sub_front, found_right, found_left, Found, AreFrom, trim_right, trim_left}
 
 -- ---- stamps
 
-spans_of : (what : Event) (e : Stamped) → cond (is_single what) (e.stamp.from == e.stamp.at) (leb e.stamp.from e.stamp.at) ≡ true
-    → (e.stamp.from ≤ e.stamp.at) × SpansFor what e
-spans_of event.Idle e h = let same = eqb-true e.stamp.from e.stamp.at h in (omega (arith, same), same)
-spans_of (event.Run t func item result) e h = let same = eqb-true e.stamp.from e.stamp.at h in (omega (arith, same), same)
-spans_of (event.Admit t) e h = let same = eqb-true e.stamp.from e.stamp.at h in (omega (arith, same), same)
-spans_of event.Boot e h = (leb-true e.stamp.from e.stamp.at h, tt)
-spans_of (event.Enter t) e h = (leb-true e.stamp.from e.stamp.at h, tt)
-spans_of (event.Call t served status) e h = (leb-true e.stamp.from e.stamp.at h, tt)
-spans_of (event.Left t served) e h = (leb-true e.stamp.from e.stamp.at h, tt)
-spans_of (event.Back t) e h = (leb-true e.stamp.from e.stamp.at h, tt)
-spans_of event.Stray e h = (leb-true e.stamp.from e.stamp.at h, tt)
+spans_of : (single : Bool) (e : Stamped) → cond single (e.stamp.from == e.stamp.at) (leb e.stamp.from e.stamp.at) ≡ true → (e.stamp.from ≤ e.stamp.at) × Spans single e
+spans_of true e h = let same = eqb-true e.stamp.from e.stamp.at h in (omega (arith, same), same)
+spans_of false e h = (leb-true e.stamp.from e.stamp.at h, tt)
 
-spans_is : (what : Event) (e : Stamped) → e.stamp.from ≤ e.stamp.at → SpansFor what e
-    → cond (is_single what) (e.stamp.from == e.stamp.at) (leb e.stamp.from e.stamp.at) ≡ true
-spans_is event.Idle e le h = eq-eqb e.stamp.from e.stamp.at h
-spans_is (event.Run t func item result) e le h = eq-eqb e.stamp.from e.stamp.at h
-spans_is (event.Admit t) e le h = eq-eqb e.stamp.from e.stamp.at h
-spans_is event.Boot e le h = le-leb e.stamp.from e.stamp.at le
-spans_is (event.Enter t) e le h = le-leb e.stamp.from e.stamp.at le
-spans_is (event.Call t served status) e le h = le-leb e.stamp.from e.stamp.at le
-spans_is (event.Left t served) e le h = le-leb e.stamp.from e.stamp.at le
-spans_is (event.Back t) e le h = le-leb e.stamp.from e.stamp.at le
-spans_is event.Stray e le h = le-leb e.stamp.from e.stamp.at le
+spans_is : (single : Bool) (e : Stamped) → e.stamp.from ≤ e.stamp.at → Spans single e → cond single (e.stamp.from == e.stamp.at) (leb e.stamp.from e.stamp.at) ≡ true
+spans_is true e le h = eq-eqb e.stamp.from e.stamp.at h
+spans_is false e le h = le-leb e.stamp.from e.stamp.at le
 
 module _ (n : ℕ) where
   stamped_of : (e : Stamped) → is_stamped n e ≡ true → IsStamped n e
   stamped_of e h =
       let both = and_parts (cond (is_single e.event) (e.stamp.from == e.stamp.at) (leb e.stamp.from e.stamp.at)) (ltb e.stamp.at n) h in
-      let spans = spans_of e.event e both.0 in
+      let spans = spans_of (is_single e.event) e both.0 in
       record { ordered = spans.0; spans = spans.1; below = (Decides-ltb e.stamp.at n).0 both.1 }
 
   stamped_is : (e : Stamped) → IsStamped n e → is_stamped n e ≡ true
   stamped_is e h =
       and_from (cond (is_single e.event) (e.stamp.from == e.stamp.at) (leb e.stamp.from e.stamp.at)) (ltb e.stamp.at n)
-      (spans_is e.event e h.ordered h.spans) ((Decides-ltb e.stamp.at n).1 h.below)
+      (spans_is (is_single e.event) e h.ordered h.spans) ((Decides-ltb e.stamp.at n).1 h.below)
 
 -- ---- one event
 
@@ -208,22 +193,22 @@ module _ (n : ℕ) where
 
   module _ (s s1 : Scan) (e : Stamped) (fine : IsFine s) (events : List Stamped) where
     abbrev Step : Type 0
-    Step = after_event s (admitted_task e.event) e.stamp.from e.stamp.at ≡ Some s1
+    Step = after_event s (admitted_line e.event) e.stamp.from e.stamp.at ≡ Some s1
 
     ordered_pairs : IsStamped n e → Step → All (MayFollow s1) events → All (λ x. IsOrdered e x) events × All (MayFollow s) events
     ordered_pairs st h f = (
-      λ k d lt. ((next_follow s e.stamp.from e.stamp.at st.ordered fine (admitted_task e.event) s1 h (admitted_task (get_or events k d).event) (get_or events k d).stamp.from (get_or events k d).stamp.at).0 (f k d lt)).1,
-      λ k d lt. ((next_follow s e.stamp.from e.stamp.at st.ordered fine (admitted_task e.event) s1 h (admitted_task (get_or events k d).event) (get_or events k d).stamp.from (get_or events k d).stamp.at).0 (f k d lt)).0,
+      λ k d lt. ((next_follow s e.stamp.from e.stamp.at st.ordered fine (admitted_line e.event) s1 h (admitted_line (get_or events k d).event) (get_or events k d).stamp.from (get_or events k d).stamp.at).0 (f k d lt)).1,
+      λ k d lt. ((next_follow s e.stamp.from e.stamp.at st.ordered fine (admitted_line e.event) s1 h (admitted_line (get_or events k d).event) (get_or events k d).stamp.from (get_or events k d).stamp.at).0 (f k d lt)).0,
     )
 
     follow_pairs : IsStamped n e → Step → All (λ x. IsOrdered e x) events → All (MayFollow s) events → All (MayFollow s1) events
     follow_pairs st h o f k d lt =
-        (next_follow s e.stamp.from e.stamp.at st.ordered fine (admitted_task e.event) s1 h (admitted_task (get_or events k d).event) (get_or events k d).stamp.from (get_or events k d).stamp.at).1
+        (next_follow s e.stamp.from e.stamp.at st.ordered fine (admitted_line e.event) s1 h (admitted_line (get_or events k d).event) (get_or events k d).stamp.from (get_or events k d).stamp.at).1
         (f k d lt, o k d lt)
 
   -- each admit follows what is begun
   admits_follow : (s : Scan) (events : List Stamped) → All (MayFollow s) events → AdmitsFrom s.begins events
-  admits_follow s events h k d lt = by (admitted_task (get_or events k d).event) (h k d lt)
+  admits_follow s events h k d lt = by (admitted_line (get_or events k d).event) (h k d lt)
     where
       by : (o : Option ℕ) → FollowsScan s o (get_or events k d).stamp.from (get_or events k d).stamp.at → is_some o ≡ true → s.begins ≤ (get_or events k d).stamp.at
       by (Some t) f is = f
@@ -231,7 +216,7 @@ module _ (n : ℕ) where
 
   module _ (e : Stamped) (events : List Stamped) where
     -- an admit takes its arrival out of what is left
-    keeps_admit : (s : Scan) (t : ℕ) (s1 : Scan) → admitted_task e.event ≡ Some t → AdmitStep s t e.stamp.at s1 → Keeps s1.base s1.rest events → Keeps s.base s.rest (e ∷ events)
+    keeps_admit : (s : Scan) (t : ℕ) (s1 : Scan) → admitted_line e.event ≡ Some t → AdmitStep s t e.stamp.at s1 → Keeps s1.base s1.rest events → Keeps s.base s.rest (e ∷ events)
     keeps_admit s t s1 is step k =
         let P : Scan → Type 0 = λ x. Keeps x.base x.rest events in
         let kept = subst P step.is k in
@@ -243,7 +228,7 @@ module _ (n : ℕ) where
         record { front = subst F (sym admit) found; behind = (subst G (sym admit) tt, kept.behind) }
 
     -- another event takes none, and lets those of its moments go
-    keeps_other : (s : Scan) (s1 : Scan) → admitted_task e.event ≡ None → OtherStep s e.stamp.from e.stamp.at s1 → Keeps s1.base s1.rest events → Keeps s.base s.rest (e ∷ events)
+    keeps_other : (s : Scan) (s1 : Scan) → admitted_line e.event ≡ None → OtherStep s e.stamp.from e.stamp.at s1 → Keeps s1.base s1.rest events → Keeps s.base s.rest (e ∷ events)
     keeps_other s s1 is step k =
         let P : Scan → Type 0 = λ x. Keeps x.base x.rest events in
         let kept = keeps_right (e.stamp.from + 1) s.base events (subst P step.is k) in
@@ -252,20 +237,20 @@ module _ (n : ℕ) where
         let G : Bool → Type 0 = λ c. cond c (Unit {0}) (IsSubsequence (map key_of (front_admits events)) (map arrival_key s.base)) in
         record { front = subst F (sym admit) tt; behind = (subst G (sym admit) kept.front, kept.behind) }
 
-    keeps_before : (s s1 : Scan) (o : Option ℕ) → admitted_task e.event ≡ o → after_event s o e.stamp.from e.stamp.at ≡ Some s1 → Keeps s1.base s1.rest events → Keeps s.base s.rest (e ∷ events)
+    keeps_before : (s s1 : Scan) (o : Option ℕ) → admitted_line e.event ≡ o → after_event s o e.stamp.from e.stamp.at ≡ Some s1 → Keeps s1.base s1.rest events → Keeps s.base s.rest (e ∷ events)
     keeps_before s s1 (Some t) is h k = keeps_admit s t s1 is (admit_step s t e.stamp.at s1 h) k
     keeps_before s s1 None is h k = keeps_other s s1 is (other_step s e.stamp.from e.stamp.at s1 h) k
 
     -- where the pass goes on
     record Goes (s : Scan) : Type 0 where
       next : Scan
-      steps : after_event s (admitted_task e.event) e.stamp.from e.stamp.at ≡ Some next
+      steps : after_event s (admitted_line e.event) e.stamp.from e.stamp.at ≡ Some next
       keeps : (All (MayFollow next) events) → Keeps next.base next.rest events
 
     goes : (s : Scan) → MayFollow s e → Keeps s.base s.rest (e ∷ events) → Goes s
-    goes s f k = by (admitted_task e.event) refl f
+    goes s f k = by (admitted_line e.event) refl f
       where
-        admits : (t : ℕ) → admitted_task e.event ≡ Some t → s.begins ≤ e.stamp.at → Goes s
+        admits : (t : ℕ) → admitted_line e.event ≡ Some t → s.begins ≤ e.stamp.at → Goes s
         admits t is begins =
             let F : Bool → Type 0 = λ c. IsSubsequence (map key_of (cond c (e ∷ front_admits events) [])) (map arrival_key s.rest) in
             let H : Option ℕ → Type 0 = λ o. IsSubsequence ((e.stamp.at, o) ∷ map key_of (front_admits events)) (map arrival_key s.rest) in
@@ -281,7 +266,7 @@ module _ (n : ℕ) where
               keeps = λ _. record { front = found.others; behind = k.behind.1 };
             }
 
-        passes : admitted_task e.event ≡ None → (s.ends ≤ e.stamp.from) × (s.latest ≤ e.stamp.at) → Goes s
+        passes : admitted_line e.event ≡ None → (s.ends ≤ e.stamp.from) × (s.latest ≤ e.stamp.at) → Goes s
         passes is f =
             let G : Bool → Type 0 = λ c. cond c (Unit {0}) (IsSubsequence (map key_of (front_admits events)) (map arrival_key s.base)) in
             let next = other_scan s e.stamp.from e.stamp.at in
@@ -296,15 +281,15 @@ module _ (n : ℕ) where
                   (record { front = subst G (ap is_some is) k.behind.0; behind = k.behind.1 });
             }
 
-        by : (o : Option ℕ) → admitted_task e.event ≡ o → FollowsScan s o e.stamp.from e.stamp.at → Goes s
+        by : (o : Option ℕ) → admitted_line e.event ≡ o → FollowsScan s o e.stamp.from e.stamp.at → Goes s
         by (Some t) is f = admits t is f
         by None is f = passes is f
 
   -- ---- both directions
 
-  first_step : (s s1 : Scan) (e : Stamped) → looked n s e ≡ Some s1 → IsStamped n e × (after_event s (admitted_task e.event) e.stamp.from e.stamp.at ≡ Some s1)
+  first_step : (s s1 : Scan) (e : Stamped) → looked n s e ≡ Some s1 → IsStamped n e × (after_event s (admitted_line e.event) e.stamp.from e.stamp.at ≡ Some s1)
   first_step s s1 e h =
-      let test = if_true_some (is_stamped n e) (after_event s (admitted_task e.event) e.stamp.from e.stamp.at) s1 h in
+      let test = if_true_some (is_stamped n e) (after_event s (admitted_line e.event) e.stamp.from e.stamp.at) s1 h in
       (stamped_of n e test.0, test.1)
 
   follows_first : (s s1 : Scan) (o : Option ℕ) (from at : ℕ) → after_event s o from at ≡ Some s1 → FollowsScan s o from at
@@ -320,13 +305,13 @@ module _ (n : ℕ) where
       by more None l h = absurd (scanned_none events end h)
       by more (Some s1) l h =
           let first = first_step s s1 e l in
-          let rest = more s1 (fine_next s (admitted_task e.event) e.stamp.from e.stamp.at s1 first.0.ordered fine first.1) h in
+          let rest = more s1 (fine_next s (admitted_line e.event) e.stamp.from e.stamp.at s1 first.0.ordered fine first.1) h in
           let pairs = ordered_pairs s s1 e fine events first.0 first.1 rest.follows in
           record {
             stamped = All-cons (IsStamped n) e events first.0 rest.stamped;
             placed = AllPairs-cons IsOrdered e events pairs.0 rest.placed;
-            follows = All-cons (MayFollow s) e events (follows_first s s1 (admitted_task e.event) e.stamp.from e.stamp.at first.1) pairs.1;
-            keeps = keeps_before e events s s1 (admitted_task e.event) refl first.1 rest.keeps;
+            follows = All-cons (MayFollow s) e events (follows_first s s1 (admitted_line e.event) e.stamp.from e.stamp.at first.1) pairs.1;
+            keeps = keeps_before e events s s1 (admitted_line e.event) refl first.1 rest.keeps;
           }
 
   pairs_head : (e : Stamped) (events : List Stamped) → AllPairs IsOrdered (e ∷ events) → All (λ x. IsOrdered e x) events
@@ -341,7 +326,7 @@ module _ (n : ℕ) where
       let stamp = All-head (IsStamped n) e events f.stamped in
       let follow = All-head (MayFollow s) e events f.follows in
       let go = goes e events s follow f.keeps in
-      let fine1 = fine_next s (admitted_task e.event) e.stamp.from e.stamp.at go.next stamp.ordered fine go.steps in
+      let fine1 = fine_next s (admitted_line e.event) e.stamp.from e.stamp.at go.next stamp.ordered fine go.steps in
       let after = follow_pairs s go.next e fine events stamp go.steps (pairs_head e events f.placed) (All-tail (MayFollow s) e events f.follows) in
       let rest = scan_complete events go.next fine1 (record {
         stamped = All-tail (IsStamped n) e events f.stamped;
@@ -349,7 +334,7 @@ module _ (n : ℕ) where
         follows = after;
         keeps = go.keeps after;
       }) in
-      let step = if_true_is (is_stamped n e) (after_event s (admitted_task e.event) e.stamp.from e.stamp.at) go.next (stamped_is n e stamp) go.steps in
+      let step = if_true_is (is_stamped n e) (after_event s (admitted_line e.event) e.stamp.from e.stamp.at) go.next (stamped_is n e stamp) go.steps in
       (rest.0, ap (λ o. scanned n o events) step ∙ rest.1)
 
   -- ---- where the last event that is no admit ends
@@ -384,6 +369,6 @@ module _ (n : ℕ) where
         by more None l h = absurd (scanned_none events end h)
         by more (Some s1) l h =
             let first = first_step s s1 e l in
-            let step = ends_step s s1 e (others events) first.0.ordered (admitted_task e.event) first.1 in
+            let step = ends_step s s1 e (others events) first.0.ordered (admitted_line e.event) first.1 in
             let rest = more s1 h in
             (λ x. step.0 (rest.0 x), λ x. rest.1 (step.1 x))

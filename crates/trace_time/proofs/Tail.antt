@@ -9,10 +9,12 @@ use Rattle.std.proofs.lemmas.List.Elements.{All-cons, All-head, All-tail}
 use Rattle.std.proofs.lemmas.List.Sums.{sum_by-cons, sum_by-append}
 use Rattle.sloth_base.specs.Arrivals.{NeverFalls}
 use Rattle.sloth_base.specs.Options.{is_number}
+use Rattle.sloth_base.specs.declared.config.Config.{Config}
 use Rattle.sloth_base.specs.declared.event.Arrival.{Arrival}
 use Rattle.sloth_base.specs.declared.event.Event.{Event}
 use Rattle.sloth_base.specs.declared.event.Stamped.{Stamped}
-use Rattle.osek_machine.specs.InTime.{admitted_task, is_admit, admits_at, arrivals_at, AdmitsAll, LeavesOut, IsStamped, longest, others}
+use Rattle.sloth_base.specs.Events.{admitted_line}
+use Rattle.osek_machine.specs.InTime.{is_admit, admits_at, arrivals_at, AdmitsAll, LeavesOut, IsStamped, longest, others}
 use Rattle.trace_time.specs.Counts.{number_at, arrival_number, with_admit, admit_numbers, times, SameCounts, last_moment, may_leave, Ending, IsSmall, AreSmall}
 use Rattle.trace_time.proofs.Counts.{same_length, times-append}
 
@@ -43,9 +45,9 @@ module _ (k t : ℕ) (small : t < 4294967296) where
   pub admits_counted : (events : List Stamped) → AreSmall events → admits_at k t events ≡ times (number_at k t) (admit_numbers events)
   admits_counted [] h = refl
   admits_counted (e ∷ events) h =
-      sum_by-cons (λ (x : Stamped). cond (is_number t (admitted_task x.event) && (x.stamp.at == k)) 1 0) e events
-      ∙ (ap (λ n. cond (is_number t (admitted_task e.event) && (e.stamp.at == k)) 1 0 + n) (admits_counted events (All-tail (λ (x : Stamped). IsSmall (admitted_task x.event)) e events h))
-      ∙ by (admitted_task e.event) (All-head (λ (x : Stamped). IsSmall (admitted_task x.event)) e events h))
+      sum_by-cons (λ (x : Stamped). cond (is_number t (admitted_line x.event) && (x.stamp.at == k)) 1 0) e events
+      ∙ (ap (λ n. cond (is_number t (admitted_line e.event) && (e.stamp.at == k)) 1 0 + n) (admits_counted events (All-tail (λ (x : Stamped). IsSmall (admitted_line x.event)) e events h))
+      ∙ by (admitted_line e.event) (All-head (λ (x : Stamped). IsSmall (admitted_line x.event)) e events h))
     where
       by : (o : Option ℕ) → IsSmall o → cond (is_number t o && (e.stamp.at == k)) 1 0 + times (number_at k t) (admit_numbers events)
           ≡ times (number_at k t) (with_admit o e.stamp.at (admit_numbers events))
@@ -64,9 +66,9 @@ module _ (k t : ℕ) (great : 4294967296 ≤ t) where
   pub no_admits : (events : List Stamped) → AreSmall events → admits_at k t events ≡ 0
   no_admits [] h = refl
   no_admits (e ∷ events) h =
-      sum_by-cons (λ (x : Stamped). cond (is_number t (admitted_task x.event) && (x.stamp.at == k)) 1 0) e events
-      ∙ (ap (λ n. cond (is_number t (admitted_task e.event) && (e.stamp.at == k)) 1 0 + n) (no_admits events (All-tail (λ (x : Stamped). IsSmall (admitted_task x.event)) e events h))
-      ∙ by (admitted_task e.event) (All-head (λ (x : Stamped). IsSmall (admitted_task x.event)) e events h))
+      sum_by-cons (λ (x : Stamped). cond (is_number t (admitted_line x.event) && (x.stamp.at == k)) 1 0) e events
+      ∙ (ap (λ n. cond (is_number t (admitted_line e.event) && (e.stamp.at == k)) 1 0 + n) (no_admits events (All-tail (λ (x : Stamped). IsSmall (admitted_line x.event)) e events h))
+      ∙ by (admitted_line e.event) (All-head (λ (x : Stamped). IsSmall (admitted_line x.event)) e events h))
     where
       by : (o : Option ℕ) → IsSmall o → cond (is_number t o && (e.stamp.at == k)) 1 0 + 0 ≡ 0
       by (Some u) s = ap (λ b. cond (b && (e.stamp.at == k)) 1 0 + 0) (ne_eqb u t (λ same. omega (arith, same, s, great)))
@@ -110,9 +112,9 @@ module _ (k t : ℕ) where
   none_admitted : (events : List Stamped) → All (λ e. e.stamp.at ≡ k → ⊥) events → admits_at k t events ≡ 0
   none_admitted [] h = refl
   none_admitted (e ∷ events) h =
-      sum_by-cons (λ (x : Stamped). cond (is_number t (admitted_task x.event) && (x.stamp.at == k)) 1 0) e events
-      ∙ (ap (λ m. cond (is_number t (admitted_task e.event) && (e.stamp.at == k)) 1 0 + m) (none_admitted events (All-tail (λ (x : Stamped). x.stamp.at ≡ k → ⊥) e events h))
-      ∙ (ap (λ b. cond (is_number t (admitted_task e.event) && b) 1 0 + 0) (ne_eqb e.stamp.at k (All-head (λ (x : Stamped). x.stamp.at ≡ k → ⊥) e events h)) ∙ by (is_number t (admitted_task e.event))))
+      sum_by-cons (λ (x : Stamped). cond (is_number t (admitted_line x.event) && (x.stamp.at == k)) 1 0) e events
+      ∙ (ap (λ m. cond (is_number t (admitted_line e.event) && (e.stamp.at == k)) 1 0 + m) (none_admitted events (All-tail (λ (x : Stamped). x.stamp.at ≡ k → ⊥) e events h))
+      ∙ (ap (λ b. cond (is_number t (admitted_line e.event) && b) 1 0 + 0) (ne_eqb e.stamp.at k (All-head (λ (x : Stamped). x.stamp.at ≡ k → ⊥) e events h)) ∙ by (is_number t (admitted_line e.event))))
     where
       by : (b : Bool) → cond (b && false) 1 0 + 0 ≡ 0
       by true = refl
@@ -187,7 +189,7 @@ same_from_keys xs ys h x =
     let P : ℕ → Type 0 = λ v. times v xs ≡ times v ys in
     subst P is (h (x / 4294967296) (x % 4294967296) (omega arith))
 
-module _ (arrivals : List Arrival) (events : List Stamped) (small : AreSmall events) (lines : All (λ a. a.line < 4294967296) arrivals) where
+module _ (config : Config) (arrivals : List Arrival) (events : List Stamped) (small : AreSmall events) (lines : All (λ a. a.line < 4294967296) arrivals) where
   abbrev SameAt : List Arrival → Type 0
   SameAt front = (k t : ℕ) → admits_at k t events ≡ arrivals_at k t front
 
@@ -226,7 +228,7 @@ module _ (arrivals : List Arrival) (events : List Stamped) (small : AreSmall eve
 
     module _ (ends : ℕ) (behind : (k : ℕ) → ends ≤ k → All (λ e. e.stamp.at < k) (others events)) where
       left_out : (front : List Arrival) (a : Arrival) (rest : List Arrival) → arrivals ≡ front ++ a ∷ rest → SameAt front → a.at < n → last_moment front < a.at → ends ≤ a.at
-          → n - a.at < longest events → LeavesOut n arrivals events a.at
+          → n - a.at < longest config events → LeavesOut config n arrivals events a.at
       left_out front a rest is same inside last after short =
           let P : List Arrival → Type 0 = λ l. NeverFalls 1 l in
           let falls = subst P is rising in
@@ -246,27 +248,27 @@ module _ (arrivals : List Arrival) (events : List Stamped) (small : AreSmall eve
           }
 
       pub ends_well : (front back : List Arrival) → arrivals ≡ front ++ back → SameCounts (admit_numbers events) (map arrival_number front)
-          → may_leave n (longest events) ends (last_moment front) back ≡ true → AdmitsAll n arrivals events ⊎ ((k : ℕ) × LeavesOut n arrivals events k)
+          → may_leave n (longest config events) ends (last_moment front) back ≡ true → AdmitsAll n arrivals events ⊎ ((k : ℕ) × LeavesOut config n arrivals events k)
       ends_well front [] is same h = inl (admits_all n front [] is (λ i d l. absurd (omega (arith, l))) (same_counted front [] is same))
       ends_well front (a ∷ rest) is same h = by (leb n a.at) refl h
         where
           falls : NeverFalls 1 (a ∷ rest)
           falls = let P : List Arrival → Type 0 = λ l. NeverFalls 1 l in falls_back 1 front (a ∷ rest) (subst P is rising)
 
-          by : (b : Bool) → leb n a.at ≡ b → cond b true (ltb (last_moment front) a.at && (leb ends a.at && ltb (n - a.at) (longest events))) ≡ true
-              → AdmitsAll n arrivals events ⊎ ((k : ℕ) × LeavesOut n arrivals events k)
+          by : (b : Bool) → leb n a.at ≡ b → cond b true (ltb (last_moment front) a.at && (leb ends a.at && ltb (n - a.at) (longest config events))) ≡ true
+              → AdmitsAll n arrivals events ⊎ ((k : ℕ) × LeavesOut config n arrivals events k)
           by true e h =
               let le = leb-true n a.at e in
               inl (admits_all n front (a ∷ rest) is
               (All-cons (λ (x : Arrival). n ≤ x.at) a rest le (λ i d l. let r = all_from a.at rest falls.1 i d l in omega (arith, r, le)))
               (same_counted front (a ∷ rest) is same))
           by false e h =
-              let first = and_parts (ltb (last_moment front) a.at) (leb ends a.at && ltb (n - a.at) (longest events)) h in
-              let second = and_parts (leb ends a.at) (ltb (n - a.at) (longest events)) first.1 in
+              let first = and_parts (ltb (last_moment front) a.at) (leb ends a.at && ltb (n - a.at) (longest config events)) h in
+              let second = and_parts (leb ends a.at) (ltb (n - a.at) (longest config events)) first.1 in
               inr (
                 a.at,
                 left_out front a rest is (same_counted front (a ∷ rest) is same) (leb-false n a.at e) (ltb-true (last_moment front) a.at first.0)
-                    (leb-true ends a.at second.0) (ltb-true (n - a.at) (longest events) second.1),
+                    (leb-true ends a.at second.0) (ltb-true (n - a.at) (longest config events) second.1),
               )
 
     -- ---- and the counts from what is left out
@@ -286,13 +288,13 @@ module _ (arrivals : List Arrival) (events : List Stamped) (small : AreSmall eve
     none_past moment t le = none_admitted moment t events (λ i d l e. let r = (stamped i d l).below in omega (arith, r, e, le))
 
     module _ (ends : ℕ) where
-      ending_of : (front back : List Arrival) → arrivals ≡ front ++ back → SameAt front → may_leave n (longest events) ends (last_moment front) back ≡ true → Ending n arrivals events ends
+      ending_of : (front back : List Arrival) → arrivals ≡ front ++ back → SameAt front → may_leave n (longest config events) ends (last_moment front) back ≡ true → Ending config n arrivals events ends
       ending_of front back is same leaves = record {
         enough = let l = ap length is in let a = length-append front back in omega (arith, l, a, count);
         same = subst (λ (l : List Arrival). SameCounts (admit_numbers events) (map arrival_number l)) (sym taken) counts;
         leaves =
-            subst (λ (l : List Arrival). may_leave n (longest events) ends (last_moment l) (drop (length (admit_numbers events)) arrivals) ≡ true) (sym taken)
-            (subst (λ (l : List Arrival). may_leave n (longest events) ends (last_moment front) l ≡ true) (sym dropped) leaves);
+            subst (λ (l : List Arrival). may_leave n (longest config events) ends (last_moment l) (drop (length (admit_numbers events)) arrivals) ≡ true) (sym taken)
+            (subst (λ (l : List Arrival). may_leave n (longest config events) ends (last_moment front) l ≡ true) (sym dropped) leaves);
       }
         where
           counts : SameCounts (admit_numbers events) (map arrival_number front)
@@ -307,7 +309,7 @@ module _ (arrivals : List Arrival) (events : List Stamped) (small : AreSmall eve
           dropped : drop (length (admit_numbers events)) arrivals ≡ back
           dropped = ap (λ k. drop k arrivals) count ∙ (ap (drop (length front)) is ∙ drop-append_seam front back)
 
-      pub ending_all : AdmitsAll n arrivals events → Ending n arrivals events ends
+      pub ending_all : AdmitsAll n arrivals events → Ending config n arrivals events ends
       ending_all all = by p.back p.is p.high
         where
           p : Parts n arrivals
@@ -316,14 +318,14 @@ module _ (arrivals : List Arrival) (events : List Stamped) (small : AreSmall eve
           same : SameAt p.front
           same = same_before n all none_past p
 
-          by : (back : List Arrival) → arrivals ≡ p.front ++ back → All (λ a. n ≤ a.at) back → Ending n arrivals events ends
+          by : (back : List Arrival) → arrivals ≡ p.front ++ back → All (λ a. n ≤ a.at) back → Ending config n arrivals events ends
           by [] is high = ending_of p.front [] is same refl
           by (a ∷ rest) is high =
               let le = All-head (λ (x : Arrival). n ≤ x.at) a rest high in
               ending_of p.front (a ∷ rest) is same
-              (ap (λ b. cond b true (ltb (last_moment p.front) a.at && (leb ends a.at && ltb (n - a.at) (longest events)))) (le-leb n a.at le))
+              (ap (λ b. cond b true (ltb (last_moment p.front) a.at && (leb ends a.at && ltb (n - a.at) (longest config events)))) (le-leb n a.at le))
 
-      pub ending_left : (k : ℕ) → ends ≤ k → LeavesOut n arrivals events k → Ending n arrivals events ends
+      pub ending_left : (k : ℕ) → ends ≤ k → LeavesOut config n arrivals events k → Ending config n arrivals events ends
       ending_left k after h = by p.back p.is p.high
         where
           p : Parts k arrivals
@@ -332,7 +334,7 @@ module _ (arrivals : List Arrival) (events : List Stamped) (small : AreSmall eve
           same : SameAt p.front
           same = same_before k h.admits h.leaves p
 
-          by : (back : List Arrival) → arrivals ≡ p.front ++ back → All (λ a. k ≤ a.at) back → Ending n arrivals events ends
+          by : (back : List Arrival) → arrivals ≡ p.front ++ back → All (λ a. k ≤ a.at) back → Ending config n arrivals events ends
           by [] is high =
               let none = none_here k h.first.0 p.front (λ i d l e. let r = p.low i d l in omega (arith, r, e)) in
               let whole = ap (arrivals_at k h.first.0) is ∙ arrivals-append k h.first.0 p.front [] in
@@ -350,7 +352,7 @@ module _ (arrivals : List Arrival) (events : List Stamped) (small : AreSmall eve
               positive : 1 ≤ a.at
               positive = (falls_back 1 p.front (a ∷ rest) falls).0
 
-              here : (k < a.at) ⊎ (a.at ≤ k) → Ending n arrivals events ends
+              here : (k < a.at) ⊎ (a.at ≤ k) → Ending config n arrivals events ends
               here (inl less) =
                   let later = all_from a.at rest (falls_back 1 p.front (a ∷ rest) falls).1 in
                   let none = none_here k h.first.0 p.front (λ i d l e. let r = p.low i d l in omega (arith, r, e)) in
@@ -363,6 +365,6 @@ module _ (arrivals : List Arrival) (events : List Stamped) (small : AreSmall eve
                   let short = h.short in
                   let last = last_below k p.front (omega (arith, positive, le)) p.low in
                   ending_of p.front (a ∷ rest) is same
-                  (ap (λ b. cond b true (ltb (last_moment p.front) a.at && (leb ends a.at && ltb (n - a.at) (longest events)))) (lt-leb n a.at (omega (arith, le, inside)))
-                  ∙ and_from (ltb (last_moment p.front) a.at) (leb ends a.at && ltb (n - a.at) (longest events)) (lt-ltb (last_moment p.front) a.at (omega (arith, last, low)))
-                  (and_from (leb ends a.at) (ltb (n - a.at) (longest events)) (le-leb ends a.at (omega (arith, after, low))) (lt-ltb (n - a.at) (longest events) (omega (arith, low, le, short)))))
+                  (ap (λ b. cond b true (ltb (last_moment p.front) a.at && (leb ends a.at && ltb (n - a.at) (longest config events)))) (lt-leb n a.at (omega (arith, le, inside)))
+                  ∙ and_from (ltb (last_moment p.front) a.at) (leb ends a.at && ltb (n - a.at) (longest config events)) (lt-ltb (last_moment p.front) a.at (omega (arith, last, low)))
+                  (and_from (leb ends a.at) (ltb (n - a.at) (longest config events)) (le-leb ends a.at (omega (arith, after, low))) (lt-ltb (n - a.at) (longest config events) (omega (arith, low, le, short)))))

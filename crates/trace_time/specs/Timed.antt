@@ -1,14 +1,16 @@
 -- Events looked at one after the other, and what is kept of them to tell whether they are in time.
 use Rattle.std.specs.Prelude.{ℕ, ◌<◌, ◌≡◌, ◌⊎◌, ◌||◌, List, Bool, true, false, length, ltb, Some, None}
+use Rattle.sloth_base.specs.declared.config.Config.{Config}
 use Rattle.sloth_base.specs.declared.event.Arrival.{Arrival}
 use Rattle.sloth_base.specs.declared.event.Stamped.{Stamped}
 use Rattle.osek_machine.specs.InTime.{longest}
 use Rattle.trace_time.specs.Scan.{Scan, scan_start, scanned}
 use Rattle.trace_time.specs.Counts.{admit_numbers}
 
--- what is kept: the number of instructions and the arrivals, where the pass stands, the numbers of the admits, the longest stretch that
+-- what is kept: the configuration, the number of instructions and the arrivals, where the pass stands, the numbers of the admits, the longest stretch that
 -- the end may cut off, and whether the pass stopped at an event
 pub record Kept : Type 0 where
+  pub config : Config
   pub n : ℕ
   pub arrivals : List Arrival
   pub scan : Scan
@@ -28,7 +30,7 @@ NeverInTime n arrivals events = (scanned n (Some (scan_start arrivals)) events �
 pub record Timely (events : List Stamped) (kept : Kept) : Type 0 where
   pub scans : scanned kept.n (Some (scan_start kept.arrivals)) events ≡ Some kept.scan
   pub admits : kept.admits ≡ admit_numbers events
-  pub most : kept.most ≡ longest events
+  pub most : kept.most ≡ longest kept.config events
 
 -- what is kept of these events
 pub record TimedBy (events : List Stamped) (kept : Kept) : Type 0 where

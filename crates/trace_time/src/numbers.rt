@@ -4,9 +4,9 @@ ghost use Rattle.std.specs.Ordering.{nat_cmp};
 ghost use Rattle.std.specs.List.Sorted.{IsPermutation, IsSorted};
 ghost use Rattle.std.specs.Bool.{Decides};
 ghost use Rattle.trace_time.specs.Counts.{SameCounts, arrival_number, last_moment, may_leave, number_at, with_admit};
-ghost use Rattle.osek_machine.specs.InTime.{admitted_task};
+ghost use Rattle.sloth_base.specs.Events.{admitted_line};
 
-use crate::pass::admitted_task;
+use crate::pass::admitted_line;
 use sloth_base::event::{Arrival, Stamped};
 use sloth_base::memory::NoMemory;
 use std::alloc::Global;
@@ -21,9 +21,9 @@ fn number_at(moment: u32, task: u32) -> u64
 
 /// One more number, where the event is an admit.
 pub fn push_number(numbers: &mut Vec<u64>, event: &Stamped) -> Result<(), NoMemory>
-    ensures { OnOk result (numbers.new.items ≡ numbers.old.items ++ with_admit (admitted_task event.now.event) event.now.stamp.at []) }
+    ensures { OnOk result (numbers.new.items ≡ numbers.old.items ++ with_admit (admitted_line event.now.event) event.now.stamp.at []) }
 {
-    match admitted_task(&event.event) {
+    match admitted_line(&event.event) {
         Some(task) => push(numbers, number_at(event.stamp.at, task)),
         None => Ok(()),
     }

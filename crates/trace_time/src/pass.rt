@@ -1,7 +1,7 @@
 //! One pass over events with the arrivals: their stamps, where admits stand, and the order of admits with no other event between them.
 ghost use Rattle.std.specs.Prelude.{◌≡◌, ◌<◌, cond, option_copied, Some, None};
-ghost use Rattle.osek_machine.specs.InTime.{admitted_task};
-ghost use Rattle.trace_time.specs.Scan.{after_admit, after_other, behind_first, from_moment, is_single, is_stamped, looked, scan_start};
+ghost use Rattle.sloth_base.specs.Events.{admitted_line, is_single};
+ghost use Rattle.trace_time.specs.Scan.{after_admit, after_other, behind_first, from_moment, is_stamped, looked, scan_start};
 
 use sloth_base::event::{Arrival, Event, Stamped};
 use std::marker::Model;
@@ -54,9 +54,9 @@ fn from_moment<'a>(arrivals: &'a [Arrival], moment: u32) -> &'a [Arrival]
     &arrivals[arrivals.len()..]
 }
 
-/// The task that an event admits.
-pub fn admitted_task(event: &Event) -> Option<u32>
-    ensures { result ≡ admitted_task event.now }
+/// The line whose arrival an event admits.
+pub fn admitted_line(event: &Event) -> Option<u32>
+    ensures { result ≡ admitted_line event.now }
 {
     match *event {
         Event::Admit(task) => Some(task),
@@ -157,7 +157,7 @@ impl<'a> Pass<'a> {
         if !is_stamped(n, event) {
             return false;
         }
-        match admitted_task(&event.event) {
+        match admitted_line(&event.event) {
             Some(task) => self.admit(task, event.stamp.at),
             None => self.pass(event.stamp.from, event.stamp.at),
         }

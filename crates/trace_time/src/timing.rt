@@ -3,26 +3,24 @@ ghost use Rattle.std.specs.Prelude.{◌≡◌, ◌<◌, ◌∷◌, ◌++◌, [],
 ghost use Rattle.std.specs.Bool.{Decides};
 ghost use Rattle.sloth_base.specs.Arrivals.{NeverFalls};
 ghost use Rattle.sloth_base.specs.declared.event.Stamped.{Stamped as AnyEvent};
-ghost use Rattle.osek_machine.specs.InTime.{InTime, is_boot};
+ghost use Rattle.sloth_base.specs.Events.{is_boot};
+ghost use Rattle.sloth_base.specs.Stretches.{Boots, longest_stretch, stretch_limit};
+ghost use Rattle.osek_machine.specs.InTime.{InTime};
 ghost use Rattle.trace_time.specs.Counts.{AreSmall};
 ghost use Rattle.trace_time.specs.Timed.{TimedBy, is_late};
 
 use crate::numbers::{are_admits_of, last_moment, may_leave, push_number};
 use crate::pass::Pass;
+use sloth_base::config::Config;
 use sloth_base::event::{Arrival, Event, Stamped};
 use sloth_base::memory::NoMemory;
 use std::alloc::Global;
 use std::marker::Model;
 
-/// How many instructions boot has less than.
-const BOOT: u32 = 400;
-
-/// How many instructions any other stretch has less than.
-const STRETCH: u32 = 160;
-
 /// The arrivals of a run, and what is kept of its events to tell whether they are admitted in time.
 #[derive(Drop)]
 pub struct Timing<'a> {
+    config: &'a Config,
     n: u32,
     arrivals: &'a [Arrival],
     pass: Pass<'a>,
@@ -39,15 +37,29 @@ impl<'a> Model for Timing<'a> {
 
     ghost Value = { Kept };
 
-    ghost view = { λ t. record { n = t.n; arrivals = t.arrivals.now; scan = t.pass; admits = t.admits.items; most = t.most; stopped = t.stopped } };
+    ghost view = { λ t. record { config = t.config.now; n = t.n; arrivals = t.arrivals.now; scan = t.pass; admits = t.admits.items; most = t.most; stopped = t.stopped } };
+}
+
+// The most instructions of boot.
+fn boot_limit(_config: &Config) -> u32
+    ensures { result ≡ stretch_limit _config.now Boots }
+{
+    400
+}
+
+// The most instructions of any stretch behind boot.
+fn longest_stretch(_config: &Config) -> u32
+    ensures { result ≡ longest_stretch _config.now }
+{
+    160
 }
 
 // How long a stretch is that the end may cut off, behind one event more.
-fn most_behind(event: &Event, most: u32) -> u32
-    ensures { result ≡ cond (is_boot event.now) 160 most }
+fn most_behind(config: &Config, event: &Event, most: u32) -> u32
+    ensures { result ≡ cond (is_boot event.now) (longest_stretch config.now) most }
 {
     match *event {
-        Event::Boot => STRETCH,
+        Event::Boot => longest_stretch(config),
         Event::Admit(_)
         | Event::Enter(_)
         | Event::Run { .. }
@@ -61,17 +73,19 @@ fn most_behind(event: &Event, most: u32) -> u32
 
 impl<'a> Timing<'a> {
     /// Before the first event of a run of n instructions.
-    pub fn new(alloc: Global, n: u32, arrivals: &'a [Arrival]) -> Timing<'a>
+    pub fn new(alloc: Global, config: &'a Config, n: u32, arrivals: &'a [Arrival]) -> Timing<'a>
         ensures timed { TimedBy [] result }
+        ensures config { result.config ≡ config.now }
         ensures n { result.n ≡ n }
         ensures arrivals { result.arrivals ≡ arrivals.now }
     {
         Timing {
+            config,
             n,
             arrivals,
             pass: Pass::new(arrivals),
             admits: Vec::new(alloc),
-            most: BOOT,
+            most: boot_limit(config),
             stopped: false,
         }
     }
@@ -86,6 +100,7 @@ impl<'a> Timing<'a> {
     /// Takes an event.
     pub fn take(&mut self, event: &Stamped) -> Result<(), NoMemory>
         ensures timed { OnOk result ((events : List AnyEvent) → TimedBy events self.old → TimedBy (events ++ event.now ∷ []) self.new) }
+        ensures config { self.new.config ≡ self.old.config }
         ensures n { self.new.n ≡ self.old.n }
         ensures arrivals { self.new.arrivals ≡ self.old.arrivals }
     {
@@ -97,7 +112,7 @@ impl<'a> Timing<'a> {
             return Ok(());
         }
         push_number(&mut self.admits, event)?;
-        self.most = most_behind(&event.event, self.most);
+        self.most = most_behind(self.config, &event.event, self.most);
         Ok(())
     }
 
@@ -106,7 +121,7 @@ impl<'a> Timing<'a> {
         requires rising { NeverFalls 1 self.old.arrivals }
         requires lines { All (λ a. a.line < 4294967296) self.old.arrivals }
         ensures { IfOk result (λ b. (events : List AnyEvent) → AreSmall events → TimedBy events self.old
-            → Decides b (InTime self.old.n self.old.arrivals events)) }
+            → Decides b (InTime self.old.config self.old.n self.old.arrivals events)) }
     {
         if self.is_late() {
             return Ok(false);

@@ -29,6 +29,7 @@ loop-rest-preserved c =
       line = omega (arith, count, long);
       walks = c.follow-stray.ensures c.args.config.now c.args.app.now before.events (ap (λ n. n + 1) before.line) before.walks;
       timed = c.in_ok-take.ensures.timed before.events before.timed;
+      config = c.take.ensures.config ∙ before.config;
       n = c.take.ensures.n ∙ before.n;
       arrivals = c.take.ensures.arrivals ∙ before.arrivals;
     }
@@ -55,7 +56,7 @@ returns-then-branch c =
     (subst (λ (fs : List (List ℕ)). P c.in_ok-tasks.tasks.items fs) c.in_ok-funcs.ensures found.reads) in
     let walked = none_strays _ _ found.events c.loop-rest.stray c.loop-rest.walk found.walks c.in_default-stray.is in
     let small = lines_small _ _ found.events found.reads.lines in
-    let decides = in_time_at c.in_ok-in_time.field-0 _ c.args.n _ c.args.arrivals.now found.events found.n found.arrivals (c.in_ok-in_time.ensures found.events small found.timed) in
+    let decides = in_time_at c.in_ok-in_time.field-0 _ c.args.config.now _ c.args.n _ c.args.arrivals.now found.events found.config found.n found.arrivals (c.in_ok-in_time.ensures found.events small found.timed) in
     record {
       events = found.events;
       shows = shows_all _ _ c.args.text.now c.loop-rest.rest.now found.events reads (sym c.is_empty.ensures ∙ c.loop-rest-test.false);
@@ -72,7 +73,7 @@ returns c =
     (subst (λ (fs : List (List ℕ)). P c.in_ok-tasks.tasks.items fs) c.in_ok-funcs.ensures found.reads) in
     let walked = none_strays _ _ found.events c.loop-rest.stray c.loop-rest.walk found.walks c.in_default-stray.is in
     let small = lines_small _ _ found.events found.reads.lines in
-    let decides = in_time_at c.in_ok-in_time.field-0 _ c.args.n _ c.args.arrivals.now found.events found.n found.arrivals (c.in_ok-in_time.ensures found.events small found.timed) in
+    let decides = in_time_at c.in_ok-in_time.field-0 _ c.args.config.now _ c.args.n _ c.args.arrivals.now found.events found.config found.n found.arrivals (c.in_ok-in_time.ensures found.events small found.timed) in
     record {
       events = found.events;
       shows = shows_all _ _ c.args.text.now c.loop-rest.rest.now found.events reads (sym c.is_empty.ensures ∙ c.loop-rest-test.false);

@@ -13,6 +13,7 @@ invariant-loop-rest l = record {
   line : l.line ≡ length events;
   walks : Walking l.config l.app events l.stray l.walk;
   timed : TimedBy events l.timing;
+  config : l.timing.config ≡ l.config;
   n : l.timing.n ≡ l.n;
   arrivals : l.timing.arrivals ≡ l.arrivals;
 }
