@@ -57,9 +57,7 @@ file_bytes memory description =
 abbrev pub description_bytes : Image → List ℕ
 description_bytes image =
     flat_map four_bytes (length image.tasks ∷ length image.funcs ∷ 0 ∷ length image.marks ∷ [])
-    ++ flat_map name_bytes image.tasks
-    ++ flat_map name_bytes image.funcs
-    ++ flat_map mark_bytes image.marks
+    ++ (flat_map name_bytes image.tasks ++ (flat_map name_bytes image.funcs ++ flat_map mark_bytes image.marks))
 
 -- the bytes are those of an image in the range of the image file's format
 pub record ElfText (bytes : List ℕ) (image : Image) : Type 0 where

@@ -1,5 +1,5 @@
 -- The faults of an ELF file, each as a fact of the file's bytes.
-use Rattle.std.specs.Prelude.{◌≡◌, ◌≢◌, ◌≤◌, ◌<◌, ◌+◌, ◌*◌, ◌%◌, ℕ, List, ◌∷◌, [], ◌++◌, take, drop, length, All, ⊤}
+use Rattle.std.specs.Prelude.{◌≡◌, ◌≢◌, ◌≤◌, ◌<◌, ◌+◌, ◌*◌, ◌%◌, ◌^◌, ℕ, List, ◌∷◌, [], ◌++◌, take, drop, length, All, ⊤}
 use Rattle.std.specs.List.{flat_map}
 use Rattle.sloth_base.specs.ImageRange.{AreNames, IsMark, AreAscending}
 use Rattle.sloth_base.specs.declared.image.Mark.{Mark}
@@ -31,8 +31,9 @@ pub record HasLoadHeader (file : List ℕ) (size : ℕ) : Type 0 where
   pub memory : IsMemorySize size
   pub header : take 32 (drop 52 file) ≡ load_header size
 
--- a note of so many bytes
+-- a note of so many bytes, a number of 32 bits
 pub record IsNoteSize (note : ℕ) : Type 0 where
+  pub word : note < 2 ^ 32
   pub long : 36 ≤ note
   pub whole_words : note % 4 ≡ 0
 

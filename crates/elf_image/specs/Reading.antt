@@ -1,5 +1,5 @@
 -- What the steps of reading tell.
-use Rattle.std.specs.Prelude.{◌≡◌, ◌≢◌, ◌≤◌, ◌<◌, ◌+◌, ◌*◌, ℕ, List, [], take, drop, length, ⊤}
+use Rattle.std.specs.Prelude.{◌≡◌, ◌≢◌, ◌≤◌, ◌<◌, ◌+◌, ◌*◌, ◌^◌, ℕ, List, [], take, drop, length, ⊤}
 use Rattle.sloth_base.specs.ImageRange.{AreNames, AreAscending}
 use Rattle.sloth_base.specs.declared.image.Image.{Image}
 use Rattle.image_file.specs.Parts.{Parts, HasParts}
@@ -29,7 +29,7 @@ pub record IsNote (note : List ℕ) (size : ℕ) : Type 0 where
 
 -- what an error says of a note: the fault, that it is the note of no description; want of memory says nothing
 abbrev pub NoteFails : ElfError → List ℕ → Type 0
-NoteFails (failure.Fault fault.E7) note = (description : List ℕ) → length description < 4294967296 → note ≢ note_bytes description
+NoteFails (failure.Fault fault.E7) note = (description : List ℕ) → length description < 2 ^ 32 → note ≢ note_bytes description
 NoteFails (failure.Fault _) note = ⊥
 NoteFails failure.Memory note = ⊤
 

@@ -72,7 +72,7 @@ fn judge_header(bytes: &[u8]) -> Result<(), ElfError>
     if bytes.len() < HEADERS {
         return Err(ElfFault::E2.into());
     }
-    if bytes[..ELF_HEADER] != elf_header() {
+    if !bytes.starts_with(&elf_header()) {
         return Err(ElfFault::E3.into());
     }
     Ok(())
