@@ -1,3 +1,5 @@
-pub mod Headers
+pub mod Faulted
+pub mod Frames
 pub mod Memoryless
 pub mod Notes
+pub mod Whole

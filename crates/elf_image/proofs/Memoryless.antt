@@ -1,16 +1,16 @@
 -- A description behind the first bytes of an image file is one without memory.
-use Rattle.std.proofs.Common.{◌≡◌, ◌<◌, ◌≤◌, ◌+◌, ◌*◌, ℕ, List, [], ◌∷◌, ◌++◌, length, take, drop, refl, sym, ◌∙◌, ap, subst, arith, append-nil, codes, All}
+use Rattle.std.proofs.Common.{◌≡◌, ◌<◌, ◌≤◌, ◌+◌, ◌-◌, ◌*◌, ℕ, List, [], ◌∷◌, ◌++◌, length, take, drop, refl, sym, ◌∙◌, ap, subst, arith, append-nil, codes, All}
 use Rattle.std.specs.List.{flat_map}
-use Rattle.std.proofs.lemmas.List.{append_cancel_left, drop_all, length-take-le, length-drop, take-append-drop}
+use Rattle.std.proofs.lemmas.List.{append_cancel_left, drop_all, length-append, length-take-le, length-drop}
 use Rattle.std.proofs.Math.Seq.{take-append_seam}
 use Rattle.sloth_base.specs.ImageRange.{IsMark}
 use Rattle.sloth_base.specs.declared.image.Image.{Image}
 use Rattle.sloth_base.specs.declared.image.Mark.{Mark}
 use Rattle.image_file.specs.ImageText.{four_bytes, mark_bytes, name_bytes}
 use Rattle.image_file.specs.Parts.{HasParts, Parts, body_bytes, sizes_bytes}
-use Rattle.image_file.specs.Reading.{MarksStand, parts_at}
-use Rattle.image_file.proofs.Unique.{front}
-use Rattle.image_file.proofs.Whole.{length-marks}
+use Rattle.image_file.specs.Reading.{HasSizes, MarksStand, NamesStand, parts_at}
+use Rattle.image_file.proofs.Parted.{after_funcs, body_of}
+use Rattle.image_file.proofs.Unique.{Splits, lists, mark, mark_fits}
 use Rattle.image_file.proofs.Faulted.{same_parts}
 use Rattle.elf_image.specs.Faults.{AreRight, Described, IsWithin, described_bytes}
 use Rattle.elf_image.specs.Reading.{AreRead, IsMemoryless}
@@ -114,3 +114,35 @@ read-right file tasks funcs at count size memory marks is right =
       counted = right.counted;
       ascending = right.ascending;
     }
+
+-- ---- what is missing
+
+module _ (file : List ℕ) (t f m k : ℕ) (sizes : HasSizes file t f m k) where
+  -- a memory is none
+  pub no-memory : (m ≡ 0 → ⊥) → (p : Parts) → p.memory ≡ [] → ¬ (HasParts file p [])
+  no-memory some p none has =
+      let body = body_of file t f m k p [] sizes has in
+      some (sym body.memory ∙ ap (λ x. length x) none)
+
+  -- the marks are not the end of the file
+  pub no-end : (mid end : ℕ) (tasks funcs : List (List ℕ)) → NamesStand file 24 mid tasks → length tasks ≡ t → NamesStand file mid end funcs → length funcs ≡ f
+      → (end + k * 12 ≡ length file → ⊥) → (p : Parts) → p.memory ≡ [] → ¬ (HasParts file p [])
+  no-end mid end tasks funcs stands counted then all differs p none has =
+      let body = body_of file t f m k p [] sizes has in
+      let behind_names = after_funcs file t f m k mid end tasks funcs p [] body stands counted then all in
+      let long : length p.memory + (length p.marks + 0) ≡ length file - end =
+      ap (λ x. length p.memory + x) (sym (length-append p.marks [])) ∙ sym (length-append p.memory (p.marks ++ []))
+      ∙ ap (λ x. length x) behind_names.1 ∙ length-drop end file in
+      let memory : length p.memory ≡ 0 = ap (λ x. length x) none in
+      let marks : length p.marks ≡ k * 12 = has.within.twelve_each ∙ ap (λ x. x * 12) body.marks in
+      let within = then.within in
+      differs (omega (arith, long, memory, marks, within))
+
+-- marks that stand at a place are one list
+pub one-marks : (file : List ℕ) (at funcs size : ℕ) (ms ns : List Mark) → funcs ≤ 64 → size ≤ 2097152 → MarksStand file at funcs size ms → MarksStand file at funcs size ns
+    → length ms ≡ length ns → ms ≡ ns
+one-marks file at funcs size ms ns few fits h i same =
+    let P : Mark → Type 0 = IsMark funcs size in
+    let each : (m n : Mark) (r s : List ℕ) → P m → P n → mark_bytes m ++ r ≡ mark_bytes n ++ s → Splits m n r s =
+    λ m n r s a b. mark m n r s (mark_fits funcs size m few fits a) (mark_fits funcs size n few fits b) in
+    (lists P mark_bytes each ms ns _ _ same h.right i.right (sym h.are ∙ i.are)).0

@@ -33,7 +33,7 @@ load_header size = flat_map four_bytes (1 ∷ 116 ∷ 0x80000000 ∷ 0x80000000 
 
 -- the program header of the note (4), which stands behind the memory and is read (4), aligned to 4
 abbrev pub note_header : ℕ → ℕ → List ℕ
-note_header size note = flat_map four_bytes (4 ∷ 116 + size ∷ 0 ∷ 0 ∷ note ∷ note ∷ 4 ∷ 4 ∷ [])
+note_header size note = flat_map four_bytes (4 ∷ (116 + size) ∷ 0 ∷ 0 ∷ note ∷ note ∷ 4 ∷ 4 ∷ [])
 
 -- zeros behind so many bytes, up to a multiple of 4
 abbrev pub padding : ℕ → List ℕ

@@ -3,12 +3,9 @@ use Rattle.std.specs.Prelude.{◌≡◌, ◌≢◌, ◌≤◌, ◌<◌, ◌+◌,
 use Rattle.sloth_base.specs.ImageRange.{AreNames, AreAscending}
 use Rattle.sloth_base.specs.declared.image.Image.{Image}
 use Rattle.image_file.specs.Parts.{Parts, HasParts}
-use Rattle.image_file.specs.Reading.{HasOutline, MarksStand}
-use Rattle.image_file.specs.declared.fault.ImageError.{ImageError}
-use Rattle.image_file.specs.declared.fault.ImageError.TheVariants as image_failure
+use Rattle.image_file.specs.Reading.{HasOutline, MarksStand, NoNames, NoMarks}
 use Rattle.elf_image.specs.ElfText.{note_bytes}
 use Rattle.elf_image.specs.Faults.{IsFramed}
-use Rattle.elf_image.specs.declared.fault.ElfFault.{ElfFault}
 use Rattle.elf_image.specs.declared.fault.ElfFault.TheVariants as fault
 use Rattle.elf_image.specs.declared.fault.ElfError.{ElfError}
 use Rattle.elf_image.specs.declared.fault.ElfError.TheVariants as failure
@@ -17,10 +14,17 @@ use Rattle.elf_image.specs.declared.fault.ElfError.TheVariants as failure
 abbrev pub IsFramedAt : List ℕ → ℕ → Type 0
 IsFramedAt file size = (note : ℕ) × IsFramed file size note
 
--- the fault of names or numbers that are none, or want of memory
-abbrev pub as_fault : ImageError → ElfFault → ElfError
-as_fault (image_failure.Fault own) fault = failure.Fault fault
-as_fault image_failure.Memory fault = failure.Memory
+-- what an error says of so many names from a place on
+abbrev pub NamesMiss : ElfError → List ℕ → ℕ → ℕ → Type 0
+NamesMiss (failure.Fault fault.E7) file at count = NoNames file at count
+NamesMiss (failure.Fault _) file at count = ⊥
+NamesMiss failure.Memory file at count = ⊤
+
+-- what an error says of so many marks from a place on
+abbrev pub MarksMiss : ElfError → List ℕ → ℕ → ℕ → ℕ → ℕ → Type 0
+MarksMiss (failure.Fault fault.E8) file at count funcs size = NoMarks file at count funcs size
+MarksMiss (failure.Fault _) file at count funcs size = ⊥
+MarksMiss failure.Memory file at count funcs size = ⊤
 
 -- this is a note with a description of so many bytes
 pub record IsNote (note : List ℕ) (size : ℕ) : Type 0 where

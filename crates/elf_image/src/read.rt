@@ -1,10 +1,11 @@
 //! Reading an ELF file.
 ghost use Rattle.std.specs.Prelude.{◌⊎◌, ◌≡◌, ◌≤◌, ◌++◌, IfOk, IfErr, OnOk, Decides, codes, length};
 ghost use Rattle.image_file.specs.Faults.{HasMagic};
+ghost use Rattle.image_file.specs.Reading.{NamesStand, MarksStand};
 ghost use Rattle.sloth_base.specs.declared.image.Image.{Image as ImageOf};
 ghost use Rattle.elf_image.specs.ElfText.{ElfText};
 ghost use Rattle.elf_image.specs.Faults.{Fails, Faulty, HasElfHeader, HasElfMagic, HasLoadHeader, HasNoteHeader, IsMemorySize, IsNoteSize};
-ghost use Rattle.elf_image.specs.Reading.{IsFramedAt, as_fault, IsNote, NoteFails, IsMemoryless, MemorylessFails, AreRead, ContentsFail};
+ghost use Rattle.elf_image.specs.Reading.{IsFramedAt, NamesMiss, MarksMiss, IsNote, NoteFails, IsMemoryless, MemorylessFails, AreRead, ContentsFail};
 ghost use Rattle.elf_image.specs.declared.fault.ElfFault.{ElfFault as FaultOf};
 ghost use Rattle.elf_image.specs.declared.fault.ElfError.TheVariants as failed_by;
 
@@ -14,13 +15,14 @@ use crate::headers::{
 };
 use crate::note::{NOTE_HEAD, padding_size, put_note};
 use image_file::fault::ImageError;
+use image_file::header::{HEADER, read_sizes};
 use image_file::marks::{are_ascending, read_marks};
-use image_file::names::are_names;
+use image_file::names::{Names, are_names, read_names};
 use image_file::numbers::u32_at;
-use image_file::read::{Outline, read_outline};
-use sloth_base::image::Image;
+use sloth_base::image::{Image, Mark};
 use sloth_base::list::List;
 use sloth_base::memory::NoMemory;
+use sloth_base::name::Name;
 use std::alloc::Global;
 
 /// The image of an ELF file, or the file's first fault.
@@ -166,27 +168,80 @@ fn behind_magic(alloc: Global, description: &[u8]) -> Result<Vec<u8>, NoMemory>
     Ok(file)
 }
 
-// The fault of names or numbers that are none, or want of memory.
-fn as_fault(error: ImageError, fault: ElfFault) -> ElfError
-    ensures { result ≡ as_fault error fault }
+// Names and where they end, or the fault that they are missing.
+fn names_at(alloc: Global, file: &[u8], at: usize, count: usize) -> Result<Names, ElfError>
+    requires { at ≤ length file.now }
+    ensures read { IfOk result (λ read. NamesStand file.now at read.end read.names.items) }
+    ensures counted { IfOk result (λ read. length read.names.items ≡ count) }
+    ensures failed { IfErr result (λ failure. NamesMiss failure file.now at count) }
 {
-    match error {
-        ImageError::Fault(_) => ElfError::Fault(fault),
-        ImageError::Memory => ElfError::Memory,
+    match read_names(alloc, file, at, count) {
+        Ok(names) => Ok(names),
+        Err(ImageError::Fault(_)) => Err(ElfFault::E7.into()),
+        Err(ImageError::Memory) => Err(ElfError::Memory),
     }
+}
+
+// Marks, or the fault that one is out of range.
+fn marks_at(
+    alloc: Global,
+    file: &[u8],
+    outline: &Outline,
+    size: usize,
+) -> Result<Vec<Mark>, ElfError>
+    requires parts { IsMemoryless file.now outline.now.tasks.items outline.now.funcs.items outline.now.marks outline.now.count }
+    requires fits { size ≤ 2097152 }
+    ensures read { IfOk result (λ marks. MarksStand file.now outline.now.marks (length outline.now.funcs.items) size marks.items) }
+    ensures counted { IfOk result (λ marks. length marks.items ≡ outline.now.count) }
+    ensures failed { IfErr result (λ failure.
+        MarksMiss failure file.now outline.now.marks outline.now.count (length outline.now.funcs.items) size) }
+{
+    match read_marks(
+        alloc,
+        file,
+        outline.marks,
+        outline.count,
+        outline.funcs.len(),
+        size,
+    ) {
+        Ok(marks) => Ok(marks),
+        Err(ImageError::Fault(_)) => Err(ElfFault::E8.into()),
+        Err(ImageError::Memory) => Err(ElfError::Memory),
+    }
+}
+
+// The names of a description, and where its marks stand.
+#[derive(Drop)]
+struct Outline {
+    tasks: Vec<Name>,
+    funcs: Vec<Name>,
+    marks: usize,
+    count: usize,
 }
 
 // The parts of an image file without memory that ends with its marks.
 fn read_memoryless(alloc: Global, file: &[u8]) -> Result<Outline, ElfError>
     requires { HasMagic file.now }
-    ensures read { IfOk result (λ outline. IsMemoryless file.now outline.tasks.items outline.funcs.items outline.memory outline.count) }
+    ensures read { IfOk result (λ outline. IsMemoryless file.now outline.tasks.items outline.funcs.items outline.marks outline.count) }
     ensures failed { IfErr result (λ failure. MemorylessFails failure file.now) }
 {
-    let outline = read_outline(alloc, file).map_err(|error| as_fault(error, ElfFault::E7))?;
-    if outline.size != 0 || outline.memory + outline.count * 12 != file.len() {
+    let Some(sizes) = read_sizes(file) else {
+        return Err(ElfFault::E7.into());
+    };
+    if sizes.memory != 0 {
         return Err(ElfFault::E7.into());
     }
-    Ok(outline)
+    let tasks = names_at(alloc, file, HEADER, sizes.tasks)?;
+    let funcs = names_at(alloc, file, tasks.end, sizes.funcs)?;
+    if funcs.end + sizes.marks * 12 != file.len() {
+        return Err(ElfFault::E7.into());
+    }
+    Ok(Outline {
+        tasks: tasks.names,
+        funcs: funcs.names,
+        marks: funcs.end,
+        count: sizes.marks,
+    })
 }
 
 // The image of these parts and this memory, or what is wrong with them.
@@ -196,26 +251,18 @@ fn read_contents(
     outline: Outline,
     memory: &[u8],
 ) -> Result<Image, ElfError>
-    requires parts { IsMemoryless file.now outline.tasks.items outline.funcs.items outline.memory outline.count }
+    requires parts { IsMemoryless file.now outline.tasks.items outline.funcs.items outline.marks outline.count }
     requires fits { length memory.now ≤ 2097152 }
     ensures read { IfOk result (λ image.
-        AreRead file.now outline.tasks.items outline.funcs.items outline.memory outline.count (length memory.now) image) }
+        AreRead file.now outline.tasks.items outline.funcs.items outline.marks outline.count (length memory.now) image) }
     ensures memory { IfOk result (λ image. image.memory ≡ memory.now) }
     ensures failed { IfErr result (λ failure.
-        ContentsFail failure file.now outline.tasks.items outline.funcs.items outline.memory outline.count (length memory.now)) }
+        ContentsFail failure file.now outline.tasks.items outline.funcs.items outline.marks outline.count (length memory.now)) }
 {
     if !are_names(&outline.tasks) || !are_names(&outline.funcs) {
         return Err(ElfFault::E8.into());
     }
-    let marks = read_marks(
-        alloc,
-        file,
-        outline.memory,
-        outline.count,
-        outline.funcs.len(),
-        memory.len(),
-    )
-    .map_err(|error| as_fault(error, ElfFault::E8))?;
+    let marks = marks_at(alloc, file, &outline, memory.len())?;
     if !are_ascending(&marks) {
         return Err(ElfFault::E8.into());
     }

@@ -1,5 +1,5 @@
 //! Writing an ELF file.
-ghost use Rattle.std.specs.Prelude.{◌≡◌, ◌≤◌, IfOk, length};
+ghost use Rattle.std.specs.Prelude.{◌≡◌, IfOk};
 ghost use Rattle.sloth_base.specs.ImageRange.{InFormat};
 ghost use Rattle.elf_image.specs.ElfText.{ElfText, description_bytes};
 
@@ -30,8 +30,7 @@ pub fn write_elf(alloc: Global, image: &Image) -> Result<Vec<u8>, NoMemory>
 // The description of an image: its names and marks.
 fn describe(alloc: Global, image: &Image) -> Result<Vec<u8>, NoMemory>
     requires { InFormat image.now }
-    ensures is { IfOk result (λ description. description.items ≡ description_bytes image.now) }
-    ensures short { IfOk result (λ description. length description.items ≤ 300000) }
+    ensures { IfOk result (λ description. description.items ≡ description_bytes image.now) }
 {
     let tasks = image.tasks.items();
     let funcs = image.funcs.items();

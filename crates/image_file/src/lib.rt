@@ -2,7 +2,7 @@
 #![tactic(auto)]
 
 pub mod fault;
-mod header;
+pub mod header;
 pub mod laws;
 pub mod marks;
 pub mod names;

@@ -37,18 +37,18 @@ fn read_whole(alloc: Global, bytes: &[u8]) -> Result<Image, ImageError>
     read_contents(alloc, bytes, outline)
 }
 
-/// The names of a file, and where the memory begins, which the marks follow.
+// The names of a file, and where the memory begins, which the marks follow.
 #[derive(Drop)]
-pub struct Outline {
-    pub tasks: Vec<Name>,
-    pub funcs: Vec<Name>,
-    pub memory: usize,
-    pub size: usize,
-    pub count: usize,
+struct Outline {
+    tasks: Vec<Name>,
+    funcs: Vec<Name>,
+    memory: usize,
+    size: usize,
+    count: usize,
 }
 
-/// The parts of a file, before anything is asked of what stands in them.
-pub fn read_outline(alloc: Global, bytes: &[u8]) -> Result<Outline, ImageError>
+// The parts of a file.
+fn read_outline(alloc: Global, bytes: &[u8]) -> Result<Outline, ImageError>
     ensures read { IfOk result (λ outline. HasOutline bytes.now outline.tasks.items outline.funcs.items outline.memory outline.size outline.count) }
     ensures failed { IfErr result (λ failure. Fails failure bytes.now) }
 {
