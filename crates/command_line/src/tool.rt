@@ -11,6 +11,8 @@ pub enum Tool {
     Elf,
     /// `unelf IN IMG`: the image file of an ELF file.
     Unelf,
+    /// `infer OIL SRC OUT`: the source with the list of each label filled in.
+    Infer,
 }
 
 impl Tool {
@@ -21,6 +23,7 @@ impl Tool {
         match self {
             Tool::Elf => 1,
             Tool::Unelf => 1,
+            Tool::Infer => 2,
         }
     }
 
@@ -31,6 +34,7 @@ impl Tool {
         match self {
             Tool::Elf => None,
             Tool::Unelf => None,
+            Tool::Infer => None,
         }
     }
 
@@ -41,6 +45,7 @@ impl Tool {
         match self {
             Tool::Elf => true,
             Tool::Unelf => true,
+            Tool::Infer => true,
         }
     }
 }
@@ -64,6 +69,9 @@ pub fn tool_named(word: &str) -> Option<Tool>
     }
     if word == "unelf" {
         return Some(Tool::Unelf);
+    }
+    if word == "infer" {
+        return Some(Tool::Infer);
     }
     None
 }

@@ -1,2 +1,3 @@
 pub mod ElfAnswers
+pub mod InferAnswers
 pub mod OneAnswer

@@ -1,3 +1,4 @@
 pub mod Answers
 pub mod ElfAnswers
+pub mod InferAnswers
 pub mod Lines

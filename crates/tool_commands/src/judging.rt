@@ -5,6 +5,7 @@ ghost use Rattle.tool_commands.specs.Answers.{IsAnswer};
 
 use crate::answer::ToolAnswer;
 use crate::elf_commands::{elf, unelf};
+use crate::infer_command::infer;
 use command_line::tool::Tool;
 use sloth_base::list::List;
 use sloth_base::memory::NoMemory;
@@ -25,5 +26,6 @@ pub fn judge(
     match tool {
         Tool::Elf => elf(alloc, inputs[0].items()),
         Tool::Unelf => unelf(alloc, inputs[0].items()),
+        Tool::Infer => infer(alloc, inputs[0].items(), inputs[1].items()),
     }
 }

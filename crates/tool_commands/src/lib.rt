@@ -3,6 +3,7 @@
 
 pub mod answer;
 mod elf_commands;
+mod infer_command;
 pub mod judging;
 pub mod laws;
 pub mod lines;
