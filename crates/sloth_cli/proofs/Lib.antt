@@ -7,3 +7,6 @@ mod ImageComplete
 mod SampleCauses
 mod SampleComplete
 mod InMemoryCalls
+pub mod ToolCauses
+pub mod ToolComplete
+pub mod ToolReads

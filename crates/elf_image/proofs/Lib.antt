@@ -1,0 +1,5 @@
+pub mod Faulted
+pub mod Frames
+pub mod Memoryless
+pub mod Notes
+pub mod Whole
