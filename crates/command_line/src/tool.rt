@@ -11,6 +11,8 @@ pub enum Tool {
     Elf,
     /// `unelf IN IMG`: the image file of an ELF file.
     Unelf,
+    /// `at IMG ARR K`: the states of the tasks at a count of a run of an image file.
+    At,
 }
 
 impl Tool {
@@ -21,6 +23,7 @@ impl Tool {
         match self {
             Tool::Elf => 1,
             Tool::Unelf => 1,
+            Tool::At => 2,
         }
     }
 
@@ -31,6 +34,7 @@ impl Tool {
         match self {
             Tool::Elf => None,
             Tool::Unelf => None,
+            Tool::At => Some(999_999),
         }
     }
 
@@ -41,6 +45,7 @@ impl Tool {
         match self {
             Tool::Elf => true,
             Tool::Unelf => true,
+            Tool::At => false,
         }
     }
 }
@@ -64,6 +69,9 @@ pub fn tool_named(word: &str) -> Option<Tool>
     }
     if word == "unelf" {
         return Some(Tool::Unelf);
+    }
+    if word == "at" {
+        return Some(Tool::At);
     }
     None
 }

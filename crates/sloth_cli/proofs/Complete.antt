@@ -7,8 +7,9 @@ use Rattle.sloth_base.specs.declared.app.App.{App}
 use Rattle.sloth_base.specs.declared.event.Arrival.{Arrival}
 use Rattle.sloth_base.specs.declared.refusal.Part.TheVariants.{Arr}
 use Rattle.sloth_refusal.specs.Order.{IsLeast, NoFault}
-use Rattle.trace_text.specs.ArrivalsText.{arrivals_of, arrivals_in, LineFault, FaultAt, ArrivalsFault}
-use Rattle.sloth_source.proofs.Least.{one_least, of_some}
+use Rattle.trace_text.specs.ArrivalsText.{arrivals_in, ArrivalsFault}
+use Rattle.sloth_source.proofs.Least.{one_least}
+use Rattle.tool_commands.proofs.ArrivalsPart.{of-arrivals}
 use Rattle.sloth_base.specs.declared.image.Image.{Image}
 use Rattle.sloth_base.specs.declared.refusal.Refusal.{Refusal}
 use Rattle.sloth_io.specs.Counts.{Rose, Stays}
@@ -102,17 +103,6 @@ one-verdict old c config app arrivals oil src arr r there h refusal =
     let by_arr : IsRefusal oil src h.arr r = subst (λ x. IsRefusal oil src x r) arr_is refusal in
     let by_src : IsRefusal oil h.src h.arr r = subst (λ x. IsRefusal oil x h.arr r) src_is by_arr in
     not-refused h.oil h.src h.arr config app r h.accepted h.read.no_fault (subst (λ x. IsRefusal x h.src h.arr r) oil_is by_src)
-
--- a fault of arrivals is one of their text
-part-is : (tasks : List (List ℕ)) (before : List Arrival) (n : ℕ) (line : List ℕ) (r : Refusal) → LineFault tasks before n line r → r.part ≡ Arr
-part-is tasks before n line r (inl f) = ap (λ (x : Refusal). x.part) f.1
-part-is tasks before n line r (inr (inl f)) = ap (λ (x : Refusal). x.part) f.1
-part-is tasks before n line r (inr (inr (inl f))) = ap (λ (x : Refusal). x.part) f.1
-part-is tasks before n line r (inr (inr (inr f))) = ap (λ (x : Refusal). x.part) f.1
-
-pub of-arrivals : (tasks : List (List ℕ)) (text : List ℕ) (r : Refusal) → ArrivalsFault tasks text r → r.part ≡ Arr
-of-arrivals tasks text r h =
-    of_some Arr (FaultAt tasks) (λ front line s f. part-is tasks (arrivals_of tasks front) (length front + 1) line s f) [] _ r h
 
 -- the inputs that are told are refused in one way
 one-way : (oil src arr : List ℕ) (r s : Refusal) → IsRefusal oil src arr r → IsRefusal oil src arr s → r ≡ s

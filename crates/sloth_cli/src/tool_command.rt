@@ -43,11 +43,7 @@ fn fetch_all<F: Store>(
 }
 
 // Writes the file of a tool that was done, if it writes one.
-fn write_output<F: Store>(
-    files: &mut F,
-    output: Option<&str>,
-    bytes: &[u8],
-) -> Result<(), Failure>
+fn write_output<F: Store>(files: &mut F, output: Option<&str>, bytes: &[u8]) -> Result<(), Failure>
     ensures ok { OnOk result (IsOutput (F.seen files.old) (F.seen files.new) (option_map (λ name. name.now) output) bytes.now) }
     ensures err { IfErr result (λ failure.
         OutputFailed failure (F.seen files.old) (F.seen files.new) (option_map (λ name. name.now) output) bytes.now) }

@@ -1,2 +1,4 @@
+pub mod ArrivalsPart
+pub mod AtAnswers
 pub mod ElfAnswers
 pub mod OneAnswer

@@ -2,6 +2,7 @@
 #![tactic(auto)]
 
 pub mod answer;
+mod at_command;
 mod elf_commands;
 pub mod judge;
 pub mod laws;
