@@ -24,7 +24,7 @@ use Rattle.elf_image.proofs.Whole.{described_of, framed-of, image_of, is-elf, me
 pub one-size : (file : List ℕ) (n m a b : ℕ) → IsFramed file n a → IsFramed file m b → n ≡ m
 one-size file n m a b h i = one-load file n m h.headers.load i.headers.load
 
-short-note : (file : List ℕ) (size note : ℕ) (d : Described) → IsFramed file size note → HasNote file size d → length (described_bytes d) < 2 ^ 32
+pub short-note : (file : List ℕ) (size note : ℕ) (d : Described) → IsFramed file size note → HasNote file size d → length (described_bytes d) < 2 ^ 32
 short-note file size note d h has =
     let e = length-note (described_bytes d) in
     let n : length (note_bytes (described_bytes d)) ≡ note = ap (λ x. length x) (sym has.are) ∙ note-length file size note h in
@@ -113,16 +113,13 @@ down file (suc (suc (suc (suc (suc (suc (suc zero))))))) p =
     (length p.0.memory, note_of p.0, described_of p.0, framed-of file p.0 p.1, noted-of file p.0 p.1)
 down file (suc (suc (suc (suc (suc (suc (suc (suc k)))))))) p = p
 
+descend-by : (file : List ℕ) (k i : ℕ) → Passes (suc k) file → (i ≤ k → Passes i file) → i ≤ suc k → (i < suc k) ⊎ (suc k ≤ i) → Passes i file
+descend-by file k i p lower le (inl lt) = lower (omega (arith, lt))
+descend-by file k i p lower le (inr ge) = let same : suc k ≡ i = omega (arith, le, ge) in subst (λ n. Passes n file) same p
+
 descend : (file : List ℕ) (k i : ℕ) → i ≤ k → Passes k file → Passes i file
 descend file zero i le p = let same : zero ≡ i = omega (arith, le) in subst (λ n. Passes n file) same p
-descend file (suc k) i le p = by (cases_lt i (suc k))
-  where
-    by : (i < suc k) ⊎ (suc k ≤ i) → Passes i file
-    by (inl lt) = descend-lower (omega (arith, lt))
-      where
-        descend-lower : i ≤ k → Passes i file
-        descend-lower low = descend file k i low (down file k p)
-    by (inr ge) = let same : suc k ≡ i = omega (arith, le, ge) in subst (λ n. Passes n file) same p
+descend file (suc k) i le p = descend-by file k i p (λ low. descend file k i low (down file k p)) le (cases_lt i (suc k))
 
 -- the number of a fault, from zero
 abbrev number : ElfFault → ℕ

@@ -140,11 +140,36 @@ note-size file image h =
     let whole = padded (length (description_bytes image)) in
     record { word = omega (arith, e, p, short); long = omega (arith, e, long); whole_words = omega (arith, e, p, whole) }
 
+length-elf_header : length elf_header ≡ 52
+unfolding elf_header four_bytes two_bytes
+length-elf_header = refl
+
+length-load_header : (size : ℕ) → length (load_header size) ≡ 32
+unfolding four_bytes
+length-load_header size = refl
+
+length-note_header : (size note : ℕ) → length (note_header size note) ≡ 32
+unfolding four_bytes
+length-note_header size note = refl
+
+file-length : (memory d : List ℕ) → length (file_bytes memory d) ≡ 116 + (length memory + length (note_bytes d))
+file-length memory d =
+    let a = length-append memory (note_bytes d) in
+    let b = length-append (note_header (length memory) (length (note_bytes d))) (memory ++ note_bytes d) in
+    let c = length-append (load_header (length memory)) (note_header (length memory) (length (note_bytes d)) ++ (memory ++ note_bytes d)) in
+    let e = length-append elf_header (load_header (length memory) ++ (note_header (length memory) (length (note_bytes d)) ++ (memory ++ note_bytes d))) in
+    let h = length-elf_header in
+    let l = length-load_header (length memory) in
+    let k = length-note_header (length memory) (length (note_bytes d)) in
+    omega (arith, a, b, c, e, h, l, k)
+
+file-whole : (file : List ℕ) (image : Image) → ElfText file image → length file ≡ 116 + (length image.memory + note_of image)
+file-whole file image h = ap (λ x. length x) h.written ∙ file-length image.memory (description_bytes image)
+
 pub framed-of : (file : List ℕ) (image : Image) → ElfText file image → IsFramed file (length image.memory) (note_of image)
 unfolding elf_header four_bytes two_bytes
 framed-of file image h =
-    let lengths = length-append image.memory (note_bytes (description_bytes image)) in
-    let whole : length file ≡ 116 + length (image.memory ++ note_bytes (description_bytes image)) = ap (λ x. length x) h.written in
+    let whole : length file ≡ 116 + (length image.memory + note_of image) = file-whole file image h in
     record {
       headers = record {
         load = record {
@@ -155,7 +180,7 @@ framed-of file image h =
         note_size = note-size file image h;
         header = ap (λ x. take 32 (drop 84 x)) h.written;
       };
-      ends = omega (arith, whole, lengths);
+      ends = omega (arith, whole);
     }
 
 memory-and-note : (file : List ℕ) (image : Image) → ElfText file image → drop 116 file ≡ image.memory ++ note_bytes (description_bytes image)

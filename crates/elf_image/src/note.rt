@@ -16,12 +16,12 @@ pub fn padding_size(description: usize) -> usize
     (4 - description % 4) % 4
 }
 
-/// How many bytes a note has whose description has so many.
-pub fn note_size(description: usize) -> usize
-    requires { description < 4294967264 }
-    ensures { result ≡ 20 + description + length (padding description) }
+/// How many bytes the note of a description has.
+pub fn note_size(description: &[u8]) -> u32
+    requires { length description.now ≤ 300000 }
+    ensures { result ≡ length (note_bytes description.now) }
 {
-    NOTE_HEAD + description + padding_size(description)
+    (NOTE_HEAD + description.len() + padding_size(description.len())) as u32
 }
 
 /// Appends the note of a description.

@@ -1,9 +1,9 @@
 //! Reading an ELF file.
-ghost use Rattle.std.specs.Prelude.{◌⊎◌, ◌≡◌, ◌≤◌, ◌++◌, IfOk, IfErr, OnOk, Decides, codes, length};
+ghost use Rattle.std.specs.Prelude.{◌⊎◌, ◌≡◌, ◌<◌, ◌≤◌, ◌+◌, ◌++◌, IfOk, IfErr, OnOk, Decides, codes, drop, length, take};
 ghost use Rattle.image_file.specs.Faults.{HasMagic};
 ghost use Rattle.image_file.specs.Reading.{NamesStand, MarksStand};
 ghost use Rattle.sloth_base.specs.declared.image.Image.{Image as ImageOf};
-ghost use Rattle.elf_image.specs.ElfText.{ElfText};
+ghost use Rattle.elf_image.specs.ElfText.{ElfText, load_header, note_header, note_bytes};
 ghost use Rattle.elf_image.specs.Faults.{Fails, Faulty, HasElfHeader, HasElfMagic, HasLoadHeader, HasNoteHeader, IsMemorySize, IsNoteSize};
 ghost use Rattle.elf_image.specs.Reading.{IsFramedAt, NamesMiss, MarksMiss, IsNote, NoteFails, IsMemoryless, MemorylessFails, AreRead, ContentsFail};
 ghost use Rattle.elf_image.specs.declared.fault.ElfFault.{ElfFault as FaultOf};
@@ -44,16 +44,28 @@ fn read_whole(alloc: Global, bytes: &[u8]) -> Result<Image, ElfError>
     ensures failed { IfErr result (λ failure. Fails failure bytes.now) }
 {
     let size = read_frame(alloc, bytes)?;
-    let note = &bytes[HEADERS + size..];
+    let note = behind(bytes, HEADERS + size);
     let description = read_note(alloc, note)?;
-    let file = behind_magic(alloc, &note[NOTE_HEAD..NOTE_HEAD + description])?;
+    let file = behind_magic(alloc, part(note, NOTE_HEAD, description))?;
     let outline = read_memoryless(alloc, file.as_slice())?;
-    read_contents(
-        alloc,
-        file.as_slice(),
-        outline,
-        &bytes[HEADERS..HEADERS + size],
-    )
+    let memory = part(bytes, HEADERS, size);
+    read_contents(alloc, file.as_slice(), outline, memory)
+}
+
+// The bytes from a place on.
+fn behind(bytes: &[u8], at: usize) -> &[u8]
+    requires { at ≤ length bytes.now }
+    ensures { result.now ≡ drop at bytes.now }
+{
+    &bytes[at..]
+}
+
+// So many bytes from a place on.
+fn part(bytes: &[u8], at: usize, size: usize) -> &[u8]
+    requires { at + size ≤ length bytes.now }
+    ensures { result.now ≡ take size (drop at bytes.now) }
+{
+    &bytes[at..at + size]
 }
 
 // Whether the file begins as each ELF file does.
@@ -94,6 +106,35 @@ fn is_note_size(size: u32) -> bool
     size >= 36 && size % 4 == 0
 }
 
+// Whether these bytes are the program header of so many bytes of memory.
+fn is_load_header(alloc: Global, bytes: &[u8], size: u32) -> Result<bool, NoMemory>
+    ensures { IfOk result (λ is. Decides is (bytes.now ≡ load_header size)) }
+{
+    let mut header = Vec::new(alloc);
+    put_load_header(&mut header, size)?;
+    Ok(*bytes == *header.as_slice())
+}
+
+// Whether they are that of a note of so many bytes.
+fn is_note_header(alloc: Global, bytes: &[u8], size: u32, note: u32) -> Result<bool, NoMemory>
+    requires { size ≤ 2097152 }
+    ensures { IfOk result (λ is. Decides is (bytes.now ≡ note_header size note)) }
+{
+    let mut header = Vec::new(alloc);
+    put_note_header(&mut header, size, note)?;
+    Ok(*bytes == *header.as_slice())
+}
+
+// Whether they are the note of a description.
+fn is_note(alloc: Global, bytes: &[u8], description: &[u8]) -> Result<bool, NoMemory>
+    requires { length description.now < 4294967296 }
+    ensures { IfOk result (λ is. Decides is (bytes.now ≡ note_bytes description.now)) }
+{
+    let mut note = Vec::new(alloc);
+    put_note(&mut note, description)?;
+    Ok(*bytes == *note.as_slice())
+}
+
 // How many bytes of memory the first program header says.
 fn read_load_header(alloc: Global, bytes: &[u8]) -> Result<u32, ElfError>
     requires { HasElfHeader bytes.now }
@@ -101,10 +142,12 @@ fn read_load_header(alloc: Global, bytes: &[u8]) -> Result<u32, ElfError>
     ensures failed { IfErr result (λ failure. Fails failure bytes.now) }
 {
     let size = u32_at(bytes, ELF_HEADER + 16);
-    let mut header = Vec::new(alloc);
-    put_load_header(&mut header, size)?;
-    let own = &bytes[ELF_HEADER..ELF_HEADER + PROGRAM_HEADER];
-    if !is_memory_size(size) || *own != *header.as_slice() {
+    let header = &bytes[ELF_HEADER..ELF_HEADER + PROGRAM_HEADER];
+    let is_header = is_load_header(alloc, header, size)?;
+    if !is_header {
+        return Err(ElfFault::E4.into());
+    }
+    if !is_memory_size(size) {
         return Err(ElfFault::E4.into());
     }
     Ok(size)
@@ -117,10 +160,12 @@ fn read_note_header(alloc: Global, bytes: &[u8], size: u32) -> Result<u32, ElfEr
     ensures failed { IfErr result (λ failure. Fails failure bytes.now) }
 {
     let note = u32_at(bytes, ELF_HEADER + PROGRAM_HEADER + 16);
-    let mut header = Vec::new(alloc);
-    put_note_header(&mut header, size, note)?;
-    let own = &bytes[ELF_HEADER + PROGRAM_HEADER..HEADERS];
-    if !is_note_size(note) || *own != *header.as_slice() {
+    let header = &bytes[ELF_HEADER + PROGRAM_HEADER..HEADERS];
+    let is_header = is_note_header(alloc, header, size, note)?;
+    if !is_header {
+        return Err(ElfFault::E5.into());
+    }
+    if !is_note_size(note) {
         return Err(ElfFault::E5.into());
     }
     Ok(note)
@@ -150,9 +195,8 @@ fn read_note(alloc: Global, note: &[u8]) -> Result<usize, ElfError>
     if note.len() != NOTE_HEAD + size + padding_size(size) {
         return Err(ElfFault::E7.into());
     }
-    let mut own = Vec::new(alloc);
-    put_note(&mut own, &note[NOTE_HEAD..NOTE_HEAD + size])?;
-    if *note != *own.as_slice() {
+    let is_note = is_note(alloc, note, &note[NOTE_HEAD..NOTE_HEAD + size])?;
+    if !is_note {
         return Err(ElfFault::E7.into());
     }
     Ok(size)

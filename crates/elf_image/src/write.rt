@@ -1,7 +1,7 @@
 //! Writing an ELF file.
-ghost use Rattle.std.specs.Prelude.{◌≡◌, IfOk};
+ghost use Rattle.std.specs.Prelude.{◌≡◌, ◌≤◌, IfOk, length};
 ghost use Rattle.sloth_base.specs.ImageRange.{InFormat};
-ghost use Rattle.elf_image.specs.ElfText.{ElfText, description_bytes};
+ghost use Rattle.elf_image.specs.ElfText.{ElfText, description_bytes, file_bytes};
 
 use crate::headers::{elf_header, put_load_header, put_note_header, put_words};
 use crate::note::{note_size, put_note};
@@ -17,13 +17,21 @@ pub fn write_elf(alloc: Global, image: &Image) -> Result<Vec<u8>, NoMemory>
 {
     let description = describe(alloc, image)?;
     let memory = image.memory.items();
+    assemble(alloc, memory, description.as_slice())
+}
+
+// The bytes of a file with this memory and this description.
+fn assemble(alloc: Global, memory: &[u8], description: &[u8]) -> Result<Vec<u8>, NoMemory>
+    requires { (length memory.now ≤ 2097152) × (length description.now ≤ 300000) }
+    ensures { IfOk result (λ file. file.items ≡ file_bytes memory.now description.now) }
+{
     let size = memory.len() as u32;
     let mut file = Vec::new(alloc);
     file.extend_from_slice(&elf_header())?;
     put_load_header(&mut file, size)?;
-    put_note_header(&mut file, size, note_size(description.len()) as u32)?;
+    put_note_header(&mut file, size, note_size(description))?;
     file.extend_from_slice(memory)?;
-    put_note(&mut file, description.as_slice())?;
+    put_note(&mut file, description)?;
     Ok(file)
 }
 

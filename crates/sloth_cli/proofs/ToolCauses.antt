@@ -1,6 +1,6 @@
 -- What a tool did, and why it did not.
 use Rattle.std.proofs.Common.{◌≡◌, ◌≤◌, ◌∙◌, ℕ, List, [], ◌∷◌, refl, sym, ap, subst, arith, length, get_or}
-use Rattle.std.specs.Prelude.{IsTrue, Option, Some, None}
+use Rattle.std.specs.Prelude.{IsTrue, Option, Some, None, Result, Ok, Err, IfOk, OnOk}
 use Rattle.image_file.specs.Faults.{Faulty}
 use Rattle.image_file.specs.declared.fault.ImageFault.{ImageFault}
 use Rattle.sloth_io.specs.Counts.{Rose}
@@ -111,3 +111,13 @@ module _ (old mid : Files) (sink : Output) (new : World) (u : ToolUse) (kept : K
       → IsPerformed s (world old sink) new (Uses u)
   tool-performed s a is status text after =
       (tool_text a, record { answer = a; is = is; status_is = status; text_is = refl; files = after-kept a old mid new.files u.output kept after }, text)
+
+-- the answer to what was read
+pub answer-of : (files : Files) (u : ToolUse) (inputs slice : List (List ℕ)) (a : ToolAnswer) → AreToolInputs files u.inputs inputs → slice ≡ inputs
+    → IsAnswer u.tool u.number slice a → IsToolAnswer files u a
+answer-of files u inputs slice a read same is = record { inputs = inputs; read = read; is = subst (λ xs. IsAnswer u.tool u.number xs a) same is }
+
+-- three facts of a call that succeeds
+pub all-told : {T E : Type 0} (r : Result T E) (P : T → Type 0) (Q R : Type 0) (W : T → Type 0) → ((t : T) → P t → Q → R → W t) → IfOk r P → OnOk r Q → OnOk r R → IfOk r W
+all-told (Ok t) P Q R W f p q r = f t p q r
+all-told (Err e) P Q R W f p q r = tt

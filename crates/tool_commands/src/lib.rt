@@ -4,9 +4,9 @@
 pub mod answer;
 mod at_command;
 mod elf_commands;
-pub mod judge;
+pub mod judging;
 pub mod laws;
 pub mod lines;
 
 pub use answer::{Outcome, ToolAnswer, TraceFault};
-pub use judge::judge;
+pub use judging::judge;
