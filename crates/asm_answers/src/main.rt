@@ -8,10 +8,8 @@ ghost use Rattle.sloth_base.specs.ConfigRange.{InRange};
 ghost use Rattle.app_rules.specs.AppRange.{IsTaskCode};
 
 mod listing;
-mod repeats;
 
 use crate::listing::{list_app, list_counts, list_sizes, list_stacks};
-use crate::repeats::add_line;
 use asm_parse::parse_app;
 use oil_lex::tokens;
 use oil_model::resolve;
@@ -22,6 +20,7 @@ use sloth_base::refusal::BuildError;
 use sloth_source::read;
 use std::alloc::Global;
 use std::io::Read;
+use text_repeats::add_line;
 
 // The greatest length of a text.
 const LONGEST: usize = 16_000_000;

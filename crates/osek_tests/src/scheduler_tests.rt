@@ -16,6 +16,10 @@ const OIL: &[u8] =
 const SRC: &[u8] =
     b"task Low\nli t0, 1\nActivateTask High\naddi t0, t0, 1\nTerminateTask\nend\ntask High\nli t1, 7\nTerminateTask\nend\n";
 
+// Low calls a function that calls another.
+const THREE: &[u8] =
+    b"task Low\ncall outer\nTerminateTask\nend\ntask High\nTerminateTask\nend\nfunc outer\ncall inner\nret\nend\nfunc inner\nli t0, 5\nret\nend\n";
+
 fn low_and_high(alloc: Global) -> Result<Osek, Fail> {
     let source = read(alloc, OIL, SRC)?;
     let osek = Osek::boot(alloc, &source.config, &source.app)?;
@@ -92,5 +96,25 @@ fn tells_the_state_of_a_task(rt: HostRuntime) -> Result<(), Fail> {
     assert_eq!(rt; osek.state(TaskId(0)), TaskState::Ready);
     assert_eq!(rt; osek.step(&Event::Enter(0)), Ok(()));
     assert_eq!(rt; osek.state(TaskId(0)), TaskState::Active);
+    Ok(())
+}
+
+#[test]
+fn goes_through_three_functions(rt: HostRuntime) -> Result<(), Fail> {
+    let source = read(rt.alloc(), OIL, THREE)?;
+    assert_eq!(rt; source.app.funcs.items().len(), 4);
+    let mut osek = Osek::boot(rt.alloc(), &source.config, &source.app)?;
+    let inner = [(0, 0, 0), (2, 0, 0), (3, 0, 5), (3, 1, 0), (2, 1, 0)];
+    assert_eq!(rt; osek.step(&Event::Boot), Ok(()));
+    assert_eq!(rt; osek.step(&Event::Enter(0)), Ok(()));
+    for (func, item, shown) in inner {
+        let event = Event::Run {
+            task: 0,
+            func,
+            item,
+            result: shown,
+        };
+        assert_eq!(rt; osek.step(&event), Ok(()));
+    }
     Ok(())
 }

@@ -25,7 +25,7 @@ pub use encoding::encode;
 pub use stop::{Bad, Stop};
 
 /// One instruction: its mnemonic and its fields. `specs/Range.antt` has the ranges of the fields.
-#[derive(Clone, Copy, Debug)]
+#[derive(Clone, Copy)]
 pub enum InstrKind {
     /// `imm` is bits 31 to 12 of the number that is loaded.
     Lui { rd: Reg, imm: u32 },

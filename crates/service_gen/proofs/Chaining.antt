@@ -9,7 +9,6 @@ use Rattle.sloth_region.specs.Layout.{cur, active, words_high, controller_base}
 use Rattle.rv32_instr.specs.declared.InstrKind.{InstrKind}
 use Rattle.rv32_instr.specs.declared.InstrKind.TheVariants.{Lui, Addi}
 use Rattle.rv32_instr.specs.Ram.{word_at}
-use Rattle.sloth_base.specs.Arithmetic.{plus}
 use Rattle.rv32_routine.specs.Place.{at}
 use Rattle.rv32_routine.specs.Masked.{FromOpening}
 use Rattle.rv32_routine.specs.Owes.{AreOf, Owes, Pending}
@@ -18,6 +17,7 @@ use Rattle.rv32_routine.proofs.Arrivals.{other_bytes}
 use Rattle.rv32_routine.proofs.Spread.{spread, spread_from}
 use Rattle.rv32_routine.proofs.Whole.{masked}
 use Rattle.rv32_routine.proofs.Leave.{leave_owes, behind}
+use Rattle.block_parts.proofs.Landing.{lands}
 use Rattle.block_parts.proofs.Returning.{goes_back}
 use Rattle.block_parts.proofs.Busy.{Finds, looks_owe}
 use Rattle.service_gen.proofs.Ending.{ends_owe, ended_below, has_ended}

@@ -1,37 +1,9 @@
 //! The program: its words go to the top call, and its status is how it ends.
 #![tactic(auto)]
 
-use sloth_cli::{Status, sloth_top};
-use sloth_io::file_store::FileStore;
-use sloth_io::out_sink::OutSink;
-use std::env;
-use std::env::Env;
-use std::io::ErrorKind;
+use sloth_program::run_program;
 use std::process::ExitCode;
 
-// The words without the program's own name, or how the program ends without them: a word that is not UTF-8 is none of a command's.
-fn words(rt: &(impl Env + AllocGlobal)) -> Result<Vec<String>, Status> {
-    let mut words = Vec::new(rt.alloc());
-    let args = match env::args(rt) {
-        Ok(args) => args,
-        Err(fault) if fault.kind() == ErrorKind::OutOfMemory => return Err(Status::NoMemory),
-        Err(_) => return Err(Status::Usage),
-    };
-    for word in args.skip(1) {
-        if words.push(word).is_err() {
-            return Err(Status::NoMemory);
-        }
-    }
-    Ok(words)
-}
-
 fn main(rt: HostRuntime) -> ExitCode {
-    let words = match words(&rt) {
-        Ok(words) => words,
-        Err(status) => return ExitCode::from(status.code()),
-    };
-    let mut files = FileStore::new(&rt);
-    let mut out = OutSink::new(&rt);
-    let status = sloth_top(rt.alloc(), words.as_slice(), &mut files, &mut out);
-    ExitCode::from(status.code())
+    run_program(&rt)
 }

@@ -1,78 +1,8 @@
-//! Runs commands of the program on files in memory, and prints what they print and how they end. A text ends before a line `=== oil`,
-//! `=== src` or `=== arr`, which says what it is; it stays until the next one of its kind. Other lines behind `=== `:
-//! - `image HEX` makes the image file of these bytes, `change AT HEX` writes bytes over those from a place on, or behind the end, and
-//!   `exchange AT AT` exchanges two marks; `-AT` counts back from the end;
-//! - `cut`, and a command such as `exec img arr 10`: it is run with the image file cut to each length, and each new answer is printed;
-//! - `both`, and two commands with ` / ` between them: they are run one after the other, and it is printed whether they answer alike;
-//! - `failing`, and calls of the store, calls of the sink and a command with ` / ` between them, such as `3 4 / 2:1 / build oil src img`:
-//!   it is run while calls 3 and 4 of the store fail, and call 2 of the sink once it has taken a byte; behind its answer stands whether the
-//!   image file is as before, the image that is left where no call fails, or another. The image file is then put back;
-//! - a command, such as `order oil src arr img 5000`: it is run on the files of these names. The image file that it leaves is kept.
+//! Commands on worked texts, and what they print.
 #![tactic(auto)]
 
-mod commands;
-mod faults;
-mod texts;
-
-use crate::commands::{run, run_both, run_cut, run_failing};
-use crate::texts::Texts;
-use sloth_base::memory::NoMemory;
-use std::io::Read;
-
-// Changes the image file where a line behind `=== ` asks for it.
-fn change(rt: &impl AllocGlobal, asked: &str, texts: &mut Texts) -> Result<bool, NoMemory> {
-    if let Some(digits) = asked.strip_prefix("image ") {
-        texts.make(rt.alloc(), digits);
-    } else if let Some(words) = asked.strip_prefix("change ") {
-        texts.change(rt.alloc(), words)?;
-    } else if let Some(words) = asked.strip_prefix("exchange ") {
-        texts.exchange(words);
-    } else {
-        return Ok(false);
-    }
-    Ok(true)
-}
-
-// Does what a line behind `=== ` asks for, with the lines before it.
-fn obey(
-    rt: &(impl Print + AllocGlobal),
-    asked: &str,
-    lines: &[u8],
-    texts: &mut Texts,
-) -> anyhow::Result<()> {
-    if texts.replace(asked.as_bytes(), lines)? || change(rt, asked, texts)? {
-        return Ok(());
-    }
-    if let Some(commands) = asked.strip_prefix("both ") {
-        return run_both(rt, commands, texts);
-    }
-    if let Some(words) = asked.strip_prefix("failing ") {
-        return run_failing(rt, words, texts);
-    }
-    match asked.strip_prefix("cut ") {
-        Some(command) => run_cut(rt, command, texts),
-        None => run(rt, asked, texts),
-    }
-}
+use command_answers::answer_all;
 
 fn main(rt: HostRuntime) -> anyhow::Result<()> {
-    let mut input = Vec::new(rt.alloc());
-    rt.reader().read_to_end(&mut input)?;
-    let mut texts = Texts::new(rt.alloc());
-    let mut lines = Vec::new(rt.alloc());
-    for line in input.as_slice().split(|byte| *byte == b'\n') {
-        if let Some(asked) = line.strip_prefix(b"=== ") {
-            obey(
-                &rt,
-                std::str::from_utf8(asked)?,
-                lines.as_slice(),
-                &mut texts,
-            )?;
-            lines.clear();
-        } else {
-            lines.extend_from_slice(line)?;
-            lines.push(b'\n')?;
-        }
-    }
-    Ok(())
+    answer_all(&rt)
 }

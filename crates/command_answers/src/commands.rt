@@ -15,7 +15,7 @@ use std::alloc::Global;
 const SPACE: u32 = 2_200_000;
 
 /// The same where a command is run many times, and prints little.
-const LITTLE: u32 = 10_000;
+const LITTLE: u32 = 200_000;
 
 // A file with this space, or with that for its own bytes where they are more.
 fn file(alloc: Global, name: &[u8], bytes: &[u8], space: u32) -> Result<MemFile, NoMemory>
@@ -60,15 +60,15 @@ fn words(alloc: Global, line: &str) -> anyhow::Result<Vec<String>> {
     Ok(words)
 }
 
-// What a command prints and how it ends, and the image file behind it.
+/// What a command prints and how it ends, and the image file behind it.
 #[derive(Drop)]
-struct Outcome {
-    text: String,
-    img: Vec<u8>,
+pub struct Outcome {
+    pub text: String,
+    pub img: Vec<u8>,
 }
 
-// Runs the command of a line on these files, of at most 16,000,000 bytes each, with these failing calls.
-fn answer(
+/// Runs the command of a line on these files, of at most 16,000,000 bytes each, with these failing calls.
+pub fn answer(
     alloc: Global,
     line: &str,
     texts: &Texts,
@@ -99,6 +99,28 @@ pub fn run(rt: &(impl Print + AllocGlobal), line: &str, texts: &mut Texts) -> an
     let none = Faults::none(rt.alloc());
     let answer = answer(rt.alloc(), line, texts, &texts.img, SPACE, &none)?;
     print!(rt; "{}", answer.text)?;
+    texts.img = answer.img;
+    Ok(())
+}
+
+/// Runs the command of a line, and prints how it ends, how many lines it prints, and their CRC-32 (IEEE 802.3). The image file that it
+/// leaves is kept.
+pub fn run_summed(
+    rt: &(impl Print + AllocGlobal),
+    line: &str,
+    texts: &mut Texts,
+) -> anyhow::Result<()> {
+    if !texts.are_short() {
+        return Ok(());
+    }
+    let none = Faults::none(rt.alloc());
+    let answer = answer(rt.alloc(), line, texts, &texts.img, SPACE, &none)?;
+    let lines = answer.text.lines().count();
+    let status = answer.text.lines().last().unwrap_or("");
+    println!(rt;
+        "{lines} lines {:08x} {status}",
+        checksum(answer.text.as_bytes())
+    )?;
     texts.img = answer.img;
     Ok(())
 }
@@ -147,6 +169,22 @@ pub fn run_cut(rt: &(impl Print + AllocGlobal), line: &str, texts: &Texts) -> an
         }
     }
     Ok(())
+}
+
+// The CRC-32 of IEEE 802.3.
+fn checksum(bytes: &[u8]) -> u32 {
+    let mut sum: u32 = 0xffff_ffff;
+    for byte in bytes {
+        sum ^= u32::from(*byte);
+        for _ in 0..8 {
+            sum = if sum & 1 == 1 {
+                (sum >> 1) ^ 0xedb8_8320
+            } else {
+                sum >> 1
+            };
+        }
+    }
+    !sum
 }
 
 // What an image file is, beside the one before and the one that the command leaves where no call fails.

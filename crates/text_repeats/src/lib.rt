@@ -1,4 +1,5 @@
-//! Texts that are made of a short line.
+//! Long texts that are made of a short line.
+#![tactic(auto)]
 
 // The number in front of a text, and what stands behind one space.
 fn counted(text: &[u8]) -> Option<(u32, &[u8])> {
@@ -29,7 +30,8 @@ fn add_copy(
     Ok(())
 }
 
-/// A line more, or the copies that it stands for.
+/// Appends a line, or the copies that it stands for: `%repeat 65 func f%|ret|end` stands for so many copies of what stands behind the number,
+/// where each `%` is the number of the copy, from 0, and each `|` ends a line.
 pub fn add_line(rt: &impl AllocGlobal, lines: &mut Vec<u8>, line: &[u8]) -> anyhow::Result<()> {
     if let Some(rest) = line.strip_prefix(b"%repeat ") {
         if let Some((count, text)) = counted(rest) {

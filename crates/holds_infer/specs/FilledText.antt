@@ -1,0 +1,39 @@
+-- The text of task source with other lists at its labels.
+use Rattle.std.specs.Prelude.{ℕ, ◌==◌, ◌++◌, Bool, if◌then◌else◌, List, [], ◌∷◌, length, drop, codes}
+use Rattle.std.specs.List.{flat_map, slice_split, join_with_byte}
+use Rattle.sloth_base.specs.declared.config.Config.{Config}
+use Rattle.sloth_base.specs.declared.app.App.{App}
+use Rattle.asm_lines.specs.declared.source_line.SourceLine.{SourceLine}
+use Rattle.asm_lines.specs.Lines.{line_of}
+use Rattle.asm_lines.specs.SourceLines.{source_line}
+use Rattle.asm_names.specs.Said.{is_label, name_of}
+use Rattle.holds_infer.specs.Relabel.{all_holds, resource_names, first_list, other_lists}
+
+-- `label NAME`, and `, R` for each resource
+abbrev pub label_text : List ℕ → List (List ℕ) → List ℕ
+label_text name resources = codes "label " ++ (name ++ flat_map (λ resource. codes ", " ++ resource) resources)
+
+-- the CR before the LF of a line that has one
+abbrev pub line_end : Bool → List ℕ → List ℕ
+line_end is_last part = drop (length (line_of is_last part)) part
+
+-- the part between two LFs of a line, with this list where the line is a label
+abbrev pub filled_part : Config → SourceLine → Bool → List ℕ → List ℕ → List ℕ
+filled_part config line is_last held part =
+    if is_label line then label_text (name_of line) (resource_names config held) ++ line_end is_last part else part
+
+-- the lists behind a line
+abbrev pub lists_behind : SourceLine → List (List ℕ) → List (List ℕ)
+lists_behind line lists = if is_label line then other_lists lists else lists
+
+-- the parts between the LFs, with these lists at the labels in turn
+abbrev pub filled_parts : Config → List (List ℕ) → List (List ℕ) → List (List ℕ)
+filled_parts config lists [] = []
+filled_parts config lists (part ∷ parts) =
+    let is_last = length parts == 0 in
+    let line = source_line (line_of is_last part) in
+    filled_part config line is_last (first_list lists) part ∷ filled_parts config (lists_behind line lists) parts
+
+-- the text with each label's line replaced, all other bytes as they are
+unfoldable pub filled_text : List ℕ → Config → App → List ℕ
+filled_text text config app = join_with_byte 10 (filled_parts config (all_holds app) (slice_split (λ b. b == 10) text))

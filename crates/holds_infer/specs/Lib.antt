@@ -1,0 +1,3 @@
+pub mod Relabel
+pub mod FilledText
+pub mod FilledSource

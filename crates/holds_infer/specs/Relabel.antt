@@ -1,0 +1,60 @@
+-- Lines of task source with other lists at their labels.
+use Rattle.std.specs.Prelude.{ℕ, ◌≡◌, ◌==◌, Bool, false, if◌then◌else◌, List, [], ◌∷◌, map, get_or}
+use Rattle.std.specs.List.{flat_map}
+use Rattle.sloth_base.specs.ConfigRange.{res_scheduler_name}
+use Rattle.sloth_base.specs.declared.config.Config.{Config}
+use Rattle.sloth_base.specs.declared.app.App.{App}
+use Rattle.sloth_base.specs.declared.app.Func.{Func}
+use Rattle.asm_lines.specs.declared.operands.Operand.TheVariants.{Name}
+use Rattle.asm_lines.specs.declared.source_line.SourceLine.{SourceLine}
+use Rattle.asm_lines.specs.declared.source_line.SourceLine.TheVariants.{Statement}
+use Rattle.asm_lines.specs.declared.table.Mnemonic.TheVariants as mnemonic
+use Rattle.asm_lines.specs.Faults.{is_a1, after_line}
+use Rattle.asm_names.specs.Said.{is_label, name_of}
+
+-- ---- the lists of task code
+
+-- the lists of a body's labels
+abbrev pub func_holds : Func → List (List ℕ)
+func_holds f = map (λ l. l.holds) f.labels
+
+-- the lists of all labels, in the order of the text
+abbrev pub all_holds : App → List (List ℕ)
+all_holds app = flat_map func_holds app.funcs
+
+-- the name of a resource
+abbrev pub resource_name : Config → ℕ → List ℕ
+resource_name config r = if r == 32 then res_scheduler_name else get_or config.resources r []
+
+-- the names of these resources
+abbrev pub resource_names : Config → List ℕ → List (List ℕ)
+resource_names config held = map (resource_name config) held
+
+-- ---- lines
+
+-- the statement of a label with the names of these resources
+abbrev pub label_statement : List ℕ → List (List ℕ) → SourceLine
+label_statement name resources = Statement mnemonic.Label (map Name (name ∷ resources))
+
+-- the first of the lists, or the empty one
+abbrev pub first_list : List (List ℕ) → List ℕ
+first_list [] = []
+first_list (held ∷ rest) = held
+
+-- the lists behind the first one
+abbrev pub other_lists : List (List ℕ) → List (List ℕ)
+other_lists [] = []
+other_lists (held ∷ rest) = rest
+
+-- the lines, with these lists at the labels in turn
+abbrev pub relabel : Config → List (List ℕ) → List SourceLine → List SourceLine
+relabel config lists [] = []
+relabel config lists (line ∷ lines) =
+    if is_label line
+    then label_statement (name_of line) (resource_names config (first_list lists)) ∷ relabel config (other_lists lists) lines
+    else line ∷ relabel config lists lines
+
+-- the lines stand where they may: inside a body what belongs there, and outside what belongs there
+abbrev pub AreInPlace : Bool → List SourceLine → Type 0
+AreInPlace inside [] = Unit {0}
+AreInPlace inside (line ∷ lines) = (is_a1 inside line ≡ false) × AreInPlace (after_line inside line) lines

@@ -1,0 +1,154 @@
+//! Task source with the lists of task code at its labels.
+ghost use Rattle.std.specs.Prelude.{◌≡◌, ◌++◌, ◌+◌, ◌^◌, ◌<◌, [], ◌∷◌, cond, length, map, get_or, IfOk, OnOk};
+ghost use Rattle.std.specs.List.{join_with_byte};
+ghost use Rattle.text_pieces.specs.Names.{now};
+ghost use Rattle.sloth_refusal.specs.Order.{NoFault};
+ghost use Rattle.asm_lines.specs.Lines.{without_returns};
+ghost use Rattle.asm_lines.specs.SourceLines.{source_line};
+ghost use Rattle.asm_lines.specs.Faults.{source_lines, TextFault};
+ghost use Rattle.asm_names.specs.Said.{is_label};
+ghost use Rattle.app_rules.specs.AppRange.{AppInRange};
+ghost use Rattle.app_rules.specs.WellFormed.{WellFormed};
+ghost use Rattle.sloth_source.specs.SourceText.{HasApp, SourceText};
+ghost use Rattle.held_lists.specs.Filling.{SameButLists};
+ghost use Rattle.holds_infer.specs.Relabel.{func_holds, all_holds};
+ghost use Rattle.holds_infer.specs.FilledText.{filled_part, filled_parts, filled_text};
+
+use crate::label_text::write_part;
+use asm_lines::cutting::split;
+use asm_lines::{SourceLine, read};
+use asm_names::is_label;
+use sloth_base::app::{App, Func};
+use sloth_base::config::Config;
+use sloth_base::list::List;
+use sloth_base::memory::NoMemory;
+use sloth_base::numbers::ResId;
+use std::alloc::Global;
+use text_pieces::growth::push;
+
+fn push_lists<'a>(lists: &mut Vec<&'a [ResId]>, func: &'a Func) -> Result<(), NoMemory>
+    ensures { OnOk result (map now lists.new.items ≡ map now lists.old.items ++ func_holds func.now) }
+{
+    for label in func.labels.items() {
+        push(lists, label.holds.items())?;
+    }
+    Ok(())
+}
+
+// The lists of all labels, in the order of the text.
+fn lists_of<'a>(alloc: Global, app: &'a App) -> Result<Vec<&'a [ResId]>, NoMemory>
+    ensures { IfOk result (λ lists. map now lists.items ≡ all_holds app.now) }
+{
+    let mut lists = Vec::new(alloc);
+    for func in app.funcs.items() {
+        push_lists(&mut lists, func)?;
+    }
+    Ok(lists)
+}
+
+fn list_at<'a>(lists: &[&'a [ResId]], number: usize) -> &'a [ResId]
+    ensures { result.now ≡ get_or (map now lists.now) number [] }
+{
+    match lists.get(number) {
+        Some(list) => *list,
+        None => &[],
+    }
+}
+
+// Writes a part, and the LF behind it, if it is not the last.
+fn write_line(
+    out: &mut Vec<u8>,
+    config: &Config,
+    line: &SourceLine,
+    is_last: bool,
+    holds: &[ResId],
+    part: &[u8],
+) -> Result<(), NoMemory>
+    ensures { OnOk result (out.new.items ≡ out.old.items ++ (filled_part config.now line.now is_last holds.now part.now ++ cond is_last [] (10 ∷ []))) }
+{
+    write_part(out, config, line, is_last, holds, part)?;
+    if !is_last {
+        out.extend_from_slice(b"\n")?;
+    }
+    Ok(())
+}
+
+// The number of labels behind a line.
+fn labels_behind(line: &SourceLine, number: usize) -> usize
+    requires { number + 1 < 2 ^ 64 }
+    ensures { result ≡ cond (is_label line.now) (number + 1) number }
+{
+    if is_label(line) { number + 1 } else { number }
+}
+
+// What the lines of a text are, in which there is no fault, so that only memory can be wanting.
+fn lines_of(alloc: Global, text: &[u8]) -> Result<List<SourceLine>, NoMemory>
+    requires short { length text.now < 4294967295 }
+    requires none { NoFault (TextFault text.now) }
+    ensures { IfOk result (λ lines. lines ≡ source_lines text.now) }
+{
+    match read(alloc, text) {
+        Ok(lines) => Ok(lines),
+        Err(_) => Err(NoMemory),
+    }
+}
+
+// The parts of a text, which are these lines, with these lists at the labels in turn.
+fn filled_parts(
+    alloc: Global,
+    config: &Config,
+    lists: &[&[ResId]],
+    lines: &[SourceLine],
+    parts: &[&[u8]],
+) -> Result<Vec<u8>, NoMemory>
+    requires { lines.now ≡ map source_line (without_returns (map now parts.now)) }
+    ensures { IfOk result (λ out. out.items ≡ join_with_byte 10 (filled_parts config.now (map now lists.now) (map now parts.now))) }
+{
+    let mut out = Vec::new(alloc);
+    let mut number = 0;
+    for (n, part) in parts.iter().enumerate() {
+        let line = &lines[n];
+        let is_last = n + 1 == parts.len();
+        write_line(
+            &mut out,
+            config,
+            line,
+            is_last,
+            list_at(lists, number),
+            *part,
+        )?;
+        number = labels_behind(line, number);
+    }
+    Ok(out)
+}
+
+/// The text with the lists of this task code at its labels: each label's line is `label NAME` and `, R` for each resource of its list, its
+/// comment dropped and its line end kept; all other bytes are as they are. The text has no fault of its lines, names and limits and says
+/// `before`, which is the task code but for the lists.
+pub fn fill(
+    alloc: Global,
+    text: &[u8],
+    config: &Config,
+    before: &App,
+    app: &App,
+) -> Result<Vec<u8>, NoMemory>
+    requires short { length text.now < 4294967295 }
+    requires says { HasApp text.now config.now before.now }
+    requires same { SameButLists before.now app.now }
+    requires in_range { AppInRange config.now app.now }
+    ensures text { IfOk result (λ out. out.items ≡ filled_text text.now config.now app.now) }
+    ensures says { IfOk result (λ out. HasApp out.items config.now app.now) }
+    ensures accepted { IfOk result (λ out. WellFormed config.now app.now → SourceText out.items config.now app.now) }
+{
+    let parts = split(alloc, text, b'\n')?;
+    let lines = lines_of(alloc, text)?;
+    let lists = lists_of(alloc, app)?;
+    let out = filled_parts(
+        alloc,
+        config,
+        lists.as_slice(),
+        lines.items(),
+        parts.as_slice(),
+    )?;
+    Ok(out)
+}

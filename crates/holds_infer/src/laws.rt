@@ -1,0 +1,34 @@
+//! Laws of the definitions.
+ghost use Rattle.std.specs.Prelude.{◌≡◌, ℕ, List};
+ghost use Rattle.sloth_base.specs.declared.config.Config.{Config};
+ghost use Rattle.sloth_base.specs.declared.app.App.{App};
+ghost use Rattle.app_rules.specs.WellFormed.{WellFormed};
+ghost use Rattle.asm_lines.specs.declared.source_line.SourceLine.{SourceLine};
+ghost use Rattle.asm_parse.specs.Apps.{app_of};
+ghost use Rattle.sloth_source.specs.SourceText.{HasApp, SourceText};
+ghost use Rattle.held_lists.specs.Filling.{SameButLists};
+ghost use Rattle.holds_infer.specs.Relabel.{relabel};
+ghost use Rattle.sloth_source.specs.Ranked.{EarlyRefusal};
+ghost use Rattle.sloth_base.specs.declared.refusal.Refusal.{Refusal};
+ghost use Rattle.holds_infer.specs.FilledText.{filled_text};
+ghost use Rattle.holds_infer.specs.FilledSource.{IsFilledSource, HasNoLists};
+
+/// Other lists at the lines of labels change the lists of the labels alone.
+pub fn lists_alone()
+    ensures { (config : Config) (lists : List (List ℕ)) (lines : List SourceLine) →
+        SameButLists (app_of config (relabel config lists lines)) (app_of config lines) }
+{}
+
+/// A text with the lists of well-formed task code, which is its own but for the lists, says that task code and has no fault.
+pub fn filled_is_accepted()
+    ensures { (text : List ℕ) (config : Config) (before app : App) → HasApp text config before → SameButLists before app → WellFormed config app
+        → SourceText (filled_text text config app) config app }
+{}
+
+/// Texts have one filled source at most, and of it, of lists that do not exist and of a refusal one alone.
+pub fn one_source()
+    ensures same { (oil src one other : List ℕ) → IsFilledSource oil src one → IsFilledSource oil src other → one ≡ other }
+    ensures or_none { (oil src out : List ℕ) → IsFilledSource oil src out → HasNoLists oil src → ⊥ }
+    ensures or_refused { (oil src out : List ℕ) (refusal : Refusal) → IsFilledSource oil src out → EarlyRefusal oil src refusal → ⊥ }
+    ensures none_or_refused { (oil src : List ℕ) (refusal : Refusal) → HasNoLists oil src → EarlyRefusal oil src refusal → ⊥ }
+{}
