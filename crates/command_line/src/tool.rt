@@ -13,6 +13,8 @@ pub enum Tool {
     Unelf,
     /// `infer OIL SRC OUT`: the source with the list of each label filled in.
     Infer,
+    /// `at IMG ARR K`: the states of the tasks at a count of a run of an image file.
+    At,
 }
 
 impl Tool {
@@ -24,6 +26,7 @@ impl Tool {
             Tool::Elf => 1,
             Tool::Unelf => 1,
             Tool::Infer => 2,
+            Tool::At => 2,
         }
     }
 
@@ -35,6 +38,7 @@ impl Tool {
             Tool::Elf => None,
             Tool::Unelf => None,
             Tool::Infer => None,
+            Tool::At => Some(999_999),
         }
     }
 
@@ -46,6 +50,7 @@ impl Tool {
             Tool::Elf => true,
             Tool::Unelf => true,
             Tool::Infer => true,
+            Tool::At => false,
         }
     }
 }
@@ -72,6 +77,9 @@ pub fn tool_named(word: &str) -> Option<Tool>
     }
     if word == "infer" {
         return Some(Tool::Infer);
+    }
+    if word == "at" {
+        return Some(Tool::At);
     }
     None
 }

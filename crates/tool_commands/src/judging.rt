@@ -4,6 +4,7 @@ ghost use Rattle.command_line.specs.Tools.{input_count, number_limit, IsNumber};
 ghost use Rattle.tool_commands.specs.Answers.{IsAnswer};
 
 use crate::answer::ToolAnswer;
+use crate::at_command::at;
 use crate::elf_commands::{elf, unelf};
 use crate::infer_command::infer;
 use command_line::tool::Tool;
@@ -27,5 +28,11 @@ pub fn judge(
         Tool::Elf => elf(alloc, inputs[0].items()),
         Tool::Unelf => unelf(alloc, inputs[0].items()),
         Tool::Infer => infer(alloc, inputs[0].items(), inputs[1].items()),
+        Tool::At => at(
+            alloc,
+            inputs[0].items(),
+            inputs[1].items(),
+            number.unwrap_or(0),
+        ),
     }
 }

@@ -2,6 +2,7 @@
 #![tactic(auto)]
 
 pub mod answer;
+mod at_command;
 mod elf_commands;
 mod infer_command;
 pub mod judging;
