@@ -2,11 +2,11 @@
 #![tactic(auto)]
 
 pub mod fault;
-mod header;
+pub mod header;
 pub mod laws;
-mod marks;
-mod names;
-mod numbers;
+pub mod marks;
+pub mod names;
+pub mod numbers;
 pub mod read;
 pub mod write;
 

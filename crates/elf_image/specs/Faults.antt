@@ -1,0 +1,112 @@
+-- The faults of an ELF file, each as a fact of the file's bytes.
+use Rattle.std.specs.Prelude.{◌≡◌, ◌≢◌, ◌≤◌, ◌<◌, ◌+◌, ◌*◌, ◌%◌, ◌^◌, ℕ, List, ◌∷◌, [], ◌++◌, take, drop, length, All, ⊤}
+use Rattle.std.specs.List.{flat_map}
+use Rattle.sloth_base.specs.ImageRange.{AreNames, IsMark, AreAscending}
+use Rattle.sloth_base.specs.declared.image.Mark.{Mark}
+use Rattle.sloth_base.specs.declared.image.Image.{Image}
+use Rattle.image_file.specs.ImageText.{four_bytes, mark_bytes, name_bytes}
+use Rattle.elf_image.specs.ElfText.{ElfText, elf_magic, elf_header, load_header, note_header, note_bytes}
+use Rattle.elf_image.specs.declared.fault.ElfFault.{ElfFault}
+use Rattle.elf_image.specs.declared.fault.ElfFault.TheVariants as fault
+use Rattle.elf_image.specs.declared.fault.ElfError.{ElfError}
+use Rattle.elf_image.specs.declared.fault.ElfError.TheVariants as failure
+
+-- the file begins as each ELF file does
+abbrev pub HasElfMagic : List ℕ → Type 0
+HasElfMagic file = take 4 file ≡ elf_magic
+
+-- its ELF header is the one
+pub record HasElfHeader (file : List ℕ) : Type 0 where
+  pub long : 116 ≤ length file
+  pub header : take 52 file ≡ elf_header
+
+-- so many bytes of memory, whole words
+pub record IsMemorySize (size : ℕ) : Type 0 where
+  pub fits : size ≤ 2097152
+  pub whole_words : size % 4 ≡ 0
+
+-- its first program header is that of so many bytes of memory
+pub record HasLoadHeader (file : List ℕ) (size : ℕ) : Type 0 where
+  pub elf : HasElfHeader file
+  pub memory : IsMemorySize size
+  pub header : take 32 (drop 52 file) ≡ load_header size
+
+-- a note of so many bytes, a number of 32 bits
+pub record IsNoteSize (note : ℕ) : Type 0 where
+  pub word : note < 2 ^ 32
+  pub long : 36 ≤ note
+  pub whole_words : note % 4 ≡ 0
+
+-- its second program header is that of a note of so many bytes behind the memory
+pub record HasNoteHeader (file : List ℕ) (size note : ℕ) : Type 0 where
+  pub load : HasLoadHeader file size
+  pub note_size : IsNoteSize note
+  pub header : take 32 (drop 84 file) ≡ note_header size note
+
+-- and it ends with the note
+pub record IsFramed (file : List ℕ) (size note : ℕ) : Type 0 where
+  pub headers : HasNoteHeader file size note
+  pub ends : length file ≡ 116 + size + note
+
+-- what a description has, before anything is asked of it: names of any bytes, the number of marks, and the bytes in which they stand
+pub record Described : Type 0 where
+  pub tasks : List (List ℕ)
+  pub funcs : List (List ℕ)
+  pub count : ℕ
+  pub marks : List ℕ
+
+-- its numbers keep the limits, and each mark has twelve bytes
+pub record IsWithin (d : Described) : Type 0 where
+  pub few_tasks : length d.tasks ≤ 30
+  pub few_functions : length d.funcs ≤ 64
+  pub few_marks : d.count ≤ 16384
+  pub twelve_each : length d.marks ≡ d.count * 12
+
+-- its bytes
+abbrev pub described_bytes : Described → List ℕ
+described_bytes d =
+    flat_map four_bytes (length d.tasks ∷ length d.funcs ∷ 0 ∷ d.count ∷ [])
+    ++ (flat_map name_bytes d.tasks ++ (flat_map name_bytes d.funcs ++ d.marks))
+
+-- the file's note has this description
+pub record HasNote (file : List ℕ) (size : ℕ) (d : Described) : Type 0 where
+  pub within : IsWithin d
+  pub are : drop (116 + size) file ≡ note_bytes (described_bytes d)
+
+-- names are names and differ, and these marks are written there, each on a word of so many bytes of memory and with fields in range
+pub record AreRight (size : ℕ) (d : Described) (marks : List Mark) : Type 0 where
+  pub tasks : AreNames d.tasks
+  pub functions : AreNames d.funcs
+  pub counted : length marks ≡ d.count
+  pub written : d.marks ≡ flat_map mark_bytes marks
+  pub each : All (IsMark (length d.funcs) size) marks
+  pub ascending : AreAscending marks
+
+-- where a fault is the first of a file
+abbrev pub Faulty : ElfFault → List ℕ → Type 0
+Faulty fault.E1 file = ¬ (HasElfMagic file)
+Faulty fault.E2 file = HasElfMagic file × (length file < 116)
+Faulty fault.E3 file = HasElfMagic file × (116 ≤ length file) × ¬ (HasElfHeader file)
+Faulty fault.E4 file = HasElfHeader file × ((size : ℕ) → ¬ (HasLoadHeader file size))
+Faulty fault.E5 file = (size : ℕ) × HasLoadHeader file size × ((note : ℕ) → ¬ (HasNoteHeader file size note))
+Faulty fault.E6 file = (size : ℕ) × (note : ℕ) × HasNoteHeader file size note × (length file ≢ 116 + size + note)
+Faulty fault.E7 file = (size : ℕ) × (note : ℕ) × IsFramed file size note × ((d : Described) → ¬ (HasNote file size d))
+Faulty fault.E8 file =
+    (size : ℕ) × (note : ℕ) × (d : Described) × IsFramed file size note × HasNote file size d × ((marks : List Mark) → ¬ (AreRight size d marks))
+
+-- what an error says of a file; want of memory says nothing
+abbrev pub Fails : ElfError → List ℕ → Type 0
+Fails (failure.Fault fault) file = Faulty fault file
+Fails failure.Memory file = ⊤
+
+-- each list of bytes is some image's ELF file or has a first fault: none is neither
+abbrev pub NoneIsNeither : Type 0
+NoneIsNeither = (file : List ℕ) → ((image : Image) → ¬ (ElfText file image)) → ((fault : ElfFault) → ¬ (Faulty fault file)) → ⊥
+
+-- none is both
+abbrev pub NoneIsBoth : Type 0
+NoneIsBoth = (file : List ℕ) (image : Image) (fault : ElfFault) → ElfText file image → ¬ (Faulty fault file)
+
+-- the first fault is one
+abbrev pub FaultIsOne : Type 0
+FaultIsOne = (file : List ℕ) (one other : ElfFault) → Faulty one file → Faulty other file → one ≡ other

@@ -1,0 +1,3 @@
+pub mod ElfText
+pub mod Faults
+pub mod Reading

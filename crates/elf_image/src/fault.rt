@@ -1,0 +1,67 @@
+//! What may be wrong with an ELF file.
+ghost use Rattle.std.specs.Prelude.{◌≡◌};
+ghost use Rattle.elf_image.specs.declared.fault.ElfError.TheVariants.{Fault, Memory};
+
+use sloth_base::memory::NoMemory;
+use std::alloc::{AllocError, AllocFailed};
+
+/// A fault of a file, by its code. The first in this order is told.
+#[derive(Clone, Copy, Debug, PartialEq, Eq)]
+pub enum ElfFault {
+    /// The first four bytes are not those of an ELF file.
+    E1,
+    /// The file has fewer than 116 bytes.
+    E2,
+    /// The ELF header is not that of an image.
+    E3,
+    /// The first program header is not that of an image's memory.
+    E4,
+    /// The second program header is not that of an image's note.
+    E5,
+    /// The file does not end where the note does.
+    E6,
+    /// The note is not an image's, ends inside a part, or has a number that is out of its limits.
+    E7,
+    /// A name is no word of 1 to 64 bytes, two tasks or two functions have one name, a mark is out of range, or the marks' addresses do
+    /// not rise.
+    E8,
+}
+
+/// Why no image was read.
+#[derive(Clone, Copy, Debug, PartialEq, Eq)]
+pub enum ElfError {
+    Fault(ElfFault),
+    Memory,
+}
+
+impl From<ElfFault> for ElfError {
+    ghost from_gives = { λ fault e. e ≡ Fault fault };
+
+    fn from(fault: ElfFault) -> ElfError {
+        ElfError::Fault(fault)
+    }
+}
+
+impl From<NoMemory> for ElfError {
+    ghost from_gives = { λ _ e. e ≡ Memory };
+
+    fn from(_: NoMemory) -> ElfError {
+        ElfError::Memory
+    }
+}
+
+impl From<AllocError> for ElfError {
+    ghost from_gives = { λ _ e. e ≡ Memory };
+
+    fn from(_: AllocError) -> ElfError {
+        ElfError::Memory
+    }
+}
+
+impl<T: Drop> From<AllocFailed<T>> for ElfError {
+    ghost from_gives = { λ _ e. e ≡ Memory };
+
+    fn from(_: AllocFailed<T>) -> ElfError {
+        ElfError::Memory
+    }
+}

@@ -1,0 +1,320 @@
+//! Reading an ELF file.
+ghost use Rattle.std.specs.Prelude.{◌⊎◌, ◌≡◌, ◌<◌, ◌≤◌, ◌+◌, ◌++◌, IfOk, IfErr, OnOk, Decides, codes, drop, length, take};
+ghost use Rattle.image_file.specs.Faults.{HasMagic};
+ghost use Rattle.image_file.specs.Reading.{NamesStand, MarksStand};
+ghost use Rattle.sloth_base.specs.declared.image.Image.{Image as ImageOf};
+ghost use Rattle.elf_image.specs.ElfText.{ElfText, load_header, note_header, note_bytes};
+ghost use Rattle.elf_image.specs.Faults.{Fails, Faulty, HasElfHeader, HasElfMagic, HasLoadHeader, HasNoteHeader, IsMemorySize, IsNoteSize};
+ghost use Rattle.elf_image.specs.Reading.{IsFramedAt, NamesMiss, MarksMiss, IsNote, NoteFails, IsMemoryless, MemorylessFails, AreRead, ContentsFail};
+ghost use Rattle.elf_image.specs.declared.fault.ElfFault.{ElfFault as FaultOf};
+ghost use Rattle.elf_image.specs.declared.fault.ElfError.TheVariants as failed_by;
+
+use crate::fault::{ElfError, ElfFault};
+use crate::headers::{
+    ELF_HEADER, HEADERS, PROGRAM_HEADER, elf_header, put_load_header, put_note_header,
+};
+use crate::note::{NOTE_HEAD, padding_size, put_note};
+use image_file::fault::ImageError;
+use image_file::header::{HEADER, read_sizes};
+use image_file::marks::{are_ascending, read_marks};
+use image_file::names::{Names, are_names, read_names};
+use image_file::numbers::u32_at;
+use sloth_base::image::{Image, Mark};
+use sloth_base::list::List;
+use sloth_base::memory::NoMemory;
+use sloth_base::name::Name;
+use std::alloc::Global;
+
+/// The image of an ELF file, or the file's first fault.
+pub fn read_elf(alloc: Global, bytes: &[u8]) -> Result<Image, ElfError>
+    ensures read { IfOk result (λ image. ElfText bytes.now image) }
+    ensures failed { IfErr result (λ failure. Fails failure bytes.now) }
+    ensures refuses_no_image { IfErr result (λ failure. (image : ImageOf) → ElfText bytes.now image → failure ≡ failed_by.Memory) }
+    ensures tells_the_fault { IfErr result (λ failure. (fault : FaultOf) → Faulty fault bytes.now →
+        (failure ≡ failed_by.Fault fault) ⊎ (failure ≡ failed_by.Memory)) }
+    ensures reads_no_fault { IfOk result (λ image. (fault : FaultOf) → ¬ (Faulty fault bytes.now)) }
+    ensures reads_back { IfOk result (λ image. (written : ImageOf) → ElfText bytes.now written → image ≡ written) }
+{
+    read_whole(alloc, bytes)
+}
+
+// The image, or what is wrong.
+fn read_whole(alloc: Global, bytes: &[u8]) -> Result<Image, ElfError>
+    ensures read { IfOk result (λ image. ElfText bytes.now image) }
+    ensures failed { IfErr result (λ failure. Fails failure bytes.now) }
+{
+    let size = read_frame(alloc, bytes)?;
+    let note = behind(bytes, HEADERS + size);
+    let description = read_note(alloc, note)?;
+    let file = behind_magic(alloc, part(note, NOTE_HEAD, description))?;
+    let outline = read_memoryless(alloc, file.as_slice())?;
+    let memory = part(bytes, HEADERS, size);
+    read_contents(alloc, file.as_slice(), outline, memory)
+}
+
+// The bytes from a place on.
+fn behind(bytes: &[u8], at: usize) -> &[u8]
+    requires { at ≤ length bytes.now }
+    ensures { result.now ≡ drop at bytes.now }
+{
+    &bytes[at..]
+}
+
+// So many bytes from a place on.
+fn part(bytes: &[u8], at: usize, size: usize) -> &[u8]
+    requires { at + size ≤ length bytes.now }
+    ensures { result.now ≡ take size (drop at bytes.now) }
+{
+    &bytes[at..at + size]
+}
+
+// Whether the file begins as each ELF file does.
+fn has_elf_magic(bytes: &[u8]) -> bool
+    ensures { Decides result (HasElfMagic bytes.now) }
+{
+    bytes.starts_with(b"\x7fELF")
+}
+
+// The ELF header is that of an image.
+fn judge_header(bytes: &[u8]) -> Result<(), ElfError>
+    ensures right { OnOk result (HasElfHeader bytes.now) }
+    ensures failed { IfErr result (λ failure. Fails failure bytes.now) }
+{
+    if !has_elf_magic(bytes) {
+        return Err(ElfFault::E1.into());
+    }
+    if bytes.len() < HEADERS {
+        return Err(ElfFault::E2.into());
+    }
+    if !bytes.starts_with(&elf_header()) {
+        return Err(ElfFault::E3.into());
+    }
+    Ok(())
+}
+
+// So many bytes of memory are whole words within the limit.
+fn is_memory_size(size: u32) -> bool
+    ensures { Decides result (IsMemorySize size) }
+{
+    size <= 2_097_152 && size % 4 == 0
+}
+
+// A note of so many bytes is whole words, and long enough.
+fn is_note_size(size: u32) -> bool
+    ensures { Decides result (IsNoteSize size) }
+{
+    size >= 36 && size % 4 == 0
+}
+
+// Whether these bytes are the program header of so many bytes of memory.
+fn is_load_header(alloc: Global, bytes: &[u8], size: u32) -> Result<bool, NoMemory>
+    ensures { IfOk result (λ is. Decides is (bytes.now ≡ load_header size)) }
+{
+    let mut header = Vec::new(alloc);
+    put_load_header(&mut header, size)?;
+    Ok(*bytes == *header.as_slice())
+}
+
+// Whether they are that of a note of so many bytes.
+fn is_note_header(alloc: Global, bytes: &[u8], size: u32, note: u32) -> Result<bool, NoMemory>
+    requires { size ≤ 2097152 }
+    ensures { IfOk result (λ is. Decides is (bytes.now ≡ note_header size note)) }
+{
+    let mut header = Vec::new(alloc);
+    put_note_header(&mut header, size, note)?;
+    Ok(*bytes == *header.as_slice())
+}
+
+// Whether they are the note of a description.
+fn is_note(alloc: Global, bytes: &[u8], description: &[u8]) -> Result<bool, NoMemory>
+    requires { length description.now < 4294967296 }
+    ensures { IfOk result (λ is. Decides is (bytes.now ≡ note_bytes description.now)) }
+{
+    let mut note = Vec::new(alloc);
+    put_note(&mut note, description)?;
+    Ok(*bytes == *note.as_slice())
+}
+
+// How many bytes of memory the first program header says.
+fn read_load_header(alloc: Global, bytes: &[u8]) -> Result<u32, ElfError>
+    requires { HasElfHeader bytes.now }
+    ensures read { IfOk result (λ size. HasLoadHeader bytes.now size) }
+    ensures failed { IfErr result (λ failure. Fails failure bytes.now) }
+{
+    let size = u32_at(bytes, ELF_HEADER + 16);
+    let header = &bytes[ELF_HEADER..ELF_HEADER + PROGRAM_HEADER];
+    let is_header = is_load_header(alloc, header, size)?;
+    if !is_header {
+        return Err(ElfFault::E4.into());
+    }
+    if !is_memory_size(size) {
+        return Err(ElfFault::E4.into());
+    }
+    Ok(size)
+}
+
+// How many bytes of a note the second program header says.
+fn read_note_header(alloc: Global, bytes: &[u8], size: u32) -> Result<u32, ElfError>
+    requires { HasLoadHeader bytes.now size }
+    ensures read { IfOk result (λ note. HasNoteHeader bytes.now size note) }
+    ensures failed { IfErr result (λ failure. Fails failure bytes.now) }
+{
+    let note = u32_at(bytes, ELF_HEADER + PROGRAM_HEADER + 16);
+    let header = &bytes[ELF_HEADER + PROGRAM_HEADER..HEADERS];
+    let is_header = is_note_header(alloc, header, size, note)?;
+    if !is_header {
+        return Err(ElfFault::E5.into());
+    }
+    if !is_note_size(note) {
+        return Err(ElfFault::E5.into());
+    }
+    Ok(note)
+}
+
+// How many bytes of memory the file has, where its headers are those of an image and it ends with the note.
+fn read_frame(alloc: Global, bytes: &[u8]) -> Result<usize, ElfError>
+    ensures read { IfOk result (λ size. IsFramedAt bytes.now size) }
+    ensures failed { IfErr result (λ failure. Fails failure bytes.now) }
+{
+    judge_header(bytes)?;
+    let size = read_load_header(alloc, bytes)?;
+    let note = read_note_header(alloc, bytes, size)?;
+    if bytes.len() != HEADERS + size as usize + note as usize {
+        return Err(ElfFault::E6.into());
+    }
+    Ok(size as usize)
+}
+
+// How many bytes the description of a note has.
+fn read_note(alloc: Global, note: &[u8]) -> Result<usize, ElfError>
+    requires { 36 ≤ length note.now }
+    ensures read { IfOk result (λ size. IsNote note.now size) }
+    ensures failed { IfErr result (λ failure. NoteFails failure note.now) }
+{
+    let size = u32_at(note, 4) as usize;
+    if note.len() != NOTE_HEAD + size + padding_size(size) {
+        return Err(ElfFault::E7.into());
+    }
+    let is_note = is_note(alloc, note, &note[NOTE_HEAD..NOTE_HEAD + size])?;
+    if !is_note {
+        return Err(ElfFault::E7.into());
+    }
+    Ok(size)
+}
+
+// A description behind the first bytes of an image file: it is one without memory, the number of counters in place of that of bytes.
+fn behind_magic(alloc: Global, description: &[u8]) -> Result<Vec<u8>, NoMemory>
+    ensures { IfOk result (λ file. file.items ≡ codes "SLOTHIM1" ++ description.now) }
+{
+    let mut file = Vec::new(alloc);
+    file.extend_from_slice(b"SLOTHIM1")?;
+    file.extend_from_slice(description)?;
+    Ok(file)
+}
+
+// Names and where they end, or the fault that they are missing.
+fn names_at(alloc: Global, file: &[u8], at: usize, count: usize) -> Result<Names, ElfError>
+    requires { at ≤ length file.now }
+    ensures read { IfOk result (λ read. NamesStand file.now at read.end read.names.items) }
+    ensures counted { IfOk result (λ read. length read.names.items ≡ count) }
+    ensures failed { IfErr result (λ failure. NamesMiss failure file.now at count) }
+{
+    match read_names(alloc, file, at, count) {
+        Ok(names) => Ok(names),
+        Err(ImageError::Fault(_)) => Err(ElfFault::E7.into()),
+        Err(ImageError::Memory) => Err(ElfError::Memory),
+    }
+}
+
+// Marks, or the fault that one is out of range.
+fn marks_at(
+    alloc: Global,
+    file: &[u8],
+    outline: &Outline,
+    size: usize,
+) -> Result<Vec<Mark>, ElfError>
+    requires parts { IsMemoryless file.now outline.now.tasks.items outline.now.funcs.items outline.now.marks outline.now.count }
+    requires fits { size ≤ 2097152 }
+    ensures read { IfOk result (λ marks. MarksStand file.now outline.now.marks (length outline.now.funcs.items) size marks.items) }
+    ensures counted { IfOk result (λ marks. length marks.items ≡ outline.now.count) }
+    ensures failed { IfErr result (λ failure.
+        MarksMiss failure file.now outline.now.marks outline.now.count (length outline.now.funcs.items) size) }
+{
+    match read_marks(
+        alloc,
+        file,
+        outline.marks,
+        outline.count,
+        outline.funcs.len(),
+        size,
+    ) {
+        Ok(marks) => Ok(marks),
+        Err(ImageError::Fault(_)) => Err(ElfFault::E8.into()),
+        Err(ImageError::Memory) => Err(ElfError::Memory),
+    }
+}
+
+// The names of a description, and where its marks stand.
+#[derive(Drop)]
+struct Outline {
+    tasks: Vec<Name>,
+    funcs: Vec<Name>,
+    marks: usize,
+    count: usize,
+}
+
+// The parts of an image file without memory that ends with its marks.
+fn read_memoryless(alloc: Global, file: &[u8]) -> Result<Outline, ElfError>
+    requires { HasMagic file.now }
+    ensures read { IfOk result (λ outline. IsMemoryless file.now outline.tasks.items outline.funcs.items outline.marks outline.count) }
+    ensures failed { IfErr result (λ failure. MemorylessFails failure file.now) }
+{
+    let Some(sizes) = read_sizes(file) else {
+        return Err(ElfFault::E7.into());
+    };
+    if sizes.memory != 0 {
+        return Err(ElfFault::E7.into());
+    }
+    let tasks = names_at(alloc, file, HEADER, sizes.tasks)?;
+    let funcs = names_at(alloc, file, tasks.end, sizes.funcs)?;
+    if funcs.end + sizes.marks * 12 != file.len() {
+        return Err(ElfFault::E7.into());
+    }
+    Ok(Outline {
+        tasks: tasks.names,
+        funcs: funcs.names,
+        marks: funcs.end,
+        count: sizes.marks,
+    })
+}
+
+// The image of these parts and this memory, or what is wrong with them.
+fn read_contents(
+    alloc: Global,
+    file: &[u8],
+    outline: Outline,
+    memory: &[u8],
+) -> Result<Image, ElfError>
+    requires parts { IsMemoryless file.now outline.tasks.items outline.funcs.items outline.marks outline.count }
+    requires fits { length memory.now ≤ 2097152 }
+    ensures read { IfOk result (λ image.
+        AreRead file.now outline.tasks.items outline.funcs.items outline.marks outline.count (length memory.now) image) }
+    ensures memory { IfOk result (λ image. image.memory ≡ memory.now) }
+    ensures failed { IfErr result (λ failure.
+        ContentsFail failure file.now outline.tasks.items outline.funcs.items outline.marks outline.count (length memory.now)) }
+{
+    if !are_names(&outline.tasks) || !are_names(&outline.funcs) {
+        return Err(ElfFault::E8.into());
+    }
+    let marks = marks_at(alloc, file, &outline, memory.len())?;
+    if !are_ascending(&marks) {
+        return Err(ElfFault::E8.into());
+    }
+    let memory = Vec::from_slice(alloc, memory)?;
+    Ok(Image {
+        tasks: List::from_vec(outline.tasks),
+        funcs: List::from_vec(outline.funcs),
+        memory: List::from_vec(memory),
+        marks: List::from_vec(marks),
+    })
+}
