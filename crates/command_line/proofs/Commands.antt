@@ -1,10 +1,17 @@
 -- Words are those of one command at most.
-use Rattle.std.proofs.Common.{◌≡◌, ◌≤◌, ◌∙◌, ℕ, List, ◌∷◌, [], Option, None, Some, refl, sym, ap, arith}
+use Rattle.std.proofs.Common.{◌≡◌, ◌≤◌, ◌∙◌, ℕ, List, ◌∷◌, [], Option, None, Some, refl, sym, ap, subst, get_or, arith}
 use Rattle.std.specs.Prelude.{codes, decimal}
 use Rattle.std.proofs.lemmas.Fmt.{decimal_injective}
 use Rattle.trace_text.specs.declared.print.Form.{Form}
 use Rattle.trace_text.specs.declared.print.Form.TheVariants as form
-use Rattle.command_line.specs.Command.{Command, Building, Execution, Run, Builds, Executes, Lists, Samples, word_of, words_by, spelled, IsInLimit, KeepsLimit, IsCommand}
+use Rattle.std.specs.Prelude.{Bool, true, false, ◌||◌}
+use Rattle.std.specs.Str.{bytes_eq}
+use Rattle.std.proofs.lemmas.Bool.{true≢false}
+use Rattle.command_line.specs.declared.tool.Tool.{Tool}
+use Rattle.command_line.specs.declared.tool.Tool.TheVariants as tool
+use Rattle.command_line.specs.Tools.{ToolUse, tool_word, tool_words}
+use Rattle.command_line.proofs.ToolWords.{same-use}
+use Rattle.command_line.specs.Command.{Command, Building, Execution, Run, Builds, Executes, Lists, Samples, Uses, word_of, words_by, spelled, IsInLimit, KeepsLimit, IsCommand}
 
 same-form : (f g : Form) → word_of f ≡ word_of g → f ≡ g
 same-form form.Counted form.Counted e = refl
@@ -67,6 +74,31 @@ not-sample o s i seed img (Some r) e = let words : word_of r.form ∷ o ∷ s �
 same-sample : (a b : ℕ) (img other : List ℕ) → a ≡ b → img ≡ other → Samples a img ≡ Samples b other
 same-sample a b img other e i = ap (λ x. Samples x img) e ∙ ap (λ x. Samples b x) i
 
+-- the first word of a command that is no tool
+abbrev stands : List ℕ → Bool
+stands word =
+    bytes_eq word (codes "build") || (bytes_eq word (codes "run") || (bytes_eq word (codes "order")
+    || (bytes_eq word (codes "exec") || (bytes_eq word (codes "list") || bytes_eq word (codes "sample")))))
+
+-- is no tool's
+tool-apart : (t : Tool) → stands (tool_word t) ≡ false
+tool-apart tool.Elf = refl
+tool-apart tool.Unelf = refl
+
+apart : (t : Tool) (word : List ℕ) → stands word ≡ true → tool_word t ≡ word → ⊥
+apart t word stood e = let not : stands word ≡ false = subst (λ w. stands w ≡ false) e (tool-apart t) in true≢false (sym stood ∙ not)
+
+not-tool : (c : Command) (used : ToolUse) (word : List ℕ) → stands word ≡ true → get_or (spelled c) 0 [] ≡ word → tool_words used ≡ spelled c → ⊥
+not-tool c used word stood is e = apart used.tool word stood (ap (λ words. get_or words 0 []) e ∙ is)
+
+built-word : (r : Option Run) (o s i : List ℕ) → stands (get_or (words_by o s i r) 0 []) ≡ true
+built-word None o s i = refl
+built-word (Some r) o s i = form-word r.form
+  where
+    form-word : (f : Form) → stands (word_of f) ≡ true
+    form-word form.Counted = refl
+    form-word form.Bare = refl
+
 same-words : (c d : Command) → spelled c ≡ spelled d → KeepsLimit c → KeepsLimit d → c ≡ d
 same-words (Builds b) (Builds d) e l m =
     let parts = same-parts b.oil b.src b.img d.oil d.src d.img b.run d.run e l m in ap Builds (same-building b d parts.0 parts.1 parts.2 parts.3)
@@ -96,6 +128,15 @@ same-words (Samples seed img) (Samples other to) e l m =
     let digits : decimal seed ≡ decimal other = cc in
     let same : img ≡ to = cc in
     same-sample seed other img to (decimal_injective seed other (omega (arith, l)) (omega (arith, m)) digits) same
+same-words (Uses u) (Uses w) e l m = ap Uses (same-use u w e l m)
+same-words (Uses u) (Builds d) e l m = absurd (not-tool (Builds d) u _ (built-word d.run d.oil d.src d.img) refl e)
+same-words (Uses u) (Executes d) e l m = absurd (not-tool (Executes d) u (codes "exec") refl refl e)
+same-words (Uses u) (Lists img) e l m = absurd (not-tool (Lists img) u (codes "list") refl refl e)
+same-words (Uses u) (Samples seed img) e l m = absurd (not-tool (Samples seed img) u (codes "sample") refl refl e)
+same-words (Builds b) (Uses u) e l m = absurd (not-tool (Builds b) u _ (built-word b.run b.oil b.src b.img) refl (sym e))
+same-words (Executes b) (Uses u) e l m = absurd (not-tool (Executes b) u (codes "exec") refl refl (sym e))
+same-words (Lists img) (Uses u) e l m = absurd (not-tool (Lists img) u (codes "list") refl refl (sym e))
+same-words (Samples seed img) (Uses u) e l m = absurd (not-tool (Samples seed img) u (codes "sample") refl refl (sym e))
 
 pub one-command : (words : List (List ℕ)) (c d : Command) → IsCommand words c → IsCommand words d → c ≡ d
 one-command words c d h i = same-words c d (sym h.0 ∙ i.0) h.1 i.1

@@ -3,6 +3,7 @@ use Rattle.std.specs.Prelude.{ℕ, ◌≡◌, ◌≤◌, List, [], ◌∷◌, ma
 use Rattle.std.proofs.Common.{Global}
 use Rattle.trace_text.specs.declared.print.Form.{Form}
 use Rattle.trace_text.specs.declared.print.Form.TheVariants as form
+use Rattle.command_line.specs.Tools.{ToolUse, tool_words, IsToolUse}
 
 -- how an image is run: the form of the lines, the arrivals, and how many instructions
 pub record Run : Type 0 where
@@ -23,13 +24,14 @@ pub record Execution : Type 0 where
   pub arr : List ℕ
   pub n : ℕ
 
--- a command: one that builds an image, one that runs an image file, one that lists an image file, or one that generates an application from
--- a seed, builds its image and runs it
+-- a command: one that builds an image, one that runs an image file, one that lists an image file, one that generates an application from
+-- a seed, builds its image and runs it, or a tool
 pub data Command : Type 0 where
   Builds : Building → Command
   Executes : Execution → Command
   Lists : List ℕ → Command
   Samples : ℕ → List ℕ → Command
+  Uses : ToolUse → Command
 
 -- `run` prints the events with their counts, `order` without them
 abbrev pub word_of : Form → List ℕ
@@ -41,24 +43,26 @@ abbrev pub words_by : List ℕ → List ℕ → List ℕ → Option Run → List
 words_by oil src img None = codes "build" ∷ oil ∷ src ∷ img ∷ []
 words_by oil src img (Some run) = word_of run.form ∷ oil ∷ src ∷ run.arr ∷ img ∷ decimal run.n ∷ []
 
--- those, `exec IMG ARR N`, `list IMG` and `sample SEED IMG`
+-- those, `exec IMG ARR N`, `list IMG`, `sample SEED IMG` and the words of tools
 abbrev pub spelled : Command → List (List ℕ)
 spelled (Builds b) = words_by b.oil b.src b.img b.run
 spelled (Executes e) = codes "exec" ∷ e.img ∷ e.arr ∷ decimal e.n ∷ []
 spelled (Lists img) = codes "list" ∷ img ∷ []
 spelled (Samples seed img) = codes "sample" ∷ decimal seed ∷ img ∷ []
+spelled (Uses used) = tool_words used
 
 -- at most so many instructions are run
 abbrev pub IsInLimit : Option Run → Type 0
 IsInLimit None = Unit {0}
 IsInLimit (Some run) = run.n ≤ 1000000
 
--- the same of a command; a seed is a word of 32 bits
+-- the same of a command; a seed is a word of 32 bits, and a tool has what its row of the table asks for
 abbrev pub KeepsLimit : Command → Type 0
 KeepsLimit (Builds b) = IsInLimit b.run
 KeepsLimit (Executes e) = e.n ≤ 1000000
 KeepsLimit (Lists img) = Unit {0}
 KeepsLimit (Samples seed img) = seed ≤ 4294967295
+KeepsLimit (Uses used) = IsToolUse used
 
 -- the words are those of this command
 abbrev pub IsCommand : List (List ℕ) → Command → Type 0
@@ -67,6 +71,22 @@ IsCommand words c = (words ≡ spelled c) × KeepsLimit c
 -- the words are those of no command
 abbrev pub NoCommand : List (List ℕ) → Type 0
 NoCommand words = (c : Command) → IsCommand words c → ⊥
+
+-- the words are those of no tool
+abbrev pub NoTool : List (List ℕ) → Type 0
+NoTool words = (used : ToolUse) → IsCommand words (Uses used) → ⊥
+
+-- a command that is no tool
+abbrev pub IsNoTool : Command → Type 0
+IsNoTool (Builds b) = Unit {0}
+IsNoTool (Executes e) = Unit {0}
+IsNoTool (Lists img) = Unit {0}
+IsNoTool (Samples seed img) = Unit {0}
+IsNoTool (Uses used) = ⊥
+
+-- the words are those of no command but a tool
+abbrev pub ToolAtMost : List (List ℕ) → Type 0
+ToolAtMost words = (c : Command) → IsNoTool c → IsCommand words c → ⊥
 
 -- the bytes of each word
 abbrev pub words_of : List (String Global) → List (List ℕ)

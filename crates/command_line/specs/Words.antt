@@ -1,6 +1,9 @@
 -- The command that given words are.
 use Rattle.std.specs.Prelude.{Option, Some, None}
-use Rattle.command_line.specs.Command.{Command, Building, Execution, Run, Builds, Executes, Lists, Samples}
+use Rattle.std.specs.Option.{option_map}
+use Rattle.command_line.specs.Command.{Command, Building, Execution, Run, Builds, Executes, Lists, Samples, Uses, words_of}
+use Rattle.command_line.specs.Tools.{ToolUse}
+use Rattle.command_line.specs.declared.tool.ToolWords.{ToolWords}
 use Rattle.command_line.specs.declared.command.BuildWords.{BuildWords}
 use Rattle.command_line.specs.declared.command.ExecWords.{ExecWords}
 use Rattle.command_line.specs.declared.command.CommandWords.{CommandWords}
@@ -20,9 +23,14 @@ building_of b = record { oil = b.oil.now; src = b.src.now; img = b.img.now; run 
 abbrev pub execution_of : ExecWords → Execution
 execution_of e = record { img = e.img.now; arr = e.arr.now; n = e.n }
 
+-- a tool as the words say
+abbrev pub use_of : ToolWords → ToolUse
+use_of t = record { tool = t.tool; inputs = words_of t.inputs.now; number = t.number; output = option_map (λ name. name.now) t.output }
+
 -- a command as the words say
 abbrev pub command_of : CommandWords → Command
 command_of (words.Build b) = Builds (building_of b)
 command_of (words.Exec e) = Executes (execution_of e)
 command_of (words.List img) = Lists img.now
 command_of (words.Sample seed img) = Samples seed img.now
+command_of (words.Tool t) = Uses (use_of t)

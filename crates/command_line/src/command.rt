@@ -1,10 +1,12 @@
 //! The words of a command.
 ghost use Rattle.std.specs.Prelude.{◌≡◌, ◌≤◌, ℕ, List, IfSome, IfNone, decimal, length, codes, true};
 ghost use Rattle.trace_text.specs.declared.print.Form.{Form as AnyForm};
-ghost use Rattle.command_line.specs.Command.{Command, Execution, Executes, IsCommand, NoCommand, word_of, words_of};
+ghost use Rattle.command_line.specs.Command.{Command, Execution, Executes, IsCommand, NoCommand, ToolAtMost, word_of, words_of};
 ghost use Rattle.command_line.specs.Words.{command_of, execution_of};
 
-use itoa::Buffer;
+use crate::number::{instructions, number};
+use crate::tool::ToolWords;
+use crate::tool_words::tool_command;
 use trace_text::print::Form;
 
 /// How an image is run.
@@ -45,37 +47,8 @@ pub enum CommandWords<'a> {
     List(&'a str),
     /// `sample SEED IMG`
     Sample { seed: u32, img: &'a str },
-}
-
-// A word of 32 bits in decimal digits, without sign and without a leading zero.
-fn number(word: &str) -> Option<u32>
-    ensures some { IfSome result (λ n. (word.now ≡ decimal n) × (n ≤ 4294967295)) }
-    ensures none { IfNone result ((n : ℕ) → n ≤ 4294967295 → word.now ≡ decimal n → ⊥) }
-{
-    let Ok(n) = word.parse::<u32>() else {
-        return None;
-    };
-    let mut buffer = Buffer::new();
-    if buffer.format(n) == word {
-        return Some(n);
-    }
-    None
-}
-
-// A number of instructions, in the same form.
-fn instructions(word: &str) -> Option<u32>
-    ensures some { IfSome result (λ n. (word.now ≡ decimal n) × (n ≤ 1000000)) }
-    ensures none { IfNone result ((n : ℕ) → n ≤ 1000000 → word.now ≡ decimal n → ⊥) }
-{
-    match number(word) {
-        None => None,
-        Some(n) => {
-            if n > 1_000_000 {
-                return None;
-            }
-            Some(n)
-        }
-    }
+    /// The words of a tool.
+    Tool(ToolWords<'a>),
 }
 
 // The form that the first word asks for.
@@ -128,7 +101,7 @@ fn is_sample(word: &str) -> bool
 fn list_command(words: &[String]) -> Option<CommandWords<'_>>
     requires { length words.now ≡ 2 }
     ensures some { IfSome result (λ c. IsCommand (words_of words.now) (command_of c)) }
-    ensures none { IfNone result (NoCommand (words_of words.now)) }
+    ensures none { IfNone result (ToolAtMost (words_of words.now)) }
 {
     if !is_list(words[0].as_str()) {
         return None;
@@ -140,7 +113,7 @@ fn list_command(words: &[String]) -> Option<CommandWords<'_>>
 fn sample_command(words: &[String]) -> Option<CommandWords<'_>>
     requires { length words.now ≡ 3 }
     ensures some { IfSome result (λ c. IsCommand (words_of words.now) (command_of c)) }
-    ensures none { IfNone result (NoCommand (words_of words.now)) }
+    ensures none { IfNone result (ToolAtMost (words_of words.now)) }
 {
     if !is_sample(words[0].as_str()) {
         return None;
@@ -177,7 +150,7 @@ fn exec_words(words: &[String]) -> Option<ExecWords<'_>>
 fn image_command(words: &[String]) -> Option<CommandWords<'_>>
     requires { length words.now ≡ 4 }
     ensures some { IfSome result (λ c. IsCommand (words_of words.now) (command_of c)) }
-    ensures none { IfNone result (NoCommand (words_of words.now)) }
+    ensures none { IfNone result (ToolAtMost (words_of words.now)) }
 {
     if is_build(words[0].as_str()) {
         return Some(CommandWords::Build(BuildWords {
@@ -197,7 +170,7 @@ fn image_command(words: &[String]) -> Option<CommandWords<'_>>
 fn run_command(words: &[String]) -> Option<CommandWords<'_>>
     requires { length words.now ≡ 6 }
     ensures some { IfSome result (λ c. IsCommand (words_of words.now) (command_of c)) }
-    ensures none { IfNone result (NoCommand (words_of words.now)) }
+    ensures none { IfNone result (ToolAtMost (words_of words.now)) }
 {
     let Some(form) = form(words[0].as_str()) else {
         return None;
@@ -217,10 +190,10 @@ fn run_command(words: &[String]) -> Option<CommandWords<'_>>
     }
 }
 
-/// The command of these words, if they are one's.
-pub fn command(words: &[String]) -> Option<CommandWords<'_>>
+// The command of these words, if they are one's that is no tool.
+fn command_by_length(words: &[String]) -> Option<CommandWords<'_>>
     ensures some { IfSome result (λ c. IsCommand (words_of words.now) (command_of c)) }
-    ensures none { IfNone result (NoCommand (words_of words.now)) }
+    ensures none { IfNone result (ToolAtMost (words_of words.now)) }
 {
     match words.len() {
         2 => list_command(words),
@@ -228,6 +201,17 @@ pub fn command(words: &[String]) -> Option<CommandWords<'_>>
         4 => image_command(words),
         6 => run_command(words),
         _ => None,
+    }
+}
+
+/// The command of these words, if they are one's.
+pub fn command(words: &[String]) -> Option<CommandWords<'_>>
+    ensures some { IfSome result (λ c. IsCommand (words_of words.now) (command_of c)) }
+    ensures none { IfNone result (NoCommand (words_of words.now)) }
+{
+    match tool_command(words) {
+        Some(words) => Some(CommandWords::Tool(words)),
+        None => command_by_length(words),
     }
 }
 

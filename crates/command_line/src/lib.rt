@@ -3,3 +3,6 @@
 
 pub mod command;
 pub mod last_line;
+mod number;
+pub mod tool;
+mod tool_words;

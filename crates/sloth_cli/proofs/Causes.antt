@@ -12,7 +12,7 @@ use Rattle.sloth_io.specs.Sink.{Output}
 use Rattle.sloth_io.specs.Store.{Files, KeepsFiles, fits}
 use Rattle.image_file.specs.ImageText.{image_bytes}
 use Rattle.sloth_source.specs.Texts.{Accepted}
-use Rattle.command_line.specs.Command.{Command, Building, Builds, IsCommand, IsInLimit}
+use Rattle.command_line.specs.Command.{Command, Building, Builds, Executes, Lists, Samples, Uses, IsCommand, IsInLimit}
 use Rattle.sloth_cli.specs.Inputs.{AreRead}
 use Rattle.command_line.specs.LastLine.{refusal_line, no_image_line}
 use Rattle.sloth_cli.specs.declared.top.Status.{Status}
@@ -21,8 +21,9 @@ use Rattle.sloth_cli.specs.declared.failure.Failure.{Failure}
 use Rattle.sloth_cli.specs.declared.failure.Failure.TheVariants as failure
 use Rattle.sloth_cli.specs.Top.{World, world, inputs_of, names_of, AreInputs, FilesStay, IsAccepted, IsImageOf}
 use Rattle.sloth_cli.specs.Top.{IsWritten, IsDone, Requires, Puts, BrokeOff, Answers, done_text}
-use Rattle.sloth_cli.specs.Failures.{ReadFailed, JudgeFailed, PerformFailed, Ends, CommandFailed, IsPerformed, Finished}
+use Rattle.sloth_cli.specs.Failures.{ReadFailed, JudgeFailed, PerformFailed, Ends, EndsPlainly, CommandFailed, IsPerformed, Finished}
 use Rattle.sloth_cli.proofs.Ceilings.{shown-keep}
+use Rattle.sloth_cli.proofs.ToolCauses.{end-required}
 
 -- ---- a command
 
@@ -120,17 +121,28 @@ puts-behind : (wanted answer : Status) (old mid new : Output) (line : List ℕ) 
 puts-behind wanted answer old mid new line same p = subst (λ (x : Output). Puts wanted answer x new line) same p
 
 -- how a command ended is what its status requires
+required-plain : (s : Status) (words : List (List ℕ)) (c : Command) (old new : Files) (text : List ℕ) → IsCommand words c → EndsPlainly s old new c text
+    → Requires s words old new text
+required-plain status.Done words c old new text is h = (c, is, h)
+required-plain status.Stopped words c old new text is h = (c, is, h)
+required-plain status.Usage words c old new text is h = absurd h
+required-plain status.Refused words c old new text is h = absurd h
+required-plain status.ReadFault words c old new text is h = absurd h
+required-plain status.WriteFault words c old new text is h = absurd h
+required-plain status.NoMemory words c old new text is h = absurd h
+required-plain status.TooLong words c old new text is h = absurd h
+required-plain status.NotAnImage words c old new text is h = absurd h
+required-plain status.NotAnElf words c old new text is h = absurd h
+required-plain status.BadTrace words c old new text is h = absurd h
+required-plain status.NoHolds words c old new text is h = absurd h
+
 required : (s : Status) (words : List (List ℕ)) (c : Command) (old new : Files) (text : List ℕ) → IsCommand words c → Ends s old new c text
     → Requires s words old new text
-required status.Done words c old new text is h = (c, is, h)
-required status.Stopped words c old new text is h = (c, is, h)
-required status.Usage words c old new text is h = absurd h
-required status.Refused words c old new text is h = absurd h
-required status.ReadFault words c old new text is h = absurd h
-required status.WriteFault words c old new text is h = absurd h
-required status.NoMemory words c old new text is h = absurd h
-required status.TooLong words c old new text is h = absurd h
-required status.NotAnImage words c old new text is h = absurd h
+required s words (Builds b) old new text is h = required-plain s words (Builds b) old new text is h
+required s words (Executes e) old new text is h = required-plain s words (Executes e) old new text is h
+required s words (Lists img) old new text is h = required-plain s words (Lists img) old new text is h
+required s words (Samples seed img) old new text is h = required-plain s words (Samples seed img) old new text is h
+required s words (Uses u) old new text is h = end-required s words u old new text is h
 
 pub finished : (f : Failure) (words : List (List ℕ)) (c : Command) (old : World) (files : Files) (mid new : Output) (answer : Status)
     → IsCommand words c → CommandFailed f old (world files mid) c → Finished f answer mid new → Answers words old (world files new) answer

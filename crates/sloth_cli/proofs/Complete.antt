@@ -19,7 +19,8 @@ use Rattle.sloth_source.specs.Texts.{Accepted}
 use Rattle.sloth_source.proofs.Refusals.{one_refusal}
 use Rattle.sloth_source.proofs.Unique.{one_meaning, never_both}
 use Rattle.command_line.specs.LastLine.{refusal_line}
-use Rattle.command_line.specs.Command.{Building, Run, Builds, IsCommand, NoCommand}
+use Rattle.command_line.specs.Command.{Command, Building, Run, Builds, Uses, IsCommand, IsNoTool, NoCommand}
+use Rattle.command_line.specs.Tools.{ToolUse}
 use Rattle.sloth_cli.specs.Inputs.{input_limit, AreRead}
 use Rattle.sloth_cli.specs.ImageFiles.{IsNoImage}
 use Rattle.sloth_cli.specs.declared.top.Status.{Status}
@@ -164,6 +165,10 @@ pub no-failed-write : (old new : Files) (name : List ℕ) (size : ℕ) → Write
 no-failed-write old new name size (inl stay) h = stays old.failed_writes new.failed_writes stay h.0
 no-failed-write old new name size (inr works) h = let a = h.1 works.0 in let b = works.1 in cc
 
+-- words of a tool are those of no other command
+pub no-tool : (words : List (List ℕ)) (u : ToolUse) (c : Command) → IsCommand words (Uses u) → IsCommand words c → IsNoTool c → ⊥
+no-tool words u c used is other = subst IsNoTool (one-command words c (Uses u) is used) other
+
 -- ---- Usage
 
 usage-by : (wanted answer : Status) (words : List (List ℕ)) (old new : World) (text : List ℕ) → Requires wanted words old.files new.files text
@@ -178,6 +183,9 @@ usage-by status.NoMemory answer words old new text r p none = absurd (none r.0 r
 usage-by status.TooLong answer words old new text r p none = absurd (none r.0 r.1)
 usage-by status.Stopped answer words old new text r p none = absurd (none r.0 r.1)
 usage-by status.NotAnImage answer words old new text r p none = absurd (none r.0 r.1)
+usage-by status.NotAnElf answer words old new text r p none = absurd (none (Uses r.0) r.1)
+usage-by status.BadTrace answer words old new text r p none = absurd (none (Uses r.0) r.1)
+usage-by status.NoHolds answer words old new text r p none = absurd (none (Uses r.0) r.1)
 
 pub tells-usage : (words : List (List ℕ)) (old new : World) (answer : Status) → Answers words old new answer → TellsUsage words old new answer
 tells-usage words old new answer h none = usage-by h.wanted answer words old new h.text h.required h.puts none
@@ -211,6 +219,9 @@ refused-by status.Stopped answer words old new text c oil src arr r q p is there
     absurd (subst (λ x. CommandStopped old.files new.files x text) (one-command words q.0 (Builds c) q.1 is) q.2)
 refused-by status.NotAnImage answer words old new text c oil src arr r q p is there works refusal =
     absurd (subst (λ x. IsNoImage old.files x q.2) (one-command words q.0 (Builds c) q.1 is) q.3).inputs
+refused-by status.NotAnElf answer words old new text c oil src arr r q p is there works refusal = absurd (no-tool words q.0 (Builds c) q.1 is tt)
+refused-by status.BadTrace answer words old new text c oil src arr r q p is there works refusal = absurd (no-tool words q.0 (Builds c) q.1 is tt)
+refused-by status.NoHolds answer words old new text c oil src arr r q p is there works refusal = absurd (no-tool words q.0 (Builds c) q.1 is tt)
 
 pub tells-refused : (words : List (List ℕ)) (old new : World) (answer : Status) → Answers words old new answer → TellsRefused words old new answer
 tells-refused words old new answer h c is oil src arr there works r refusal =
@@ -276,6 +287,9 @@ module _ (old new : World) (c : Building) (oil src arr : List ℕ) (config : Con
       absurd (subst (λ x. CommandStopped old.files new.files x text) (one-command words q.0 (Builds c) q.1 is) q.2)
   complete-by status.NotAnImage answer words text q p is =
       absurd (subst (λ x. IsNoImage old.files x q.2) (one-command words q.0 (Builds c) q.1 is) q.3).inputs
+  complete-by status.NotAnElf answer words text q p is = absurd (no-tool words q.0 (Builds c) q.1 is tt)
+  complete-by status.BadTrace answer words text q p is = absurd (no-tool words q.0 (Builds c) q.1 is tt)
+  complete-by status.NoHolds answer words text q p is = absurd (no-tool words q.0 (Builds c) q.1 is tt)
 
 pub is-complete : (words : List (List ℕ)) (old new : World) (answer : Status) → Answers words old new answer → IsComplete words old new answer
 is-complete words old new answer a c is oil src arr there config app accepted arrivals read works =

@@ -15,20 +15,28 @@ use Rattle.image_file.proofs.Unique.{image-unique}
 use Rattle.trace_text.specs.ArrivalsText.{ArrivalsFault, arrivals_in}
 use Rattle.trace_text.specs.Listing.{listing}
 use Rattle.sloth_source.proofs.Least.{one_least}
-use Rattle.command_line.specs.Command.{Command, Execution, Builds, Executes, Lists, Samples, IsCommand}
+use Rattle.command_line.specs.Command.{Command, Execution, Builds, Executes, Lists, Samples, Uses, IsCommand}
+use Rattle.command_line.specs.Tools.{ToolUse}
+use Rattle.tool_commands.specs.declared.answer.ToolAnswer.{ToolAnswer}
+use Rattle.tool_commands.specs.declared.answer.ToolAnswer.TheVariants as tool_answer
+use Rattle.tool_commands.proofs.OneAnswer.{HasImage}
+use Rattle.sloth_cli.specs.FileInputs.{IsInput}
+use Rattle.sloth_cli.specs.ToolFiles.{IsToolAnswer, ReadsImageFirst, tool_status}
+use Rattle.sloth_cli.proofs.ToolReads.{told-inputs, none-unread as no-tool-unread}
+use Rattle.sloth_cli.proofs.ToolComplete.{AnswersAs, tool-image}
 use Rattle.sloth_cli.specs.Inputs.{input_limit, AreRead}
-use Rattle.sloth_cli.specs.ImageFiles.{IsInput, AreExecInputs, ReadsImageFile, IsRunnable, IsExecuted, IsNoImage, exec_text}
+use Rattle.sloth_cli.specs.ImageFiles.{AreExecInputs, ReadsImageFile, IsRunnable, IsExecuted, IsNoImage, exec_text}
 use Rattle.sloth_cli.specs.ImageAnswers.{end_status, LinesWork, AnswersNoImage, AnswersFault, TellsFault, TellsNoImage, TellsExecRefused, TellsExecuted, TellsListed}
 use Rattle.command_line.specs.LastLine.{no_image_line, refusal_line}
 use Rattle.sloth_runner.specs.Runner.{run_end}
 use Rattle.sloth_cli.specs.Top.{World, inputs_of, FirstUnread, IsFailedRead, IsLongRead, Requires, Puts, Took, EndsAs, Answers, AnswersRefused, ReadsWork, PutsWork}
-use Rattle.sloth_cli.specs.Top.{CommandDone, CommandRefused, CommandUnwritten, CommandStopped}
+use Rattle.sloth_cli.specs.Top.{CommandDone, CommandRefused, CommandUnwritten, CommandStopped, IsToolEnd}
 use Rattle.sloth_runner.specs.declared.runner.RunEnd.{RunEnd}
 use Rattle.sloth_runner.specs.declared.runner.RunEnd.TheVariants as ends
 use Rattle.sloth_cli.specs.declared.top.Status.{Status}
 use Rattle.sloth_cli.specs.declared.top.Status.TheVariants as status
 use Rattle.command_line.proofs.Commands.{one-command}
-use Rattle.sloth_cli.proofs.Complete.{told, not-missing, not-long, of-arrivals, counted-put, stands}
+use Rattle.sloth_cli.proofs.Complete.{told, not-missing, not-long, of-arrivals, counted-put, no-tool, stands}
 
 -- ---- the inputs that are told
 
@@ -52,6 +60,7 @@ none-unread P old (Builds b) file i f h = i
 none-unread P old (Executes e) file i f h = no-exec-unread P old e file i.0 i.1 f h
 none-unread P old (Lists img) file i f h = no-list-unread P old img file i f h
 none-unread P old (Samples seed img) file i f h = i
+none-unread P old (Uses u) file i f h = no-tool-unread P old u.inputs (file ∷ i.rest) i.read f h
 
 no-failed-read : (old new : Files) (c : Command) (file : List ℕ) → IsTrue old.tells → ReadsImageFile old c file → ReadsWork old new → IsFailedRead old new c → ⊥
 no-failed-read old new c file tells i works =
@@ -66,15 +75,27 @@ told-file old (Builds b) one other tells h i = absurd h
 told-file old (Executes e) one other tells h i = told old e.img one other tells h.1.image_file.read i.1.image_file.read
 told-file old (Lists img) one other tells h i = told old img one other tells h.read i.read
 told-file old (Samples seed img) one other tells h i = absurd h
+told-file old (Uses u) one other tells h i =
+    let both : one ∷ h.rest ≡ other ∷ i.rest = told-inputs old u.inputs (one ∷ h.rest) (other ∷ i.rest) tells h.read i.read in cc
 
 -- ---- an image or none
 
--- these bytes are an image's
-abbrev HasImage : List ℕ → Type 0
-HasImage file = (image : Image) × ImageText file image
-
 moved : (one other : List ℕ) → one ≡ other → HasImage one → HasImage other
 moved one other same h = subst HasImage same h
+
+-- a tool with another answer has an image
+other-answer : (old : Files) (u : ToolUse) (file : List ℕ) (b : ToolAnswer) → IsTrue old.tells → ReadsImageFirst old u file → IsToolAnswer old u b
+    → ((fault : ImageFault) → b ≡ tool_answer.NotAnImage fault → ⊥) → HasImage file
+other-answer old u file b tells i h other = by (tool-image old u file b tells i h)
+  where
+    by : HasImage file ⊎ ((fault : ImageFault) × (b ≡ tool_answer.NotAnImage fault)) → HasImage file
+    by (inl image) = image
+    by (inr fault) = absurd (other fault.0 fault.1)
+
+ended-image : (wanted : Status) (old new : Files) (u : ToolUse) (file text : List ℕ) → IsTrue old.tells → ReadsImageFirst old u file → IsToolEnd wanted old new u text
+    → (wanted ≡ status.NotAnImage → ⊥) → HasImage file
+ended-image wanted old new u file text tells i h other =
+    other-answer old u file h.answer tells i h.is (λ fault same. other (h.status_is ∙ ap tool_status same))
 
 -- what was run or listed has an image
 done-image : (old new : Files) (c : Command) (file text : List ℕ) → IsTrue old.tells → ReadsImageFile old c file → CommandDone old new c text → HasImage file
@@ -84,6 +105,7 @@ done-image old new (Executes e) file text tells i h =
 done-image old new (Lists img) file text tells i h =
     moved h.0.file file (told-file old (Lists img) h.0.file file tells h.0.input i) (h.0.image, h.0.is_image)
 done-image old new (Samples seed img) file text tells i h = absurd i
+done-image old new (Uses u) file text tells i h = ended-image status.Done old new u file text tells i h (λ e. let same : status.Done ≡ status.NotAnImage = e in cc)
 
 stopped-image : (old new : Files) (c : Command) (file text : List ℕ) → IsTrue old.tells → ReadsImageFile old c file → CommandStopped old new c text → HasImage file
 stopped-image old new (Builds b) file text tells i h = absurd i
@@ -91,6 +113,7 @@ stopped-image old new (Executes e) file text tells i h =
     let a = h.2.accepted in moved a.file file (told-file old (Executes e) a.file file tells (a.arr, a.inputs) i) (h.2.image, a.is_image)
 stopped-image old new (Lists img) file text tells i h = absurd h
 stopped-image old new (Samples seed img) file text tells i h = absurd i
+stopped-image old new (Uses u) file text tells i h = ended-image status.Stopped old new u file text tells i h (λ e. let same : status.Stopped ≡ status.NotAnImage = e in cc)
 
 refused-image : (old : Files) (c : Command) (file : List ℕ) (r : Refusal) → IsTrue old.tells → ReadsImageFile old c file → CommandRefused old c r → HasImage file
 refused-image old (Builds b) file r tells i h = absurd i
@@ -98,12 +121,26 @@ refused-image old (Executes e) file r tells i h =
     moved h.file file (told-file old (Executes e) h.file file tells (h.arr, h.inputs) i) (h.image, h.is_image)
 refused-image old (Lists img) file r tells i h = absurd h
 refused-image old (Samples seed img) file r tells i h = absurd i
+refused-image old (Uses u) file r tells i h =
+    other-answer old u file (tool_answer.Refused r) tells i h (λ fault e. let same : tool_answer.Refused r ≡ tool_answer.NotAnImage fault = e in cc)
 
-unwritten : (old new : Files) (c : Command) (file : List ℕ) → ReadsImageFile old c file → CommandUnwritten old new c → ⊥
-unwritten old new (Builds b) file i h = i
-unwritten old new (Executes e) file i h = h
-unwritten old new (Lists img) file i h = h
-unwritten old new (Samples seed img) file i h = i
+-- a tool whose file was not written has one too; other commands on an image file write none
+unwritten-image : (old new : Files) (c : Command) (file : List ℕ) → IsTrue old.tells → ReadsImageFile old c file → CommandUnwritten old new c → HasImage file
+unwritten-image old new (Builds b) file tells i h = absurd i
+unwritten-image old new (Executes e) file tells i h = absurd h
+unwritten-image old new (Lists img) file tells i h = absurd h
+unwritten-image old new (Samples seed img) file tells i h = absurd i
+unwritten-image old new (Uses u) file tells i h =
+    other-answer old u file (tool_answer.Done h.outcome) tells i h.is
+    (λ fault e. let same : tool_answer.Done h.outcome ≡ tool_answer.NotAnImage fault = e in cc)
+
+own-image : (old : Files) (c : Command) (file : List ℕ) (b : ToolAnswer) → IsTrue old.tells → ReadsImageFile old c file → AnswersAs old b c
+    → ((fault : ImageFault) → b ≡ tool_answer.NotAnImage fault → ⊥) → HasImage file
+own-image old (Builds b) file a tells i h other = absurd h
+own-image old (Executes e) file a tells i h other = absurd h
+own-image old (Lists img) file a tells i h other = absurd h
+own-image old (Samples seed img) file a tells i h other = absurd h
+own-image old (Uses u) file a tells i h other = other-answer old u file a tells i h other
 
 -- what an answer says of the image file: it is one, or has this fault, or memory was wanting
 abbrev Verdict : Status → List ℕ → List ℕ → Type 0
@@ -125,7 +162,16 @@ module _ (words : List (List ℕ)) (old new : Files) (text : List ℕ) (c : Comm
   verdict status.ReadFault q =
       absurd (no-failed-read old new c file tells i works (subst (IsFailedRead old new) (one-command words q.0 c q.1 is) q.2))
   verdict status.TooLong q = absurd (no-long-read old new c file tells i (subst (IsLongRead old new) (one-command words q.0 c q.1 is) q.2))
-  verdict status.WriteFault q = absurd (unwritten old new c file i (subst (CommandUnwritten old new) (one-command words q.0 c q.1 is) q.2))
+  verdict status.WriteFault q = inl (unwritten-image old new c file tells i (subst (CommandUnwritten old new) (one-command words q.0 c q.1 is) q.2))
+  verdict status.NotAnElf q =
+      inl (own-image old c file (tool_answer.NotAnElf q.2) tells i (subst (AnswersAs old (tool_answer.NotAnElf q.2)) (one-command words (Uses q.0) c q.1 is) q.3)
+      (λ fault e. let same : tool_answer.NotAnElf q.2 ≡ tool_answer.NotAnImage fault = e in cc))
+  verdict status.BadTrace q =
+      inl (own-image old c file (tool_answer.BadTrace q.2) tells i (subst (AnswersAs old (tool_answer.BadTrace q.2)) (one-command words (Uses q.0) c q.1 is) q.3)
+      (λ fault e. let same : tool_answer.BadTrace q.2 ≡ tool_answer.NotAnImage fault = e in cc))
+  verdict status.NoHolds q =
+      inl (own-image old c file tool_answer.NoHolds tells i (subst (AnswersAs old tool_answer.NoHolds) (one-command words (Uses q.0) c q.1 is) q.2)
+      (λ fault e. let same : tool_answer.NoHolds ≡ tool_answer.NotAnImage fault = e in cc))
 
 fault-by : (wanted answer : Status) (old new : World) (file text : List ℕ) (fault : ImageFault) → Faulty fault file → Verdict wanted file text
     → Puts wanted answer old.sink new.sink text → AnswersFault old new fault answer
@@ -215,6 +261,9 @@ module _ (words : List (List ℕ)) (old new : World) (answer : Status) (e : Exec
       absurd (no-long-read old.files new.files (Executes e) file tells (arr, i) (subst (IsLongRead old.files new.files) (one-command words q.0 (Executes e) q.1 is) q.2))
   executed-by status.WriteFault arrivals text read works q p =
       absurd (subst (CommandUnwritten old.files new.files) (one-command words q.0 (Executes e) q.1 is) q.2)
+  executed-by status.NotAnElf arrivals text read works q p = absurd (no-tool words q.0 (Executes e) q.1 is tt)
+  executed-by status.BadTrace arrivals text read works q p = absurd (no-tool words q.0 (Executes e) q.1 is tt)
+  executed-by status.NoHolds arrivals text read works q p = absurd (no-tool words q.0 (Executes e) q.1 is tt)
 
   -- accepted arrivals are not refused
   not-accepted : (other : Image) (others : List Arrival) (r : Refusal) → IsRunnable old.files e other others → IsLeast (ArrivalsFault image.tasks arr) r → ⊥
@@ -252,6 +301,9 @@ module _ (words : List (List ℕ)) (old new : World) (answer : Status) (e : Exec
       absurd (no-long-read old.files new.files (Executes e) file tells (arr, i) (subst (IsLongRead old.files new.files) (one-command words q.0 (Executes e) q.1 is) q.2))
   refused-by status.WriteFault text r works least q p =
       absurd (subst (CommandUnwritten old.files new.files) (one-command words q.0 (Executes e) q.1 is) q.2)
+  refused-by status.NotAnElf text r works least q p = absurd (no-tool words q.0 (Executes e) q.1 is tt)
+  refused-by status.BadTrace text r works least q p = absurd (no-tool words q.0 (Executes e) q.1 is tt)
+  refused-by status.NoHolds text r works least q p = absurd (no-tool words q.0 (Executes e) q.1 is tt)
 
 pub tells-executed : (words : List (List ℕ)) (old new : World) (answer : Status) → Answers words old new answer → TellsExecuted words old new answer
 tells-executed words old new answer h e is tells file arr i image is_image arrivals read works =
@@ -287,6 +339,9 @@ module _ (words : List (List ℕ)) (old new : World) (answer : Status) (img file
   listed-by status.TooLong text q p =
       absurd (no-long-read old.files new.files (Lists img) file tells i (subst (IsLongRead old.files new.files) (one-command words q.0 (Lists img) q.1 is) q.2))
   listed-by status.WriteFault text q p = absurd (subst (CommandUnwritten old.files new.files) (one-command words q.0 (Lists img) q.1 is) q.2)
+  listed-by status.NotAnElf text q p = absurd (no-tool words q.0 (Lists img) q.1 is tt)
+  listed-by status.BadTrace text q p = absurd (no-tool words q.0 (Lists img) q.1 is tt)
+  listed-by status.NoHolds text q p = absurd (no-tool words q.0 (Lists img) q.1 is tt)
 
 pub tells-listed : (words : List (List ℕ)) (old new : World) (answer : Status) → Answers words old new answer → TellsListed words old new answer
 tells-listed words old new answer h img is tells file i image is_image works =

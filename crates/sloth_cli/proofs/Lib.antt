@@ -7,3 +7,7 @@ mod ImageComplete
 mod SampleCauses
 mod SampleComplete
 mod InMemoryCalls
+mod ToolCauses
+mod ToolComplete
+mod ToolReads
+mod LinePuts

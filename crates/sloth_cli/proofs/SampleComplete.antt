@@ -18,7 +18,7 @@ use Rattle.sloth_cli.specs.Top.{CommandDone, CommandRefused, CommandUnwritten, C
 use Rattle.sloth_cli.specs.declared.top.Status.{Status}
 use Rattle.sloth_cli.specs.declared.top.Status.TheVariants as status
 use Rattle.command_line.proofs.Commands.{one-command}
-use Rattle.sloth_cli.proofs.Complete.{counted-put, stands, image-of, no-failed-write}
+use Rattle.sloth_cli.proofs.Complete.{counted-put, stands, image-of, no-failed-write, no-tool}
 
 module _ (words : List (List ℕ)) (old new : World) (answer : Status) (seed : ℕ) (img : List ℕ) (is : IsCommand words (Samples seed img)) where
   refused-by : (wanted : Status) (text : List ℕ) (r : Refusal) → FirstRefusal sample_oil (sample_source seed) r
@@ -45,6 +45,9 @@ module _ (words : List (List ℕ)) (old new : World) (answer : Status) (seed : �
       absurd (subst (λ x. CommandStopped old.files new.files x text) (one-command words q.0 (Samples seed img) q.1 is) q.2)
   refused-by status.NotAnImage text r refusal q p =
       absurd (subst (λ x. IsNoImage old.files x q.2) (one-command words q.0 (Samples seed img) q.1 is) q.3).inputs
+  refused-by status.NotAnElf text r refusal q p = absurd (no-tool words q.0 (Samples seed img) q.1 is tt)
+  refused-by status.BadTrace text r refusal q p = absurd (no-tool words q.0 (Samples seed img) q.1 is tt)
+  refused-by status.NoHolds text r refusal q p = absurd (no-tool words q.0 (Samples seed img) q.1 is tt)
 
   sampled-by : (wanted : Status) (text : List ℕ) (config : Config) (app : App) → Accepted sample_oil (sample_source seed) config app
       → SampleWorks seed img config app old new → Requires wanted words old.files new.files text → Puts wanted answer old.sink new.sink text
@@ -73,6 +76,9 @@ module _ (words : List (List ℕ)) (old new : World) (answer : Status) (seed : �
       absurd (subst (λ x. CommandStopped old.files new.files x text) (one-command words q.0 (Samples seed img) q.1 is) q.2)
   sampled-by status.NotAnImage text config app accepted works q p =
       absurd (subst (λ x. IsNoImage old.files x q.2) (one-command words q.0 (Samples seed img) q.1 is) q.3).inputs
+  sampled-by status.NotAnElf text config app accepted works q p = absurd (no-tool words q.0 (Samples seed img) q.1 is tt)
+  sampled-by status.BadTrace text config app accepted works q p = absurd (no-tool words q.0 (Samples seed img) q.1 is tt)
+  sampled-by status.NoHolds text config app accepted works q p = absurd (no-tool words q.0 (Samples seed img) q.1 is tt)
 
 pub tells-sample-refused : (words : List (List ℕ)) (old new : World) (answer : Status) → Answers words old new answer → TellsSampleRefused words old new answer
 tells-sample-refused words old new answer h seed img is r refusal =

@@ -1,5 +1,5 @@
 -- Why a command was not done, phase by phase, before its last line is put.
-use Rattle.std.specs.Prelude.{ℕ, ◌≡◌, List, codes, length}
+use Rattle.std.specs.Prelude.{ℕ, ◌≡◌, List, Option, codes, length}
 use Rattle.sloth_base.specs.declared.refusal.BuildError.{BuildError}
 use Rattle.sloth_base.specs.declared.refusal.BuildError.TheVariants as error
 use Rattle.sloth_io.specs.Sink.{Output}
@@ -14,13 +14,16 @@ use Rattle.image_file.specs.Faults.{Faulty}
 use Rattle.image_file.specs.declared.fault.ImageError.{ImageError}
 use Rattle.image_file.specs.declared.fault.ImageError.TheVariants as image_error
 use Rattle.sloth_source.specs.Texts.{FirstRefusal}
-use Rattle.command_line.specs.Command.{Command}
+use Rattle.command_line.specs.Command.{Command, Builds, Executes, Lists, Samples, Uses}
+use Rattle.tool_commands.specs.Lines.{tool_text}
+use Rattle.tool_commands.specs.declared.answer.ToolAnswer.{ToolAnswer}
+use Rattle.tool_commands.specs.declared.answer.ToolAnswer.TheVariants as tool_answer
 use Rattle.sloth_cli.specs.Inputs.{input_limit}
 use Rattle.sloth_cli.specs.ImageFiles.{IsNoImage}
 use Rattle.command_line.specs.LastLine.{refusal_line, no_image_line}
 use Rattle.sloth_cli.specs.Samples.{sample_oil, sample_source}
 use Rattle.sloth_cli.specs.Top.{World, FirstUnread, IsFailedRead, IsLongRead, IsRefusal, FilesStay, IsWritten, Took, BrokeOff, Puts}
-use Rattle.sloth_cli.specs.Top.{CommandDone, CommandRefused, CommandUnwritten, CommandStopped}
+use Rattle.sloth_cli.specs.Top.{CommandDone, CommandRefused, CommandUnwritten, CommandStopped, FilesAfter, IsToolEnd, IsUnwrittenOutput}
 use Rattle.sloth_cli.specs.declared.top.Status.{Status}
 use Rattle.sloth_cli.specs.declared.top.Status.TheVariants as status
 use Rattle.sloth_cli.specs.declared.failure.Failure.{Failure}
@@ -89,11 +92,36 @@ PerformFailed failure.WriteFile old new img bytes text =
 PerformFailed failure.Put old new img bytes text = IsWritten old.files new.files img bytes × BrokeOff old.sink new.sink text
 PerformFailed _ old new img bytes text = ⊥
 
--- a command that ended with this status had this text: it was done, or its run stopped
+-- a command that is no tool ended with this status and had this text: it was done, or its run stopped
+abbrev pub EndsPlainly : Status → Files → Files → Command → List ℕ → Type 0
+EndsPlainly status.Done old new c text = CommandDone old new c text
+EndsPlainly status.Stopped old new c text = CommandStopped old new c text
+EndsPlainly _ old new c text = ⊥
+
+-- a command that ended with this status had this text; a tool has its own statuses
 abbrev pub Ends : Status → Files → Files → Command → List ℕ → Type 0
-Ends status.Done old new c text = CommandDone old new c text
-Ends status.Stopped old new c text = CommandStopped old new c text
-Ends _ old new c text = ⊥
+Ends status old new (Builds b) text = EndsPlainly status old new (Builds b) text
+Ends status old new (Executes e) text = EndsPlainly status old new (Executes e) text
+Ends status old new (Lists img) text = EndsPlainly status old new (Lists img) text
+Ends status old new (Samples seed img) text = EndsPlainly status old new (Samples seed img) text
+Ends status old new (Uses u) text = IsToolEnd status old new u text
+
+-- the file of a tool that was done was not written
+abbrev pub OutputFailed : Failure → Files → Files → Option (List ℕ) → List ℕ → Type 0
+OutputFailed failure.WriteFile old new output bytes = IsUnwrittenOutput old new output bytes
+OutputFailed _ old new output bytes = ⊥
+
+-- a line was not put
+abbrev pub LineFailed : Failure → Output → Output → List ℕ → Type 0
+LineFailed failure.Put old new line = BrokeOff old new line
+LineFailed _ old new line = ⊥
+
+-- The answer of a tool was not told for this reason: its file was not written, or its text was not put.
+abbrev pub TellFailed : Failure → ToolAnswer → World → World → Option (List ℕ) → Type 0
+TellFailed failure.Put answer old new output = FilesAfter answer old.files new.files output × BrokeOff old.sink new.sink (tool_text answer)
+TellFailed failure.WriteFile (tool_answer.Done outcome) old new output =
+    IsUnwrittenOutput old.files new.files output outcome.file × (new.sink ≡ old.sink)
+TellFailed _ answer old new output = ⊥
 
 -- The command was not done for this reason; no last line is put yet.
 abbrev pub CommandFailed : Failure → World → World → Command → Type 0

@@ -11,7 +11,8 @@ use Rattle.trace_text.specs.ArrivalsText.{ArrivalsFault}
 use Rattle.trace_text.specs.Listing.{listing}
 use Rattle.command_line.specs.Command.{Command, Execution, Executes, Lists, IsCommand}
 use Rattle.sloth_cli.specs.Inputs.{AreRead}
-use Rattle.sloth_cli.specs.ImageFiles.{IsInput, AreExecInputs, ReadsImageFile, exec_text}
+use Rattle.sloth_cli.specs.FileInputs.{IsInput}
+use Rattle.sloth_cli.specs.ImageFiles.{AreExecInputs, ReadsImageFile, exec_text}
 use Rattle.command_line.specs.LastLine.{no_image_line}
 use Rattle.sloth_runner.specs.Runner.{run_end}
 use Rattle.sloth_cli.specs.Top.{World, Took, EndsAs, IsBrokenOff, AnswersRefused, ReadsWork, PutsWork}

@@ -1,31 +1,28 @@
 -- What commands on image files do, and why they do not.
-use Rattle.std.specs.Prelude.{ℕ, ◌≡◌, ◌≤◌, List, [], ◌++◌, length}
+use Rattle.std.specs.Prelude.{ℕ, ◌≡◌, List, [], ◌++◌}
 use Rattle.sloth_base.specs.declared.event.Arrival.{Arrival}
 use Rattle.sloth_base.specs.declared.image.Image.{Image}
 use Rattle.sloth_base.specs.declared.refusal.Refusal.{Refusal}
 use Rattle.sloth_base.specs.Arrivals.{AreArrivals}
 use Rattle.sloth_base.specs.Owners.{owners_named}
 use Rattle.sloth_refusal.specs.Order.{IsLeast}
-use Rattle.sloth_io.specs.Store.{Files, Holds}
+use Rattle.sloth_io.specs.Store.{Files}
 use Rattle.image_file.specs.ImageText.{ImageText}
 use Rattle.image_file.specs.Faults.{Faulty}
 use Rattle.image_file.specs.declared.fault.ImageFault.{ImageFault}
 use Rattle.trace_text.specs.ArrivalsText.{ArrivalsFault}
 use Rattle.trace_text.specs.Listing.{listing}
 use Rattle.trace_text.specs.declared.print.Form.TheVariants as form
-use Rattle.command_line.specs.Command.{Command, Execution, Builds, Executes, Lists, Samples}
-use Rattle.sloth_cli.specs.Inputs.{input_limit, AreRead}
+use Rattle.command_line.specs.Command.{Command, Execution, Builds, Executes, Lists, Samples, Uses}
+use Rattle.sloth_cli.specs.Inputs.{AreRead}
+use Rattle.sloth_cli.specs.FileInputs.{IsInput}
+use Rattle.sloth_cli.specs.ToolFiles.{ReadsImageFirst}
 use Rattle.command_line.specs.LastLine.{stopped_line}
 use Rattle.sloth_runner.specs.Runner.{run_text, run_end}
 use Rattle.sloth_runner.specs.declared.runner.RunEnd.{RunEnd}
 use Rattle.sloth_runner.specs.declared.runner.RunEnd.TheVariants as ends
 
 -- ---- the inputs
-
--- this is the file of a name, where the store tells its files, of at most 4 MiB
-pub record IsInput (files : Files) (name bytes : List ℕ) : Type 0 where
-  pub read : Holds files name bytes
-  pub short : length bytes ≤ input_limit
 
 -- these are the image file and the arrivals file of a run
 pub record AreExecInputs (files : Files) (e : Execution) (file arr : List ℕ) : Type 0 where
@@ -38,6 +35,7 @@ ReadsImageFile files (Builds b) file = ⊥
 ReadsImageFile files (Executes e) file = (arr : List ℕ) × AreExecInputs files e file arr
 ReadsImageFile files (Lists img) file = IsInput files img file
 ReadsImageFile files (Samples seed img) file = ⊥
+ReadsImageFile files (Uses u) file = ReadsImageFirst files u file
 
 -- ---- `exec`
 

@@ -7,3 +7,6 @@ pub mod SampleAnswers
 pub mod Failures
 pub mod InMemory
 pub mod Statuses
+pub mod FileInputs
+pub mod ToolFiles
+pub mod ToolAnswers

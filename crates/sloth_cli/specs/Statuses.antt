@@ -14,3 +14,6 @@ exit_status status.NoMemory = 5
 exit_status status.TooLong = 6
 exit_status status.Stopped = 7
 exit_status status.NotAnImage = 8
+exit_status status.NotAnElf = 9
+exit_status status.BadTrace = 10
+exit_status status.NoHolds = 11

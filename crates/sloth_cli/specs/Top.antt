@@ -22,8 +22,16 @@ use Rattle.image_file.specs.declared.fault.ImageFault.{ImageFault}
 use Rattle.rv32_instr.specs.declared.stop.Stop.{Stop}
 use Rattle.sloth_source.specs.Texts.{Accepted, FirstRefusal}
 use Rattle.trace_text.specs.ArrivalsText.{ArrivalsFault}
-use Rattle.command_line.specs.Command.{Command, Building, Run, Builds, Executes, Lists, Samples, IsCommand, NoCommand}
+use Rattle.command_line.specs.Command.{Command, Building, Run, Builds, Executes, Lists, Samples, Uses, IsCommand, NoCommand}
+use Rattle.command_line.specs.Tools.{ToolUse}
+use Rattle.elf_image.specs.declared.fault.ElfFault.{ElfFault}
+use Rattle.tool_commands.specs.Lines.{no_elf_line, bad_trace_line, tool_text}
+use Rattle.tool_commands.specs.declared.answer.ToolAnswer.{ToolAnswer}
+use Rattle.tool_commands.specs.declared.answer.ToolAnswer.TheVariants as tool_answer
+use Rattle.tool_commands.specs.declared.answer.Outcome.{Outcome}
+use Rattle.tool_commands.specs.declared.answer.TraceFault.{TraceFault}
 use Rattle.sloth_cli.specs.Inputs.{input_limit, AreRead}
+use Rattle.sloth_cli.specs.ToolFiles.{IsToolAnswer, tool_status}
 use Rattle.sloth_cli.specs.ImageFiles.{IsExecuted, IsExecRefused, IsListed, IsNoImage}
 use Rattle.command_line.specs.LastLine.{refusal_line, built_line, no_image_line}
 use Rattle.sloth_runner.specs.Runner.{run_text, run_end}
@@ -54,6 +62,7 @@ inputs_of (Builds b) = b.oil ∷ b.src ∷ arrivals_named b.run
 inputs_of (Executes e) = e.img ∷ e.arr ∷ []
 inputs_of (Lists img) = img ∷ []
 inputs_of (Samples seed img) = []
+inputs_of (Uses u) = u.inputs
 
 -- the arrivals are read from this text; a command that runs nothing has none
 abbrev pub HoldsArrivals : Files → Option Run → List ℕ → Type 0
@@ -212,12 +221,47 @@ pub record IsUnwrittenSample (old new : Files) (seed : ℕ) (img : List ℕ) : T
   pub failed : IsUnwritten old new img (length (image_bytes image))
   pub others : KeepsOthers old new img
 
+-- the file of a tool, if it writes one, holds these bytes, and no other file has changed
+abbrev pub IsOutput : Files → Files → Option (List ℕ) → List ℕ → Type 0
+IsOutput old new None bytes = FilesStay old new
+IsOutput old new (Some name) bytes = IsWritten old new name bytes
+
+-- what the files hold behind the answer of a tool: only one that was done writes a file
+abbrev pub FilesAfter : ToolAnswer → Files → Files → Option (List ℕ) → Type 0
+FilesAfter (tool_answer.Done outcome) old new output = IsOutput old new output outcome.file
+FilesAfter (tool_answer.Refused refusal) old new output = FilesStay old new
+FilesAfter (tool_answer.Stopped pc stop) old new output = FilesStay old new
+FilesAfter (tool_answer.NotAnImage fault) old new output = FilesStay old new
+FilesAfter (tool_answer.NotAnElf fault) old new output = FilesStay old new
+FilesAfter (tool_answer.BadTrace fault) old new output = FilesStay old new
+FilesAfter tool_answer.NoHolds old new output = FilesStay old new
+
+-- the tool has an answer with this status and this text, and the files hold what it says
+pub record IsToolEnd (wanted : Status) (old new : Files) (u : ToolUse) (text : List ℕ) : Type 0 where
+  pub answer : ToolAnswer
+  pub is : IsToolAnswer old u answer
+  pub status_is : wanted ≡ tool_status answer
+  pub text_is : text ≡ tool_text answer
+  pub files : FilesAfter answer old new u.output
+
+-- the write of a tool's file failed, and no other file has changed
+abbrev pub IsUnwrittenOutput : Files → Files → Option (List ℕ) → List ℕ → Type 0
+IsUnwrittenOutput old new None bytes = ⊥
+IsUnwrittenOutput old new (Some name) bytes = IsUnwritten old new name (length bytes) × KeepsOthers old new name
+
+-- the tool was done, but for the write of its file
+pub record IsUnwrittenTool (old new : Files) (u : ToolUse) : Type 0 where
+  pub outcome : Outcome
+  pub is : IsToolAnswer old u (tool_answer.Done outcome)
+  pub failed : IsUnwrittenOutput old new u.output outcome.file
+
 -- the command was done, and this is its text; a command on an image file changes no file
 abbrev pub CommandDone : Files → Files → Command → List ℕ → Type 0
 CommandDone old new (Builds b) text = IsDone old new b text
 CommandDone old new (Executes e) text = IsExecuted old e ends.Whole text × FilesStay old new
 CommandDone old new (Lists img) text = IsListed old img text × FilesStay old new
 CommandDone old new (Samples seed img) text = IsSampled old new seed img text
+CommandDone old new (Uses u) text = IsToolEnd status.Done old new u text
 
 -- its inputs or its generated texts are refused so; of one that lists an image there are none to be refused
 abbrev pub CommandRefused : Files → Command → Refusal → Type 0
@@ -225,6 +269,7 @@ CommandRefused old (Builds b) refusal = IsRefused old b refusal
 CommandRefused old (Executes e) refusal = IsExecRefused old e refusal
 CommandRefused old (Lists img) refusal = ⊥
 CommandRefused old (Samples seed img) refusal = FirstRefusal sample_oil (sample_source seed) refusal
+CommandRefused old (Uses u) refusal = IsToolAnswer old u (tool_answer.Refused refusal)
 
 -- its file was to be written, and the write failed
 abbrev pub CommandUnwritten : Files → Files → Command → Type 0
@@ -232,6 +277,7 @@ CommandUnwritten old new (Builds b) = IsUnwrittenBuild old new b
 CommandUnwritten old new (Executes e) = ⊥
 CommandUnwritten old new (Lists img) = ⊥
 CommandUnwritten old new (Samples seed img) = IsUnwrittenSample old new seed img
+CommandUnwritten old new (Uses u) = IsUnwrittenTool old new u
 
 -- the machine stopped before the last instruction that was to be run; an image that was built never does
 abbrev pub CommandStopped : Files → Files → Command → List ℕ → Type 0
@@ -239,6 +285,7 @@ CommandStopped old new (Builds b) text = ⊥
 CommandStopped old new (Executes e) text = (pc : ℕ) × (stop : Stop) × IsExecuted old e (ends.Stopped pc stop) text × FilesStay old new
 CommandStopped old new (Lists img) text = ⊥
 CommandStopped old new (Samples seed img) text = ⊥
+CommandStopped old new (Uses u) text = IsToolEnd status.Stopped old new u text
 
 -- the sink took the text, and no put failed
 abbrev pub Took : Output → Output → List ℕ → Type 0
@@ -268,6 +315,14 @@ Requires status.TooLong words old new text =
 Requires status.Stopped words old new text = (c : Command) × IsCommand words c × CommandStopped old new c text
 Requires status.NotAnImage words old new text =
     (c : Command) × IsCommand words c × (fault : ImageFault) × IsNoImage old c fault × (text ≡ no_image_line fault) × FilesStay old new
+Requires status.NotAnElf words old new text =
+    (u : ToolUse) × IsCommand words (Uses u) × (fault : ElfFault) × IsToolAnswer old u (tool_answer.NotAnElf fault) × (text ≡ no_elf_line fault)
+    × FilesStay old new
+Requires status.BadTrace words old new text =
+    (u : ToolUse) × IsCommand words (Uses u) × (fault : TraceFault) × IsToolAnswer old u (tool_answer.BadTrace fault) × (text ≡ bad_trace_line fault)
+    × FilesStay old new
+Requires status.NoHolds words old new text =
+    (u : ToolUse) × IsCommand words (Uses u) × IsToolAnswer old u tool_answer.NoHolds × (text ≡ codes "no holds\n") × FilesStay old new
 
 -- The sink took the text that the answer requires, and the files hold what it requires; or a put failed, the answer is WriteFault, and
 -- this holds of another answer and a part of its text.

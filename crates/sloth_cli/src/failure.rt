@@ -8,6 +8,7 @@ use sloth_base::memory::NoMemory;
 use sloth_base::refusal::{BuildError, Refusal};
 use sloth_io::sink::SinkFault;
 use sloth_io::store::StoreFault;
+use std::alloc::AllocFailed;
 
 /// Why a command was not done.
 #[derive(Clone, Copy)]
@@ -18,7 +19,7 @@ pub enum Failure {
     /// The file of an image is none, for this fault.
     NotAnImage(ImageFault),
     NoMemory,
-    /// The image's file could not be written.
+    /// The file that the command writes could not be written.
     WriteFile,
     /// A line could not be put.
     Put,
@@ -28,6 +29,14 @@ impl From<NoMemory> for Failure {
     ghost from_gives = { λ _ failure. failure ≡ OutOfMemory };
 
     fn from(_: NoMemory) -> Failure {
+        Failure::NoMemory
+    }
+}
+
+impl<T: Drop> From<AllocFailed<T>> for Failure {
+    ghost from_gives = { λ _ failure. failure ≡ OutOfMemory };
+
+    fn from(_: AllocFailed<T>) -> Failure {
         Failure::NoMemory
     }
 }

@@ -7,6 +7,7 @@ pub mod inputs;
 pub mod laws;
 pub mod listing;
 pub mod sample_command;
+pub mod tool_command;
 pub mod top;
 
 pub use sloth_runner::{RunEnd, Runner, Tally};

@@ -15,6 +15,7 @@ ghost use Rattle.sloth_cli.specs.Top.{world, arrivals_named, inputs_of, names_of
 ghost use Rattle.sloth_cli.specs.Top.{Took, Puts, Answers, TellsUsage, TellsRefused, IsComplete};
 ghost use Rattle.sloth_cli.specs.ImageAnswers.{TellsFault, TellsNoImage, TellsExecRefused, TellsExecuted, TellsListed};
 ghost use Rattle.sloth_cli.specs.SampleAnswers.{TellsSampleRefused, TellsSampled};
+ghost use Rattle.sloth_cli.specs.ToolAnswers.{TellsTool, TellsToolDone};
 ghost use Rattle.sloth_cli.specs.Failures.{ReadFailed, JudgeFailed, PerformFailed, CommandFailed, Finished, IsPerformed};
 ghost use Rattle.sloth_cli.specs.declared.top.Status.TheVariants.{Done as DoneStatus};
 
@@ -22,6 +23,7 @@ use crate::failure::Failure;
 use crate::image_commands::{execute, list};
 use crate::inputs::fetch;
 use crate::sample_command::sample_run;
+use crate::tool_command::use_tool;
 use command_line::command::{BuildWords, CommandWords, RunWords, command};
 use command_line::last_line::{built_line, no_image_line, refusal_line};
 use image_file::write_image;
@@ -48,12 +50,15 @@ pub enum Status {
     TooLong,
     Stopped,
     NotAnImage,
+    NotAnElf,
+    BadTrace,
+    NoHolds,
 }
 
 impl Status {
     ghost use Rattle.sloth_cli.specs.Statuses.{exit_status};
 
-    /// The exit status of the process, 0 to 8.
+    /// The exit status of the process, 0 to 11.
     pub fn code(self) -> u8
         ensures { result ≡ exit_status self }
     {
@@ -67,6 +72,9 @@ impl Status {
             Status::TooLong => 6,
             Status::Stopped => 7,
             Status::NotAnImage => 8,
+            Status::NotAnElf => 9,
+            Status::BadTrace => 10,
+            Status::NoHolds => 11,
         }
     }
 }
@@ -264,6 +272,7 @@ fn obey<F: Store, S: Sink>(
         CommandWords::Exec(e) => execute(alloc, files, out, e),
         CommandWords::List(img) => list(alloc, files, out, img),
         CommandWords::Sample { seed, img } => sample_run(alloc, files, out, *seed, img),
+        CommandWords::Tool(words) => use_tool(alloc, files, out, words),
     }
 }
 
@@ -325,6 +334,8 @@ pub fn sloth_top<F: Store, S: Sink>(
     ensures sample_refused { TellsSampleRefused (words_of words.now)
         (world (F.seen files.old) (S.seen out.old)) (world (F.seen files.new) (S.seen out.new)) result }
     ensures sampled { TellsSampled (words_of words.now) (world (F.seen files.old) (S.seen out.old)) (world (F.seen files.new) (S.seen out.new)) result }
+    ensures tool { TellsTool (words_of words.now) (world (F.seen files.old) (S.seen out.old)) (world (F.seen files.new) (S.seen out.new)) result }
+    ensures tool_done { TellsToolDone (words_of words.now) (world (F.seen files.old) (S.seen out.old)) (world (F.seen files.new) (S.seen out.new)) result }
 {
     answer(alloc, words, files, out)
 }

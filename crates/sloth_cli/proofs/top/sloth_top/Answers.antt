@@ -1,6 +1,7 @@
 use Rattle.sloth_cli.proofs.Complete.{tells-usage, tells-refused, is-complete}
 use Rattle.sloth_cli.proofs.ImageComplete.{tells-fault, tells-no-image, tells-exec-refused, tells-executed, tells-listed}
 use Rattle.sloth_cli.proofs.SampleComplete.{tells-sample-refused, tells-sampled}
+use Rattle.sloth_cli.proofs.ToolComplete.{tells-tool, tells-tool-done}
 use Rattle.sloth_cli.proofs.top.sloth_top.Goals as goal
 
 pub returns-clause-usage : goal.returns-clause-usage
@@ -32,3 +33,9 @@ returns-clause-sample_refused g c = tells-sample-refused _ _ _ _ c.answer.ensure
 
 pub returns-clause-sampled : goal.returns-clause-sampled
 returns-clause-sampled g c = tells-sampled _ _ _ _ c.answer.ensures
+
+pub returns-clause-tool : goal.returns-clause-tool
+returns-clause-tool g c = tells-tool _ _ _ _ c.answer.ensures
+
+pub returns-clause-tool_done : goal.returns-clause-tool_done
+returns-clause-tool_done g c = tells-tool-done _ _ _ _ c.answer.ensures

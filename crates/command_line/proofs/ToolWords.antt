@@ -1,0 +1,114 @@
+-- The words of a tool are those of one use.
+use Rattle.std.proofs.Common.{◌≡◌, ◌≤◌, ◌+◌, ◌∙◌, ℕ, List, [], ◌∷◌, ◌++◌, Option, None, Some, refl, sym, ap, subst, get_or, arith, length, take, drop}
+use Rattle.std.specs.Prelude.{decimal, Bool, true, false, if◌then◌else◌}
+use Rattle.std.specs.Str.{bytes_eq}
+use Rattle.std.proofs.Math.Seq.{take-append_seam, drop-append_seam}
+use Rattle.std.proofs.lemmas.List.{length-append}
+use Rattle.std.proofs.lemmas.Fmt.{decimal_injective}
+use Rattle.command_line.specs.declared.tool.Tool.{Tool}
+use Rattle.command_line.specs.declared.tool.Tool.TheVariants as tool
+use Rattle.command_line.specs.Tools.{ToolUse, tool_word, tool_words, input_count, number_limit, writes_file, number_words, output_words, IsNumber, IsOutput, IsToolUse}
+
+-- the tools
+abbrev all_tools : List Tool
+all_tools = tool.Elf ∷ tool.Unelf ∷ []
+
+-- the first of these that has a word
+abbrev first_with : List ℕ → List Tool → Option Tool
+first_with word [] = None
+first_with word (t ∷ rest) = if bytes_eq (tool_word t) word then Some t else first_with word rest
+
+found : (t : Tool) → first_with (tool_word t) all_tools ≡ Some t
+found tool.Elf = refl
+found tool.Unelf = refl
+
+pub same-tool : (t u : Tool) → tool_word t ≡ tool_word u → t ≡ u
+same-tool t u e = let both : Some t ≡ Some u = sym (found t) ∙ (ap (λ w. first_with w all_tools) e ∙ found u) in cc
+
+-- the limits of numbers are words of 32 bits
+abbrev IsWordLimit : Option ℕ → Type 0
+IsWordLimit None = Unit {0}
+IsWordLimit (Some limit) = limit ≤ 4294967295
+
+word-limit : (t : Tool) → IsWordLimit (number_limit t)
+word-limit tool.Elf = tt
+word-limit tool.Unelf = tt
+
+-- two lists of one length in front of others
+fronts : (xs ys : List (List ℕ)) (r s : List (List ℕ)) → length xs ≡ length ys → xs ++ r ≡ ys ++ s → (xs ≡ ys) × (r ≡ s)
+fronts xs ys r s same e =
+    let Q : ℕ → Type 0 = λ n. take n (ys ++ s) ≡ ys in
+    let R : ℕ → Type 0 = λ n. drop n (ys ++ s) ≡ s in (
+      sym (take-append_seam xs r) ∙ ap (λ l. take (length xs) l) e ∙ subst Q (sym same) (take-append_seam ys s),
+      sym (drop-append_seam xs r) ∙ ap (λ l. drop (length xs) l) e ∙ subst R (sym same) (drop-append_seam ys s),
+    )
+
+same-output : (writes : Bool) (o p : Option (List ℕ)) → IsOutput writes o → IsOutput writes p → output_words o ≡ output_words p → o ≡ p
+same-output false None None h i e = refl
+same-output false (Some o) p h i e = absurd h
+same-output false None (Some p) h i e = absurd i
+same-output true None p h i e = absurd h
+same-output true (Some o) None h i e = absurd i
+same-output true (Some o) (Some p) h i e = let a : o ∷ [] ≡ p ∷ [] = e in let same : o ≡ p = cc in ap Some same
+
+same-behind : (limit : Option ℕ) (n m : Option ℕ) (r s : List (List ℕ)) → IsWordLimit limit → IsNumber limit n → IsNumber limit m
+    → number_words n ++ r ≡ number_words m ++ s → (n ≡ m) × (r ≡ s)
+same-behind None None None r s l h i e = (refl, e)
+same-behind None (Some n) m r s l h i e = absurd h
+same-behind None None (Some m) r s l h i e = absurd i
+same-behind (Some limit) None m r s l h i e = absurd h
+same-behind (Some limit) (Some n) None r s l h i e = absurd i
+same-behind (Some limit) (Some n) (Some m) r s l h i e =
+    let words : decimal n ∷ r ≡ decimal m ∷ s = e in
+    let digits : decimal n ≡ decimal m = cc in
+    let rest : r ≡ s = cc in
+    (ap Some (decimal_injective n m (omega (arith, l, h)) (omega (arith, l, i)) digits), rest)
+
+same-parts : (u w : ToolUse) → u.tool ≡ w.tool → u.inputs ≡ w.inputs → u.number ≡ w.number → u.output ≡ w.output → u ≡ w
+same-parts u w a b c d =
+    ap (λ x. record { tool = x; inputs = u.inputs; number = u.number; output = u.output }) a
+    ∙ ap (λ x. record { tool = w.tool; inputs = x; number = u.number; output = u.output }) b
+    ∙ ap (λ x. record { tool = w.tool; inputs = w.inputs; number = x; output = u.output }) c
+    ∙ ap (λ x. record { tool = w.tool; inputs = w.inputs; number = w.number; output = x }) d
+
+-- behind the same word
+pub same-rest : (t : Tool) (xs ys : List (List ℕ)) (n m : Option ℕ) (o p : Option (List ℕ)) → length xs ≡ input_count t → length ys ≡ input_count t
+    → IsNumber (number_limit t) n → IsNumber (number_limit t) m → IsOutput (writes_file t) o → IsOutput (writes_file t) p
+    → xs ++ (number_words n ++ output_words o) ≡ ys ++ (number_words m ++ output_words p) → (xs ≡ ys) × (n ≡ m) × (o ≡ p)
+same-rest t xs ys n m o p a b h i j k e =
+    let inputs = fronts xs ys _ _ (a ∙ sym b) e in
+    let numbers = same-behind (number_limit t) n m _ _ (word-limit t) h i inputs.1 in
+    (inputs.0, numbers.0, same-output (writes_file t) o p j k numbers.1)
+
+pub same-use : (u w : ToolUse) → tool_words u ≡ tool_words w → IsToolUse u → IsToolUse w → u ≡ w
+same-use u w e l m =
+    let words : tool_word u.tool ∷ u.inputs ++ (number_words u.number ++ output_words u.output) ≡ tool_word w.tool ∷ w.inputs ++ (number_words w.number ++ output_words w.output) = e in
+    let first : tool_word u.tool ≡ tool_word w.tool = cc in
+    let rest : u.inputs ++ (number_words u.number ++ output_words u.output) ≡ w.inputs ++ (number_words w.number ++ output_words w.output) = cc in
+    let t : u.tool ≡ w.tool = same-tool u.tool w.tool first in
+    let counted : length w.inputs ≡ input_count u.tool = m.counted ∙ ap input_count (sym t) in
+    let number = subst (λ x. IsNumber (number_limit x) w.number) (sym t) m.number in
+    let output = subst (λ x. IsOutput (writes_file x) w.output) (sym t) m.output in
+    let same = same-rest u.tool u.inputs w.inputs u.number w.number u.output w.output l.counted counted l.number number l.output output rest in
+    same-parts u w t same.0 same.1 same.2
+
+-- what stands in the words of a tool behind the files that it reads
+pub record Behind (words : List (List ℕ)) (t : Tool) (u : ToolUse) : Type 0 where
+  pub tool_is : u.tool ≡ t
+  pub long : input_count t + 1 ≤ length words
+  pub rest : drop (input_count t + 1) words ≡ number_words u.number ++ output_words u.output
+
+pub behind-inputs : (words : List (List ℕ)) (t : Tool) (u : ToolUse) → get_or words 0 [] ≡ tool_word t → words ≡ tool_words u → IsToolUse u → Behind words t u
+behind-inputs words t u first e is =
+    let same : u.tool ≡ t = same-tool u.tool t (ap (λ w. get_or w 0 []) (sym e) ∙ first) in
+    let rest : List (List ℕ) = number_words u.number ++ output_words u.output in
+    let counted : length u.inputs ≡ input_count t = is.counted ∙ ap input_count same in
+    let n : input_count t + 1 ≡ length (tool_word u.tool ∷ u.inputs) = omega (arith, counted) in
+    let long : length words ≡ length (tool_word u.tool ∷ u.inputs) + length rest =
+    ap (λ w. length w) e ∙ length-append (tool_word u.tool ∷ u.inputs) rest in
+    record {
+      tool_is = same;
+      long = omega (arith, n, long);
+      rest = ap (λ w. drop (input_count t + 1) w) e ∙ ap (λ k. drop k ((tool_word u.tool ∷ u.inputs) ++ rest)) n
+          ∙ drop-append_seam (tool_word u.tool ∷ u.inputs) rest;
+    }

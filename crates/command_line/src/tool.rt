@@ -1,0 +1,69 @@
+//! The commands that read files, judge what they hold, and end with one answer: a row of the table for each.
+ghost use Rattle.std.specs.Prelude.{◌≡◌, ◌≢◌, ◌≤◌, ◌++◌, ℕ, List, IfSome, IfNone, Bool, Option, decimal, length};
+ghost use Rattle.command_line.specs.Tools.{tool_word, input_count, number_limit, writes_file, IsNumber, IsOutput, number_words, output_words};
+ghost use Rattle.command_line.specs.Command.{words_of};
+ghost use Rattle.command_line.specs.declared.tool.Tool.{Tool as AnyTool};
+
+/// A command that reads files, judges what they hold, and writes one file at most.
+#[derive(Clone, Copy, Debug, PartialEq, Eq)]
+pub enum Tool {
+    /// `elf IMG OUT`: the ELF file of an image file.
+    Elf,
+    /// `unelf IN IMG`: the image file of an ELF file.
+    Unelf,
+}
+
+impl Tool {
+    /// How many files it reads.
+    pub fn input_count(self) -> usize
+        ensures { result ≡ input_count self }
+    {
+        match self {
+            Tool::Elf => 1,
+            Tool::Unelf => 1,
+        }
+    }
+
+    /// The greatest number that it takes as its word behind the files that it reads, if it takes one.
+    pub fn number_limit(self) -> Option<u32>
+        ensures { result ≡ number_limit self }
+    {
+        match self {
+            Tool::Elf => None,
+            Tool::Unelf => None,
+        }
+    }
+
+    /// Whether its last word names a file that it writes.
+    pub fn writes_file(self) -> bool
+        ensures { result ≡ writes_file self }
+    {
+        match self {
+            Tool::Elf => true,
+            Tool::Unelf => true,
+        }
+    }
+}
+
+/// The words of a tool, behind its own: the files that it reads, its number and the file that it writes, if it has them.
+#[derive(Clone, Copy)]
+pub struct ToolWords<'a> {
+    pub tool: Tool,
+    pub inputs: &'a [String],
+    pub number: Option<u32>,
+    pub output: Option<&'a str>,
+}
+
+/// The tool that a word asks for.
+pub fn tool_named(word: &str) -> Option<Tool>
+    ensures some { IfSome result (λ tool. word.now ≡ tool_word tool) }
+    ensures none { IfNone result ((tool : AnyTool) → word.now ≢ tool_word tool) }
+{
+    if word == "elf" {
+        return Some(Tool::Elf);
+    }
+    if word == "unelf" {
+        return Some(Tool::Unelf);
+    }
+    None
+}

@@ -1,0 +1,2 @@
+pub mod ElfAnswers
+pub mod OneAnswer

@@ -1,0 +1,26 @@
+-- Which answer a tool has to the files that it reads: a row for each tool.
+use Rattle.std.specs.Prelude.{ℕ, ◌≡◌, List, [], Option, Bool, true, false, get_or}
+use Rattle.command_line.specs.declared.tool.Tool.{Tool}
+use Rattle.command_line.specs.declared.tool.Tool.TheVariants as tool
+use Rattle.tool_commands.specs.ElfAnswers.{IsElfAnswer, IsUnelfAnswer}
+use Rattle.tool_commands.specs.declared.answer.ToolAnswer.{ToolAnswer}
+
+-- the bytes of a file, by its place in the order of the words
+abbrev pub input : List (List ℕ) → ℕ → List ℕ
+input inputs k = get_or inputs k []
+
+-- the answer of a tool with this number, if it takes one, to files of these bytes
+abbrev pub IsAnswer : Tool → Option ℕ → List (List ℕ) → ToolAnswer → Type 0
+IsAnswer tool.Elf number inputs answer = IsElfAnswer (input inputs 0) answer
+IsAnswer tool.Unelf number inputs answer = IsUnelfAnswer (input inputs 0) answer
+
+-- the first file that it reads is to be an image file
+abbrev pub reads_image : Tool → Bool
+reads_image tool.Elf = true
+reads_image tool.Unelf = false
+
+-- files have one answer
+abbrev pub OneAnswer : Type 0
+OneAnswer =
+    (t : Tool) (number : Option ℕ) (inputs : List (List ℕ)) (one other : ToolAnswer) → IsAnswer t number inputs one → IsAnswer t number inputs other
+    → one ≡ other

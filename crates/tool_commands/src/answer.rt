@@ -1,0 +1,37 @@
+//! The answers of tools.
+
+use elf_image::fault::ElfFault;
+use image_file::fault::ImageFault;
+use rv32_instr::Stop;
+use sloth_base::list::List;
+use sloth_base::refusal::Refusal;
+
+/// Why a text is no trace of a run.
+#[derive(Clone, Copy, Debug, PartialEq, Eq)]
+pub enum TraceFault {
+    /// The line of this number, from 1, is no event line.
+    Line(u32),
+    /// The events up to this line are those of no run.
+    Step(u32),
+    /// The arrivals do not stand in time.
+    Time,
+}
+
+/// What a tool writes to its file, if it has one, and what it prints.
+#[derive(Drop)]
+pub struct Outcome {
+    pub file: List<u8>,
+    pub text: List<u8>,
+}
+
+/// What a tool answers to the files that it reads.
+#[derive(Drop)]
+pub enum ToolAnswer {
+    Done(Outcome),
+    Refused(Refusal),
+    Stopped { pc: u32, stop: Stop },
+    NotAnImage(ImageFault),
+    NotAnElf(ElfFault),
+    BadTrace(TraceFault),
+    NoHolds,
+}

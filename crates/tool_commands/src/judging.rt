@@ -1,0 +1,29 @@
+//! The answer of a tool.
+ghost use Rattle.std.specs.Prelude.{◌≡◌, ◌≤◌, IfOk, All, length};
+ghost use Rattle.command_line.specs.Tools.{input_count, number_limit, IsNumber};
+ghost use Rattle.tool_commands.specs.Answers.{IsAnswer};
+
+use crate::answer::ToolAnswer;
+use crate::elf_commands::{elf, unelf};
+use command_line::tool::Tool;
+use sloth_base::list::List;
+use sloth_base::memory::NoMemory;
+use std::alloc::Global;
+
+/// The answer of a tool with this number, if it takes one, to files of these bytes.
+pub fn judge(
+    alloc: Global,
+    tool: Tool,
+    number: Option<u32>,
+    inputs: &[List<u8>],
+) -> Result<ToolAnswer, NoMemory>
+    requires counted { length inputs.now ≡ input_count tool }
+    requires number { IsNumber (number_limit tool) number }
+    requires short { All (λ input. length input ≤ 4194304) inputs.now }
+    ensures { IfOk result (λ answer. IsAnswer tool number inputs.now answer) }
+{
+    match tool {
+        Tool::Elf => elf(alloc, inputs[0].items()),
+        Tool::Unelf => unelf(alloc, inputs[0].items()),
+    }
+}

@@ -1,0 +1,11 @@
+//! The commands that read files, judge what they hold, and end with one answer: which answer each of them has.
+#![tactic(auto)]
+
+pub mod answer;
+mod elf_commands;
+pub mod judging;
+pub mod laws;
+pub mod lines;
+
+pub use answer::{Outcome, ToolAnswer, TraceFault};
+pub use judging::judge;
