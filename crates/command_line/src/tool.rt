@@ -11,6 +11,8 @@ pub enum Tool {
     Elf,
     /// `unelf IN IMG`: the image file of an ELF file.
     Unelf,
+    /// `check OIL SRC ARR TRACE N`: whether a text of events is that of a run.
+    Check,
 }
 
 impl Tool {
@@ -21,6 +23,7 @@ impl Tool {
         match self {
             Tool::Elf => 1,
             Tool::Unelf => 1,
+            Tool::Check => 4,
         }
     }
 
@@ -31,6 +34,7 @@ impl Tool {
         match self {
             Tool::Elf => None,
             Tool::Unelf => None,
+            Tool::Check => Some(1_000_000),
         }
     }
 
@@ -41,6 +45,7 @@ impl Tool {
         match self {
             Tool::Elf => true,
             Tool::Unelf => true,
+            Tool::Check => false,
         }
     }
 }
@@ -64,6 +69,9 @@ pub fn tool_named(word: &str) -> Option<Tool>
     }
     if word == "unelf" {
         return Some(Tool::Unelf);
+    }
+    if word == "check" {
+        return Some(Tool::Check);
     }
     None
 }

@@ -1,2 +1,3 @@
+pub mod CheckAnswers
 pub mod ElfAnswers
 pub mod OneAnswer

@@ -1,7 +1,8 @@
 -- Which answer a tool has to the files that it reads: a row for each tool.
-use Rattle.std.specs.Prelude.{ℕ, ◌≡◌, List, [], Option, Bool, true, false, get_or}
+use Rattle.std.specs.Prelude.{ℕ, ◌≡◌, List, [], Option, Bool, true, false, get_or, unwrap_or}
 use Rattle.command_line.specs.declared.tool.Tool.{Tool}
 use Rattle.command_line.specs.declared.tool.Tool.TheVariants as tool
+use Rattle.tool_commands.specs.CheckAnswers.{IsCheckAnswer}
 use Rattle.tool_commands.specs.ElfAnswers.{IsElfAnswer, IsUnelfAnswer}
 use Rattle.tool_commands.specs.declared.answer.ToolAnswer.{ToolAnswer}
 
@@ -13,11 +14,14 @@ input inputs k = get_or inputs k []
 abbrev pub IsAnswer : Tool → Option ℕ → List (List ℕ) → ToolAnswer → Type 0
 IsAnswer tool.Elf number inputs answer = IsElfAnswer (input inputs 0) answer
 IsAnswer tool.Unelf number inputs answer = IsUnelfAnswer (input inputs 0) answer
+IsAnswer tool.Check number inputs answer =
+    IsCheckAnswer (input inputs 0) (input inputs 1) (input inputs 2) (input inputs 3) (unwrap_or number 0) answer
 
 -- the first file that it reads is to be an image file
 abbrev pub reads_image : Tool → Bool
 reads_image tool.Elf = true
 reads_image tool.Unelf = false
+reads_image tool.Check = false
 
 -- files have one answer
 abbrev pub OneAnswer : Type 0

@@ -1,3 +1,4 @@
 pub mod Answers
 pub mod ElfAnswers
 pub mod Lines
+pub mod CheckAnswers

@@ -4,6 +4,7 @@ ghost use Rattle.command_line.specs.Tools.{input_count, number_limit, IsNumber};
 ghost use Rattle.tool_commands.specs.Answers.{IsAnswer};
 
 use crate::answer::ToolAnswer;
+use crate::check_command::check;
 use crate::elf_commands::{elf, unelf};
 use command_line::tool::Tool;
 use sloth_base::list::List;
@@ -25,5 +26,13 @@ pub fn judge(
     match tool {
         Tool::Elf => elf(alloc, inputs[0].items()),
         Tool::Unelf => unelf(alloc, inputs[0].items()),
+        Tool::Check => check(
+            alloc,
+            inputs[0].items(),
+            inputs[1].items(),
+            inputs[2].items(),
+            inputs[3].items(),
+            number.unwrap_or(0),
+        ),
     }
 }

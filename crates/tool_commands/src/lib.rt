@@ -2,6 +2,7 @@
 #![tactic(auto)]
 
 pub mod answer;
+mod check_command;
 mod elf_commands;
 pub mod judging;
 pub mod laws;
