@@ -184,11 +184,8 @@ module _ (tasks functions : List (List ℕ)) (named : AreNames tasks) (called : 
           (e ∙ append_assoc (counted_line tasks functions x) (10 ∷ []) (text_of tasks functions back))
 
   -- two bad lines of one text
-  abbrev IsBad : List ℕ → Type 0
-  IsBad rest = (e : Stamped) (after : List ℕ) → HasLine tasks functions e → rest ≡ counted_line tasks functions e ++ 10 ∷ after → ⊥
-
   bad_front : (front others : List Stamped) (rest more : List ℕ) → All (HasLine tasks functions) front → All (HasLine tasks functions) others
-      → text_of tasks functions front ++ rest ≡ text_of tasks functions others ++ more → IsBad rest → IsBad more → length front ≡ length others
+      → text_of tasks functions front ++ rest ≡ text_of tasks functions others ++ more → BeginsWithNone tasks functions rest → BeginsWithNone tasks functions more → length front ≡ length others
   bad_front [] [] rest more h k same bad worse = refl
   bad_front [] (f ∷ others) rest more h k same bad worse =
       absurd (bad f (text_of tasks functions others ++ more) (All-head (HasLine tasks functions) f others k) (same ∙ text_cons f others more))

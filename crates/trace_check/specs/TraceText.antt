@@ -19,6 +19,11 @@ pub record Shows (tasks functions : List (List ℕ)) (events : List Stamped) (te
   pub lines : All (HasLine tasks functions) events
   pub is : text ≡ text_of tasks functions events
 
+-- the first line is no event's, or no LF ends it
+abbrev pub BeginsWithNone : List (List ℕ) → List (List ℕ) → List ℕ → Type 0
+BeginsWithNone tasks functions text =
+    (e : Stamped) (after : List ℕ) → HasLine tasks functions e → text ≡ counted_line tasks functions e ++ 10 ∷ after → ⊥
+
 -- line k is the first that is no event's, or not ended by LF
 pub record IsFirstBad (tasks functions : List (List ℕ)) (text : List ℕ) (k : ℕ) : Type 0 where
   pub front : List Stamped
@@ -27,16 +32,12 @@ pub record IsFirstBad (tasks functions : List (List ℕ)) (text : List ℕ) (k :
   pub is : text ≡ text_of tasks functions front ++ rest
   pub line : k ≡ length front + 1
   pub more : rest ≢ []
-  pub bad : (e : Stamped) (after : List ℕ) → HasLine tasks functions e → rest ≡ counted_line tasks functions e ++ 10 ∷ after → ⊥
+  pub bad : BeginsWithNone tasks functions rest
 
 -- the first line of the text is this event's, and an LF ends it
 pub record Begins (tasks functions : List (List ℕ)) (text : List ℕ) (e : Stamped) : Type 0 where
   pub line : HasLine tasks functions e
   pub is : text ≡ counted_line tasks functions e ++ 10 ∷ behind 10 text
-
--- the first line is no event's, or no LF ends it
-abbrev pub BeginsWithNone : List (List ℕ) → List (List ℕ) → List ℕ → Type 0
-BeginsWithNone tasks functions text = (e : Stamped) (after : List ℕ) → HasLine tasks functions e → text ≡ counted_line tasks functions e ++ 10 ∷ after → ⊥
 
 -- these events were read, and this is left of the text
 pub record HasRead (tasks functions : List (List ℕ)) (text : List ℕ) (events : List Stamped) (rest : List ℕ) : Type 0 where

@@ -37,7 +37,15 @@ impl<'a> Model for Timing<'a> {
 
     ghost Value = { Kept };
 
-    ghost view = { λ t. record { config = t.config.now; n = t.n; arrivals = t.arrivals.now; scan = t.pass; admits = t.admits.items; most = t.most; stopped = t.stopped } };
+    ghost view = { λ t. record {
+      config = t.config.now;
+      n = t.n;
+      arrivals = t.arrivals.now;
+      scan = t.pass;
+      admits = t.admits.items;
+      most = t.most;
+      stopped = t.stopped;
+    } };
 }
 
 // The most instructions of boot.
