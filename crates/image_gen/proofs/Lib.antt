@@ -9,3 +9,4 @@ pub mod Linking
 pub mod Formed
 pub mod Callers
 pub mod Planning
+pub mod Places

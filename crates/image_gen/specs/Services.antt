@@ -1,5 +1,5 @@
 -- The code of the services that are wanted.
-use Rattle.std.specs.Prelude.{ℕ, ◌+◌, ◌/◌, ◌%◌, ◌≤◌, ◌≡◌, Bool, true, false, List, [], ◌∷◌, length, Some, get_or, slice_index}
+use Rattle.std.specs.Prelude.{ℕ, ◌+◌, ◌≤◌, ◌≡◌, Bool, true, false, List, [], ◌∷◌, length, Some, get_or, slice_index}
 use Rattle.std.specs.List.{AllZip}
 use Rattle.sloth_base.specs.ServiceCodes.{service_of}
 use Rattle.sloth_base.specs.declared.places.Levels.{Levels}

@@ -85,10 +85,10 @@ module _ (b : Build) (state end : State) (s : System) (t place : ℕ) (fits : Fi
   ram_is = effect.left.ram
 
   is_stored : IsStored state.core.ram (preempted state) (registers_from 27 5 state.core.registers) (cleared words) place t frame (saved state t place frame words)
-  is_stored = is_saved b state s t place fits k sane e x2 frame words from to apart_frame
+  is_stored = is_saved b state s t place fits k sane declared x2 frame words from to apart_frame
 
   ram : EntryRam b state (saved state t place frame words) t place
-  ram = entry_ram b state s t place fits k sane e x2 frame words from to apart_frame (saved state t place frame words) refl (λ i h. refl) (λ p h n. refl)
+  ram = entry_ram b state s t place fits k sane declared x2 frame words from to apart_frame (saved state t place frame words) refl (λ i h. refl) (λ p h n. refl)
       (let d = declared in
       let g = fits.few_tasks in
       is_stored.named (resume t) (omega arith) (omega arith) (λ a. omega arith) (λ a. omega arith) (λ a. omega arith)
@@ -112,7 +112,7 @@ module _ (b : Build) (state end : State) (s : System) (t place : ℕ) (fits : Fi
   entry : TaskEntry b state end s t own place
   entry = record {
     ram = subst (λ x. EntryRam b state x t place) (sym ram_is) ram;
-    machine = entry_machine b state s t place fits k sane e x2 end (saved state t place frame words) effect.left;
+    machine = entry_machine b state s t place fits k sane declared x2 end (saved state t place frame words) effect.left;
     state = refl;
     events = refl;
     held = refl;

@@ -48,7 +48,7 @@ module _ (b : Build) (state end : State) (s : System) (t place own : ℕ) (fits 
   ready = taken_ready b state s k few t declared e
 
   abbrev has : HasOwn b state.core.ram t (task s t)
-  has = own_context b state s t fits k e some
+  has = own_context b state s t fits k declared e some
 
   abbrev after : Task
   after = record (task s t) { state = mode.Active; registers = set (task s t).registers 5 E_OK; raised = (declaration b.config t).non }
@@ -66,7 +66,7 @@ module _ (b : Build) (state end : State) (s : System) (t place own : ℕ) (fits 
       subst (λ (p : ℕ). Rested b state.core.ram t (task s t) has.frame has.outer p) same has.rested
 
   apart_own : (b.top t ≤ place) ⊎ (place + 128 ≤ b.low t)
-  apart_own = own_apart b state s t fits k e some place x2
+  apart_own = own_apart b state s t fits k declared e some place x2
 
   -- ---- the RAM: the entry clears no frame
 
@@ -83,7 +83,7 @@ module _ (b : Build) (state end : State) (s : System) (t place own : ℕ) (fits 
   before = saved state t place (b.top t) 0
 
   is_stored : IsStored state.core.ram (preempted state) (registers_from 27 5 state.core.registers) (cleared 0) place t (b.top t) before
-  is_stored = is_saved b state s t place fits k sane e x2 (b.top t) 0 from to apart_top
+  is_stored = is_saved b state s t place fits k sane declared x2 (b.top t) 0 from to apart_top
 
   abbrev new : List ℕ
   new = with_word before (resume t) 0
@@ -95,7 +95,7 @@ module _ (b : Build) (state end : State) (s : System) (t place own : ℕ) (fits 
   high i h = let d = few30 in get_or-with_word before (resume t) 0 i (inr (omega arith))
 
   ram : EntryRam b state new t place
-  ram = entry_ram b state s t place fits k sane e x2 (b.top t) 0 from to apart_top new (length-with_word before (resume t) 0) high
+  ram = entry_ram b state s t place fits k sane declared x2 (b.top t) 0 from to apart_top new (length-with_word before (resume t) 0) high
       (λ p h n. word_other before (resume t) 0 p h (omega arith) n)
       (let l = is_stored.long in let d = few30 in word_at-same before (resume t) 0 (omega arith) (omega arith))
 
@@ -133,7 +133,7 @@ module _ (b : Build) (state end : State) (s : System) (t place own : ℕ) (fits 
   entry : TaskEntry b state end s t after place
   entry = record {
     ram = subst (λ x. EntryRam b state x t place) (sym ram_is) ram;
-    machine = entry_machine b state s t place fits k sane e x2 end new effect.left;
+    machine = entry_machine b state s t place fits k sane declared x2 end new effect.left;
     state = refl;
     events = refl;
     held = refl;

@@ -16,7 +16,7 @@ module _ (b : Build) where
   touches_one t touched l e = subst (AreTasks (owners_in b.config)) (sym e) (l, tt)
 
   touches_two : (t u : ℕ) (touched : List ℕ) → t < length b.config.tasks → u < length b.config.tasks → touched ≡ t ∷ u ∷ [] → AreTasks (owners_in b.config) touched
-  touches_two t u touched l m e = subst (AreTasks (owners_in b.config)) (sym e) (l, m, tt)
+  touches_two t u touched l m e = subst (AreTasks (owners_in b.config)) (sym e) (l, (m, tt))
 
   pub chain_touches : (t own place : ℕ) → t < length b.config.tasks → own < length b.config.tasks → TouchesTasks b (Chained t own place)
   chain_touches t own place l m touched start end effect =

@@ -15,7 +15,7 @@ use Rattle.sloth_cli.specs.ImageFiles.{AreExecInputs, IsRunnable, IsExecuted, Is
 use Rattle.sloth_cli.specs.ImageAnswers.{end_status}
 use Rattle.sloth_runner.specs.Runner.{run_end}
 use Rattle.sloth_cli.specs.Top.{world, FilesStay, Took}
-use Rattle.sloth_cli.specs.Failures.{LoadFailed, LinesFailed, Ends, CommandFailed, IsPerformed}
+use Rattle.sloth_cli.specs.Failures.{LinesFailed, Ends, CommandFailed, IsPerformed}
 use Rattle.sloth_cli.specs.declared.failure.Failure.{Failure}
 use Rattle.sloth_cli.specs.declared.failure.Failure.TheVariants as failure
 use Rattle.sloth_runner.specs.declared.runner.RunEnd.{RunEnd}

@@ -7,6 +7,7 @@ mod ImageComplete
 mod SampleCauses
 mod SampleComplete
 mod InMemoryCalls
-pub mod ToolCauses
-pub mod ToolComplete
-pub mod ToolReads
+mod ToolCauses
+mod ToolComplete
+mod ToolReads
+mod LinePuts

@@ -14,7 +14,7 @@ use Rattle.command_line.specs.Command.{Samples}
 use Rattle.sloth_runner.proofs.Whole.{whole-run}
 use Rattle.sloth_cli.specs.Samples.{sample_oil, sample_source, sample_arrivals, sample_text}
 use Rattle.sloth_cli.specs.Top.{World, world, IsImageOf, IsWritten, IsSampled, Took}
-use Rattle.sloth_cli.specs.Failures.{SampleFailed, PerformFailed, CommandFailed, IsPerformed}
+use Rattle.sloth_cli.specs.Failures.{PerformFailed, CommandFailed, IsPerformed}
 use Rattle.sloth_cli.specs.declared.top.Status.TheVariants as status
 use Rattle.sloth_cli.specs.declared.failure.Failure.{Failure}
 use Rattle.sloth_cli.specs.declared.failure.Failure.TheVariants as failure

@@ -1,13 +1,12 @@
 -- What a tool did, and why it did not.
-use Rattle.std.proofs.Common.{◌≡◌, ◌≤◌, ◌∙◌, ℕ, List, [], ◌∷◌, refl, sym, ap, subst, arith, length, get_or}
+use Rattle.std.proofs.Common.{◌≡◌, ◌∙◌, ℕ, List, [], ◌∷◌, refl, sym, ap, subst, arith, length}
 use Rattle.std.specs.Prelude.{IsTrue, Option, Some, None, Result, Ok, Err, IfOk, OnOk}
-use Rattle.image_file.specs.Faults.{Faulty}
 use Rattle.image_file.specs.declared.fault.ImageFault.{ImageFault}
 use Rattle.sloth_io.specs.Counts.{Rose}
 use Rattle.sloth_io.specs.Sink.{Output}
 use Rattle.sloth_io.specs.Store.{Files, KeepsFiles, fits}
 use Rattle.command_line.specs.Command.{Uses, IsCommand}
-use Rattle.command_line.specs.Tools.{ToolUse, IsToolUse, input_count}
+use Rattle.command_line.specs.Tools.{ToolUse, IsToolUse}
 use Rattle.tool_commands.specs.Answers.{IsAnswer, input, reads_image}
 use Rattle.tool_commands.specs.Lines.{tool_text}
 use Rattle.tool_commands.specs.declared.answer.ToolAnswer.{ToolAnswer}
@@ -15,7 +14,7 @@ use Rattle.tool_commands.specs.declared.answer.ToolAnswer.TheVariants as tool_an
 use Rattle.tool_commands.proofs.OneAnswer.{no-image, reads-one}
 use Rattle.sloth_cli.specs.ImageFiles.{IsNoImage}
 use Rattle.sloth_cli.specs.ToolFiles.{AreToolInputs, IsToolAnswer, ReadsImageFirst, tool_status}
-use Rattle.sloth_cli.specs.Top.{World, world, FilesStay, FilesAfter, IsOutput, IsToolEnd, IsUnwrittenOutput, Requires, Took}
+use Rattle.sloth_cli.specs.Top.{World, world, FilesAfter, IsOutput, IsToolEnd, IsUnwrittenOutput, Requires, Took}
 use Rattle.sloth_cli.specs.Failures.{TellFailed, CommandFailed, IsPerformed}
 use Rattle.sloth_cli.specs.declared.top.Status.{Status}
 use Rattle.sloth_cli.specs.declared.failure.Failure.{Failure}

@@ -1,15 +1,14 @@
 -- Which answer a tool has, where the files that it reads are told.
-use Rattle.std.proofs.Common.{◌≡◌, ◌≤◌, ◌∙◌, inl, inr, ℕ, List, [], ◌∷◌, length, refl, sym, ap, subst, get_or}
+use Rattle.std.proofs.Common.{◌≡◌, ◌∙◌, inl, inr, ℕ, List, ◌∷◌, length, refl, ap, subst}
 use Rattle.std.specs.Prelude.{IsTrue, ◌⊎◌, Option, Some, None, codes}
 use Rattle.sloth_io.specs.Counts.{Rose}
 use Rattle.sloth_io.specs.Store.{Files, IsMissing, IsTooLong}
-use Rattle.image_file.specs.Faults.{Faulty}
 use Rattle.image_file.specs.declared.fault.ImageFault.{ImageFault}
 use Rattle.image_file.proofs.Faulted.{fault_is_one, none_is_both}
 use Rattle.command_line.specs.Command.{Command, Builds, Executes, Lists, Samples, Uses, IsCommand}
 use Rattle.command_line.specs.Tools.{ToolUse}
 use Rattle.command_line.proofs.Commands.{one-command}
-use Rattle.tool_commands.specs.Answers.{IsAnswer, input}
+use Rattle.tool_commands.specs.Answers.{IsAnswer}
 use Rattle.tool_commands.specs.Lines.{tool_text}
 use Rattle.tool_commands.specs.declared.answer.Outcome.{Outcome}
 use Rattle.tool_commands.specs.declared.answer.ToolAnswer.{ToolAnswer}
@@ -18,9 +17,9 @@ use Rattle.tool_commands.proofs.OneAnswer.{HasImage, image-or-fault, no-image, o
 use Rattle.sloth_cli.specs.Inputs.{input_limit}
 use Rattle.sloth_cli.specs.ImageFiles.{IsNoImage}
 use Rattle.sloth_cli.specs.ToolFiles.{AreToolInputs, IsToolAnswer, ReadsImageFirst, tool_status}
-use Rattle.sloth_cli.specs.ToolAnswers.{IsTold, IsNotWritten, AnswersTool, OutputWorks, ToolWorks, TellsTool, TellsToolDone}
-use Rattle.sloth_cli.specs.Top.{World, IsFailedRead, IsLongRead, FilesAfter, IsToolEnd, IsUnwrittenOutput, Requires, Puts, Took, BrokeOff, EndsAs, Answers, IsBrokenOff}
-use Rattle.sloth_cli.specs.Top.{CommandDone, CommandRefused, CommandUnwritten, CommandStopped, ReadsWork, WritesWork, PutsWork}
+use Rattle.sloth_cli.specs.ToolAnswers.{IsTold, AnswersTool, OutputWorks, ToolWorks, TellsTool, TellsToolDone}
+use Rattle.sloth_cli.specs.Top.{World, IsFailedRead, IsLongRead, FilesAfter, IsUnwrittenOutput, Requires, Puts, Took, BrokeOff, EndsAs, Answers}
+use Rattle.sloth_cli.specs.Top.{CommandDone, CommandRefused, CommandUnwritten, CommandStopped, ReadsWork}
 use Rattle.sloth_cli.specs.declared.top.Status.{Status}
 use Rattle.sloth_cli.specs.declared.top.Status.TheVariants as status
 use Rattle.sloth_cli.proofs.Complete.{not-missing, not-long, counted-put, no-broken-put, no-failed-write}

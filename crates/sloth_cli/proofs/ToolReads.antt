@@ -1,9 +1,11 @@
 -- The files that a tool reads.
-use Rattle.std.proofs.Common.{◌≡◌, ◌≤◌, ◌+◌, ◌∙◌, inl, inr, ℕ, List, [], ◌∷◌, ◌++◌, refl, sym, ap, subst, arith, min, length, map, take, drop}
-use Rattle.std.specs.Prelude.{IsTrue, ◌⊎◌, None}
+use Rattle.std.proofs.Common.{◌≡◌, ◌≤◌, ◌<◌, ◌+◌, ◌∙◌, inl, inr, ℕ, List, [], ◌∷◌, ◌++◌, refl, sym, ap, subst, arith, length, take, drop, get_or, Global, append_assoc}
+use Rattle.std.specs.Prelude.{IsTrue, String, string_bytes}
+use Rattle.std.proofs.lemmas.List.{take_more, map-append, take-append-drop}
 use Rattle.std.specs.List.{AllByRecursion}
 use Rattle.sloth_io.specs.Counts.{Rose}
 use Rattle.sloth_io.specs.Store.{Files, Holds, KeepsFiles, IsMissing, IsTooLong}
+use Rattle.command_line.specs.Command.{words_of}
 use Rattle.sloth_cli.specs.Inputs.{input_limit}
 use Rattle.sloth_cli.specs.FileInputs.{IsInput}
 use Rattle.sloth_cli.specs.ToolFiles.{AreToolInputs}
@@ -127,3 +129,43 @@ none-unread P old [] inputs i f h = h
 none-unread P old (n ∷ names) [] i f h = i
 none-unread P old (n ∷ names) (b ∷ inputs) i f (inl h) = f n b i.0.read i.0.short h
 none-unread P old (n ∷ names) (b ∷ inputs) i f (inr h) = none-unread P old names inputs i.1 f h.1
+
+-- ---- word by word
+
+-- one word more
+words-more : (names : List (String Global)) (i : ℕ) (d : String Global) → i < length names
+    → words_of (take (i + 1) names) ≡ words_of (take i names) ++ string_bytes (get_or names i d) ∷ []
+words-more names i d lt = ap words_of (take_more names i d lt) ∙ map-append (λ w. string_bytes w) (take i names) (get_or names i d ∷ [])
+
+-- the words before one, and those behind it
+words-around : (names : List (String Global)) (i : ℕ) (d : String Global) → i < length names
+    → words_of (take i names) ++ string_bytes (get_or names i d) ∷ words_of (drop (i + 1) names) ≡ words_of names
+words-around names i d lt =
+    sym (append_assoc (words_of (take i names)) (string_bytes (get_or names i d) ∷ []) (words_of (drop (i + 1) names)))
+    ∙ ap (λ xs. xs ++ words_of (drop (i + 1) names)) (sym (words-more names i d lt))
+    ∙ sym (map-append (λ w. string_bytes w) (take (i + 1) names) (drop (i + 1) names))
+    ∙ ap words_of (take-append-drop (i + 1) names)
+
+-- the files of the first words are read, and no file has changed
+pub record AreFetched (old mid : Files) (names : List (String Global)) (i : ℕ) (inputs : List (List ℕ)) : Type 0 where
+  pub read : AreToolInputs old (words_of (take i names)) inputs
+  pub kept : KeepsFiles old mid
+
+pub fetched-more : (old mid new : Files) (names : List (String Global)) (i : ℕ) (d : String Global) (inputs after : List (List ℕ)) (name bytes : List ℕ) → i < length names
+    → AreFetched old mid names i inputs → name ≡ string_bytes (get_or names i d) → Holds mid name bytes → length bytes ≤ input_limit → KeepsFiles mid new
+    → after ≡ inputs ++ bytes ∷ [] → AreFetched old new names (i + 1) after
+fetched-more old mid new names i d inputs after name bytes lt before is holds short kept e =
+    let one : IsInput old (string_bytes (get_or names i d)) bytes =
+    subst (λ n. IsInput old n bytes) is (input-kept old mid name bytes before.kept holds short) in
+    record {
+      read = subst (λ xs. AreToolInputs old xs after) (sym (words-more names i d lt))
+          (subst (λ xs. AreToolInputs old (words_of (take i names) ++ string_bytes (get_or names i d) ∷ []) xs) (sym e)
+          (more-inputs old (words_of (take i names)) inputs (string_bytes (get_or names i d)) bytes before.read one));
+      kept = kept-both old mid new before.kept kept;
+    }
+
+pub fetch-failed : (f : Failure) (old mid new : Files) (names : List (String Global)) (i : ℕ) (d : String Global) (inputs : List (List ℕ)) (name : List ℕ) → i < length names
+    → AreFetched old mid names i inputs → name ≡ string_bytes (get_or names i d) → FetchFailed f mid new name → ReadFailed f old new (words_of names)
+fetch-failed f old mid new names i d inputs name lt before is h =
+    fetch-ends f old mid new (words_of (take i names)) inputs (string_bytes (get_or names i d)) (words_of (drop (i + 1) names)) (words_of names) before.read before.kept
+    (words-around names i d lt) (subst (λ n. FetchFailed f mid new n) is h)

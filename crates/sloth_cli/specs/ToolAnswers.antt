@@ -1,5 +1,5 @@
 -- Which answer a tool has.
-use Rattle.std.specs.Prelude.{ℕ, ◌≡◌, ◌⊎◌, List, Option, Some, None, IsTrue, codes, length}
+use Rattle.std.specs.Prelude.{ℕ, ◌≡◌, ◌⊎◌, List, Option, Some, IsTrue, codes, length}
 use Rattle.sloth_io.specs.Counts.{Rose}
 use Rattle.sloth_io.specs.Store.{Files}
 use Rattle.command_line.specs.Command.{Uses, IsCommand}

@@ -19,7 +19,7 @@ pub enum Failure {
     /// The file of an image is none, for this fault.
     NotAnImage(ImageFault),
     NoMemory,
-    /// The image's file could not be written.
+    /// The file that the command writes could not be written.
     WriteFile,
     /// A line could not be put.
     Put,

@@ -1,6 +1,5 @@
 //! The commands that are tools: they read files, come to one answer, write one file at most, and put the answer's text.
-ghost use Rattle.std.specs.Prelude.{◌≡◌, IfOk, IfErr, OnOk, OnErr};
-ghost use Rattle.std.specs.Option.{option_map};
+ghost use Rattle.std.specs.Prelude.{◌≡◌, ◌<◌, ◌≤◌, IfOk, IfErr, OnOk, OnErr, length};
 ghost use Rattle.sloth_io.specs.Sink.{gains, GainsPart};
 ghost use Rattle.sloth_io.specs.Store.{KeepsFiles};
 ghost use Rattle.command_line.specs.Command.{Uses, words_of};
@@ -43,19 +42,26 @@ fn fetch_all<F: Store>(
 }
 
 // Writes the file of a tool that was done, if it writes one.
-fn write_output<F: Store>(
-    files: &mut F,
-    output: Option<&str>,
-    bytes: &[u8],
-) -> Result<(), Failure>
-    ensures ok { OnOk result (IsOutput (F.seen files.old) (F.seen files.new) (option_map (λ name. name.now) output) bytes.now) }
+fn write_output<F: Store>(files: &mut F, words: &ToolWords, bytes: &[u8]) -> Result<(), Failure>
+    ensures ok { OnOk result (IsOutput (F.seen files.old) (F.seen files.new) (use_of words.now).output bytes.now) }
     ensures err { IfErr result (λ failure.
-        OutputFailed failure (F.seen files.old) (F.seen files.new) (option_map (λ name. name.now) output) bytes.now) }
+        OutputFailed failure (F.seen files.old) (F.seen files.new) (use_of words.now).output bytes.now) }
 {
-    let Some(name) = output else {
+    let Some(name) = words.output else {
         return Ok(());
     };
     files.write(name, bytes).map_err(|_| Failure::WriteFile)
+}
+
+// The number of bytes of the first line of a text, with its LF.
+fn line_length(text: &[u8]) -> usize
+    ensures within { result ≤ length text.now }
+    ensures some { 0 < length text.now → 0 < result }
+{
+    match text.iter().position(|byte| *byte == b'\n') {
+        Some(at) => at + 1,
+        None => text.len(),
+    }
 }
 
 // Puts a text, a line at a time.
@@ -63,22 +69,28 @@ fn put_text<S: Sink>(out: &mut S, text: &[u8]) -> Result<(), SinkFault>
     ensures ok { OnOk result (S.seen out.new ≡ gains (S.seen out.old) text.now) }
     ensures err { OnErr result (GainsPart (S.seen out.old) (S.seen out.new) text.now) }
 {
-    out.put(text)
+    let mut rest = text;
+    while !rest.is_empty() {
+        let (line, behind) = rest.split_at(line_length(rest));
+        out.put(line)?;
+        rest = behind;
+    }
+    Ok(())
 }
 
 // Writes the file of a tool that was done, if it writes one, and puts its text.
 fn tell_outcome<F: Store, S: Sink>(
     files: &mut F,
     out: &mut S,
-    output: Option<&str>,
+    words: &ToolWords,
     outcome: &Outcome,
 ) -> Result<(), Failure>
-    ensures files { OnOk result (IsOutput (F.seen files.old) (F.seen files.new) (option_map (λ name. name.now) output) outcome.now.file) }
+    ensures files { OnOk result (IsOutput (F.seen files.old) (F.seen files.new) (use_of words.now).output outcome.now.file) }
     ensures text { OnOk result (Took (S.seen out.old) (S.seen out.new) outcome.now.text) }
     ensures err { IfErr result (λ failure. TellFailed failure (tool_answer.Done outcome.now)
-        (world (F.seen files.old) (S.seen out.old)) (world (F.seen files.new) (S.seen out.new)) (option_map (λ name. name.now) output)) }
+        (world (F.seen files.old) (S.seen out.old)) (world (F.seen files.new) (S.seen out.new)) (use_of words.now).output) }
 {
-    write_output(files, output, outcome.file.items())?;
+    write_output(files, words, outcome.file.items())?;
     put_text(out, outcome.text.items())?;
     Ok(())
 }
@@ -96,18 +108,18 @@ fn tell_line<S: Sink>(out: &mut S, line: &[u8], status: Status) -> Result<Status
 fn tell<F: Store, S: Sink>(
     files: &mut F,
     out: &mut S,
-    output: Option<&str>,
+    words: &ToolWords,
     answer: &ToolAnswer,
 ) -> Result<Status, Failure>
     ensures status { IfOk result (λ status. status ≡ tool_status answer.now) }
     ensures text { OnOk result (Took (S.seen out.old) (S.seen out.new) (tool_text answer.now)) }
-    ensures files { OnOk result (FilesAfter answer.now (F.seen files.old) (F.seen files.new) (option_map (λ name. name.now) output)) }
+    ensures files { OnOk result (FilesAfter answer.now (F.seen files.old) (F.seen files.new) (use_of words.now).output) }
     ensures err { IfErr result (λ failure. TellFailed failure answer.now
-        (world (F.seen files.old) (S.seen out.old)) (world (F.seen files.new) (S.seen out.new)) (option_map (λ name. name.now) output)) }
+        (world (F.seen files.old) (S.seen out.old)) (world (F.seen files.new) (S.seen out.new)) (use_of words.now).output) }
 {
     match answer {
         ToolAnswer::Done(outcome) => {
-            tell_outcome(files, out, output, outcome)?;
+            tell_outcome(files, out, words, outcome)?;
             Ok(Status::Done)
         }
         ToolAnswer::Refused(refusal) => {
@@ -144,5 +156,5 @@ pub fn use_tool<F: Store, S: Sink>(
 {
     let inputs = fetch_all(alloc, files, words.inputs)?;
     let answer = judge(alloc, words.tool, words.number, inputs.as_slice())?;
-    tell(files, out, words.output, &answer)
+    tell(files, out, words, &answer)
 }

@@ -1,13 +1,27 @@
-use Rattle.std.proofs.Common.{◌≡◌, ◌∙◌, ℕ, List, subst, sym, length, refl}
+use Rattle.std.proofs.Common.{◌≤◌, ◌∙◌, ℕ, List, ap, subst, sym, length}
+use Rattle.std.specs.Prelude.{All}
 use Rattle.std.proofs.lemmas.Result.{err_from_is_err_and, IfErr-weaker}
 use Rattle.std.proofs.lemmas.List.Elements.{All-from_recursion}
-use Rattle.command_line.specs.Command.{Uses}
+use Rattle.command_line.specs.Command.{Uses, words_of}
 use Rattle.command_line.specs.Words.{use_of}
-use Rattle.tool_commands.specs.Answers.{IsAnswer}
-use Rattle.sloth_cli.specs.ToolFiles.{IsToolAnswer}
 use Rattle.sloth_cli.proofs.Causes.{read-ends}
 use Rattle.sloth_cli.proofs.ToolCauses.{all-told, answer-of, tell-ends, tool-performed}
+use Rattle.sloth_cli.proofs.ToolReads.{all-short, as-many}
 use Rattle.sloth_cli.proofs.tool_command.use_tool.Goals as goal
+
+-- as many files are read as the tool asks for
+pub judge-requires-clause-counted : goal.judge-requires-clause-counted
+judge-requires-clause-counted g c =
+    ap (λ (xs : List (List ℕ)). length xs) c.as_slice.ensures.value
+    ∙ as-many _ (words_of c.args.words.now.inputs.now) _ c.in_ok-inputs.ensures.ok
+    ∙ c.requires.counted
+
+pub judge-requires-clause-short : goal.judge-requires-clause-short
+judge-requires-clause-short g c =
+    let P : List ℕ → Type 0 = λ input. length input ≤ 4194304 in
+    let Q : List (List ℕ) → Type 0 = λ xs. All P xs in
+    subst Q (sym c.as_slice.ensures.value)
+    (All-from_recursion P _ (all-short _ (words_of c.args.words.now.inputs.now) _ c.in_ok-inputs.ensures.ok))
 
 pub returns-in_err-inputs-clause-err : goal.returns-in_err-inputs-clause-err
 returns-in_err-inputs-clause-err g c =
