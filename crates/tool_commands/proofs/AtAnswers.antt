@@ -13,7 +13,6 @@ use Rattle.image_file.proofs.Unique.{image-unique}
 use Rattle.trace_text.specs.ArrivalsText.{ArrivalsFault, arrivals_in}
 use Rattle.sloth_source.proofs.Least.{one_least}
 use Rattle.sloth_runner.specs.Sight.{IsSight}
-use Rattle.sloth_runner.specs.declared.sight.Sight.{Sight}
 use Rattle.sloth_runner.proofs.Sighted.{one_sight}
 use Rattle.tool_commands.specs.AtAnswers.{IsShown, IsRefused, IsAtAnswer, sight_answer}
 use Rattle.tool_commands.specs.declared.answer.ToolAnswer.{ToolAnswer}
