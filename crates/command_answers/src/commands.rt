@@ -60,9 +60,10 @@ fn words(alloc: Global, line: &str) -> anyhow::Result<Vec<String>> {
     Ok(words)
 }
 
-/// What a command prints and how it ends, and the image file behind it.
+/// What a command prints, the same with how it ends, and the image file behind it.
 #[derive(Drop)]
 pub struct Outcome {
+    pub printed: Vec<u8>,
     pub text: String,
     pub img: Vec<u8>,
 }
@@ -87,8 +88,9 @@ pub fn answer(
     let status = sloth_top(alloc, words.as_slice(), &mut files, &mut out);
     let printed = std::str::from_utf8(out.taken())?;
     let text = format!(in alloc; "{printed}=== {status:?}\n")?;
+    let printed = Vec::from_slice(alloc, out.taken())?;
     let img = Vec::from_slice(alloc, files.file("img").unwrap_or(b""))?;
-    Ok(Outcome { text, img })
+    Ok(Outcome { printed, text, img })
 }
 
 /// Runs the command of a line, and prints what it prints and its status. The image file that it leaves is kept.
@@ -128,6 +130,17 @@ pub fn run_summed(
 /// Prints the image file as a text.
 pub fn show(rt: &(impl Print + AllocGlobal), texts: &Texts) -> anyhow::Result<()> {
     print!(rt; "{}", std::str::from_utf8(&texts.img)?)?;
+    Ok(())
+}
+
+/// Runs the command of a line, and puts what it prints in the place of the image file.
+pub fn run_kept(rt: &impl AllocGlobal, line: &str, texts: &mut Texts) -> anyhow::Result<()> {
+    if !texts.are_short() {
+        return Ok(());
+    }
+    let none = Faults::none(rt.alloc());
+    let answer = answer(rt.alloc(), line, texts, &texts.img, SPACE, &none)?;
+    texts.img = answer.printed;
     Ok(())
 }
 

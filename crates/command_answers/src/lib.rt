@@ -5,6 +5,7 @@
 //!   `exchange AT AT` exchanges two marks; `-AT` counts back from the end;
 //! - `text` prints the image file as a text;
 //! - `cut`, and a command such as `exec img arr 10`: it is run with the image file cut to each length, and each new answer is printed;
+//! - `keep`, and a command: what it prints stands in the place of the image file; `drop 2` takes line 2 out of that, `shorten` its last byte;
 //! - `both`, and two commands with ` / ` between them: they are run one after the other, and it is printed whether they answer alike;
 //! - `failing`, and calls of the store, calls of the sink and a command with ` / ` between them, such as `3 4 / 2:1 / build oil src img`:
 //!   it is run while calls 3 and 4 of the store fail, and call 2 of the sink once it has taken a byte; behind its answer stands whether the
@@ -20,7 +21,7 @@ mod faults;
 mod sweeps;
 mod texts;
 
-use crate::commands::{run, run_both, run_cut, run_failing, run_summed, show};
+use crate::commands::{run, run_both, run_cut, run_failing, run_kept, run_summed, show};
 use crate::sweeps::run_sweep;
 use crate::texts::Texts;
 use sloth_base::memory::NoMemory;
@@ -35,6 +36,10 @@ fn change(rt: &impl AllocGlobal, asked: &str, texts: &mut Texts) -> Result<bool,
         texts.change(rt.alloc(), words)?;
     } else if let Some(words) = asked.strip_prefix("exchange ") {
         texts.exchange(words);
+    } else if let Some(number) = asked.strip_prefix("drop ") {
+        texts.drop_line(rt.alloc(), number)?;
+    } else if asked == "shorten" {
+        texts.img.pop();
     } else {
         return Ok(false);
     }
@@ -56,6 +61,9 @@ fn obey(
     }
     if let Some(commands) = asked.strip_prefix("both ") {
         return run_both(rt, commands, texts);
+    }
+    if let Some(command) = asked.strip_prefix("keep ") {
+        return run_kept(rt, command, texts);
     }
     if let Some(words) = asked.strip_prefix("failing ") {
         return run_failing(rt, words, texts);

@@ -56,6 +56,23 @@ impl Texts {
         Ok(true)
     }
 
+    /// Takes a line out of the image file, by its number from 1.
+    pub fn drop_line(&mut self, alloc: Global, number: &str) -> Result<(), NoMemory> {
+        let Ok(number) = number.parse::<usize>() else {
+            return Ok(());
+        };
+        let mut kept = Vec::new(alloc);
+        for (i, line) in self.img.as_slice().split(|byte| *byte == b'\n').enumerate() {
+            if Some(i) != number.checked_sub(1) {
+                kept.extend_from_slice(line).map_err(|_| NoMemory)?;
+                kept.push(b'\n').map_err(|_| NoMemory)?;
+            }
+        }
+        kept.pop();
+        self.img = kept;
+        Ok(())
+    }
+
     // The place in the image file that a number names; behind `-` it counts back from the end.
     fn place(&self, word: &str) -> Option<usize> {
         match word.strip_prefix("-") {

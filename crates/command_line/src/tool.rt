@@ -15,6 +15,8 @@ pub enum Tool {
     Infer,
     /// `at IMG ARR K`: the states of the tasks at a count of a run of an image file.
     At,
+    /// `check OIL SRC ARR TRACE N`: whether a text of events is that of a run.
+    Check,
 }
 
 impl Tool {
@@ -27,6 +29,7 @@ impl Tool {
             Tool::Unelf => 1,
             Tool::Infer => 2,
             Tool::At => 2,
+            Tool::Check => 4,
         }
     }
 
@@ -39,6 +42,7 @@ impl Tool {
             Tool::Unelf => None,
             Tool::Infer => None,
             Tool::At => Some(999_999),
+            Tool::Check => Some(1_000_000),
         }
     }
 
@@ -51,6 +55,7 @@ impl Tool {
             Tool::Unelf => true,
             Tool::Infer => true,
             Tool::At => false,
+            Tool::Check => false,
         }
     }
 }
@@ -80,6 +85,9 @@ pub fn tool_named(word: &str) -> Option<Tool>
     }
     if word == "at" {
         return Some(Tool::At);
+    }
+    if word == "check" {
+        return Some(Tool::Check);
     }
     None
 }

@@ -1,5 +1,6 @@
 pub mod ArrivalsPart
 pub mod AtAnswers
+pub mod CheckAnswers
 pub mod ElfAnswers
 pub mod InferAnswers
 pub mod OneAnswer

@@ -5,6 +5,7 @@ ghost use Rattle.tool_commands.specs.Answers.{IsAnswer};
 
 use crate::answer::ToolAnswer;
 use crate::at_command::at;
+use crate::check_command::check;
 use crate::elf_commands::{elf, unelf};
 use crate::infer_command::infer;
 use command_line::tool::Tool;
@@ -32,6 +33,14 @@ pub fn judge(
             alloc,
             inputs[0].items(),
             inputs[1].items(),
+            number.unwrap_or(0),
+        ),
+        Tool::Check => check(
+            alloc,
+            inputs[0].items(),
+            inputs[1].items(),
+            inputs[2].items(),
+            inputs[3].items(),
             number.unwrap_or(0),
         ),
     }

@@ -3,6 +3,7 @@
 
 pub mod answer;
 mod at_command;
+mod check_command;
 mod elf_commands;
 mod infer_command;
 pub mod judging;
