@@ -125,6 +125,12 @@ pub fn run_summed(
     Ok(())
 }
 
+/// Prints the image file as a text.
+pub fn show(rt: &(impl Print + AllocGlobal), texts: &Texts) -> anyhow::Result<()> {
+    print!(rt; "{}", std::str::from_utf8(&texts.img)?)?;
+    Ok(())
+}
+
 /// Runs two commands, which ` / ` divides, one after the other, and prints how many bytes both answer, or that their answers differ.
 pub fn run_both(
     rt: &(impl Print + AllocGlobal),

@@ -3,6 +3,7 @@
 //! `%repeat N TEXT` in it stands for copies (`text_repeats`). Other lines behind `=== `:
 //! - `image HEX` makes the image file of these bytes, `change AT HEX` writes bytes over those from a place on, or behind the end, and
 //!   `exchange AT AT` exchanges two marks; `-AT` counts back from the end;
+//! - `text` prints the image file as a text;
 //! - `cut`, and a command such as `exec img arr 10`: it is run with the image file cut to each length, and each new answer is printed;
 //! - `both`, and two commands with ` / ` between them: they are run one after the other, and it is printed whether they answer alike;
 //! - `failing`, and calls of the store, calls of the sink and a command with ` / ` between them, such as `3 4 / 2:1 / build oil src img`:
@@ -19,7 +20,7 @@ mod faults;
 mod sweeps;
 mod texts;
 
-use crate::commands::{run, run_both, run_cut, run_failing, run_summed};
+use crate::commands::{run, run_both, run_cut, run_failing, run_summed, show};
 use crate::sweeps::run_sweep;
 use crate::texts::Texts;
 use sloth_base::memory::NoMemory;
@@ -49,6 +50,9 @@ fn obey(
 ) -> anyhow::Result<()> {
     if texts.replace(asked.as_bytes(), lines)? || change(rt, asked, texts)? {
         return Ok(());
+    }
+    if asked == "text" {
+        return show(rt, texts);
     }
     if let Some(commands) = asked.strip_prefix("both ") {
         return run_both(rt, commands, texts);

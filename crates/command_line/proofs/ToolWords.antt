@@ -11,7 +11,7 @@ use Rattle.command_line.specs.Tools.{ToolUse, tool_word, tool_words, input_count
 
 -- the tools
 abbrev all_tools : List Tool
-all_tools = tool.Elf ∷ tool.Unelf ∷ []
+all_tools = tool.Elf ∷ tool.Unelf ∷ tool.Infer ∷ tool.At ∷ []
 
 -- the first of these that has a word
 abbrev first_with : List ℕ → List Tool → Option Tool
@@ -21,6 +21,8 @@ first_with word (t ∷ rest) = if bytes_eq (tool_word t) word then Some t else f
 found : (t : Tool) → first_with (tool_word t) all_tools ≡ Some t
 found tool.Elf = refl
 found tool.Unelf = refl
+found tool.Infer = refl
+found tool.At = refl
 
 pub same-tool : (t u : Tool) → tool_word t ≡ tool_word u → t ≡ u
 same-tool t u e = let both : Some t ≡ Some u = sym (found t) ∙ (ap (λ w. first_with w all_tools) e ∙ found u) in cc
@@ -33,6 +35,8 @@ IsWordLimit (Some limit) = limit ≤ 4294967295
 word-limit : (t : Tool) → IsWordLimit (number_limit t)
 word-limit tool.Elf = tt
 word-limit tool.Unelf = tt
+word-limit tool.Infer = tt
+word-limit tool.At = omega arith
 
 -- two lists of one length in front of others
 fronts : (xs ys : List (List ℕ)) (r s : List (List ℕ)) → length xs ≡ length ys → xs ++ r ≡ ys ++ s → (xs ≡ ys) × (r ≡ s)

@@ -7,21 +7,29 @@ use Rattle.command_line.specs.declared.tool.Tool.TheVariants as tool
 abbrev pub tool_word : Tool → List ℕ
 tool_word tool.Elf = codes "elf"
 tool_word tool.Unelf = codes "unelf"
+tool_word tool.Infer = codes "infer"
+tool_word tool.At = codes "at"
 
 -- how many files it reads; their names are the next words
 abbrev pub input_count : Tool → ℕ
 input_count tool.Elf = 1
 input_count tool.Unelf = 1
+input_count tool.Infer = 2
+input_count tool.At = 2
 
 -- the greatest number that it takes as its next word, if it takes one
 abbrev pub number_limit : Tool → Option ℕ
 number_limit tool.Elf = None
 number_limit tool.Unelf = None
+number_limit tool.Infer = None
+number_limit tool.At = Some 999999
 
 -- whether its last word names a file that it writes
 abbrev pub writes_file : Tool → Bool
 writes_file tool.Elf = true
 writes_file tool.Unelf = true
+writes_file tool.Infer = true
+writes_file tool.At = false
 
 -- a tool with the files that it reads, its number and the file that it writes, if it has them
 pub record ToolUse : Type 0 where

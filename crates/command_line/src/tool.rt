@@ -11,6 +11,10 @@ pub enum Tool {
     Elf,
     /// `unelf IN IMG`: the image file of an ELF file.
     Unelf,
+    /// `infer OIL SRC OUT`: the source with the list of each label filled in.
+    Infer,
+    /// `at IMG ARR K`: the states of the tasks at a count of a run of an image file.
+    At,
 }
 
 impl Tool {
@@ -21,6 +25,8 @@ impl Tool {
         match self {
             Tool::Elf => 1,
             Tool::Unelf => 1,
+            Tool::Infer => 2,
+            Tool::At => 2,
         }
     }
 
@@ -31,6 +37,8 @@ impl Tool {
         match self {
             Tool::Elf => None,
             Tool::Unelf => None,
+            Tool::Infer => None,
+            Tool::At => Some(999_999),
         }
     }
 
@@ -41,6 +49,8 @@ impl Tool {
         match self {
             Tool::Elf => true,
             Tool::Unelf => true,
+            Tool::Infer => true,
+            Tool::At => false,
         }
     }
 }
@@ -64,6 +74,12 @@ pub fn tool_named(word: &str) -> Option<Tool>
     }
     if word == "unelf" {
         return Some(Tool::Unelf);
+    }
+    if word == "infer" {
+        return Some(Tool::Infer);
+    }
+    if word == "at" {
+        return Some(Tool::At);
     }
     None
 }

@@ -7,12 +7,12 @@ use Rattle.std.proofs.lemmas.List.{reverse-append, length-reverse}
 use Rattle.std.proofs.lemmas.List.Folds.{list_all-append}
 use Rattle.sloth_base.specs.ImageRange.{continues_word}
 use Rattle.text_pieces.specs.Bytes.{is_name, has}
+use Rattle.sloth_base.specs.ServiceCodes.{service_named}
 use Rattle.asm_lines.specs.declared.operands.Operand.TheVariants.{Name, Wrong}
 use Rattle.asm_lines.specs.declared.source_line.SourceLine.TheVariants.{Empty, Statement}
 use Rattle.asm_lines.specs.declared.table.Mnemonic.TheVariants as m
 use Rattle.asm_lines.specs.Bytes.{is_shown, trim}
 use Rattle.asm_lines.specs.Table.{mnemonic_of, alu_of, imm_of, shift_of, load_of, store_of, branch_of, plain_of}
-use Rattle.sloth_base.specs.ServiceCodes.{service_named}
 use Rattle.asm_lines.specs.Operands.{before}
 use Rattle.asm_lines.specs.SourceLines.{source_line, statement_of, known, read_operands, has_empty}
 use Rattle.asm_lines.specs.Grammar.{starts_bare, Bare, IsTrimmed, is_whole, IsOperands, is_last, is_more, is_something, IsShape}

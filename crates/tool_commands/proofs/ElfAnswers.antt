@@ -26,7 +26,7 @@ pub record Wrote (P : List ℕ → Type 0) (a : ToolAnswer) : Type 0 where
 same-outcome : (o p : Outcome) → o.file ≡ p.file → o.text ≡ p.text → o ≡ p
 same-outcome o p f t = ap (λ x. record { file = x; text = o.text }) f ∙ ap (λ x. record { file = p.file; text = x }) t
 
-same-wrote : (P : List ℕ → Type 0) → ((one other : List ℕ) → P one → P other → one ≡ other) → (a b : ToolAnswer) → Wrote P a → Wrote P b → a ≡ b
+pub same-wrote : (P : List ℕ → Type 0) → ((one other : List ℕ) → P one → P other → one ≡ other) → (a b : ToolAnswer) → Wrote P a → Wrote P b → a ≡ b
 same-wrote P one a b w v =
     let file = one w.outcome.file v.outcome.file w.file v.file in
     let text : w.outcome.text ≡ v.outcome.text = w.text ∙ ap (λ x. written_line (length x)) file ∙ sym v.text in

@@ -1,6 +1,6 @@
 -- Files have one answer of a tool, and what it says of an image file.
 use Rattle.std.proofs.Common.{◌≡◌, ◌≤◌, ℕ, List, refl, ◌⊎◌, inl, inr, arith}
-use Rattle.std.specs.Prelude.{Option, IsTrue}
+use Rattle.std.specs.Prelude.{Option, IsTrue, unwrap_or}
 use Rattle.std.proofs.lemmas.Bool.{false≢true}
 use Rattle.sloth_base.specs.declared.image.Image.{Image}
 use Rattle.image_file.specs.ImageText.{ImageText}
@@ -13,22 +13,30 @@ use Rattle.elf_image.specs.ElfText.{ElfText}
 use Rattle.tool_commands.specs.Answers.{IsAnswer, OneAnswer, input, reads_image}
 use Rattle.tool_commands.specs.declared.answer.ToolAnswer.{ToolAnswer}
 use Rattle.tool_commands.specs.declared.answer.ToolAnswer.TheVariants as answer
+use Rattle.tool_commands.proofs.AtAnswers.{at-one, at-image}
 use Rattle.tool_commands.proofs.ElfAnswers.{Wrote, elf-one, elf-view, unelf-one}
+use Rattle.tool_commands.proofs.InferAnswers.{infer-one}
 
 pub one_answer : OneAnswer
 one_answer tool.Elf number inputs a b p q = elf-one (input inputs 0) a b p q
 one_answer tool.Unelf number inputs a b p q = unelf-one (input inputs 0) a b p q
+one_answer tool.Infer number inputs a b p q = infer-one (input inputs 0) (input inputs 1) a b p q
+one_answer tool.At number inputs a b p q = at-one (input inputs 0) (input inputs 1) (unwrap_or number 0) a b p q
 
 -- a tool that reads an image file reads a file
 pub reads-one : (t : Tool) → IsTrue (reads_image t) → 1 ≤ input_count t
 reads-one tool.Elf h = omega arith
 reads-one tool.Unelf h = omega arith
+reads-one tool.Infer h = omega arith
+reads-one tool.At h = omega arith
 
 -- only a tool that reads an image file says that it is none, by its first fault
 pub no-image : (t : Tool) (number : Option ℕ) (inputs : List (List ℕ)) (fault : ImageFault) → IsAnswer t number inputs (answer.NotAnImage fault)
     → IsTrue (reads_image t) × Faulty fault (input inputs 0)
 no-image tool.Elf number inputs fault h = (refl, h)
 no-image tool.Unelf number inputs fault h = absurd h
+no-image tool.Infer number inputs fault h = absurd h
+no-image tool.At number inputs fault h = (refl, h)
 
 -- these bytes are an image's
 abbrev pub HasImage : List ℕ → Type 0
@@ -44,3 +52,5 @@ image-or-fault tool.Elf number inputs a reads h = by (elf-view (input inputs 0) 
     by (inl w) = inl (w.file.0, w.file.1)
     by (inr w) = inr (w.0, w.1)
 image-or-fault tool.Unelf number inputs a reads h = absurd (false≢true reads)
+image-or-fault tool.Infer number inputs a reads h = absurd (false≢true reads)
+image-or-fault tool.At number inputs a reads h = at-image (input inputs 0) (input inputs 1) (unwrap_or number 0) a h

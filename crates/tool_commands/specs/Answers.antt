@@ -1,8 +1,10 @@
 -- Which answer a tool has to the files that it reads: a row for each tool.
-use Rattle.std.specs.Prelude.{ℕ, ◌≡◌, List, [], Option, Bool, true, false, get_or}
+use Rattle.std.specs.Prelude.{ℕ, ◌≡◌, List, [], Option, Bool, true, false, get_or, unwrap_or}
 use Rattle.command_line.specs.declared.tool.Tool.{Tool}
 use Rattle.command_line.specs.declared.tool.Tool.TheVariants as tool
 use Rattle.tool_commands.specs.ElfAnswers.{IsElfAnswer, IsUnelfAnswer}
+use Rattle.tool_commands.specs.InferAnswers.{IsInferAnswer}
+use Rattle.tool_commands.specs.AtAnswers.{IsAtAnswer}
 use Rattle.tool_commands.specs.declared.answer.ToolAnswer.{ToolAnswer}
 
 -- the bytes of a file, by its place in the order of the words
@@ -13,11 +15,15 @@ input inputs k = get_or inputs k []
 abbrev pub IsAnswer : Tool → Option ℕ → List (List ℕ) → ToolAnswer → Type 0
 IsAnswer tool.Elf number inputs answer = IsElfAnswer (input inputs 0) answer
 IsAnswer tool.Unelf number inputs answer = IsUnelfAnswer (input inputs 0) answer
+IsAnswer tool.Infer number inputs answer = IsInferAnswer (input inputs 0) (input inputs 1) answer
+IsAnswer tool.At number inputs answer = IsAtAnswer (input inputs 0) (input inputs 1) (unwrap_or number 0) answer
 
 -- the first file that it reads is to be an image file
 abbrev pub reads_image : Tool → Bool
 reads_image tool.Elf = true
 reads_image tool.Unelf = false
+reads_image tool.Infer = false
+reads_image tool.At = true
 
 -- files have one answer
 abbrev pub OneAnswer : Type 0

@@ -13,8 +13,8 @@ use sloth_base::list::List;
 use sloth_base::memory::NoMemory;
 use std::alloc::Global;
 
-// The outcome of a tool that writes a file.
-fn written(alloc: Global, file: Vec<u8>) -> Result<Outcome, NoMemory>
+/// The outcome of a tool that writes a file.
+pub fn written(alloc: Global, file: Vec<u8>) -> Result<Outcome, NoMemory>
     ensures file { IfOk result (λ outcome. outcome.file ≡ file.items) }
     ensures text { IfOk result (λ outcome. outcome.text ≡ written_line (length file.items)) }
 {

@@ -4,7 +4,9 @@ ghost use Rattle.command_line.specs.Tools.{input_count, number_limit, IsNumber};
 ghost use Rattle.tool_commands.specs.Answers.{IsAnswer};
 
 use crate::answer::ToolAnswer;
+use crate::at_command::at;
 use crate::elf_commands::{elf, unelf};
+use crate::infer_command::infer;
 use command_line::tool::Tool;
 use sloth_base::list::List;
 use sloth_base::memory::NoMemory;
@@ -25,5 +27,12 @@ pub fn judge(
     match tool {
         Tool::Elf => elf(alloc, inputs[0].items()),
         Tool::Unelf => unelf(alloc, inputs[0].items()),
+        Tool::Infer => infer(alloc, inputs[0].items(), inputs[1].items()),
+        Tool::At => at(
+            alloc,
+            inputs[0].items(),
+            inputs[1].items(),
+            number.unwrap_or(0),
+        ),
     }
 }

@@ -2,7 +2,9 @@
 #![tactic(auto)]
 
 pub mod answer;
+mod at_command;
 mod elf_commands;
+mod infer_command;
 pub mod judging;
 pub mod laws;
 pub mod lines;

@@ -1,0 +1,81 @@
+-- Files have one answer of `at`.
+use Rattle.std.proofs.Common.{◌≡◌, ◌∙◌, ℕ, List, refl, sym, ap, subst, ◌⊎◌, inl, inr}
+use Rattle.sloth_base.specs.declared.event.Arrival.{Arrival}
+use Rattle.sloth_base.specs.declared.image.Image.{Image}
+use Rattle.sloth_base.specs.declared.refusal.Part.TheVariants.{Arr}
+use Rattle.sloth_base.specs.declared.refusal.Refusal.{Refusal}
+use Rattle.sloth_refusal.specs.Order.{IsLeast, NoFault}
+use Rattle.image_file.specs.ImageText.{ImageText}
+use Rattle.image_file.specs.Faults.{Faulty}
+use Rattle.image_file.specs.declared.fault.ImageFault.{ImageFault}
+use Rattle.image_file.proofs.Faulted.{fault_is_one, none_is_both}
+use Rattle.image_file.proofs.Unique.{image-unique}
+use Rattle.trace_text.specs.ArrivalsText.{ArrivalsFault, arrivals_in}
+use Rattle.sloth_source.proofs.Least.{one_least}
+use Rattle.sloth_runner.specs.Sight.{IsSight}
+use Rattle.sloth_runner.specs.declared.sight.Sight.{Sight}
+use Rattle.sloth_runner.proofs.Sighted.{one_sight}
+use Rattle.tool_commands.specs.AtAnswers.{IsShown, IsRefused, IsAtAnswer, sight_answer}
+use Rattle.tool_commands.specs.declared.answer.ToolAnswer.{ToolAnswer}
+use Rattle.tool_commands.specs.declared.answer.ToolAnswer.TheVariants as answer
+use Rattle.tool_commands.proofs.ArrivalsPart.{of-arrivals}
+
+-- what an answer of `at` is
+pub data AtView (img arr : List ℕ) (k : ℕ) (a : ToolAnswer) : Type 0 where
+  shows : IsShown img arr k a → AtView img arr k a
+  faults : (fault : ImageFault) → a ≡ answer.NotAnImage fault → Faulty fault img → AtView img arr k a
+  refuses : (refusal : Refusal) → a ≡ answer.Refused refusal → IsRefused img arr refusal → AtView img arr k a
+
+pub at-view : (img arr : List ℕ) (k : ℕ) (a : ToolAnswer) → IsAtAnswer img arr k a → AtView img arr k a
+at-view img arr k (answer.Done outcome) h = AtView.shows h
+at-view img arr k (answer.Stopped pc stop) h = AtView.shows h
+at-view img arr k (answer.NotAnImage fault) h = AtView.faults fault refl h
+at-view img arr k (answer.Refused refusal) h = AtView.refuses refusal refl h
+at-view img arr k (answer.NotAnElf fault) h = absurd h
+at-view img arr k (answer.BadTrace fault) h = absurd h
+at-view img arr k answer.NoHolds h = absurd h
+
+one-shown : (img arr : List ℕ) (k : ℕ) (a b : ToolAnswer) → IsShown img arr k a → IsShown img arr k b → a ≡ b
+one-shown img arr k a b h i =
+    let image : h.image ≡ i.image = image-unique h.image i.image img h.is_image i.is_image in
+    let arrivals : h.arrivals ≡ i.arrivals = h.arrivals_are ∙ ap (λ (x : Image). arrivals_in x.tasks arr) image ∙ sym i.arrivals_are in
+    let S : Image → Type 0 = λ x. IsSight x h.arrivals k h.sight in
+    let T : List Arrival → Type 0 = λ xs. IsSight i.image xs k h.sight in
+    let sight : h.sight ≡ i.sight = one_sight i.image i.arrivals k h.sight i.sight (subst T arrivals (subst S image h.seen)) i.seen in
+    h.answer_is ∙ ap (λ (x : Image). sight_answer x h.sight) image ∙ ap (sight_answer i.image) sight ∙ sym i.answer_is
+
+one-refused : (img arr : List ℕ) (r s : Refusal) → IsRefused img arr r → IsRefused img arr s → r ≡ s
+one-refused img arr r s h i =
+    let image : h.0 ≡ i.0 = image-unique h.0 i.0 img h.1 i.1 in
+    let L : Image → Type 0 = λ x. IsLeast (ArrivalsFault x.tasks arr) r in
+    one_least Arr (ArrivalsFault i.0.tasks arr) (of-arrivals i.0.tasks arr) r s (subst L image h.2) i.2
+
+shown-not-refused : (img arr : List ℕ) (k : ℕ) (a : ToolAnswer) (r : Refusal) → IsShown img arr k a → IsRefused img arr r → ⊥
+shown-not-refused img arr k a r h i =
+    let image : h.image ≡ i.0 = image-unique h.image i.0 img h.is_image i.1 in
+    let N : Image → Type 0 = λ x. NoFault (ArrivalsFault x.tasks arr) in
+    subst N image h.no_fault r i.2.is_fault
+
+pub at-one : (img arr : List ℕ) (k : ℕ) (a b : ToolAnswer) → IsAtAnswer img arr k a → IsAtAnswer img arr k b → a ≡ b
+at-one img arr k a b p q = by (at-view img arr k a p) (at-view img arr k b q)
+  where
+    by : AtView img arr k a → AtView img arr k b → a ≡ b
+    by (AtView.shows h) (AtView.shows i) = one-shown img arr k a b h i
+    by (AtView.shows h) (AtView.faults f e i) = absurd (none_is_both img h.image f h.is_image i)
+    by (AtView.shows h) (AtView.refuses r e i) = absurd (shown-not-refused img arr k a r h i)
+    by (AtView.faults f e h) (AtView.shows i) = absurd (none_is_both img i.image f i.is_image h)
+    by (AtView.faults f e h) (AtView.faults g d i) = e ∙ ap answer.NotAnImage (fault_is_one img f g h i) ∙ sym d
+    by (AtView.faults f e h) (AtView.refuses r d i) = absurd (none_is_both img i.0 f i.1 h)
+    by (AtView.refuses r e h) (AtView.shows i) = absurd (shown-not-refused img arr k b r i h)
+    by (AtView.refuses r e h) (AtView.faults f d i) = absurd (none_is_both img h.0 f h.1 i)
+    by (AtView.refuses r e h) (AtView.refuses s d i) = e ∙ ap answer.Refused (one-refused img arr r s h i) ∙ sym d
+
+-- what it says of the image file
+pub at-image : (img arr : List ℕ) (k : ℕ) (a : ToolAnswer) → IsAtAnswer img arr k a
+    → ((image : Image) × ImageText img image) ⊎ ((fault : ImageFault) × (a ≡ answer.NotAnImage fault))
+at-image img arr k a h = by (at-view img arr k a h)
+  where
+    by : AtView img arr k a → ((image : Image) × ImageText img image) ⊎ ((fault : ImageFault) × (a ≡ answer.NotAnImage fault))
+    by (AtView.shows s) = inl (s.image, s.is_image)
+    by (AtView.faults fault e f) = inr (fault, e)
+    by (AtView.refuses refusal e r) = inl (r.0, r.1)

@@ -1,0 +1,24 @@
+//! The command `infer`.
+ghost use Rattle.std.specs.Prelude.{◌≡◌, ◌≤◌, IfOk, length};
+ghost use Rattle.tool_commands.specs.InferAnswers.{IsInferAnswer};
+
+use crate::answer::ToolAnswer;
+use crate::elf_commands::written;
+use holds_infer::{FillError, fill_source};
+use sloth_base::memory::NoMemory;
+use std::alloc::Global;
+
+/// The source with the list of each label filled in; or that no lists keep every rule; or the first refusal before the rules V2 to V12.
+pub fn infer(alloc: Global, oil: &[u8], src: &[u8]) -> Result<ToolAnswer, NoMemory>
+    requires oil { length oil.now ≤ 4194304 }
+    requires src { length src.now ≤ 4194304 }
+    ensures { IfOk result (λ answer. IsInferAnswer oil.now src.now answer) }
+{
+    let file = match fill_source(alloc, oil, src) {
+        Ok(file) => file,
+        Err(FillError::Refused(refusal)) => return Ok(ToolAnswer::Refused(refusal)),
+        Err(FillError::NoHolds) => return Ok(ToolAnswer::NoHolds),
+        Err(FillError::Memory) => return Err(NoMemory),
+    };
+    Ok(ToolAnswer::Done(written(alloc, file)?))
+}
