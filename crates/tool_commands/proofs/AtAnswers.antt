@@ -17,7 +17,7 @@ use Rattle.sloth_runner.proofs.Sighted.{one_sight}
 use Rattle.tool_commands.specs.AtAnswers.{IsShown, IsRefused, IsAtAnswer, sight_answer}
 use Rattle.tool_commands.specs.declared.answer.ToolAnswer.{ToolAnswer}
 use Rattle.tool_commands.specs.declared.answer.ToolAnswer.TheVariants as answer
-use Rattle.tool_commands.proofs.ArrivalsPart.{of-arrivals}
+use Rattle.trace_command.proofs.Refused.{of-arrivals}
 
 -- what an answer of `at` is
 pub data AtView (img arr : List ℕ) (k : ℕ) (a : ToolAnswer) : Type 0 where

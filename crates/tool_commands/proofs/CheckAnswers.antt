@@ -8,11 +8,11 @@ use Rattle.trace_command.specs.Inputs.{IsRefusal}
 use Rattle.trace_command.proofs.One.{one_judged}
 use Rattle.trace_command.proofs.Refused.{not-refused, one-way}
 use Rattle.tool_commands.specs.CheckAnswers.{IsCheckAnswer, verdict_of}
-use Rattle.tool_commands.specs.declared.answer.Outcome.{Outcome}
 use Rattle.tool_commands.specs.declared.answer.ToolAnswer.{ToolAnswer}
 use Rattle.tool_commands.specs.declared.answer.ToolAnswer.TheVariants as answer
 use Rattle.tool_commands.specs.declared.answer.TraceFault.{TraceFault}
 use Rattle.tool_commands.specs.declared.answer.TraceFault.TheVariants as trace
+use Rattle.tool_commands.proofs.ElfAnswers.{same-outcome}
 
 no_fault : (f : TraceFault) → verdict.Yes ≡ verdict_of f → ⊥
 no_fault (trace.Line k) e = cc
@@ -30,10 +30,6 @@ same_fault trace.Time (trace.Line k) e = absurd cc
 same_fault trace.Time (trace.Step k) e = absurd cc
 same_fault trace.Time trace.Time e = refl
 
-same_outcome : (o p : Outcome) → o.file ≡ p.file → o.text ≡ p.text → o ≡ p
-same_outcome o p file text =
-    ap (λ (f : List ℕ). record { file = f; text = o.text }) file ∙ ap (λ (t : List ℕ). record { file = p.file; text = t }) text
-
 module _ (oil src arr text : List ℕ) (n : ℕ) where
   abbrev Is : ToolAnswer → Type 0
   Is a = IsCheckAnswer oil src arr text n a
@@ -45,7 +41,7 @@ module _ (oil src arr text : List ℕ) (n : ℕ) where
   not_both v r h refused = not-refused oil src arr h.config h.app r h.accepted h.read.no_fault refused
 
   pub one_check : (one other : ToolAnswer) → Is one → Is other → one ≡ other
-  one_check (answer.Done o) (answer.Done p) a b = ap answer.Done (same_outcome o p (a.1 ∙ sym b.1) (a.2 ∙ sym b.2))
+  one_check (answer.Done o) (answer.Done p) a b = ap answer.Done (same-outcome o p (a.1 ∙ sym b.1) (a.2 ∙ sym b.2))
   one_check (answer.Done o) (answer.Refused s) a b = absurd (not_both verdict.Yes s a.0 b)
   one_check (answer.Done o) (answer.BadTrace g) a b = absurd (no_fault g (judged verdict.Yes (verdict_of g) a.0 b))
   one_check (answer.Refused r) (answer.Done p) a b = absurd (not_both verdict.Yes r b.0 a)

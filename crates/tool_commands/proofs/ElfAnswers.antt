@@ -23,7 +23,7 @@ pub record Wrote (P : List ℕ → Type 0) (a : ToolAnswer) : Type 0 where
   pub file : P outcome.file
   pub text : outcome.text ≡ written_line (length outcome.file)
 
-same-outcome : (o p : Outcome) → o.file ≡ p.file → o.text ≡ p.text → o ≡ p
+pub same-outcome : (o p : Outcome) → o.file ≡ p.file → o.text ≡ p.text → o ≡ p
 same-outcome o p f t = ap (λ x. record { file = x; text = o.text }) f ∙ ap (λ x. record { file = p.file; text = x }) t
 
 pub same-wrote : (P : List ℕ → Type 0) → ((one other : List ℕ) → P one → P other → one ≡ other) → (a b : ToolAnswer) → Wrote P a → Wrote P b → a ≡ b

@@ -1,4 +1,3 @@
-pub mod ArrivalsPart
 pub mod AtAnswers
 pub mod CheckAnswers
 pub mod ElfAnswers
