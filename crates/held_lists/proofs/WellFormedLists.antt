@@ -50,7 +50,7 @@ module _ (config : Config) (app : App) (whole : WellFormed config app) (clear : 
     clear = clear b;
   }
 
--- D29: there is at most one
+-- there is at most one filling
 pub one_filling : (config : Config) (app one other : App) → IsFilling config app one → IsFilling config app other → one ≡ other
 one_filling config app one other h k =
     let same = sym h.same ∙ k.same in
