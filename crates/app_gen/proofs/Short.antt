@@ -6,7 +6,7 @@ use Rattle.std.proofs.lemmas.Fmt.{length-decimal-le}
 use Rattle.app_gen.specs.Draws.{draw, next_draw}
 use Rattle.app_gen.specs.Pieces.{numbered, has_event}
 use Rattle.app_gen.specs.Oil.{is_non, event_object, resource_object, resource_objects, schedule_of, autostart_of, event_attribute, task_object, oil_text}
-use Rattle.app_gen.specs.Source.{sets, wakes, first_body, waits, begins, adds, ends, numbered_body, body, source_text}
+use Rattle.app_gen.specs.Source.{setting_text, waking_text, first_body, waiting_text, body_head, adding_text, body_end, numbered_body, body, source_text}
 
 short-decimal : (n : ℕ) → n < 2 ^ 32 → length (decimal n) ≤ 10
 short-decimal n h = length-decimal-le 10 n (omega arith) (omega (arith, h)) (omega (arith, h))
@@ -85,36 +85,36 @@ short-oil n h =
     (flat_map task_object (range_with_len 0 n)) (codes "};\n") in
     omega (arith, h, events, resources, tasks, all)
 
-short-sets : (j : ℕ) → j < 2 ^ 32 → length (sets j) ≤ 100
-unfolding sets
+short-sets : (j : ℕ) → j < 2 ^ 32 → length (setting_text j) ≤ 100
+unfolding setting_text
 short-sets j h =
     let task = short-numbered (codes "SetEvent T") j h in
     let event = short-numbered (codes ", E") j h in
     short-if (has_event j) (numbered (codes "SetEvent T") j ++ numbered (codes ", E") j ++ codes "\n") [] 100
     (omega (arith, task, event, length-append {A = ℕ})) (omega arith)
 
-short-wakes : (j : ℕ) → j < 2 ^ 32 → length (wakes j) ≤ 512
-unfolding wakes
+short-wakes : (j : ℕ) → j < 2 ^ 32 → length (waking_text j) ≤ 512
+unfolding waking_text
 short-wakes j h =
     let task = short-numbered (codes "ActivateTask T") j h in
     let event = short-sets j h in omega (arith, task, event, length-append {A = ℕ})
 
-short-waits : (i : ℕ) → i < 2 ^ 32 → length (waits i) ≤ 100
-unfolding waits
+short-waits : (i : ℕ) → i < 2 ^ 32 → length (waiting_text i) ≤ 100
+unfolding waiting_text
 short-waits i h =
     let first = short-numbered (codes "WaitEvent E") i h in
     let second = short-numbered (codes "\nClearEvent E") i h in
     short-if (has_event i) (numbered (codes "WaitEvent E") i ++ numbered (codes "\nClearEvent E") i ++ codes "\n") [] 100
     (omega (arith, first, second, length-append {A = ℕ})) (omega arith)
 
-short-begins : (i number : ℕ) → i < 2 ^ 32 → number < 2 ^ 32 → length (begins i number) ≤ 100
-unfolding begins
+short-begins : (i number : ℕ) → i < 2 ^ 32 → number < 2 ^ 32 → length (body_head i number) ≤ 100
+unfolding body_head
 short-begins i number h g =
     let task = short-numbered (codes "task T") i h in
     let value = short-numbered (codes ", 2\nli t0, ") number g in omega (arith, task, value, length-append {A = ℕ})
 
-short-adds : (i : ℕ) → i < 2 ^ 30 → length (adds i) ≤ 200
-unfolding adds
+short-adds : (i : ℕ) → i < 2 ^ 30 → length (adding_text i) ≤ 200
+unfolding adding_text
 short-adds i h =
     let taken = short-numbered (codes "GetResource R") (i % 4) (omega arith) in
     let stored = short-numbered (codes "sw t1, tab+") (4 * i) (omega (arith, h)) in
@@ -128,7 +128,7 @@ fits seed zero h = h
 fits seed (suc k) h = omega arith
 
 short-body : (seed i : ℕ) → seed < 2 ^ 32 → i < 2 ^ 30 → length (body seed i) ≤ 512
-unfolding numbered_body ends
+unfolding numbered_body body_end
 short-body seed i h g =
     let first = short-begins i (draw seed i) (omega (arith, g)) (fits seed i h) in
     let added = short-adds i g in
@@ -137,8 +137,8 @@ short-body seed i h g =
 short-first : (n : ℕ) → 1 ≤ n → n ≤ 30 → length (first_body n) ≤ 20000
 unfolding first_body
 short-first n h g =
-    let others = short-each wakes 1 (n - 1) (λ j l. short-wakes j (omega (arith, l, g))) in
-    let all = length-three (codes "task T0\nlabel loop\n") (flat_map wakes (range_with_len 1 (n - 1))) (codes "j loop\nend\n") in omega (arith, g, others, all)
+    let others = short-each waking_text 1 (n - 1) (λ j l. short-wakes j (omega (arith, l, g))) in
+    let all = length-three (codes "task T0\nlabel loop\n") (flat_map waking_text (range_with_len 1 (n - 1))) (codes "j loop\nend\n") in omega (arith, g, others, all)
 
 pub short-source : (seed n : ℕ) → seed < 2 ^ 32 → 1 ≤ n → n ≤ 30 → length (source_text seed n) ≤ 4194304
 unfolding source_text

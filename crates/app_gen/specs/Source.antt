@@ -5,37 +5,37 @@ use Rattle.app_gen.specs.Draws.{draw}
 use Rattle.app_gen.specs.Pieces.{numbered, has_event}
 
 -- the first task sets the event of another that has one
-unfoldable pub sets : ℕ → List ℕ
-sets j = if has_event j then numbered (codes "SetEvent T") j ++ numbered (codes ", E") j ++ codes "\n" else []
+unfoldable pub setting_text : ℕ → List ℕ
+setting_text j = if has_event j then numbered (codes "SetEvent T") j ++ numbered (codes ", E") j ++ codes "\n" else []
 
 -- what the first task does with another in each round
-unfoldable pub wakes : ℕ → List ℕ
-wakes j = numbered (codes "ActivateTask T") j ++ codes "\n" ++ sets j
+unfoldable pub waking_text : ℕ → List ℕ
+waking_text j = numbered (codes "ActivateTask T") j ++ codes "\n" ++ setting_text j
 
 -- the body of the first task
 unfoldable pub first_body : ℕ → List ℕ
 first_body n =
     codes "task T0\nlabel loop\n"
-    ++ flat_map wakes (range_with_len 1 (n - 1))
+    ++ flat_map waking_text (range_with_len 1 (n - 1))
     ++ codes "j loop\nend\n"
 
 -- a task that has an event waits for it
-unfoldable pub waits : ℕ → List ℕ
-waits i =
+unfoldable pub waiting_text : ℕ → List ℕ
+waiting_text i =
     if has_event i
     then numbered (codes "WaitEvent E") i ++ numbered (codes "\nClearEvent E") i ++ codes "\n"
     else []
 
 -- how the body of task i begins: it keeps a number in its frame
-unfoldable pub begins : ℕ → ℕ → List ℕ
-begins i number =
+unfoldable pub body_head : ℕ → ℕ → List ℕ
+body_head i number =
     numbered (codes "task T") i
     ++ numbered (codes ", 2\nli t0, ") number
     ++ codes "\nsw t0, frame[1]\n"
 
 -- with a resource held it adds the number to one of a table, and stores the sum at its own place there
-unfoldable pub adds : ℕ → List ℕ
-adds i =
+unfoldable pub adding_text : ℕ → List ℕ
+adding_text i =
     numbered (codes "GetResource R") (i % 4)
     ++ codes "\nlw t1, tab[t0 & 252]\nadd t1, t1, t0\n"
     ++ numbered (codes "sw t1, tab+") (4 * i)
@@ -43,12 +43,12 @@ adds i =
     ++ codes "\n"
 
 -- how each body ends
-unfoldable pub ends : List ℕ
-ends = codes "lw t2, frame[1]\nTerminateTask\nend\n"
+unfoldable pub body_end : List ℕ
+body_end = codes "lw t2, frame[1]\nTerminateTask\nend\n"
 
 -- the body of task i, with this number
 unfoldable pub numbered_body : ℕ → ℕ → List ℕ
-numbered_body i number = begins i number ++ adds i ++ waits i ++ ends
+numbered_body i number = body_head i number ++ adding_text i ++ waiting_text i ++ body_end
 
 -- the body of task i, from 1 on: its number is the draw i
 abbrev pub body : ℕ → ℕ → List ℕ

@@ -2,7 +2,7 @@
 ghost use Rattle.std.specs.Prelude.{◌≡◌, ◌++◌, ◌<◌, ◌≤◌, ◌-◌, ◌^◌, OnOk, IfOk};
 ghost use Rattle.std.specs.List.{flat_map, range_with_len};
 ghost use Rattle.app_gen.specs.Draws.{draw};
-ghost use Rattle.app_gen.specs.Source.{sets, wakes, first_body, begins, adds, waits, numbered_body, body, source_text};
+ghost use Rattle.app_gen.specs.Source.{setting_text, waking_text, first_body, body_head, adding_text, waiting_text, numbered_body, body, source_text};
 
 use crate::draws::Draws;
 use crate::pieces::{has_event, put};
@@ -10,9 +10,9 @@ use sloth_base::memory::NoMemory;
 use std::alloc::Global;
 
 // Appends the setting of the event of a task that has one.
-#[tactic(auto, unfolding(crate::specs::Source::sets))]
+#[tactic(auto, unfolding(crate::specs::Source::setting_text))]
 fn put_sets(text: &mut Vec<u8>, task: u32) -> Result<(), NoMemory>
-    ensures { OnOk result (text.new.items ≡ text.old.items ++ sets task) }
+    ensures { OnOk result (text.new.items ≡ text.old.items ++ setting_text task) }
 {
     if has_event(task) {
         put(text, b"SetEvent T", task)?;
@@ -24,7 +24,7 @@ fn put_sets(text: &mut Vec<u8>, task: u32) -> Result<(), NoMemory>
 
 // Appends what the first task does with another.
 fn put_wake(text: &mut Vec<u8>, task: u32) -> Result<(), NoMemory>
-    ensures { OnOk result (text.new.items ≡ text.old.items ++ wakes task) }
+    ensures { OnOk result (text.new.items ≡ text.old.items ++ waking_text task) }
 {
     put(text, b"ActivateTask T", task)?;
     text.extend_from_slice(b"\n")?;
@@ -35,7 +35,7 @@ fn put_wake(text: &mut Vec<u8>, task: u32) -> Result<(), NoMemory>
 // Appends the same for all others.
 fn put_wakes(text: &mut Vec<u8>, tasks: u32) -> Result<(), NoMemory>
     requires { 1 ≤ tasks }
-    ensures { OnOk result (text.new.items ≡ text.old.items ++ flat_map wakes (range_with_len 1 (tasks - 1))) }
+    ensures { OnOk result (text.new.items ≡ text.old.items ++ flat_map waking_text (range_with_len 1 (tasks - 1))) }
 {
     for task in 1..tasks {
         put_wake(text, task)?;
@@ -55,9 +55,9 @@ fn put_first_body(text: &mut Vec<u8>, tasks: u32) -> Result<(), NoMemory>
 }
 
 // Appends the waiting of a task that has an event.
-#[tactic(auto, unfolding(crate::specs::Source::waits))]
+#[tactic(auto, unfolding(crate::specs::Source::waiting_text))]
 fn put_waits(text: &mut Vec<u8>, task: u32) -> Result<(), NoMemory>
-    ensures { OnOk result (text.new.items ≡ text.old.items ++ waits task) }
+    ensures { OnOk result (text.new.items ≡ text.old.items ++ waiting_text task) }
 {
     if has_event(task) {
         put(text, b"WaitEvent E", task)?;
@@ -69,7 +69,7 @@ fn put_waits(text: &mut Vec<u8>, task: u32) -> Result<(), NoMemory>
 
 // Appends how a body begins.
 fn put_begins(text: &mut Vec<u8>, task: u32, number: u32) -> Result<(), NoMemory>
-    ensures { OnOk result (text.new.items ≡ text.old.items ++ begins task number) }
+    ensures { OnOk result (text.new.items ≡ text.old.items ++ body_head task number) }
 {
     put(text, b"task T", task)?;
     put(text, b", 2\nli t0, ", number)?;
@@ -80,7 +80,7 @@ fn put_begins(text: &mut Vec<u8>, task: u32, number: u32) -> Result<(), NoMemory
 // Appends the work of a body.
 fn put_adds(text: &mut Vec<u8>, task: u32) -> Result<(), NoMemory>
     requires { task < 2 ^ 30 }
-    ensures { OnOk result (text.new.items ≡ text.old.items ++ adds task) }
+    ensures { OnOk result (text.new.items ≡ text.old.items ++ adding_text task) }
 {
     let resource = task % 4;
     put(text, b"GetResource R", resource)?;

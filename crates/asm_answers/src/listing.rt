@@ -1,5 +1,5 @@
 //! The listing of task code.
-ghost use Rattle.app_rules.specs.AppRange.{IsTaskCode};
+ghost use Rattle.code_rules.specs.AppRange.{IsTaskCode};
 
 use rv32_expand::sizes;
 use sloth_base::app::{App, Func, Label};

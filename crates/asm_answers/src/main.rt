@@ -5,7 +5,7 @@
 
 ghost use Rattle.std.specs.Prelude.{◌≤◌, IfOk, length};
 ghost use Rattle.sloth_base.specs.ConfigRange.{InRange};
-ghost use Rattle.app_rules.specs.AppRange.{IsTaskCode};
+ghost use Rattle.code_rules.specs.AppRange.{IsTaskCode};
 
 mod listing;
 

@@ -7,7 +7,7 @@ use Rattle.std.proofs.lemmas.List.Folds.{list_any-append}
 use Rattle.std.proofs.lemmas.List.Sums.{split_at_first, passes_at_first}
 use Rattle.std.proofs.Math.Seq.{take-append_seam, drop-append_seam, split_at}
 use Rattle.std.proofs.Math.ListN.{drop_of_length-le}
-use Rattle.text_pieces.specs.Bytes.{has}
+use Rattle.text_pieces.specs.Bytes.{is_byte_of}
 use Rattle.asm_lines.specs.Operands.{before, behind}
 use Rattle.asm_lines.proofs.Trims.{both, run_length}
 
@@ -21,8 +21,8 @@ all_weaker p q f [] h = refl
 all_weaker p q f (b ∷ t) h = let w = both (p b) (list_all p t) h in rw (f b w.0) (all_weaker p q f t w.1)
 
 -- a text whose bytes pass a test lacks each byte that fails it
-pub lacks : (p : ℕ → Bool) (c : ℕ) → p c ≡ false → (t : List ℕ) → list_all p t ≡ true → has c t ≡ false
-unfolding has
+pub lacks : (p : ℕ → Bool) (c : ℕ) → p c ≡ false → (t : List ℕ) → list_all p t ≡ true → is_byte_of c t ≡ false
+unfolding is_byte_of
 lacks p c f [] h = refl
 lacks p c f (b ∷ t) h =
     let w = both (p b) (list_all p t) h in
@@ -33,41 +33,41 @@ lacks p c f (b ∷ t) h =
       | false ↦ λ e. ih
     ] refl
 
-has_not : (c : ℕ) (t : List ℕ) → has c t ≡ false → list_all (λ b. not (b == c)) t ≡ true
-unfolding has
+has_not : (c : ℕ) (t : List ℕ) → is_byte_of c t ≡ false → list_all (λ b. not (b == c)) t ≡ true
+unfolding is_byte_of
 has_not c [] h = refl
 has_not c (b ∷ t) h = let w = neither (b == c) (list_any (λ x. x == c) t) h in rw (w.0) (has_not c t w.1)
 
-pub has_here : (c : ℕ) (x y : List ℕ) → (c == c) ≡ true → has c (x ++ c ∷ y) ≡ true
-unfolding has
+pub has_here : (c : ℕ) (x y : List ℕ) → (c == c) ≡ true → is_byte_of c (x ++ c ∷ y) ≡ true
+unfolding is_byte_of
 has_here c [] y e = rw e refl
 has_here c (b ∷ x) y e = let ih = has_here c x y e in elim (b == c) as (λ v. (v || list_any (λ w. w == c) (x ++ c ∷ y)) ≡ true) [ true ↦ refl | false ↦ ih ]
 
-pub has_in : (c : ℕ) (x y : List ℕ) → has c x ≡ false → has c y ≡ false → has c (x ++ y) ≡ false
-unfolding has
+pub has_in : (c : ℕ) (x y : List ℕ) → is_byte_of c x ≡ false → is_byte_of c y ≡ false → is_byte_of c (x ++ y) ≡ false
+unfolding is_byte_of
 has_in c x y h g = list_any-append (λ b. b == c) x y ∙ rw (h, g) refl
 
-place_of : (c : ℕ) (x y : List ℕ) → (c == c) ≡ true → has c x ≡ false → position_or_len (λ b. b == c) (x ++ c ∷ y) ≡ length x
+place_of : (c : ℕ) (x y : List ℕ) → (c == c) ≡ true → is_byte_of c x ≡ false → position_or_len (λ b. b == c) (x ++ c ∷ y) ≡ length x
 place_of c x y e h = run_length (λ b. not (b == c)) x (c ∷ y) (has_not c x h) (rw e refl)
 
-pub before_is : (c : ℕ) (x y : List ℕ) → (c == c) ≡ true → has c x ≡ false → before c (x ++ c ∷ y) ≡ x
+pub before_is : (c : ℕ) (x y : List ℕ) → (c == c) ≡ true → is_byte_of c x ≡ false → before c (x ++ c ∷ y) ≡ x
 before_is c x y e h = ap (λ n. take n (x ++ c ∷ y)) (place_of c x y e h) ∙ take-append_seam x (c ∷ y)
 
-pub behind_is : (c : ℕ) (x y : List ℕ) → (c == c) ≡ true → has c x ≡ false → behind c (x ++ c ∷ y) ≡ y
+pub behind_is : (c : ℕ) (x y : List ℕ) → (c == c) ≡ true → is_byte_of c x ≡ false → behind c (x ++ c ∷ y) ≡ y
 behind_is c x y e h =
     let l : length x + 1 ≡ length (x ++ c ∷ []) = sym (length-append x (c ∷ [])) in
     ap (λ n. drop (n + 1) (x ++ c ∷ y)) (place_of c x y e h)
     ∙ (ap (λ n. drop n (x ++ c ∷ y)) l ∙ (ap (drop (length (x ++ c ∷ []))) (sym (append_assoc x (c ∷ []) y)) ∙ drop-append_seam (x ++ c ∷ []) y))
 
-pub has_some : (c : ℕ) (t : List ℕ) → has c t ≡ true → position_or_len (λ b. b == c) t < length t
-unfolding has
+pub has_some : (c : ℕ) (t : List ℕ) → is_byte_of c t ≡ true → position_or_len (λ b. b == c) t < length t
+unfolding is_byte_of
 has_some c [] h = cc
 has_some c (b ∷ t) h =
     let P : Bool → Type 0 = λ v. (v || list_any (λ x. x == c) t) ≡ true → cond (not v) (1 + position_or_len (λ x. x == c) t) 0 < length (b ∷ t) in
     elim (b == c) as P [ true ↦ λ g. omega arith | false ↦ λ g. let ih = has_some c t g in omega (arith, ih) ] h
 
 -- a text that has the byte is cut there
-pub cut_there : (c : ℕ) (t : List ℕ) → has c t ≡ true → t ≡ before c t ++ c ∷ behind c t
+pub cut_there : (c : ℕ) (t : List ℕ) → is_byte_of c t ≡ true → t ≡ before c t ++ c ∷ behind c t
 cut_there c t h =
     let i = position_or_len (λ b. b == c) t in
     let s = has_some c t h in

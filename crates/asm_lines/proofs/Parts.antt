@@ -9,9 +9,9 @@ use Rattle.std.proofs.lemmas.Bool.{eqb-true}
 use Rattle.sloth_base.specs.ImageRange.{continues_word}
 use Rattle.text_pieces.specs.Bytes.{is_name, begins_name}
 use Rattle.asm_lines.specs.Bytes.{is_blank}
-use Rattle.text_pieces.specs.Digits.{capped, value_from}
-use Rattle.asm_lines.specs.Numbers.{number, magnitude, signed, is_hexadecimal, all_some}
-use Rattle.asm_lines.specs.Registers.{register, small_number, lettered, lettered_by}
+use Rattle.text_pieces.specs.Digits.{capped_value, value_from}
+use Rattle.asm_lines.specs.Numbers.{number, magnitude, signed_number, is_hexadecimal, all_some}
+use Rattle.asm_lines.specs.Registers.{register, small_number, lettered_register, lettered_by}
 use Rattle.asm_lines.specs.Grammar.{Bare, starts_bare}
 use Rattle.asm_lines.proofs.Trims.{both, reversed_all}
 use Rattle.asm_lines.proofs.Cuts.{all_weaker}
@@ -38,7 +38,7 @@ some_if : {A : Type 0} (b : Bool) (x y : A) → cond b (Some x) None ≡ Some y 
 some_if true x y h = refl
 some_if false x y h = cc
 
-signed_some : (b : Bool) (o : Option ℕ) (z : ℤ) → signed b o ≡ Some z → (n : ℕ) × (o ≡ Some n)
+signed_some : (b : Bool) (o : Option ℕ) (z : ℤ) → signed_number b o ≡ Some z → (n : ℕ) × (o ≡ Some n)
 signed_some b None z h = cc
 signed_some b (Some n) z h = (n, refl)
 
@@ -54,16 +54,16 @@ hex_bytes (a ∷ b ∷ d) e g =
 magnitude_bytes : (t : List ℕ) (n : ℕ) → magnitude t ≡ Some n → list_all is_number_byte t ≡ true
 unfolding magnitude
 magnitude_bytes t n h =
-    let hex : Option ℕ = cond (all_some is_ascii_hexdigit (drop 2 t)) (Some (capped (value_from 16 0 (drop 2 t)))) None in
-    let dec : Option ℕ = cond (all_some is_ascii_digit t) (Some (capped (value_from 10 0 t))) None in
+    let hex : Option ℕ = cond (all_some is_ascii_hexdigit (drop 2 t)) (Some (capped_value (value_from 16 0 (drop 2 t)))) None in
+    let dec : Option ℕ = cond (all_some is_ascii_digit t) (Some (capped_value (value_from 10 0 t))) None in
     let P : Bool → Type 0 = λ v. is_hexadecimal t ≡ v → cond v hex dec ≡ Some n → list_all is_number_byte t ≡ true in
     elim (is_hexadecimal t) as P [
-      | true ↦ λ e g. hex_bytes t e (some_if (all_some is_ascii_hexdigit (drop 2 t)) (capped (value_from 16 0 (drop 2 t))) n g)
+      | true ↦ λ e g. hex_bytes t e (some_if (all_some is_ascii_hexdigit (drop 2 t)) (capped_value (value_from 16 0 (drop 2 t))) n g)
       | false ↦ λ e g. all_weaker is_ascii_digit is_number_byte digit_is t
-          (both (not (length t == 0)) (list_all is_ascii_digit t) (some_if (all_some is_ascii_digit t) (capped (value_from 10 0 t)) n g)).1
+          (both (not (length t == 0)) (list_all is_ascii_digit t) (some_if (all_some is_ascii_digit t) (capped_value (value_from 10 0 t)) n g)).1
     ] refl h
 
-negative_bytes : (t : List ℕ) (z : ℤ) → (slice_index t 0 == 45) ≡ true → signed true (magnitude (drop 1 t)) ≡ Some z → list_all is_number_byte t ≡ true
+negative_bytes : (t : List ℕ) (z : ℤ) → (slice_index t 0 == 45) ≡ true → signed_number true (magnitude (drop 1 t)) ≡ Some z → list_all is_number_byte t ≡ true
 negative_bytes [] z e g = cc
 negative_bytes (a ∷ d) z e g =
     let w = signed_some true (magnitude d) z g in
@@ -72,7 +72,7 @@ negative_bytes (a ∷ d) z e g =
 pub number_bytes : (t : List ℕ) (z : ℤ) → number t ≡ Some z → list_all is_number_byte t ≡ true
 unfolding number
 number_bytes t z h =
-    let P : Bool → Type 0 = λ v. (slice_index t 0 == 45) ≡ v → cond v (signed true (magnitude (drop 1 t))) (signed false (magnitude t)) ≡ Some z → list_all is_number_byte t ≡ true in
+    let P : Bool → Type 0 = λ v. (slice_index t 0 == 45) ≡ v → cond v (signed_number true (magnitude (drop 1 t))) (signed_number false (magnitude t)) ≡ Some z → list_all is_number_byte t ≡ true in
     elim (slice_index t 0 == 45) as P [
       | true ↦ λ e g. negative_bytes t z e g
       | false ↦ λ e g. let w = signed_some false (magnitude t) z g in magnitude_bytes t w.0 w.1
@@ -103,7 +103,7 @@ pub name_bytes : (n : List ℕ) → is_name n ≡ true → list_all continues_wo
 unfolding is_name
 name_bytes n h = (both (begins_name n) (list_all continues_word n) h).1
 
-letter_is : (b n x : ℕ) → lettered b n ≡ Some x → continues_word b ≡ true
+letter_is : (b n x : ℕ) → lettered_register b n ≡ Some x → continues_word b ≡ true
 letter_is b n x h =
     let X : Option ℕ = cond ((n == 0) || (nat_le 5 n && nat_le n 29)) (Some n) None in
     let T : Option ℕ = cond (nat_le n 2) (Some (5 + n)) (cond (nat_le n 4) (Some (25 + n)) None) in
@@ -156,7 +156,7 @@ small_digits d n h =
 digit_continues : (b : ℕ) → is_ascii_digit b ≡ true → continues_word b ≡ true
 digit_continues b h = left (is_ascii_alphanumeric b) (b == 95) (first (is_ascii_digit b) _ _ h)
 
-lettered_some : (b : ℕ) (o : Option ℕ) (x : ℕ) → lettered_by b o ≡ Some x → (n : ℕ) × (o ≡ Some n) × (lettered b n ≡ Some x)
+lettered_some : (b : ℕ) (o : Option ℕ) (x : ℕ) → lettered_by b o ≡ Some x → (n : ℕ) × (o ≡ Some n) × (lettered_register b n ≡ Some x)
 lettered_some b None x h = cc
 lettered_some b (Some n) x h = (n, refl, h)
 

@@ -9,11 +9,11 @@ use Rattle.std.proofs.lemmas.List.Folds.{list_all-append}
 use Rattle.asm_lines.specs.declared.operands.Operand.{Operand}
 use Rattle.asm_lines.specs.declared.operands.Operand.TheVariants.{Wrong, Direct}
 use Rattle.asm_lines.specs.declared.operands.Small.TheVariants.{Is}
-use Rattle.text_pieces.specs.Bytes.{is_name, has}
+use Rattle.text_pieces.specs.Bytes.{is_name, is_byte_of}
 use Rattle.asm_lines.specs.Bytes.{is_blank, trim}
 use Rattle.asm_lines.specs.Numbers.{number}
 use Rattle.asm_lines.specs.Registers.{register}
-use Rattle.asm_lines.specs.Operands.{before, behind, small_of, direct, direct_at, indexed, indexed_at, frame_operand, in_brackets, bracketed, place}
+use Rattle.asm_lines.specs.Operands.{before, behind, small_of, direct_operand, direct_at, indexed_operand, indexed_at, frame_operand, in_brackets, bracketed_operand, place}
 use Rattle.asm_lines.specs.Faults.{is_wrong}
 use Rattle.asm_lines.specs.Grammar.{Blanks, starts_bare, Bare, IsPlace, is_alone, is_offset, is_indexed, is_frame}
 use Rattle.asm_lines.proofs.Trims.{both, trimmed, reversed_all}
@@ -33,7 +33,7 @@ none_behind y b h s =
     sym (reverse-reverse b) ∙ ap reverse e
 
 -- what names a number, and is not wrong
-direct_read : (f : Bool) (t n a b k : List ℕ) (o : Operand) → t ≡ n ++ (a ++ 43 ∷ (b ++ k)) → Blanks a → Blanks b → direct n (small_of (number k)) ≡ o → is_wrong o ≡ false → IsPlace f t o
+direct_read : (f : Bool) (t n a b k : List ℕ) (o : Operand) → t ≡ n ++ (a ++ 43 ∷ (b ++ k)) → Blanks a → Blanks b → direct_operand n (small_of (number k)) ≡ o → is_wrong o ≡ false → IsPlace f t o
 direct_read f t n a b k o e ha hb d w =
     let Q : Option ℤ → Type 0 = λ z. number k ≡ z → direct_at n (small_of z) ≡ o → is_name n ≡ true → IsPlace f t o in
     let P : Bool → Type 0 = λ v. is_name n ≡ v → cond v (direct_at n (small_of (number k))) Wrong ≡ o → IsPlace f t o in
@@ -45,7 +45,7 @@ direct_read f t n a b k o e ha hb d w =
       | false ↦ λ h g. let x : is_wrong Wrong ≡ false = ap is_wrong g ∙ w in cc
     ] refl d
 
-name_read : (f : Bool) (t : List ℕ) (o : Operand) → direct t (Is 0) ≡ o → is_wrong o ≡ false → IsPlace f t o
+name_read : (f : Bool) (t : List ℕ) (o : Operand) → direct_operand t (Is 0) ≡ o → is_wrong o ≡ false → IsPlace f t o
 name_read f t o d w =
     let P : Bool → Type 0 = λ v. is_name t ≡ v → cond v (Direct t 0) Wrong ≡ o → IsPlace f t o in
     elim (is_name t) as P [
@@ -53,7 +53,7 @@ name_read f t o d w =
       | false ↦ λ h g. let x : is_wrong Wrong ≡ false = ap is_wrong g ∙ w in cc
     ] refl d
 
-plus_read : (f : Bool) (t : List ℕ) (o : Operand) → Bare t → has 43 t ≡ true → direct (trim (before 43 t)) (small_of (number (trim (behind 43 t)))) ≡ o → is_wrong o ≡ false → IsPlace f t o
+plus_read : (f : Bool) (t : List ℕ) (o : Operand) → Bare t → is_byte_of 43 t ≡ true → direct_operand (trim (before 43 t)) (small_of (number (trim (behind 43 t)))) ≡ o → is_wrong o ≡ false → IsPlace f t o
 plus_read f t o bare h d w =
     let l = trimmed (before 43 t) in
     let r = trimmed (behind 43 t) in
@@ -71,8 +71,8 @@ plus_read f t o bare h d w =
     direct_read f t n l.behind r.before k o e3 l.blanks_behind r.blanks_before d w
 
 -- what stands in the brackets, with blanks a and d round it
-masked_read : (f : Bool) (t n a y d : List ℕ) (o : Operand) → t ≡ n ++ 91 ∷ (a ++ (y ++ (d ++ 93 ∷ []))) → Blanks a → Blanks d → has 38 y ≡ true
-    → indexed n (register (trim (before 38 y))) (small_of (number (trim (behind 38 y)))) ≡ o → is_wrong o ≡ false → IsPlace f t o
+masked_read : (f : Bool) (t n a y d : List ℕ) (o : Operand) → t ≡ n ++ 91 ∷ (a ++ (y ++ (d ++ 93 ∷ []))) → Blanks a → Blanks d → is_byte_of 38 y ≡ true
+    → indexed_operand n (register (trim (before 38 y))) (small_of (number (trim (behind 38 y)))) ≡ o → is_wrong o ≡ false → IsPlace f t o
 masked_read f t n a y d o e ha hd h g w =
     let l = trimmed (before 38 y) in
     let q = trimmed (behind 38 y) in
@@ -121,13 +121,13 @@ frame_read f t n a y d o e ha hd g w =
 inside_read : (f : Bool) (t n a y d : List ℕ) (o : Operand) → t ≡ n ++ 91 ∷ (a ++ (y ++ (d ++ 93 ∷ []))) → Blanks a → Blanks d → in_brackets f n y ≡ o → is_wrong o ≡ false → IsPlace f t o
 unfolding in_brackets
 inside_read f t n a y d o e ha hd g w =
-    let A : Operand = indexed n (register (trim (before 38 y))) (small_of (number (trim (behind 38 y)))) in
+    let A : Operand = indexed_operand n (register (trim (before 38 y))) (small_of (number (trim (behind 38 y)))) in
     let B : Operand = cond (f && bytes_eq n (codes "frame")) (frame_operand (small_of (number y))) Wrong in
-    let P : Bool → Type 0 = λ v. has 38 y ≡ v → cond v A B ≡ o → IsPlace f t o in
-    elim (has 38 y) as P [ true ↦ λ h k. masked_read f t n a y d o e ha hd h k w | false ↦ λ h k. frame_read f t n a y d o e ha hd k w ] refl g
+    let P : Bool → Type 0 = λ v. is_byte_of 38 y ≡ v → cond v A B ≡ o → IsPlace f t o in
+    elim (is_byte_of 38 y) as P [ true ↦ λ h k. masked_read f t n a y d o e ha hd h k w | false ↦ λ h k. frame_read f t n a y d o e ha hd k w ] refl g
 
-bracket_read : (f : Bool) (t n r : List ℕ) (o : Operand) → t ≡ n ++ 91 ∷ r → bracketed f n r ≡ o → is_wrong o ≡ false → IsPlace f t o
-unfolding bracketed
+bracket_read : (f : Bool) (t n r : List ℕ) (o : Operand) → t ≡ n ++ 91 ∷ r → bracketed_operand f n r ≡ o → is_wrong o ≡ false → IsPlace f t o
+unfolding bracketed_operand
 bracket_read f t n r o e g w =
     let x = take (length r - 1) r in
     let P : Bool → Type 0 = λ v. (slice_index r (length r - 1) == 93) ≡ v → cond v (in_brackets f n (trim x)) Wrong ≡ o → IsPlace f t o in
@@ -144,11 +144,11 @@ bracket_read f t n r o e g w =
 pub place_read : (f : Bool) (t : List ℕ) (o : Operand) → Bare t → place f t ≡ o → is_wrong o ≡ false → IsPlace f t o
 unfolding place
 place_read f t o bare g w =
-    let A : Operand = bracketed f (before 91 t) (behind 91 t) in
-    let B : Operand = direct (trim (before 43 t)) (small_of (number (trim (behind 43 t)))) in
-    let Q : Bool → Type 0 = λ v. has 43 t ≡ v → cond v B (direct t (Is 0)) ≡ o → IsPlace f t o in
-    let P : Bool → Type 0 = λ v. has 91 t ≡ v → cond v A (cond (has 43 t) B (direct t (Is 0))) ≡ o → IsPlace f t o in
-    elim (has 91 t) as P [
+    let A : Operand = bracketed_operand f (before 91 t) (behind 91 t) in
+    let B : Operand = direct_operand (trim (before 43 t)) (small_of (number (trim (behind 43 t)))) in
+    let Q : Bool → Type 0 = λ v. is_byte_of 43 t ≡ v → cond v B (direct_operand t (Is 0)) ≡ o → IsPlace f t o in
+    let P : Bool → Type 0 = λ v. is_byte_of 91 t ≡ v → cond v A (cond (is_byte_of 43 t) B (direct_operand t (Is 0))) ≡ o → IsPlace f t o in
+    elim (is_byte_of 91 t) as P [
       | true ↦ λ h k. bracket_read f t (before 91 t) (behind 91 t) o (cut_there 91 t h) k w
-      | false ↦ λ h. elim (has 43 t) as Q [ true ↦ λ i k. plus_read f t o bare i k w | false ↦ λ i k. name_read f t o k w ] refl
+      | false ↦ λ h. elim (is_byte_of 43 t) as Q [ true ↦ λ i k. plus_read f t o bare i k w | false ↦ λ i k. name_read f t o k w ] refl
     ] refl g

@@ -11,12 +11,12 @@ use Rattle.std.proofs.Math.Seq.{take-append_seam, drop-append_seam}
 use Rattle.sloth_base.specs.ImageRange.{continues_word}
 use Rattle.asm_lines.specs.declared.source_line.SourceLine.{SourceLine}
 use Rattle.asm_lines.specs.declared.source_line.SourceLine.TheVariants.{Shapeless}
-use Rattle.text_pieces.specs.Bytes.{has}
+use Rattle.text_pieces.specs.Bytes.{is_byte_of}
 use Rattle.asm_lines.specs.Bytes.{is_blank, is_shown, is_letter, word_of, trim}
 use Rattle.asm_lines.specs.Lines.{operands_of}
 use Rattle.asm_lines.specs.Table.{mnemonic_of}
 use Rattle.asm_lines.specs.Operands.{before, behind}
-use Rattle.asm_lines.specs.SourceLines.{stands_apart, begins_statement, has_empty, known, statement, statement_of}
+use Rattle.asm_lines.specs.SourceLines.{stands_apart, begins_statement, has_empty, known_statement, statement, statement_of}
 use Rattle.asm_lines.specs.Grammar.{IsRemains, is_whole, is_commented, IsOperands, is_last, is_more, IsTail, is_nothing, is_something, IsShape, is_shapeless}
 use Rattle.asm_lines.proofs.Trims.{both, stops, run_length, run_front, trim_is, trimmed}
 use Rattle.asm_lines.proofs.Cuts.{neither, has_here, before_is, behind_is, cut_there, has_some}
@@ -24,12 +24,12 @@ use Rattle.asm_lines.proofs.Cuts.{neither, has_here, before_is, behind_is, cut_t
 comma : ℕ → Bool
 comma b = b == 44
 
-split_none : (t : List ℕ) → has 44 t ≡ false → slice_split (λ b. b == 44) t ≡ t ∷ []
-unfolding has
+split_none : (t : List ℕ) → is_byte_of 44 t ≡ false → slice_split (λ b. b == 44) t ≡ t ∷ []
+unfolding is_byte_of
 split_none [] h = refl
 split_none (b ∷ t) h = let w = neither (b == 44) (list_any (λ x. x == 44) t) h in rw (w.0) (ap (onto_first b) (split_none t w.1))
 
-split_more : (x y : List ℕ) → has 44 x ≡ false → slice_split (λ b. b == 44) (x ++ 44 ∷ y) ≡ x ∷ slice_split (λ b. b == 44) y
+split_more : (x y : List ℕ) → is_byte_of 44 x ≡ false → slice_split (λ b. b == 44) (x ++ 44 ∷ y) ≡ x ∷ slice_split (λ b. b == 44) y
 split_more x y h =
     let t = x ++ 44 ∷ y in
     slice_split_first (λ b. b == 44) t 0 (has_some 44 t (has_here 44 x y refl))
@@ -42,21 +42,21 @@ operands_made t ts (is_more part x rest us h w more) =
     ap (map trim) (split_more part rest h) ∙ (ap (λ v. v ∷ map trim (slice_split (λ b. b == 44) rest)) (trim_is part x w) ∙ ap (λ v. x ∷ v) ih)
 
 -- nothing of what stands before the first byte c is c
-before_lacks : (c : ℕ) (t : List ℕ) → has c (before c t) ≡ false
-unfolding has
+before_lacks : (c : ℕ) (t : List ℕ) → is_byte_of c (before c t) ≡ false
+unfolding is_byte_of
 before_lacks c [] = refl
 before_lacks c (b ∷ t) =
     let ih = before_lacks c t in
     let e : 1 + position_or_len (λ x. x == c) t ≡ suc (position_or_len (λ x. x == c) t) = omega arith in
-    let P : Bool → Type 0 = λ v. (b == c) ≡ v → has c (take (cond (not v) (1 + position_or_len (λ x. x == c) t) 0) (b ∷ t)) ≡ false in
+    let P : Bool → Type 0 = λ v. (b == c) ≡ v → is_byte_of c (take (cond (not v) (1 + position_or_len (λ x. x == c) t) 0) (b ∷ t)) ≡ false in
     elim (b == c) as P [ true ↦ λ h. refl | false ↦ λ h. rw e (rw h ih) ] refl
 
 operands_step : (t : List ℕ) → ((y : List ℕ) → length y < length t → IsOperands y (map trim (slice_split (λ b. b == 44) y))) → IsOperands t (map trim (slice_split (λ b. b == 44) t))
 operands_step t ih =
     let x = before 44 t in
     let y = behind 44 t in
-    let P : Bool → Type 0 = λ v. has 44 t ≡ v → IsOperands t (map trim (slice_split (λ b. b == 44) t)) in
-    elim (has 44 t) as P [
+    let P : Bool → Type 0 = λ v. is_byte_of 44 t ≡ v → IsOperands t (map trim (slice_split (λ b. b == 44) t)) in
+    elim (is_byte_of 44 t) as P [
       | true ↦ λ h.
           let e = cut_there 44 t h in
           let k = before_lacks 44 t in
@@ -75,8 +75,8 @@ operands_by (suc n) t l = operands_step t (λ y m. operands_by n y (omega arith)
 pub operands_read : (t : List ℕ) → IsOperands t (map trim (slice_split (λ b. b == 44) t))
 operands_read t = operands_by (length t) t (omega arith)
 
-before_all : (c : ℕ) (t : List ℕ) → has c t ≡ false → before c t ≡ t
-unfolding has
+before_all : (c : ℕ) (t : List ℕ) → is_byte_of c t ≡ false → before c t ≡ t
+unfolding is_byte_of
 before_all c [] h = refl
 before_all c (b ∷ t) h =
     let w = neither (b == c) (list_any (λ x. x == c) t) h in
@@ -89,8 +89,8 @@ remains_made line x (is_commented c comment y h w) = ap trim (before_is 35 c com
 
 pub remains_read : (line : List ℕ) → IsRemains line (trim (before 35 line))
 remains_read line =
-    let P : Bool → Type 0 = λ v. has 35 line ≡ v → IsRemains line (trim (before 35 line)) in
-    elim (has 35 line) as P [
+    let P : Bool → Type 0 = λ v. is_byte_of 35 line ≡ v → IsRemains line (trim (before 35 line)) in
+    elim (is_byte_of 35 line) as P [
       | true ↦ λ h. subst (λ (v : List ℕ). IsRemains v (trim (before 35 line))) (sym (cut_there 35 line h))
           (is_commented (before 35 line) (behind 35 line) (trim (before 35 line)) (before_lacks 35 line) (trimmed (before 35 line)))
       | false ↦ λ h. subst (λ (v : List ℕ). IsRemains line (trim v)) (sym (before_all 35 line h)) (is_whole line (trim line) h (trimmed line))
@@ -122,13 +122,13 @@ letter_on [] rest h = cc
 letter_on (b ∷ w) rest h = h
 
 statement_by : (t w rest : List ℕ) (ts : List (List ℕ)) → word_of t ≡ w → drop (length w) t ≡ rest → begins_statement t rest ≡ true → operands_of rest ≡ ts → has_empty ts ≡ false
-    → statement_of t ≡ known (mnemonic_of w) ts
+    → statement_of t ≡ known_statement (mnemonic_of w) ts
 unfolding statement_of
 statement_by t w rest ts e f g h k =
     let F : List ℕ → List ℕ → SourceLine = λ v r. cond (begins_statement t r) (statement v (operands_of r)) Shapeless in
     ap (λ v. F v (drop (length v) t)) e ∙ (ap (F w) f ∙ rw g (ap (statement w) h ∙ rw k refl))
 
-pub shape_made : (t word : List ℕ) (ts : List (List ℕ)) → IsShape t word ts → statement_of t ≡ known (mnemonic_of word) ts
+pub shape_made : (t word : List ℕ) (ts : List (List ℕ)) → IsShape t word ts → statement_of t ≡ known_statement (mnemonic_of word) ts
 unfolding begins_statement
 shape_made t word ts s =
     let tail = tail_stops s.rest ts s.tail in
@@ -158,15 +158,15 @@ tail_read [] s e = nothing_read
 tail_read (b ∷ r) s e =
     is_something b r (operands_of (b ∷ r)) s (subst (λ (v : List (List ℕ)). IsOperands (b ∷ r) v) (sym (operands_some b r)) (operands_read (b ∷ r))) e
 
-pub shape_read : (t : List ℕ) (s : SourceLine) → statement_of t ≡ s → is_shapeless s ≡ false → (word : List ℕ) × (ts : List (List ℕ)) × IsShape t word ts × (known (mnemonic_of word) ts ≡ s)
+pub shape_read : (t : List ℕ) (s : SourceLine) → statement_of t ≡ s → is_shapeless s ≡ false → (word : List ℕ) × (ts : List (List ℕ)) × IsShape t word ts × (known_statement (mnemonic_of word) ts ≡ s)
 unfolding statement_of begins_statement
 shape_read t s g h =
     let w = word_of t in
     let r = drop (length w) t in
     let ts = operands_of r in
-    let R : Type 0 = (word : List ℕ) × (us : List (List ℕ)) × IsShape t word us × (known (mnemonic_of word) us ≡ s) in
+    let R : Type 0 = (word : List ℕ) × (us : List (List ℕ)) × IsShape t word us × (known_statement (mnemonic_of word) us ≡ s) in
     let wrong : Shapeless ≡ s → R = λ e. let x : is_shapeless Shapeless ≡ false = ap is_shapeless e ∙ h in cc in
-    let Q : Bool → Type 0 = λ v. has_empty ts ≡ v → cond v Shapeless (known (mnemonic_of w) ts) ≡ s → begins_statement t r ≡ true → R in
+    let Q : Bool → Type 0 = λ v. has_empty ts ≡ v → cond v Shapeless (known_statement (mnemonic_of w) ts) ≡ s → begins_statement t r ≡ true → R in
     let P : Bool → Type 0 = λ v. begins_statement t r ≡ v → cond v (statement w ts) Shapeless ≡ s → R in
     elim (begins_statement t r) as P [
       | true ↦ λ b k. elim (has_empty ts) as Q [

@@ -4,15 +4,15 @@ use Rattle.std.specs.Prelude.{◌==◌, slice_index, int_lt}
 use Rattle.std.specs.List.{list_all}
 use Rattle.std.specs.Char.{is_ascii_digit, is_ascii_hexdigit}
 use Rattle.std.proofs.lemmas.Bool.{eqb-true, cases_lt, lt-ltb}
-use Rattle.text_pieces.specs.Digits.{capped, value_from}
-use Rattle.asm_lines.specs.Numbers.{number, magnitude, signed, is_hexadecimal, all_some, is_within}
+use Rattle.text_pieces.specs.Digits.{capped_value, value_from}
+use Rattle.asm_lines.specs.Numbers.{number, magnitude, signed_number, is_hexadecimal, all_some, is_within}
 use Rattle.asm_lines.specs.Grammar.{IsNumber, is_decimal, is_hex, is_minus, is_minus_hex, cut, is_near}
 use borrow.Author.Tests.{ltb-true}
 use Rattle.asm_lines.proofs.Trims.{both}
 
-neg_capped : (n : ℕ) → neg_ℤ (pos (capped n)) ≡ cut (neg_ℤ (pos n))
+neg_capped : (n : ℕ) → neg_ℤ (pos (capped_value n)) ≡ cut (neg_ℤ (pos n))
 neg_capped zero = refl
-neg_capped (suc n) = ap (λ k. neg_ℤ (pos (capped k))) (sym (add-one n))
+neg_capped (suc n) = ap (λ k. neg_ℤ (pos (capped_value k))) (sym (add-one n))
 
 not_hex : (d : List ℕ) → list_all is_ascii_digit d ≡ true → is_hexadecimal d ≡ false
 not_hex [] h = refl
@@ -37,11 +37,11 @@ not_minus (a ∷ d) h =
       | false ↦ λ e. refl
     ] refl
 
-decimal_magnitude : (d : List ℕ) → all_some is_ascii_digit d ≡ true → magnitude d ≡ Some (capped (value_from 10 0 d))
+decimal_magnitude : (d : List ℕ) → all_some is_ascii_digit d ≡ true → magnitude d ≡ Some (capped_value (value_from 10 0 d))
 unfolding magnitude
 decimal_magnitude d h = let n = not_hex d (both (not (length d == 0)) (list_all is_ascii_digit d) h).1 in rw (n, h) refl
 
-hex_magnitude : (d : List ℕ) → all_some is_ascii_hexdigit d ≡ true → magnitude (48 ∷ 120 ∷ d) ≡ Some (capped (value_from 16 0 d))
+hex_magnitude : (d : List ℕ) → all_some is_ascii_hexdigit d ≡ true → magnitude (48 ∷ 120 ∷ d) ≡ Some (capped_value (value_from 16 0 d))
 unfolding magnitude
 hex_magnitude d h = rw h refl
 
@@ -55,10 +55,10 @@ minus t n m = rw m refl
 
 pub number_made : (t : List ℕ) (z : ℤ) → IsNumber t z → number t ≡ Some (cut z)
 number_made t z (is_decimal d h) =
-    plain d (capped (value_from 10 0 d)) (not_minus d (both (not (length d == 0)) (list_all is_ascii_digit d) h).1) (decimal_magnitude d h)
-number_made t z (is_hex d h) = plain (48 ∷ 120 ∷ d) (capped (value_from 16 0 d)) refl (hex_magnitude d h)
-number_made t z (is_minus d h) = minus d (capped (value_from 10 0 d)) (decimal_magnitude d h) ∙ ap Some (neg_capped (value_from 10 0 d))
-number_made t z (is_minus_hex d h) = minus (48 ∷ 120 ∷ d) (capped (value_from 16 0 d)) (hex_magnitude d h) ∙ ap Some (neg_capped (value_from 16 0 d))
+    plain d (capped_value (value_from 10 0 d)) (not_minus d (both (not (length d == 0)) (list_all is_ascii_digit d) h).1) (decimal_magnitude d h)
+number_made t z (is_hex d h) = plain (48 ∷ 120 ∷ d) (capped_value (value_from 16 0 d)) refl (hex_magnitude d h)
+number_made t z (is_minus d h) = minus d (capped_value (value_from 10 0 d)) (decimal_magnitude d h) ∙ ap Some (neg_capped (value_from 10 0 d))
+number_made t z (is_minus_hex d h) = minus (48 ∷ 120 ∷ d) (capped_value (value_from 16 0 d)) (hex_magnitude d h) ∙ ap Some (neg_capped (value_from 16 0 d))
 
 no_and : (b : Bool) → (b && false) ≡ false
 no_and true = refl
@@ -80,15 +80,15 @@ below (negsuc l) high n g k =
 
 pub cut_within : (low high z : ℤ) → is_near low ≡ true → is_near high ≡ true → is_within low high (cut z) ≡ is_within low high z
 cut_within low high (pos n) l h = elim (cases_lt n 4294967296) [
-  | inl g ↦ let e : capped n ≡ n = omega arith in ap (λ k. is_within low high (pos k)) e
+  | inl g ↦ let e : capped_value n ≡ n = omega arith in ap (λ k. is_within low high (pos k)) e
   | inr g ↦
-      let e : capped n ≡ 4294967296 = omega arith in
+      let e : capped_value n ≡ 4294967296 = omega arith in
       ap (λ k. is_within low high (pos k)) e ∙ (above low high 4294967296 (omega arith) h ∙ sym (above low high n g h))
 ]
 cut_within low high (negsuc n) l h = elim (cases_lt (n + 1) 4294967296) [
-  | inl g ↦ let e : capped (n + 1) ≡ suc n = omega arith in ap (λ k. is_within low high (neg_ℤ (pos k))) e
+  | inl g ↦ let e : capped_value (n + 1) ≡ suc n = omega arith in ap (λ k. is_within low high (neg_ℤ (pos k))) e
   | inr g ↦
-      let e : capped (n + 1) ≡ 4294967296 = omega arith in
+      let e : capped_value (n + 1) ≡ 4294967296 = omega arith in
       ap (λ k. is_within low high (neg_ℤ (pos k))) e ∙ (below low high 4294967295 (omega arith) l ∙ sym (below low high n (omega arith) l))
 ]
 
@@ -102,8 +102,8 @@ some_is false x y h = cc
 
 -- the digits of a magnitude
 abbrev Digits : List ℕ → ℕ → Type 0
-Digits t n = ((all_some is_ascii_digit t ≡ true) × (capped (value_from 10 0 t) ≡ n))
-    ⊎ ((d : List ℕ) × (t ≡ 48 ∷ 120 ∷ d) × (all_some is_ascii_hexdigit d ≡ true) × (capped (value_from 16 0 d) ≡ n))
+Digits t n = ((all_some is_ascii_digit t ≡ true) × (capped_value (value_from 10 0 t) ≡ n))
+    ⊎ ((d : List ℕ) × (t ≡ 48 ∷ 120 ∷ d) × (all_some is_ascii_hexdigit d ≡ true) × (capped_value (value_from 16 0 d) ≡ n))
 
 prefix_is : (t : List ℕ) → is_hexadecimal t ≡ true → t ≡ 48 ∷ 120 ∷ drop 2 t
 prefix_is [] e = cc
@@ -113,12 +113,12 @@ prefix_is (a ∷ b ∷ d) e = let w = both (a == 48) (b == 120) e in ap (λ x. x
 digits_of : (t : List ℕ) (n : ℕ) → magnitude t ≡ Some n → Digits t n
 unfolding magnitude
 digits_of t n h =
-    let hex : Option ℕ = cond (all_some is_ascii_hexdigit (drop 2 t)) (Some (capped (value_from 16 0 (drop 2 t)))) None in
-    let dec : Option ℕ = cond (all_some is_ascii_digit t) (Some (capped (value_from 10 0 t))) None in
+    let hex : Option ℕ = cond (all_some is_ascii_hexdigit (drop 2 t)) (Some (capped_value (value_from 16 0 (drop 2 t)))) None in
+    let dec : Option ℕ = cond (all_some is_ascii_digit t) (Some (capped_value (value_from 10 0 t))) None in
     let P : Bool → Type 0 = λ v. is_hexadecimal t ≡ v → cond v hex dec ≡ Some n → Digits t n in
     elim (is_hexadecimal t) as P [
-      | true ↦ λ e g. let s = some_is (all_some is_ascii_hexdigit (drop 2 t)) (capped (value_from 16 0 (drop 2 t))) n g in inr (drop 2 t, prefix_is t e, s.0, s.1)
-      | false ↦ λ e g. inl (some_is (all_some is_ascii_digit t) (capped (value_from 10 0 t)) n g)
+      | true ↦ λ e g. let s = some_is (all_some is_ascii_hexdigit (drop 2 t)) (capped_value (value_from 16 0 (drop 2 t))) n g in inr (drop 2 t, prefix_is t e, s.0, s.1)
+      | false ↦ λ e g. inl (some_is (all_some is_ascii_digit t) (capped_value (value_from 10 0 t)) n g)
     ] refl h
 
 plain_read : (t : List ℕ) (n : ℕ) → Digits t n → Reads t (pos n)
@@ -133,12 +133,12 @@ minus_read t n (inr s) = (
   ap (λ k. neg_ℤ (pos k)) (sym s.3) ∙ neg_capped (value_from 16 0 s.0),
 )
 
-signed_is : (b : Bool) (o : Option ℕ) (w : ℤ) → signed b o ≡ Some w → (n : ℕ) × (o ≡ Some n) × (w ≡ cond b (neg_ℤ (pos n)) (pos n))
+signed_is : (b : Bool) (o : Option ℕ) (w : ℤ) → signed_number b o ≡ Some w → (n : ℕ) × (o ≡ Some n) × (w ≡ cond b (neg_ℤ (pos n)) (pos n))
 signed_is b None w h = cc
 signed_is true (Some n) w h = (n, refl, cc)
 signed_is false (Some n) w h = (n, refl, cc)
 
-negative_read : (t : List ℕ) (w : ℤ) → (slice_index t 0 == 45) ≡ true → signed true (magnitude (drop 1 t)) ≡ Some w → Reads t w
+negative_read : (t : List ℕ) (w : ℤ) → (slice_index t 0 == 45) ≡ true → signed_number true (magnitude (drop 1 t)) ≡ Some w → Reads t w
 negative_read [] w e g = cc
 negative_read (a ∷ d) w e g =
     let s = signed_is true (magnitude d) w g in
@@ -147,7 +147,7 @@ negative_read (a ∷ d) w e g =
 pub number_read : (t : List ℕ) (w : ℤ) → number t ≡ Some w → Reads t w
 unfolding number
 number_read t w h =
-    let P : Bool → Type 0 = λ v. (slice_index t 0 == 45) ≡ v → cond v (signed true (magnitude (drop 1 t))) (signed false (magnitude t)) ≡ Some w → Reads t w in
+    let P : Bool → Type 0 = λ v. (slice_index t 0 == 45) ≡ v → cond v (signed_number true (magnitude (drop 1 t))) (signed_number false (magnitude t)) ≡ Some w → Reads t w in
     elim (slice_index t 0 == 45) as P [
       | true ↦ λ e g. negative_read t w e g
       | false ↦ λ e g. let s = signed_is false (magnitude t) w g in subst (λ (x : ℤ). Reads t x) (sym s.2) (plain_read t s.0 (digits_of t s.0 s.1))

@@ -5,13 +5,13 @@ use Rattle.sloth_base.specs.declared.refusal.Part.TheVariants.{Src}
 use Rattle.sloth_base.specs.declared.refusal.Code.{Code}
 use Rattle.sloth_base.specs.declared.refusal.Code.TheVariants as code
 use Rattle.sloth_base.specs.declared.refusal.Refusal.{Refusal}
-use Rattle.sloth_refusal.specs.Search.{Somewhere}
-use Rattle.sloth_refusal.specs.Cases.{CaseOf}
+use Rattle.least_fault.specs.Search.{Somewhere}
+use Rattle.least_fault.specs.Cases.{CaseOf}
 use Rattle.asm_lines.specs.declared.operands.Operand.{Operand}
 use Rattle.asm_lines.specs.declared.operands.Operand.TheVariants as o
 use Rattle.asm_lines.specs.declared.source_line.SourceLine.{SourceLine}
 use Rattle.asm_lines.specs.declared.source_line.SourceLine.TheVariants.{Empty, Shapeless, Unknown, Statement}
-use Rattle.asm_lines.specs.Table.{takes, is_outer, opens, closes}
+use Rattle.asm_lines.specs.Table.{is_operand_count, is_outer, is_body_start, is_body_end}
 use Rattle.asm_lines.specs.Lines.{lines}
 use Rattle.asm_lines.specs.SourceLines.{source_line}
 
@@ -48,7 +48,7 @@ is_a2 inside _ = false
 
 -- A3: wrong number or form of operands
 abbrev pub is_a3 : SourceLine → Bool
-is_a3 (Statement m os) = not (takes m (length os)) || list_any is_wrong os
+is_a3 (Statement m os) = not (is_operand_count m (length os)) || list_any is_wrong os
 is_a3 _ = false
 
 -- the operands of a `data` with more bytes than its number says
@@ -63,7 +63,7 @@ is_a4 _ = false
 
 -- What follows a line is inside a body. A statement opens or closes a body by its word alone, whatever its operands are.
 abbrev pub after_line : Bool → SourceLine → Bool
-after_line inside (Statement m os) = opens m || (inside && not (closes m))
+after_line inside (Statement m os) = is_body_start m || (inside && not (is_body_end m))
 after_line inside _ = inside
 
 -- r is a fault of a line of this number

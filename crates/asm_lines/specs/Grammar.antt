@@ -6,10 +6,10 @@ use Rattle.asm_lines.specs.declared.operands.Operand.TheVariants.{Direct}
 use Rattle.sloth_base.specs.ImageRange.{continues_word}
 use Rattle.asm_lines.specs.declared.source_line.SourceLine.{SourceLine}
 use Rattle.asm_lines.specs.declared.source_line.SourceLine.TheVariants.{Shapeless}
-use Rattle.text_pieces.specs.Bytes.{is_name, has}
+use Rattle.text_pieces.specs.Bytes.{is_name, is_byte_of}
 use Rattle.asm_lines.specs.Bytes.{is_blank, is_shown, is_letter}
 use Rattle.asm_lines.specs.SourceLines.{has_empty}
-use Rattle.text_pieces.specs.Digits.{value_from, capped}
+use Rattle.text_pieces.specs.Digits.{value_from, capped_value}
 use Rattle.asm_lines.specs.Numbers.{number, all_some}
 use Rattle.std.specs.Char.{is_ascii_digit, is_ascii_hexdigit}
 use Rattle.asm_lines.specs.Registers.{register}
@@ -51,13 +51,13 @@ pub data IsPlace (in_frame : Bool) : List ℕ → Operand → Type 0 where
 
 -- x is what remains of a line: a `#` (35) starts a comment, and the blanks at both ends do not count
 pub data IsRemains : List ℕ → List ℕ → Type 0 where
-  is_whole : (c x : List ℕ) → has 35 c ≡ false → IsTrimmed c x → IsRemains c x
-  is_commented : (c comment x : List ℕ) → has 35 c ≡ false → IsTrimmed c x → IsRemains (c ++ 35 ∷ comment) x
+  is_whole : (c x : List ℕ) → is_byte_of 35 c ≡ false → IsTrimmed c x → IsRemains c x
+  is_commented : (c comment x : List ℕ) → is_byte_of 35 c ≡ false → IsTrimmed c x → IsRemains (c ++ 35 ∷ comment) x
 
 -- operands separated by `,` (44), with blanks allowed round each
 pub data IsOperands : List ℕ → List (List ℕ) → Type 0 where
-  is_last : (part t : List ℕ) → has 44 part ≡ false → IsTrimmed part t → IsOperands part (t ∷ [])
-  is_more : (part t rest : List ℕ) (ts : List (List ℕ)) → has 44 part ≡ false → IsTrimmed part t → IsOperands rest ts → IsOperands (part ++ 44 ∷ rest) (t ∷ ts)
+  is_last : (part t : List ℕ) → is_byte_of 44 part ≡ false → IsTrimmed part t → IsOperands part (t ∷ [])
+  is_more : (part t rest : List ℕ) (ts : List (List ℕ)) → is_byte_of 44 part ≡ false → IsTrimmed part t → IsOperands rest ts → IsOperands (part ++ 44 ∷ rest) (t ∷ ts)
 
 -- behind the word nothing, or at least one blank and operands that are not empty
 pub data IsTail : List ℕ → List (List ℕ) → Type 0 where
@@ -87,8 +87,8 @@ pub data IsNumber : List ℕ → ℤ → Type 0 where
 
 -- a number as the reader keeps it: no further from 0 than 4,294,967,296
 abbrev pub cut : ℤ → ℤ
-cut (pos n) = pos (capped n)
-cut (negsuc n) = neg_ℤ (pos (capped (n + 1)))
+cut (pos n) = pos (capped_value n)
+cut (negsuc n) = neg_ℤ (pos (capped_value (n + 1)))
 
 -- ranges that end within 4,294,967,295 of 0
 abbrev pub is_near : ℤ → Bool

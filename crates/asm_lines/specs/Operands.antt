@@ -10,7 +10,7 @@ use Rattle.asm_lines.specs.declared.operands.Small.{Small}
 use Rattle.asm_lines.specs.declared.operands.Small.TheVariants.{NoNumber, TooFar, Is}
 use Rattle.asm_lines.specs.declared.table.Form.{Form}
 use Rattle.asm_lines.specs.declared.table.Form.TheVariants as form
-use Rattle.text_pieces.specs.Bytes.{is_name, has}
+use Rattle.text_pieces.specs.Bytes.{is_name, is_byte_of}
 use Rattle.asm_lines.specs.Bytes.{trim}
 use Rattle.asm_lines.specs.Numbers.{number, is_within}
 use Rattle.asm_lines.specs.Registers.{register}
@@ -56,8 +56,8 @@ direct_at name TooFar = Outside
 direct_at name (Is k) = Direct name k
 
 -- `NAME`, `NAME+k`
-abbrev pub direct : List ℕ → Small → Operand
-direct name k = if is_name name then direct_at name k else Wrong
+abbrev pub direct_operand : List ℕ → Small → Operand
+direct_operand name k = if is_name name then direct_at name k else Wrong
 
 -- the operand of a symbol with an index and its mask
 abbrev pub indexed_at : List ℕ → Option ℕ → Small → Operand
@@ -67,26 +67,26 @@ indexed_at name (Some r) TooFar = Outside
 indexed_at name (Some r) (Is m) = Indexed name r m
 
 -- `NAME[reg & m]`
-abbrev pub indexed : List ℕ → Option ℕ → Small → Operand
-indexed name index mask = if is_name name then indexed_at name index mask else Wrong
+abbrev pub indexed_operand : List ℕ → Option ℕ → Small → Operand
+indexed_operand name index mask = if is_name name then indexed_at name index mask else Wrong
 
 -- a name, and what stands in its brackets: `reg & m`, or for the frame a number
 unfoldable pub in_brackets : Bool → List ℕ → List ℕ → Operand
 in_brackets in_frame name t =
-    if has 38 t then indexed name (register (trim (before 38 t))) (small_of (number (trim (behind 38 t))))
+    if is_byte_of 38 t then indexed_operand name (register (trim (before 38 t))) (small_of (number (trim (behind 38 t))))
     else if in_frame && bytes_eq name (codes "frame") then frame_operand (small_of (number t))
     else Wrong
 
 -- a name, and what stands behind its `[`; a `]` ends it
-unfoldable pub bracketed : Bool → List ℕ → List ℕ → Operand
-bracketed in_frame name t = if slice_index t (length t - 1) == 93 then in_brackets in_frame name (trim (take (length t - 1) t)) else Wrong
+unfoldable pub bracketed_operand : Bool → List ℕ → List ℕ → Operand
+bracketed_operand in_frame name t = if slice_index t (length t - 1) == 93 then in_brackets in_frame name (trim (take (length t - 1) t)) else Wrong
 
 -- a place in a symbol, or in the frame
 unfoldable pub place : Bool → List ℕ → Operand
 place in_frame t =
-    if has 91 t then bracketed in_frame (before 91 t) (behind 91 t)
-    else if has 43 t then direct (trim (before 43 t)) (small_of (number (trim (behind 43 t))))
-    else direct t (Is 0)
+    if is_byte_of 91 t then bracketed_operand in_frame (before 91 t) (behind 91 t)
+    else if is_byte_of 43 t then direct_operand (trim (before 43 t)) (small_of (number (trim (behind 43 t))))
+    else direct_operand t (Is 0)
 
 -- pairs of hexadecimal digits
 abbrev pub bytes_operand : Result (List ℕ) FromHexError → Operand

@@ -2,8 +2,8 @@
 ghost use Rattle.std.specs.Prelude.{◌≡◌, ◌<◌, ◌≤◌, ◌^◌, ℕ, ℤ, pos, ◌==◌, slice_index, length, IfSome, IsTrue};
 ghost use Rattle.std.specs.List.{list_all};
 ghost use Rattle.std.specs.Char.{is_ascii_digit, is_ascii_hexdigit};
-ghost use Rattle.text_pieces.specs.Digits.{digit_value, value_from, capped};
-ghost use Rattle.asm_lines.specs.Numbers.{is_hexadecimal, magnitude, signed, number, is_within};
+ghost use Rattle.text_pieces.specs.Digits.{digit_value, value_from, capped_value};
+ghost use Rattle.asm_lines.specs.Numbers.{is_hexadecimal, magnitude, signed_number, number, is_within};
 
 use text_pieces::bytes::after;
 use text_pieces::numerals::value;
@@ -48,7 +48,7 @@ fn magnitude(text: &[u8]) -> Option<u64>
 
 fn signed(is_negative: bool, magnitude: Option<u64>) -> Option<i64>
     requires { IfSome magnitude (λ n. n ≤ 4294967296) }
-    ensures { result ≡ signed is_negative magnitude }
+    ensures { result ≡ signed_number is_negative magnitude }
 {
     let Some(magnitude) = magnitude else {
         return None;

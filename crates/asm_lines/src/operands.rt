@@ -1,6 +1,6 @@
 //! Operands by their forms.
 ghost use Rattle.std.specs.Prelude.{◌≡◌, ◌==◌, IfOk};
-ghost use Rattle.asm_lines.specs.Operands.{small_of, register_operand, number_operand, frame_operand, name_operand, direct, indexed, in_brackets, bracketed, place, bytes_operand, read_operand};
+ghost use Rattle.asm_lines.specs.Operands.{small_of, register_operand, number_operand, frame_operand, name_operand, direct_operand, indexed_operand, in_brackets, bracketed_operand, place, bytes_operand, read_operand};
 ghost use Rattle.hex.specs.Hex.{decode_of};
 
 use crate::bytes::trim;
@@ -103,7 +103,7 @@ fn name_operand(alloc: Global, text: &[u8]) -> Result<Operand, NoMemory>
 }
 
 fn direct(alloc: Global, name: &[u8], offset: Small) -> Result<Operand, NoMemory>
-    ensures { IfOk result (λ o. o ≡ direct name.now offset) }
+    ensures { IfOk result (λ o. o ≡ direct_operand name.now offset) }
 {
     if !is_name(name) {
         return Ok(Operand::Wrong);
@@ -119,7 +119,7 @@ fn direct(alloc: Global, name: &[u8], offset: Small) -> Result<Operand, NoMemory
 }
 
 fn indexed(alloc: Global, name: &[u8], index: Option<Reg>, mask: Small) -> Result<Operand, NoMemory>
-    ensures { IfOk result (λ o. o ≡ indexed name.now index mask) }
+    ensures { IfOk result (λ o. o ≡ indexed_operand name.now index mask) }
 {
     if !is_name(name) {
         return Ok(Operand::Wrong);
@@ -159,9 +159,9 @@ fn in_brackets(
 }
 
 // `NAME[..]`
-#[tactic(auto, unfolding(crate::specs::Operands::bracketed))]
+#[tactic(auto, unfolding(crate::specs::Operands::bracketed_operand))]
 fn bracketed(alloc: Global, in_frame: bool, name: &[u8], rest: &[u8]) -> Result<Operand, NoMemory>
-    ensures { IfOk result (λ o. o ≡ bracketed in_frame name.now rest.now) }
+    ensures { IfOk result (λ o. o ≡ bracketed_operand in_frame name.now rest.now) }
 {
     if rest.is_empty() || rest[rest.len() - 1] != b']' {
         return Ok(Operand::Wrong);

@@ -1,6 +1,6 @@
 //! Reads task source.
 ghost use Rattle.std.specs.Prelude.{◌≡◌, ◌<◌, ◌≤◌, ◌+◌, length, map, IfOk, IfErr, OnOk};
-ghost use Rattle.sloth_refusal.specs.Order.{ErrorIs, NoFault};
+ghost use Rattle.least_fault.specs.Order.{ErrorIs, NoFault};
 ghost use Rattle.text_pieces.specs.Names.{now};
 ghost use Rattle.asm_lines.specs.Lines.{without_returns};
 ghost use Rattle.asm_lines.specs.SourceLines.{source_line};

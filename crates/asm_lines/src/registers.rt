@@ -1,6 +1,6 @@
 //! Names of registers.
 ghost use Rattle.std.specs.Prelude.{◌≡◌, ◌<◌, IfSome, ◌==◌};
-ghost use Rattle.asm_lines.specs.Registers.{lettered, small_number, register};
+ghost use Rattle.asm_lines.specs.Registers.{lettered_register, small_number, register};
 
 use sloth_base::numbers::Reg;
 use text_pieces::bytes::{after, same};
@@ -23,7 +23,7 @@ fn small_number(text: &[u8]) -> Option<u8>
 // The register of a letter and a number.
 fn lettered(letter: u8, n: u8) -> Option<Reg>
     requires { n < 100 }
-    ensures { result ≡ lettered letter n }
+    ensures { result ≡ lettered_register letter n }
 {
     match letter {
         b'x' if n == 0 || (n >= 5 && n <= 29) => Some(Reg(n)),

@@ -1,7 +1,7 @@
 //! The statements of task source: their words, and the forms of their operands.
 ghost use Rattle.std.specs.Prelude.{◌≡◌};
 ghost use Rattle.std.specs.Str.{bytes_eq};
-ghost use Rattle.asm_lines.specs.Table.{alu_of, imm_of, shift_of, load_of, store_of, branch_of, plain_of, mnemonic_of, object_operands, service_takes, takes, place_form, form_of, is_outer, opens, closes};
+ghost use Rattle.asm_lines.specs.Table.{alu_of, imm_of, shift_of, load_of, store_of, branch_of, plain_of, mnemonic_of, object_operands, service_takes, is_operand_count, place_form, form_of, is_outer, is_body_start, is_body_end};
 
 use sloth_base::app::{AluKind, BranchKind, ImmKind, Width};
 use sloth_base::service::{ObjectKind, Service, service_named};
@@ -248,7 +248,7 @@ fn service_takes(service: Service, count: usize) -> bool
 
 /// Whether a statement may have so many operands.
 pub fn takes(mnemonic: Mnemonic, count: usize) -> bool
-    ensures { result ≡ takes mnemonic count }
+    ensures { result ≡ is_operand_count mnemonic count }
 {
     match mnemonic {
         Mnemonic::Data => count == 2 || count == 3,
@@ -315,7 +315,7 @@ pub fn is_outer(mnemonic: Mnemonic) -> bool
 
 /// Whether the statement opens a body.
 pub fn opens(mnemonic: Mnemonic) -> bool
-    ensures { result ≡ opens mnemonic }
+    ensures { result ≡ is_body_start mnemonic }
 {
     match mnemonic {
         Mnemonic::Task | Mnemonic::Func => true,
@@ -325,7 +325,7 @@ pub fn opens(mnemonic: Mnemonic) -> bool
 
 /// Whether the statement closes a body.
 pub fn closes(mnemonic: Mnemonic) -> bool
-    ensures { result ≡ closes mnemonic }
+    ensures { result ≡ is_body_end mnemonic }
 {
     match mnemonic {
         Mnemonic::End => true,

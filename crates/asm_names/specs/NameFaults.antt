@@ -6,13 +6,13 @@ use Rattle.sloth_base.specs.declared.config.Config.{Config}
 use Rattle.sloth_base.specs.declared.config.TaskDecl.{TaskDecl}
 use Rattle.sloth_base.specs.declared.refusal.Code.TheVariants.{A5, A6, A7}
 use Rattle.sloth_base.specs.declared.refusal.Refusal.{Refusal}
-use Rattle.sloth_refusal.specs.Search.{Somewhere}
+use Rattle.least_fault.specs.Search.{Somewhere}
 use Rattle.asm_lines.specs.declared.operands.Operand.{Operand}
 use Rattle.asm_lines.specs.declared.source_line.SourceLine.{SourceLine}
 use Rattle.asm_lines.specs.declared.source_line.SourceLine.TheVariants.{Statement}
 use Rattle.asm_lines.specs.Faults.{Case}
 use Rattle.asm_names.specs.declared.scope.Scope.{Scope}
-use Rattle.asm_names.specs.Said.{is_data, is_task, is_label, is_item, name_of, number_of, written, symbol_names, label_names}
+use Rattle.asm_names.specs.Said.{is_data, is_task, is_label, is_item, name_of, number_of, written_name, symbol_names, label_names}
 use Rattle.asm_names.specs.Bodies.{BodyText, bodies_of, function_names, task_body_names}
 use Rattle.asm_names.specs.Scopes.{scope_of, has_unknown}
 
@@ -27,7 +27,7 @@ writes_long (Some name) = is_long name
 
 -- one of the names that a line writes is long
 abbrev pub has_long : SourceLine → Bool
-has_long (Statement m os) = list_any (λ x. writes_long (written x)) os
+has_long (Statement m os) = list_any (λ x. writes_long (written_name x)) os
 has_long _ = false
 
 -- ---- symbols

@@ -8,7 +8,7 @@ use Rattle.asm_lines.specs.declared.source_line.SourceLine.{SourceLine}
 use Rattle.asm_lines.specs.declared.source_line.SourceLine.TheVariants.{Statement}
 use Rattle.asm_lines.specs.declared.table.Mnemonic.{Mnemonic}
 use Rattle.asm_lines.specs.declared.table.Mnemonic.TheVariants as m
-use Rattle.asm_lines.specs.Table.{opens, closes}
+use Rattle.asm_lines.specs.Table.{is_body_start, is_body_end}
 
 -- a line that declares a symbol
 abbrev pub is_data : SourceLine → Bool
@@ -17,12 +17,12 @@ is_data _ = false
 
 -- the header of a body
 abbrev pub opens_body : SourceLine → Bool
-opens_body (Statement m os) = opens m
+opens_body (Statement m os) = is_body_start m
 opens_body _ = false
 
 -- the end of a body
 abbrev pub closes_body : SourceLine → Bool
-closes_body (Statement m os) = closes m
+closes_body (Statement m os) = is_body_end m
 closes_body _ = false
 
 -- the header of a task's body
@@ -36,17 +36,17 @@ is_label (Statement m.Label os) = true
 is_label _ = false
 
 -- a statement of a body that does something
-abbrev pub does : Mnemonic → Bool
-does m.Data = false
-does m.Task = false
-does m.Func = false
-does m.End = false
-does m.Label = false
-does _ = true
+abbrev pub is_action : Mnemonic → Bool
+is_action m.Data = false
+is_action m.Task = false
+is_action m.Func = false
+is_action m.End = false
+is_action m.Label = false
+is_action _ = true
 
 -- a line of a body that does something
 abbrev pub is_item : SourceLine → Bool
-is_item (Statement m os) = does m
+is_item (Statement m os) = is_action m
 is_item _ = false
 
 -- the name in front of these operands
@@ -60,13 +60,13 @@ name_of (Statement m os) = first_name os
 name_of _ = []
 
 -- a number from 0 to 65,535
-abbrev pub small : ℤ → ℕ
-small (pos n) = if nat_le n 65535 then n else 0
-small (negsuc n) = 0
+abbrev pub small_value : ℤ → ℕ
+small_value (pos n) = if nat_le n 65535 then n else 0
+small_value (negsuc n) = 0
 
 -- the number behind the name, 0 where there is none
 abbrev pub second_number : List Operand → ℕ
-second_number (name ∷ o.Number n ∷ os) = small n
+second_number (name ∷ o.Number n ∷ os) = small_value n
 second_number _ = 0
 
 -- the size of a symbol, or the words of a frame
@@ -75,11 +75,11 @@ number_of (Statement m os) = second_number os
 number_of _ = 0
 
 -- the name that an operand writes
-abbrev pub written : Operand → Option (List ℕ)
-written (o.Name name) = Some name
-written (o.Direct name offset) = Some name
-written (o.Indexed name index mask) = Some name
-written _ = None
+abbrev pub written_name : Operand → Option (List ℕ)
+written_name (o.Name name) = Some name
+written_name (o.Direct name offset) = Some name
+written_name (o.Indexed name index mask) = Some name
+written_name _ = None
 
 -- the names of the symbols that these lines declare, in order
 abbrev pub symbol_names : List SourceLine → List (List ℕ)

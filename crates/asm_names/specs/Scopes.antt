@@ -17,7 +17,7 @@ use Rattle.asm_lines.specs.declared.source_line.SourceLine.TheVariants.{Statemen
 use Rattle.asm_names.specs.declared.scope.Kind.{Kind}
 use Rattle.asm_names.specs.declared.scope.Kind.TheVariants as kind
 use Rattle.asm_names.specs.declared.scope.Scope.{Scope}
-use Rattle.asm_names.specs.Said.{written, symbol_names}
+use Rattle.asm_names.specs.Said.{written_name, symbol_names}
 use Rattle.asm_names.specs.Bodies.{BodyText, function_names, called_names}
 
 -- the names of the tasks, in the order of their numbers
@@ -71,24 +71,24 @@ abbrev pub is_scheduler : Scope → List ℕ → Bool
 is_scheduler scope name = scope.has_scheduler && bytes_eq name (codes "RES_SCHEDULER")
 
 -- an object of the kind has the name
-abbrev pub exists : Scope → List (List ℕ) → Kind → List ℕ → Bool
-exists scope labels kind.Declared name = true
-exists scope labels kind.Symbol name = list_any (bytes_eq name) scope.symbols
-exists scope labels kind.Label name = list_any (bytes_eq name) labels
-exists scope labels kind.Function name = list_any (bytes_eq name) scope.called
-exists scope labels kind.Task name = list_any (bytes_eq name) scope.tasks
-exists scope labels kind.Resource name = is_scheduler scope name || list_any (bytes_eq name) scope.resources
-exists scope labels kind.Event name = list_any (bytes_eq name) scope.events
+abbrev pub is_named : Scope → List (List ℕ) → Kind → List ℕ → Bool
+is_named scope labels kind.Declared name = true
+is_named scope labels kind.Symbol name = list_any (bytes_eq name) scope.symbols
+is_named scope labels kind.Label name = list_any (bytes_eq name) labels
+is_named scope labels kind.Function name = list_any (bytes_eq name) scope.called
+is_named scope labels kind.Task name = list_any (bytes_eq name) scope.tasks
+is_named scope labels kind.Resource name = is_scheduler scope name || list_any (bytes_eq name) scope.resources
+is_named scope labels kind.Event name = list_any (bytes_eq name) scope.events
 
 -- a name is written here that no object of the wanted kind has
 abbrev pub is_lacking : Scope → List (List ℕ) → Kind → Option (List ℕ) → Bool
 is_lacking scope labels kind None = false
-is_lacking scope labels kind (Some name) = not (exists scope labels kind name)
+is_lacking scope labels kind (Some name) = not (is_named scope labels kind name)
 
 -- one of these operands, from place i on, names no object of the wanted kind
 abbrev pub any_unknown : Scope → List (List ℕ) → Mnemonic → ℕ → List Operand → Bool
 any_unknown scope labels m i [] = false
-any_unknown scope labels m i (x ∷ os) = is_lacking scope labels (kind_of m i) (written x) || any_unknown scope labels m (i + 1) os
+any_unknown scope labels m i (x ∷ os) = is_lacking scope labels (kind_of m i) (written_name x) || any_unknown scope labels m (i + 1) os
 
 -- the line uses a name that no object of the wanted kind has
 abbrev pub has_unknown : Scope → List (List ℕ) → SourceLine → Bool

@@ -1,7 +1,7 @@
 //! A5 to A7 of bodies.
 ghost use Rattle.std.specs.Prelude.{◌≡◌, ◌+◌, ◌<◌, ◌≤◌, ◌^◌, take, length, ◌⊎◌, All, IfOk, bytes_eq};
 ghost use Rattle.std.specs.List.{list_any};
-ghost use Rattle.sloth_refusal.specs.Search.{Finds, Somewhere};
+ghost use Rattle.least_fault.specs.Search.{Finds, Somewhere};
 ghost use Rattle.asm_names.specs.Said.{label_names};
 ghost use Rattle.asm_names.specs.Bodies.{BodyText, function_names};
 ghost use Rattle.asm_names.specs.NameFaults.{is_too_great, is_strange, is_misnamed, is_beyond, HeaderFault, InnerFault, LineFault, BodyFault};
@@ -11,9 +11,9 @@ use crate::limits::{count_item, count_items, count_label, has_long};
 use crate::said::{is_item, is_label, is_task, label_names, name_of, number_of};
 use crate::scope::Scope;
 use asm_lines::SourceLine;
+use least_fault::{merge, when};
 use sloth_base::memory::NoMemory;
 use sloth_base::refusal::{Code, Part, Refusal};
-use sloth_refusal::{merge, when};
 use std::alloc::Global;
 use text_pieces::names::Names;
 

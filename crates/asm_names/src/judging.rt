@@ -2,7 +2,7 @@
 ghost use Rattle.std.specs.Prelude.{◌≡◌, ◌<◌, ◌^◌, not, length, IfOk, bytes_eq};
 ghost use Rattle.std.specs.List.{list_any};
 ghost use Rattle.sloth_base.specs.declared.config.TaskDecl.{TaskDecl};
-ghost use Rattle.sloth_refusal.specs.Search.{Finds};
+ghost use Rattle.least_fault.specs.Search.{Finds};
 ghost use Rattle.asm_names.specs.Bodies.{bodies_of};
 ghost use Rattle.asm_names.specs.Scopes.{scope_of};
 ghost use Rattle.asm_names.specs.NameFaults.{lacks_body, NameFault};
@@ -13,10 +13,10 @@ use crate::data_faults::data_faults;
 use crate::scope::Scope;
 use crate::tables::task_body_names;
 use asm_lines::SourceLine;
+use least_fault::{merge, when};
 use sloth_base::config::{Config, TaskDecl};
 use sloth_base::memory::NoMemory;
 use sloth_base::refusal::{Code, Part, Refusal};
-use sloth_refusal::{merge, when};
 use std::alloc::Global;
 use text_pieces::names::Names;
 

@@ -1,7 +1,7 @@
 //! Long names, and what counts against a limit.
 ghost use Rattle.std.specs.Prelude.{◌≡◌, ◌≤◌, if◌then◌else◌, count_by, length};
 ghost use Rattle.std.specs.List.{list_any};
-ghost use Rattle.asm_names.specs.Said.{is_data, is_label, is_item, written};
+ghost use Rattle.asm_names.specs.Said.{is_data, is_label, is_item, written_name};
 ghost use Rattle.asm_names.specs.NameFaults.{writes_long, has_long, bytes_of};
 
 use crate::said::{is_data, is_item, is_label, number_of, written};
@@ -11,7 +11,7 @@ use asm_lines::{Operand, SourceLine};
 const NAME_BYTES: usize = 64;
 
 fn writes_long(operand: &Operand) -> bool
-    ensures { result ≡ writes_long (written operand.now) }
+    ensures { result ≡ writes_long (written_name operand.now) }
 {
     match written(operand) {
         Some(name) => name.len() > NAME_BYTES,
@@ -20,7 +20,7 @@ fn writes_long(operand: &Operand) -> bool
 }
 
 fn any_long(operands: &[Operand]) -> bool
-    ensures { result ≡ list_any (λ x. writes_long (written x)) operands.now }
+    ensures { result ≡ list_any (λ x. writes_long (written_name x)) operands.now }
 {
     operands.iter().any(|operand| writes_long(operand))
 }

@@ -1,6 +1,6 @@
 //! What a line of task source says: what it declares, and the names that it writes.
 ghost use Rattle.std.specs.Prelude.{◌≡◌, ◌≤◌, IfOk, option_copied};
-ghost use Rattle.asm_names.specs.Said.{is_data, opens_body, closes_body, is_task, is_label, does, is_item, first_name, name_of, small, second_number, number_of, written, symbol_names, label_names};
+ghost use Rattle.asm_names.specs.Said.{is_data, opens_body, closes_body, is_task, is_label, is_action, is_item, first_name, name_of, small_value, second_number, number_of, written_name, symbol_names, label_names};
 
 use asm_lines::{Mnemonic, Operand, SourceLine, closes, opens};
 use sloth_base::memory::NoMemory;
@@ -67,7 +67,7 @@ pub fn is_label(line: &SourceLine) -> bool
 }
 
 fn does(mnemonic: Mnemonic) -> bool
-    ensures { result ≡ does mnemonic }
+    ensures { result ≡ is_action mnemonic }
 {
     match mnemonic {
         Mnemonic::Data | Mnemonic::Task | Mnemonic::Func | Mnemonic::End | Mnemonic::Label => {
@@ -108,7 +108,7 @@ pub fn name_of(line: &SourceLine) -> &[u8]
 }
 
 fn small(number: i64) -> u32
-    ensures value { result ≡ small number }
+    ensures value { result ≡ small_value number }
     ensures bound { result ≤ 65535 }
 {
     if number >= 0 && number <= 65_535 {
@@ -141,7 +141,7 @@ pub fn number_of(line: &SourceLine) -> u32
 
 /// The name that an operand writes.
 pub fn written(operand: &Operand) -> Option<&[u8]>
-    ensures { option_copied result ≡ written operand.now }
+    ensures { option_copied result ≡ written_name operand.now }
 {
     match operand {
         Operand::Name(name) => Some(name.bytes()),

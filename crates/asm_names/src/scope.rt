@@ -1,7 +1,7 @@
 //! What a name may stand for where it is used.
 ghost use Rattle.std.specs.Prelude.{◌≡◌, ◌==◌};
-ghost use Rattle.asm_names.specs.Scopes.{object_name, service_kind, kind_of, is_scheduler, exists, is_lacking, any_unknown, has_unknown};
-ghost use Rattle.asm_names.specs.Said.{written};
+ghost use Rattle.asm_names.specs.Scopes.{object_name, service_kind, kind_of, is_scheduler, is_named, is_lacking, any_unknown, has_unknown};
+ghost use Rattle.asm_names.specs.Said.{written_name};
 
 use crate::said::written;
 use asm_lines::{Mnemonic, Operand, SourceLine};
@@ -86,7 +86,7 @@ impl<'t> Scope<'t> {
     }
 
     fn exists(&self, labels: &Names, kind: Kind, name: &[u8]) -> bool
-        ensures { result ≡ exists self.now labels.now kind name.now }
+        ensures { result ≡ is_named self.now labels.now kind name.now }
     {
         match kind {
             Kind::Declared => true,
@@ -100,7 +100,7 @@ impl<'t> Scope<'t> {
     }
 
     fn is_lacking(&self, labels: &Names, kind: Kind, operand: &Operand) -> bool
-        ensures { result ≡ is_lacking self.now labels.now kind (written operand.now) }
+        ensures { result ≡ is_lacking self.now labels.now kind (written_name operand.now) }
     {
         match written(operand) {
             Some(name) => !self.exists(labels, kind, name),

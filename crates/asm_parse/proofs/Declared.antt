@@ -16,8 +16,8 @@ use Rattle.asm_lines.specs.declared.table.Mnemonic.{Mnemonic}
 use Rattle.asm_lines.specs.declared.table.Mnemonic.TheVariants as m
 use Rattle.asm_lines.specs.Faults.{is_long}
 use Rattle.asm_lines.specs.Numbers.{is_within}
-use Rattle.asm_lines.specs.Table.{takes, form_of, opens}
-use Rattle.asm_names.specs.Said.{is_data, opens_body, name_of, first_name, second_number, written}
+use Rattle.asm_lines.specs.Table.{is_operand_count, form_of, is_body_start}
+use Rattle.asm_names.specs.Said.{is_data, opens_body, name_of, first_name, second_number, written_name}
 use Rattle.asm_names.specs.NameFaults.{writes_long, has_long}
 use Rattle.asm_parse.specs.Apps.{third_bytes, bytes_with}
 use Rattle.asm_parse.proofs.Fit.{FitsBytes, Fits, AllFit}
@@ -53,7 +53,7 @@ data_or P f g (Statement m.Return os) = g (Statement m.Return os) refl
 data_or P f g (Statement (m.Serve s) os) = g (Statement (m.Serve s) os) refl
 
 -- a mnemonic that opens a body
-opening : (P : Mnemonic → Type 0) → P m.Task → P m.Func → (m : Mnemonic) → opens m ≡ true → P m
+opening : (P : Mnemonic → Type 0) → P m.Task → P m.Func → (m : Mnemonic) → is_body_start m ≡ true → P m
 opening P f g m.Data e = absurd (true≢false (sym e))
 opening P f g m.Task e = f
 opening P f g m.Func e = g
@@ -88,7 +88,7 @@ declares m os is_name some h s =
     some_of (λ os. AllFit m 0 os → has_long (Statement m os) ≡ false → IsName (first_name os))
     (λ a os h s.
     name_case (λ a. has_long (Statement m (a ∷ os)) ≡ false → IsName (first_name (a ∷ os)))
-    (λ n w s. record { word = w; short = ltb-false 64 (length n) (or_left (nat_lt 64 (length n)) (list_any (λ x. writes_long (written x)) os) s) })
+    (λ n w s. record { word = w; short = ltb-false 64 (length n) (or_left (nat_lt 64 (length n)) (list_any (λ x. writes_long (written_name x)) os) s) })
     a (subst (λ F. Fits F a) is_name h.0) s)
     os some h s
 
@@ -97,7 +97,7 @@ header_name Empty e h s = absurd (true≢false (sym e))
 header_name Shapeless e h s = absurd (true≢false (sym e))
 header_name Unknown e h s = absurd (true≢false (sym e))
 header_name (Statement k os) e h s =
-    opening (λ m. takes m (length os) ≡ true → AllFit m 0 os → IsName (first_name os))
+    opening (λ m. is_operand_count m (length os) ≡ true → AllFit m 0 os → IsName (first_name os))
     (λ t h. declares m.Task os refl (either_some (length os) 1 2 (omega arith) (omega arith) t) h s)
     (λ t h. declares m.Func os refl (either_some (length os) 1 2 (omega arith) (omega arith) t) h s)
     k e h.0 h.1

@@ -8,7 +8,7 @@ use Rattle.asm_lines.specs.declared.table.Form.TheVariants as form
 use Rattle.asm_lines.specs.declared.table.Mnemonic.{Mnemonic}
 use Rattle.asm_lines.specs.Numbers.{is_within}
 use Rattle.asm_lines.specs.Table.{form_of}
-use Rattle.app_rules.specs.AppRange.{IsRegister}
+use Rattle.code_rules.specs.AppRange.{IsRegister}
 
 -- a place in a symbol
 abbrev pub FitsPlace : Operand → Type 0

@@ -20,11 +20,11 @@ use Rattle.asm_lines.specs.declared.source_line.SourceLine.TheVariants.{Empty, S
 use Rattle.asm_lines.specs.declared.table.Mnemonic.TheVariants as m
 use Rattle.asm_names.specs.declared.scope.Kind.TheVariants as kind
 use Rattle.asm_names.specs.declared.scope.Scope.{Scope}
-use Rattle.asm_names.specs.Said.{is_item, is_label, name_of, label_names, written}
+use Rattle.asm_names.specs.Said.{is_item, is_label, name_of, label_names, written_name}
 use Rattle.asm_names.specs.Scopes.{is_lacking, any_unknown, has_unknown}
 use Rattle.asm_parse.specs.Operations.{op_of, resource_number, behind_first}
 use Rattle.asm_parse.specs.Apps.{item_by, count_op, items_from, hold_by, holds_of, label_holds, label_of, labels_from}
-use Rattle.app_rules.specs.AppRange.{IsOp, IsResource}
+use Rattle.code_rules.specs.AppRange.{IsOp, IsResource}
 use Rattle.asm_parse.proofs.Known.{IsKnown}
 use Rattle.asm_parse.proofs.Operands.{Names, some_of, all_names}
 use Rattle.asm_parse.proofs.Read.{IsRead}
@@ -141,13 +141,13 @@ module _ (config : Config) (app : App) (f : Func) (scope : Scope) (labels : List
   holds_range : (os : List Operand) → AllByRecursion (Names scope labels kind.Resource) os → All (IsResource config) (holds_of scope os)
   holds_range [] h = All-nil (IsResource config)
   holds_range (x ∷ os) h =
-      subst (λ x. All (IsResource config) (hold_by scope (written x) ++ holds_of scope os)) (sym h.0.1)
+      subst (λ x. All (IsResource config) (hold_by scope (written_name x) ++ holds_of scope os)) (sym h.0.1)
       (All-cons (IsResource config) (resource_number scope h.0.0) (holds_of scope os) (known.resource h.0.0 h.0.2) (holds_range os h.1))
 
   label_range : (os : List Operand) → IsSound (Statement m.Label os) → All (IsResource config) (holds_of scope (behind_first os))
   label_range os h = some_of (λ os. IsSound (Statement m.Label os) → All (IsResource config) (holds_of scope (behind_first os)))
       (λ a os h. holds_range os (all_names scope labels kind.Resource m.Label 1 os (λ j l. (refl, not_first j l)) h.0.1.1
-      (or_right (is_lacking scope labels kind.Declared (written a)) (any_unknown scope labels m.Label 1 os) h.1)))
+      (or_right (is_lacking scope labels kind.Declared (written_name a)) (any_unknown scope labels m.Label 1 os) h.1)))
       os (leb-true 1 (length os) h.0.0) h
 
   -- a label before an item, or behind the last of so many

@@ -5,17 +5,17 @@ use Rattle.std.proofs.lemmas.List.Elements.{All-nil, All-cons}
 use Rattle.std.specs.List.{list_any}
 use Rattle.sloth_base.specs.declared.refusal.Code.TheVariants as code
 use Rattle.sloth_base.specs.declared.refusal.Part.TheVariants.{Src}
-use Rattle.sloth_refusal.specs.Order.{NoFault}
-use Rattle.sloth_refusal.proofs.Nowhere.{nowhere, case_false}
+use Rattle.least_fault.specs.Order.{NoFault}
+use Rattle.least_fault.proofs.Nowhere.{nowhere, case_false}
 use Rattle.text_pieces.proofs.Tests.{or_left, or_right}
 use Rattle.asm_lines.specs.declared.source_line.SourceLine.{SourceLine}
 use Rattle.asm_lines.specs.declared.source_line.SourceLine.TheVariants.{Empty, Shapeless}
 use Rattle.asm_lines.specs.declared.table.Mnemonic.{Mnemonic}
 use Rattle.asm_lines.specs.Bytes.{word_of, trim}
 use Rattle.asm_lines.specs.Lines.{lines, operands_of}
-use Rattle.asm_lines.specs.Table.{takes, mnemonic_of}
+use Rattle.asm_lines.specs.Table.{is_operand_count, mnemonic_of}
 use Rattle.asm_lines.specs.Operands.{before}
-use Rattle.asm_lines.specs.SourceLines.{read_operands, known, statement_of, source_line, has_empty, begins_statement}
+use Rattle.asm_lines.specs.SourceLines.{read_operands, known_statement, statement_of, source_line, has_empty, begins_statement}
 use Rattle.asm_lines.specs.Faults.{is_wrong, is_outside, is_long, is_a3, is_a4, FaultAt, source_lines, TextFault}
 use Rattle.asm_parse.proofs.Operands.{was_true}
 use Rattle.asm_parse.proofs.Read.{IsRead}
@@ -26,13 +26,13 @@ use Rattle.asm_parse.proofs.KindsRead.{HasKindIf, has_kind}
 abbrev IsSound : SourceLine → Type 0
 IsSound l = is_a3 l ≡ false → is_a4 l ≡ false → IsRead l
 
-known_sound : (o : Option Mnemonic) (ts : List (List ℕ)) → HasKindIf o → IsSound (known o ts)
+known_sound : (o : Option Mnemonic) (ts : List (List ℕ)) → HasKindIf o → IsSound (known_statement o ts)
 known_sound None ts h w x = tt
 known_sound (Some m) ts h w x =
     let os = read_operands m 0 ts in
-    let t = was_true (takes m (length os)) (or_left (not (takes m (length os))) (list_any is_wrong os) w) in (
+    let t = was_true (is_operand_count m (length os)) (or_left (not (is_operand_count m (length os))) (list_any is_wrong os) w) in (
       t,
-      all_fit m 0 ts (or_right (not (takes m (length os))) (list_any is_wrong os) w) (or_left (list_any is_outside os) (is_long os) x),
+      all_fit m 0 ts (or_right (not (is_operand_count m (length os))) (list_any is_wrong os) w) (or_left (list_any is_outside os) (is_long os) x),
       h,
       or_right (list_any is_outside os) (is_long os) x,
     )
@@ -46,8 +46,8 @@ unfolding statement_of
 statement_sound t =
     let rest = drop (length (word_of t)) t in
     let ts = operands_of rest in
-    choose (begins_statement t rest) (if has_empty ts then Shapeless else known (mnemonic_of (word_of t)) ts) Shapeless
-    (choose (has_empty ts) Shapeless (known (mnemonic_of (word_of t)) ts) (λ w x. tt) (known_sound (mnemonic_of (word_of t)) ts (has_kind (word_of t))))
+    choose (begins_statement t rest) (if has_empty ts then Shapeless else known_statement (mnemonic_of (word_of t)) ts) Shapeless
+    (choose (has_empty ts) Shapeless (known_statement (mnemonic_of (word_of t)) ts) (λ w x. tt) (known_sound (mnemonic_of (word_of t)) ts (has_kind (word_of t))))
     (λ w x. tt)
 
 line_sound : (l : List ℕ) → IsSound (source_line l)

@@ -9,10 +9,10 @@ use Rattle.sloth_base.specs.declared.config.Config.{Config}
 use Rattle.asm_lines.specs.declared.operands.Operand.{Operand}
 use Rattle.asm_names.specs.declared.scope.Kind.TheVariants as kind
 use Rattle.asm_names.specs.declared.scope.Scope.{Scope}
-use Rattle.asm_names.specs.Scopes.{exists}
+use Rattle.asm_names.specs.Scopes.{is_named}
 use Rattle.asm_parse.specs.Operations.{mask_named}
 use Rattle.asm_parse.specs.Operations.{mask_of as mask_read}
-use Rattle.app_rules.specs.AppRange.{IsMask, mask_of, no_event}
+use Rattle.code_rules.specs.AppRange.{IsMask, mask_of, no_event}
 use Rattle.asm_parse.proofs.Known.{IsEvent}
 use Rattle.asm_parse.proofs.Operands.{Names}
 
@@ -24,7 +24,7 @@ bit_or-assoc a b c = same_from_bits (bit_or (bit_or a b) c) (bit_or a (bit_or b 
     let s = bit_at_or b c i in
     omega (arith, p, q, r, s))
 
-module _ (config : Config) (scope : Scope) (labels : List (List ℕ)) (known : (name : List ℕ) → exists scope labels kind.Event name ≡ true → IsEvent config scope name) where
+module _ (config : Config) (scope : Scope) (labels : List (List ℕ)) (known : (name : List ℕ) → is_named scope labels kind.Event name ≡ true → IsEvent config scope name) where
   -- the events of these operands
   record Events (os : List Operand) : Type 0 where
     places : List ℕ

@@ -2,7 +2,7 @@
 use Rattle.std.specs.Prelude.{ℤ}
 use Rattle.asm_lines.specs.declared.table.Mnemonic.{Mnemonic}
 use Rattle.asm_lines.specs.declared.table.Mnemonic.TheVariants as m
-use Rattle.app_rules.specs.AppRange.{IsShort, IsAmount, IsNumberOf, IsStored}
+use Rattle.code_rules.specs.AppRange.{IsShort, IsAmount, IsNumberOf, IsStored}
 
 -- a mnemonic with a width or kind of its group
 abbrev pub HasKind : Mnemonic → Type 0

@@ -11,9 +11,9 @@ use Rattle.asm_lines.specs.Numbers.{is_within}
 use Rattle.asm_lines.specs.Table.{form_of}
 use Rattle.asm_names.specs.declared.scope.Kind.{Kind}
 use Rattle.asm_names.specs.declared.scope.Scope.{Scope}
-use Rattle.asm_names.specs.Said.{written}
-use Rattle.asm_names.specs.Scopes.{exists, is_lacking, any_unknown, kind_of}
-use Rattle.app_rules.specs.AppRange.{IsRegister}
+use Rattle.asm_names.specs.Said.{written_name}
+use Rattle.asm_names.specs.Scopes.{is_named, is_lacking, any_unknown, kind_of}
+use Rattle.code_rules.specs.AppRange.{IsRegister}
 use Rattle.sloth_base.specs.ImageRange.{IsWord}
 use Rattle.asm_parse.proofs.Fit.{Fits, FitsRegister, FitsName, AllFit}
 
@@ -99,10 +99,10 @@ does_exist false rest e = cc
 module _ (scope : Scope) (labels : List (List ℕ)) (K : Kind) where
   -- an operand writes the name of an object of the kind
   abbrev pub Names : Operand → Type 0
-  Names x = (name : List ℕ) × (x ≡ Name name) × (exists scope labels K name ≡ true)
+  Names x = (name : List ℕ) × (x ≡ Name name) × (is_named scope labels K name ≡ true)
 
-  names : (x : Operand) → FitsName x → is_lacking scope labels K (written x) ≡ false → Names x
-  names x h = name_case (λ x. is_lacking scope labels K (written x) ≡ false → Names x) (λ n w e. (n, refl, was_true (exists scope labels K n) e)) x h
+  names : (x : Operand) → FitsName x → is_lacking scope labels K (written_name x) ≡ false → Names x
+  names x h = name_case (λ x. is_lacking scope labels K (written_name x) ≡ false → Names x) (λ n w e. (n, refl, was_true (is_named scope labels K n) e)) x h
 
   -- Each operand from place i on does, where all of these places are to.
   pub all_names : (m : Mnemonic) (i : ℕ) (os : List Operand) → ((j : ℕ) → i ≤ j → (form_of m j ≡ form.Name) × (kind_of m j ≡ K)) → AllFit m i os
@@ -110,8 +110,8 @@ module _ (scope : Scope) (labels : List (List ℕ)) (K : Kind) where
   all_names m i [] f h u = tt
   all_names m i (x ∷ os) f h u =
       let k = kind_of m i in
-      let lacks = is_lacking scope labels k (written x) in (
+      let lacks = is_lacking scope labels k (written_name x) in (
         names x (subst (λ F. Fits F x) (f i (omega arith)).0 h.0)
-            (subst (λ k. is_lacking scope labels k (written x) ≡ false) (f i (omega arith)).1 (or_left lacks (any_unknown scope labels m (i + 1) os) u)),
+            (subst (λ k. is_lacking scope labels k (written_name x) ≡ false) (f i (omega arith)).1 (or_left lacks (any_unknown scope labels m (i + 1) os) u)),
         all_names m (i + 1) os (λ j l. f j (omega (arith, l))) h.1 (or_right lacks (any_unknown scope labels m (i + 1) os) u),
       )

@@ -22,13 +22,13 @@ use Rattle.asm_lines.specs.declared.operands.Operand.TheVariants.{Wrong, Outside
 use Rattle.asm_lines.specs.declared.table.Mnemonic.{Mnemonic}
 use Rattle.asm_lines.specs.declared.table.Mnemonic.TheVariants as m
 use Rattle.asm_lines.specs.Numbers.{is_within}
-use Rattle.asm_lines.specs.Table.{takes}
+use Rattle.asm_lines.specs.Table.{is_operand_count}
 use Rattle.asm_names.specs.declared.scope.Kind.TheVariants as kind
 use Rattle.asm_names.specs.declared.scope.Scope.{Scope}
-use Rattle.asm_names.specs.Said.{does}
-use Rattle.asm_names.specs.Scopes.{exists, any_unknown}
+use Rattle.asm_names.specs.Said.{is_action}
+use Rattle.asm_names.specs.Scopes.{is_named, any_unknown}
 use Rattle.asm_parse.specs.Operations.{as_word, as_short, number_of, op_by}
-use Rattle.app_rules.specs.AppRange.{IsRegister, IsShort, IsAmount, IsOp}
+use Rattle.code_rules.specs.AppRange.{IsRegister, IsShort, IsAmount, IsOp}
 use Rattle.asm_parse.proofs.Fit.{FitsPlace, FitsWord, AllFit}
 use Rattle.asm_parse.proofs.MnemonicKinds.{HasKind}
 use Rattle.asm_parse.proofs.Known.{IsKnown}
@@ -133,7 +133,7 @@ module _ (config : Config) (app : App) (f : Func) (scope : Scope) (labels : List
   store_place : (w : Width) (s : ℕ) (p : Operand) → HasKind (m.Store w) → IsRegister s → FitsPlace p → any_unknown scope labels (m.Store w) 0 (Register s ∷ p ∷ []) ≡ false
       → Ranged (m.Store w) (Register s ∷ p ∷ [])
   store_place w s (Direct name k) d r h u =
-      (op.Store w s (number_of scope.symbols name) k, by w, (d, r, known.symbol name (does_exist (exists scope labels kind.Symbol name) false u), h.1))
+      (op.Store w s (number_of scope.symbols name) k, by w, (d, r, known.symbol name (does_exist (is_named scope labels kind.Symbol name) false u), h.1))
     where
       by : (w : Width) → op_by config scope labels (m.Store w) (Register s ∷ Direct name k ∷ []) ≡ Some (op.Store w s (number_of scope.symbols name) k)
       by width.Byte = refl
@@ -142,7 +142,7 @@ module _ (config : Config) (app : App) (f : Func) (scope : Scope) (labels : List
       by width.ByteU = refl
       by width.HalfU = refl
   store_place w s (Indexed name i k) d r h u =
-      (op.StoreAt w s (number_of scope.symbols name) i k, by w, (d, r, known.symbol name (does_exist (exists scope labels kind.Symbol name) false u), h.1, h.2))
+      (op.StoreAt w s (number_of scope.symbols name) i k, by w, (d, r, known.symbol name (does_exist (is_named scope labels kind.Symbol name) false u), h.1, h.2))
     where
       by : (w : Width) → op_by config scope labels (m.Store w) (Register s ∷ Indexed name i k ∷ []) ≡ Some (op.StoreAt w s (number_of scope.symbols name) i k)
       by width.Byte = refl
@@ -184,7 +184,7 @@ module _ (config : Config) (app : App) (f : Func) (scope : Scope) (labels : List
   load_place : (w : Width) (s : ℕ) (p : Operand) → IsRegister s → FitsPlace p → any_unknown scope labels (m.Load w) 0 (Register s ∷ p ∷ []) ≡ false
       → Ranged (m.Load w) (Register s ∷ p ∷ [])
   load_place w s (Direct name k) r h u =
-      (op.Load w s (number_of scope.symbols name) k, by w, (r, known.symbol name (does_exist (exists scope labels kind.Symbol name) false u), h.1))
+      (op.Load w s (number_of scope.symbols name) k, by w, (r, known.symbol name (does_exist (is_named scope labels kind.Symbol name) false u), h.1))
     where
       by : (w : Width) → op_by config scope labels (m.Load w) (Register s ∷ Direct name k ∷ []) ≡ Some (op.Load w s (number_of scope.symbols name) k)
       by width.Byte = refl
@@ -193,7 +193,7 @@ module _ (config : Config) (app : App) (f : Func) (scope : Scope) (labels : List
       by width.ByteU = refl
       by width.HalfU = refl
   load_place w s (Indexed name i k) r h u =
-      (op.LoadAt w s (number_of scope.symbols name) i k, by w, (r, known.symbol name (does_exist (exists scope labels kind.Symbol name) false u), h.1, h.2))
+      (op.LoadAt w s (number_of scope.symbols name) i k, by w, (r, known.symbol name (does_exist (is_named scope labels kind.Symbol name) false u), h.1, h.2))
     where
       by : (w : Width) → op_by config scope labels (m.Load w) (Register s ∷ Indexed name i k ∷ []) ≡ Some (op.LoadAt w s (number_of scope.symbols name) i k)
       by width.Byte = refl
@@ -239,58 +239,58 @@ module _ (config : Config) (app : App) (f : Func) (scope : Scope) (labels : List
       register_case (λ a. any_unknown scope labels (m.Branch k) 0 (a ∷ b ∷ c ∷ []) ≡ false → Ranged (m.Branch k) (a ∷ b ∷ c ∷ []))
       (λ d x. register_case (λ b. any_unknown scope labels (m.Branch k) 0 (Register d ∷ b ∷ c ∷ []) ≡ false → Ranged (m.Branch k) (Register d ∷ b ∷ c ∷ []))
       (λ r y. name_case (λ c. any_unknown scope labels (m.Branch k) 0 (Register d ∷ Register r ∷ c ∷ []) ≡ false → Ranged (m.Branch k) (Register d ∷ Register r ∷ c ∷ []))
-      (λ n w v. (op.Branch k d r (number_of labels n), refl, (x, y, known.label n (does_exist (exists scope labels kind.Label n) false v)))) c h.1.1.0)
+      (λ n w v. (op.Branch k d r (number_of labels n), refl, (x, y, known.label n (does_exist (is_named scope labels kind.Label n) false v)))) c h.1.1.0)
       b h.1.0)
       a h.0
 
   jump_range : (a : Operand) → Ranges m.Jump (a ∷ [])
   jump_range a h =
       name_case (λ a. any_unknown scope labels m.Jump 0 (a ∷ []) ≡ false → Ranged m.Jump (a ∷ []))
-      (λ n w v. (op.Jump (number_of labels n), refl, known.label n (does_exist (exists scope labels kind.Label n) false v))) a h.0
+      (λ n w v. (op.Jump (number_of labels n), refl, known.label n (does_exist (is_named scope labels kind.Label n) false v))) a h.0
 
   invoke_range : (a : Operand) → Ranges m.Invoke (a ∷ [])
   invoke_range a h =
       name_case (λ a. any_unknown scope labels m.Invoke 0 (a ∷ []) ≡ false → Ranged m.Invoke (a ∷ []))
-      (λ n w v. (op.Invoke (number_of scope.functions n), refl, known.function n (does_exist (exists scope labels kind.Function n) false v))) a h.0
+      (λ n w v. (op.Invoke (number_of scope.functions n), refl, known.function n (does_exist (is_named scope labels kind.Function n) false v))) a h.0
 
   -- ---- services
 
   not_first : (j : ℕ) → 1 ≤ j → (if j == 0 then kind.Task else kind.Event) ≡ kind.Event
   not_first j h = ⊎_elim (λ t. absurd (let e = t.1 in omega (arith, e, h))) (λ t. rw t.0 refl) (eqb_tells j 0)
 
-  serve_range : (s : Service) (os : List Operand) → takes (m.Serve s) (length os) ≡ true → Ranges (m.Serve s) os
+  serve_range : (s : Service) (os : List Operand) → is_operand_count (m.Serve s) (length os) ≡ true → Ranges (m.Serve s) os
   serve_range service.TerminateTask os t h u = (_, refl, (refl, refl))
   serve_range service.Schedule os t h u = (_, refl, (refl, refl))
   serve_range service.GetTaskID os t h u = (_, refl, (refl, refl))
   serve_range service.ActivateTask os t h u =
       one_of (Ranges (m.Serve service.ActivateTask))
       (λ a h. name_case (λ a. any_unknown scope labels (m.Serve service.ActivateTask) 0 (a ∷ []) ≡ false → Ranged (m.Serve service.ActivateTask) (a ∷ []))
-      (λ n w v. (_, refl, (known.task n (does_exist (exists scope labels kind.Task n) false v), refl))) a h.0)
+      (λ n w v. (_, refl, (known.task n (does_exist (is_named scope labels kind.Task n) false v), refl))) a h.0)
       os (eqb-true (length os) 1 t) h u
   serve_range service.ChainTask os t h u =
       one_of (Ranges (m.Serve service.ChainTask))
       (λ a h. name_case (λ a. any_unknown scope labels (m.Serve service.ChainTask) 0 (a ∷ []) ≡ false → Ranged (m.Serve service.ChainTask) (a ∷ []))
-      (λ n w v. (_, refl, (known.task n (does_exist (exists scope labels kind.Task n) false v), refl))) a h.0)
+      (λ n w v. (_, refl, (known.task n (does_exist (is_named scope labels kind.Task n) false v), refl))) a h.0)
       os (eqb-true (length os) 1 t) h u
   serve_range service.GetTaskState os t h u =
       one_of (Ranges (m.Serve service.GetTaskState))
       (λ a h. name_case (λ a. any_unknown scope labels (m.Serve service.GetTaskState) 0 (a ∷ []) ≡ false → Ranged (m.Serve service.GetTaskState) (a ∷ []))
-      (λ n w v. (_, refl, (known.task n (does_exist (exists scope labels kind.Task n) false v), refl))) a h.0)
+      (λ n w v. (_, refl, (known.task n (does_exist (is_named scope labels kind.Task n) false v), refl))) a h.0)
       os (eqb-true (length os) 1 t) h u
   serve_range service.GetEvent os t h u =
       one_of (Ranges (m.Serve service.GetEvent))
       (λ a h. name_case (λ a. any_unknown scope labels (m.Serve service.GetEvent) 0 (a ∷ []) ≡ false → Ranged (m.Serve service.GetEvent) (a ∷ []))
-      (λ n w v. (_, refl, (known.task n (does_exist (exists scope labels kind.Task n) false v), refl))) a h.0)
+      (λ n w v. (_, refl, (known.task n (does_exist (is_named scope labels kind.Task n) false v), refl))) a h.0)
       os (eqb-true (length os) 1 t) h u
   serve_range service.GetResource os t h u =
       one_of (Ranges (m.Serve service.GetResource))
       (λ a h. name_case (λ a. any_unknown scope labels (m.Serve service.GetResource) 0 (a ∷ []) ≡ false → Ranged (m.Serve service.GetResource) (a ∷ []))
-      (λ n w v. (_, refl, (known.resource n (does_exist (exists scope labels kind.Resource n) false v), refl))) a h.0)
+      (λ n w v. (_, refl, (known.resource n (does_exist (is_named scope labels kind.Resource n) false v), refl))) a h.0)
       os (eqb-true (length os) 1 t) h u
   serve_range service.ReleaseResource os t h u =
       one_of (Ranges (m.Serve service.ReleaseResource))
       (λ a h. name_case (λ a. any_unknown scope labels (m.Serve service.ReleaseResource) 0 (a ∷ []) ≡ false → Ranged (m.Serve service.ReleaseResource) (a ∷ []))
-      (λ n w v. (_, refl, (known.resource n (does_exist (exists scope labels kind.Resource n) false v), refl))) a h.0)
+      (λ n w v. (_, refl, (known.resource n (does_exist (is_named scope labels kind.Resource n) false v), refl))) a h.0)
       os (eqb-true (length os) 1 t) h u
   serve_range service.SetEvent os t h u =
       some_two_of (Ranges (m.Serve service.SetEvent))
@@ -300,9 +300,9 @@ module _ (config : Config) (app : App) (f : Func) (scope : Scope) (labels : List
         _,
         refl,
         (
-          known.task n (does_exist (exists scope labels kind.Task n) rest v),
+          known.task n (does_exist (is_named scope labels kind.Task n) rest v),
           is_mask config scope labels known.event b os
-              (all_names scope labels kind.Event (m.Serve service.SetEvent) 1 (b ∷ os) (λ j l. (refl, not_first j l)) h.1 (or_right (not (exists scope labels kind.Task n)) rest v)),
+              (all_names scope labels kind.Event (m.Serve service.SetEvent) 1 (b ∷ os) (λ j l. (refl, not_first j l)) h.1 (or_right (not (is_named scope labels kind.Task n)) rest v)),
         ),
       ))
       a h.0)
@@ -318,7 +318,7 @@ module _ (config : Config) (app : App) (f : Func) (scope : Scope) (labels : List
 
   -- ---- all
 
-  pub ranged : (m : Mnemonic) (os : List Operand) → does m ≡ true → takes m (length os) ≡ true → HasKind m → Ranges m os
+  pub ranged : (m : Mnemonic) (os : List Operand) → is_action m ≡ true → is_operand_count m (length os) ≡ true → HasKind m → Ranges m os
   ranged m.Data os d t g = absurd (true≢false (sym d))
   ranged m.Task os d t g = absurd (true≢false (sym d))
   ranged m.Func os d t g = absurd (true≢false (sym d))

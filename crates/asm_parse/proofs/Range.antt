@@ -22,8 +22,8 @@ use Rattle.sloth_base.specs.declared.config.EventDecl.{EventDecl}
 use Rattle.sloth_base.specs.declared.config.TaskDecl.{TaskDecl}
 use Rattle.sloth_base.specs.declared.refusal.Code.TheVariants.{A7}
 use Rattle.sloth_base.specs.declared.refusal.Part.TheVariants.{Src}
-use Rattle.sloth_refusal.specs.Order.{NoFault}
-use Rattle.sloth_refusal.proofs.Nowhere.{nowhere, case_false}
+use Rattle.least_fault.specs.Order.{NoFault}
+use Rattle.least_fault.proofs.Nowhere.{nowhere, case_false}
 use Rattle.asm_lines.specs.declared.source_line.SourceLine.{SourceLine}
 use Rattle.asm_lines.specs.declared.source_line.SourceLine.TheVariants.{Empty}
 use Rattle.asm_lines.specs.Faults.{source_lines, TextFault}
@@ -33,9 +33,9 @@ use Rattle.asm_names.specs.Bodies.{BodyText, bodies_of, body_name, is_task_body,
 use Rattle.asm_names.specs.Scopes.{scope_of, task_names, event_names, is_scheduler}
 use Rattle.asm_names.specs.NameFaults.{has_long, items_in, lacks_body, BodyFault, NameFault}
 use Rattle.asm_parse.specs.Operations.{number_of as number_in, resource_number, mask_given, mask_at}
-use Rattle.asm_parse.specs.Apps.{func_of, symbol_of, task_of, app_of, labels_from}
+use Rattle.asm_parse.specs.Apps.{func_of, symbol_of, body_task, app_of, labels_from}
 use Rattle.asm_parse.specs.AppTexts.{AppText, SourceTextFault}
-use Rattle.app_rules.specs.AppRange.{IsResource, IsCallable, IsPlaced, IsBody, HasBodies, IsWithinLimits, AppInRange, no_event}
+use Rattle.code_rules.specs.AppRange.{IsResource, IsCallable, IsPlaced, IsBody, HasBodies, IsWithinLimits, AppInRange, no_event}
 use Rattle.asm_parse.proofs.BodiesRead.{IsReadBody, bodies_read, no_body, body_at, line_at, names_apart, few_bodies, few_words, short_name, known_at, short_at, labels_apart, few_items}
 use Rattle.asm_parse.proofs.Declared.{header_name, label_name}
 use Rattle.asm_parse.proofs.Growth.{map_map, Apart, same_place, sum_mapped}
@@ -116,7 +116,7 @@ module _ (config : Config) (ls : List SourceLine) (range : InRange config) (read
   length_tasks = length-map config.tasks (λ (t : TaskDecl). t.name)
 
   -- the task of a body has its name
-  task_some : (b : BodyText) (t : ℕ) → task_of scope b ≡ Some t → (t < length config.tasks) × (get_or (task_names config) t [] ≡ body_name b)
+  task_some : (b : BodyText) (t : ℕ) → body_task scope b ≡ Some t → (t < length config.tasks) × (get_or (task_names config) t [] ≡ body_name b)
   task_some b t e = by (is_task_body b) refl
     where
       found : position (bytes_eq (body_name b)) (task_names config) ≡ Some t → (t < length config.tasks) × (get_or (task_names config) t [] ≡ body_name b)
@@ -129,14 +129,14 @@ module _ (config : Config) (ls : List SourceLine) (range : InRange config) (read
           none_some : None ≡ Some t → ⊥
           none_some e = cc
 
-  of_body : (t f : ℕ) → IsBodyOf app t f → (f < length bodies) × (task_of scope (body_at bodies f) ≡ Some t)
+  of_body : (t f : ℕ) → IsBodyOf app t f → (f < length bodies) × (body_task scope (body_at bodies f) ≡ Some t)
   of_body t f h =
       let w = h.0 in
       let l = length_funcs in
       let inside : f < length bodies = omega (arith, w, l) in
       (inside, sym (ap (λ (g : Func). g.task) (function_is f inside)) ∙ h.1)
 
-  is_body : (t f : ℕ) → f < length bodies → task_of scope (body_at bodies f) ≡ Some t → IsBodyOf app t f
+  is_body : (t f : ℕ) → f < length bodies → body_task scope (body_at bodies f) ≡ Some t → IsBodyOf app t f
   is_body t f h e = let l = length_funcs in (omega (arith, h, l), ap (λ (g : Func). g.task) (function_is f h) ∙ e)
 
   -- what stands in the place of a task that is not there

@@ -10,7 +10,7 @@ use Rattle.std.specs.Str.{bytes_eq}
 use Rattle.std.proofs.lemmas.Bool.Decides.{eqb_tells, leb_tells}
 use Rattle.hex.specs.declared.error.FromHexError.{FromHexError}
 use Rattle.hex.specs.Hex.{decode_of}
-use Rattle.text_pieces.specs.Bytes.{is_name, has}
+use Rattle.text_pieces.specs.Bytes.{is_name, is_byte_of}
 use Rattle.text_pieces.proofs.Tests.{and_left, and_right, or_left, or_right}
 use Rattle.sloth_base.specs.ImageRange.{IsWord, begins_word, continues_word}
 use Rattle.asm_lines.specs.declared.operands.Operand.{Operand}
@@ -21,10 +21,10 @@ use Rattle.asm_lines.specs.declared.table.Form.{Form}
 use Rattle.asm_lines.specs.declared.table.Form.TheVariants as form
 use Rattle.asm_lines.specs.Bytes.{trim}
 use Rattle.asm_lines.specs.Numbers.{number, is_within}
-use Rattle.asm_lines.specs.Registers.{register, lettered, lettered_by, small_number}
-use Rattle.asm_lines.specs.Operands.{before, behind, small_of, register_operand, number_operand, name_operand, frame_operand, direct, indexed, in_brackets, bracketed, place, bytes_operand, read_operand}
+use Rattle.asm_lines.specs.Registers.{register, lettered_register, lettered_by, small_number}
+use Rattle.asm_lines.specs.Operands.{before, behind, small_of, register_operand, number_operand, name_operand, frame_operand, direct_operand, indexed_operand, in_brackets, bracketed_operand, place, bytes_operand, read_operand}
 use Rattle.asm_lines.specs.Faults.{is_wrong, is_outside}
-use Rattle.app_rules.specs.AppRange.{IsRegister}
+use Rattle.code_rules.specs.AppRange.{IsRegister}
 use Rattle.asm_parse.proofs.Fit.{FitsPlace, FitsWord, FitsRegister, FitsName, FitsBytes, Fits, AllFit}
 
 -- what is neither wrong nor outside has P
@@ -54,7 +54,7 @@ choose : (b : Bool) (x y : Option ℕ) → IsRegisterIf x → IsRegisterIf y →
 choose true x y p q = p
 choose false x y p q = q
 
-is_lettered : (l n : ℕ) → IsRegisterIf (lettered l n)
+is_lettered : (l n : ℕ) → IsRegisterIf (lettered_register l n)
 is_lettered l n =
     choose (l == 120) _ _ (if_x n)
     (choose (l == 116) _ _ (if_at_most 2 5 n _ (inl refl) (omega arith) (if_at_most 4 25 n None (inr (omega arith)) (omega arith) tt))
@@ -119,12 +119,12 @@ is_small None = tt
 is_small (Some (negsuc n)) = tt
 is_small (Some (pos n)) = ⊎_elim (λ t. rw t.0 t.1) (λ t. rw t.0 tt) (leb_tells n 65535)
 
-direct_sound : (t : List ℕ) (k : Small) → IsSmall k → Sound FitsPlace (direct t k)
+direct_sound : (t : List ℕ) (k : Small) → IsSmall k → Sound FitsPlace (direct_operand t k)
 direct_sound t NoNumber h = named FitsPlace t Wrong (λ w. wrong_sound FitsPlace)
 direct_sound t TooFar h = named FitsPlace t Outside (λ w. outside_sound FitsPlace)
 direct_sound t (Is k) h = named FitsPlace t (Direct t k) (λ w x y. (w, h))
 
-indexed_sound : (t : List ℕ) (r : Option ℕ) (k : Small) → IsRegisterIf r → IsSmall k → Sound FitsPlace (indexed t r k)
+indexed_sound : (t : List ℕ) (r : Option ℕ) (k : Small) → IsRegisterIf r → IsSmall k → Sound FitsPlace (indexed_operand t r k)
 indexed_sound t None k g h = named FitsPlace t Wrong (λ w. wrong_sound FitsPlace)
 indexed_sound t (Some r) NoNumber g h = named FitsPlace t Wrong (λ w. wrong_sound FitsPlace)
 indexed_sound t (Some r) TooFar g h = named FitsPlace t Outside (λ w. outside_sound FitsPlace)
@@ -158,7 +158,7 @@ fits_in false o h = h
 brackets_sound : (f : Bool) (name t : List ℕ) → Sound (FitsIn f) (in_brackets f name t)
 unfolding in_brackets
 brackets_sound f name t =
-    either (FitsIn f) (has 38 t) _ _
+    either (FitsIn f) (is_byte_of 38 t) _ _
     (fits_in f _ (indexed_sound name (register (trim (before 38 t))) (small_of (number (trim (behind 38 t)))) (is_register (trim (before 38 t))) (is_small (number (trim (behind 38 t))))))
     (by f)
   where
@@ -166,15 +166,15 @@ brackets_sound f name t =
     by true = either FitsWord (bytes_eq name (codes "frame")) (frame_operand (small_of (number t))) Wrong (frame_sound (small_of (number t)) (is_small (number t))) (wrong_sound FitsWord)
     by false = wrong_sound FitsPlace
 
-bracketed_sound : (f : Bool) (name t : List ℕ) → Sound (FitsIn f) (bracketed f name t)
-unfolding bracketed
+bracketed_sound : (f : Bool) (name t : List ℕ) → Sound (FitsIn f) (bracketed_operand f name t)
+unfolding bracketed_operand
 bracketed_sound f name t = either (FitsIn f) (slice_index t (length t - 1) == 93) _ Wrong (brackets_sound f name (trim (take (length t - 1) t))) (wrong_sound (FitsIn f))
 
 place_sound : (f : Bool) (t : List ℕ) → Sound (FitsIn f) (place f t)
 unfolding place
 place_sound f t =
-    either (FitsIn f) (has 91 t) _ _ (bracketed_sound f (before 91 t) (behind 91 t))
-    (either (FitsIn f) (has 43 t) _ _
+    either (FitsIn f) (is_byte_of 91 t) _ _ (bracketed_sound f (before 91 t) (behind 91 t))
+    (either (FitsIn f) (is_byte_of 43 t) _ _
     (fits_in f _ (direct_sound (trim (before 43 t)) (small_of (number (trim (behind 43 t)))) (is_small (number (trim (behind 43 t))))))
     (fits_in f _ (direct_sound t (Is 0) (omega arith))))
 

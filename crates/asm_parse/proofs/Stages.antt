@@ -4,7 +4,7 @@ use Rattle.sloth_base.specs.declared.config.Config.{Config}
 use Rattle.sloth_base.specs.declared.refusal.Refusal.{Refusal}
 use Rattle.sloth_base.specs.declared.refusal.BuildError.{BuildError}
 use Rattle.sloth_base.specs.declared.refusal.BuildError.TheVariants.{Refused, Memory}
-use Rattle.sloth_refusal.specs.Order.{NoFault, IsLeast, ErrorIs}
+use Rattle.least_fault.specs.Order.{NoFault, IsLeast, ErrorIs}
 use Rattle.asm_lines.specs.Faults.{source_lines, TextFault}
 use Rattle.asm_names.specs.NameFaults.{NameFault}
 use Rattle.asm_parse.specs.AppTexts.{SourceTextFault}

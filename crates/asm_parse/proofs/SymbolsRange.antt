@@ -11,9 +11,9 @@ use Rattle.sloth_base.specs.ImageRange.{IsName, AreNames}
 use Rattle.sloth_base.specs.declared.app.Symbol.{Symbol}
 use Rattle.sloth_base.specs.declared.refusal.Code.TheVariants.{A5, A6}
 use Rattle.sloth_base.specs.declared.refusal.Part.TheVariants.{Src}
-use Rattle.sloth_refusal.specs.Order.{NoFault}
-use Rattle.sloth_refusal.specs.Search.{Somewhere}
-use Rattle.sloth_refusal.proofs.Nowhere.{nowhere, case_false}
+use Rattle.least_fault.specs.Order.{NoFault}
+use Rattle.least_fault.specs.Search.{Somewhere}
+use Rattle.least_fault.proofs.Nowhere.{nowhere, case_false}
 use Rattle.asm_lines.specs.declared.source_line.SourceLine.{SourceLine}
 use Rattle.asm_lines.specs.declared.source_line.SourceLine.TheVariants.{Empty}
 use Rattle.asm_names.specs.Said.{is_data, name_of, number_of, symbol_names}

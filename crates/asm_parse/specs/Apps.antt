@@ -14,7 +14,7 @@ use Rattle.asm_lines.specs.declared.operands.Operand.TheVariants.{Bytes}
 use Rattle.asm_lines.specs.declared.source_line.SourceLine.{SourceLine}
 use Rattle.asm_lines.specs.declared.source_line.SourceLine.TheVariants.{Statement}
 use Rattle.asm_names.specs.declared.scope.Scope.{Scope}
-use Rattle.asm_names.specs.Said.{is_data, is_label, name_of, number_of, written, label_names}
+use Rattle.asm_names.specs.Said.{is_data, is_label, name_of, number_of, written_name, label_names}
 use Rattle.asm_names.specs.Bodies.{BodyText, bodies_of, body_name, is_task_body}
 use Rattle.asm_names.specs.Scopes.{scope_of}
 use Rattle.asm_parse.specs.Operations.{op_of, resource_number, behind_first}
@@ -48,7 +48,7 @@ hold_by scope (Some name) = resource_number scope name ∷ []
 -- the resources that these operands name, in order
 abbrev pub holds_of : Scope → List Operand → List ℕ
 holds_of scope [] = []
-holds_of scope (x ∷ os) = hold_by scope (written x) ++ holds_of scope os
+holds_of scope (x ∷ os) = hold_by scope (written_name x) ++ holds_of scope os
 
 -- the resources that a label says are held, in the order taken
 abbrev pub label_holds : Scope → SourceLine → List ℕ
@@ -66,15 +66,15 @@ labels_from config scope labels n items (l ∷ ls) =
     label_of scope n items l ++ labels_from config scope labels (n + 1) (items + count_op (op_of config scope labels l)) ls
 
 -- the task of a body
-abbrev pub task_of : Scope → BodyText → Option ℕ
-task_of scope body = if is_task_body body then position (bytes_eq (body_name body)) scope.tasks else None
+abbrev pub body_task : Scope → BodyText → Option ℕ
+body_task scope body = if is_task_body body then position (bytes_eq (body_name body)) scope.tasks else None
 
 -- the function of a body
 abbrev pub func_of : Config → Scope → BodyText → Func
 func_of config scope body = record {
   name = body_name body;
   line = body.line;
-  task = task_of scope body;
+  task = body_task scope body;
   frame_words = number_of body.header;
   items = items_from config scope (label_names body.lines) (body.line + 1) body.lines;
   labels = labels_from config scope (label_names body.lines) (body.line + 1) 0 body.lines;

@@ -22,7 +22,7 @@ use Rattle.asm_lines.specs.declared.source_line.SourceLine.{SourceLine}
 use Rattle.asm_lines.specs.declared.source_line.SourceLine.TheVariants.{Statement}
 use Rattle.asm_lines.specs.Numbers.{is_within}
 use Rattle.asm_names.specs.declared.scope.Scope.{Scope}
-use Rattle.asm_names.specs.Said.{first_name, written}
+use Rattle.asm_names.specs.Said.{first_name, written_name}
 use Rattle.asm_names.specs.Scopes.{is_scheduler}
 
 -- the word of a number from -2,147,483,648 to 4,294,967,295
@@ -59,7 +59,7 @@ mask_by config scope (Some name) = mask_at config (position (bytes_eq name) scop
 
 -- the mask of the event that an operand names
 abbrev pub mask_named : Config → Scope → Operand → ℕ
-mask_named config scope x = mask_by config scope (written x)
+mask_named config scope x = mask_by config scope (written_name x)
 
 -- the union of the masks of the events that these operands name
 abbrev pub mask_of : Config → Scope → List Operand → ℕ

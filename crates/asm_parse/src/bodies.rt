@@ -1,8 +1,8 @@
 //! The items and labels of a body.
 ghost use Rattle.std.specs.Prelude.{◌≡◌, ◌+◌, ◌++◌, ◌<◌, ◌^◌, length, IfOk, OnOk};
-ghost use Rattle.asm_names.specs.Said.{label_names, written};
+ghost use Rattle.asm_names.specs.Said.{label_names, written_name};
 ghost use Rattle.asm_parse.specs.Numbered.{IsNumbered};
-ghost use Rattle.asm_parse.specs.Apps.{item_by, count_op, items_from, hold_by, holds_of, label_holds, label_of, labels_from, task_of, func_of};
+ghost use Rattle.asm_parse.specs.Apps.{item_by, count_op, items_from, hold_by, holds_of, label_holds, label_of, labels_from, body_task, func_of};
 
 use crate::operations::op_of;
 use crate::services::{behind_first, resource_number};
@@ -53,7 +53,7 @@ fn items_of(
 // One resource more, if the operand names one.
 fn add_hold(holds: &mut Vec<ResId>, scope: &Scope, operand: &Operand) -> Result<(), NoMemory>
     requires { IsNumbered scope.now }
-    ensures { OnOk result (holds.new.items ≡ holds.old.items ++ hold_by scope.now (written operand.now)) }
+    ensures { OnOk result (holds.new.items ≡ holds.old.items ++ hold_by scope.now (written_name operand.now)) }
 {
     match written(operand) {
         Some(name) => push(holds, ResId(resource_number(scope, name))),
@@ -146,7 +146,7 @@ fn labels_of(
 
 fn task_of(scope: &Scope, body: &Body) -> Option<TaskId>
     requires { IsNumbered scope.now }
-    ensures { result ≡ task_of scope.now body.now }
+    ensures { result ≡ body_task scope.now body.now }
 {
     if !body.is_task() {
         return None;

@@ -3,9 +3,9 @@ ghost use Rattle.std.specs.Prelude.{◌≡◌, ◌<◌, ◌^◌, length, List, �
 ghost use Rattle.sloth_base.specs.ConfigRange.{InRange};
 ghost use Rattle.sloth_base.specs.declared.config.Config.{Config};
 ghost use Rattle.sloth_base.specs.declared.app.App.{App};
-ghost use Rattle.sloth_refusal.specs.Order.{ErrorIs, NoFault, IsLeast};
+ghost use Rattle.least_fault.specs.Order.{ErrorIs, NoFault, IsLeast};
 ghost use Rattle.asm_names.specs.NameFaults.{NameFault};
-ghost use Rattle.app_rules.specs.AppRange.{AppInRange};
+ghost use Rattle.code_rules.specs.AppRange.{AppInRange};
 ghost use Rattle.asm_parse.specs.Apps.{app_of};
 ghost use Rattle.asm_parse.specs.AppTexts.{AppText, SourceTextFault};
 

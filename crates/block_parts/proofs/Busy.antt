@@ -7,12 +7,12 @@ use Rattle.sloth_base.specs.Arrive.{arrive}
 use Rattle.sloth_region.specs.Layout.{active, controller_base}
 use Rattle.rv32_instr.specs.declared.InstrKind.{InstrKind}
 use Rattle.rv32_instr.specs.Ram.{word_at}
-use Rattle.rv32_routine.specs.Owes.{AreOf, Owes, Pending, Enabled}
-use Rattle.rv32_routine.proofs.Arrivals.{has, byte_after}
-use Rattle.rv32_routine.specs.Place.{at}
-use Rattle.rv32_routine.proofs.Leave.{behind}
-use Rattle.rv32_routine.proofs.Spread.{spread, spread_from}
-use Rattle.rv32_routine.proofs.Whole.{masked}
+use Rattle.masked_code.specs.Owes.{AreOf, Owes, Pending, Enabled}
+use Rattle.masked_code.proofs.Arrivals.{has, byte_after}
+use Rattle.masked_code.specs.Place.{at}
+use Rattle.masked_code.proofs.Leave.{behind}
+use Rattle.masked_code.proofs.Spread.{spread, spread_from}
+use Rattle.masked_code.proofs.Routines.{masked}
 use Rattle.block_parts.specs.Looks.{LooksSuspended}
 use Rattle.block_parts.specs.Pieces.{busy}
 

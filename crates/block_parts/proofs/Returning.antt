@@ -4,10 +4,10 @@ use Rattle.std.specs.Prelude.{true, set, slice_index, ◌≢◌}
 use Rattle.std.proofs.lemmas.List.{get_or-set_other}
 use Rattle.sloth_base.specs.Machine.{Core, State}
 use Rattle.rv32_instr.specs.declared.InstrKind.{InstrKind}
-use Rattle.rv32_routine.specs.Place.{at}
-use Rattle.rv32_routine.specs.Owes.{Owes}
-use Rattle.rv32_routine.proofs.Spread.{spread, spread_from, others}
-use Rattle.rv32_routine.proofs.Whole.{masked}
+use Rattle.masked_code.specs.Place.{at}
+use Rattle.masked_code.specs.Owes.{Owes}
+use Rattle.masked_code.proofs.Spread.{spread, spread_from, others}
+use Rattle.masked_code.proofs.Routines.{masked}
 use Rattle.block_parts.specs.Back.{CanGoBack, WentBack, a0, a1}
 use Rattle.block_parts.specs.Pieces.{back_at, back}
 

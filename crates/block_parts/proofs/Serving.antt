@@ -2,13 +2,13 @@
 use Rattle.std.proofs.Common.{ℕ, ◌+◌, ◌*◌, ◌≤◌, List, ◌∷◌, length, subst, arith}
 use Rattle.sloth_base.specs.Machine.{Core, State}
 use Rattle.rv32_instr.specs.declared.InstrKind.{InstrKind}
-use Rattle.rv32_routine.specs.Kernel.{CanRun, masking}
-use Rattle.rv32_routine.specs.Masked.{FromOpening}
-use Rattle.rv32_routine.specs.Owes.{Owes}
-use Rattle.rv32_routine.specs.Place.{at}
-use Rattle.rv32_routine.proofs.Longest.{longest, longest_le}
-use Rattle.rv32_routine.proofs.Spread.{spread, spread_is}
-use Rattle.rv32_routine.proofs.Whole.{serves, masked}
+use Rattle.masked_code.specs.Kernel.{CanRun, masking}
+use Rattle.masked_code.specs.Masked.{FromOpening}
+use Rattle.masked_code.specs.Owes.{Owes}
+use Rattle.masked_code.specs.Place.{at}
+use Rattle.masked_code.proofs.Longest.{longest, longest_le}
+use Rattle.masked_code.proofs.Spread.{spread, spread_is}
+use Rattle.masked_code.proofs.Routines.{serves, masked}
 
 -- with at most so many instructions, where no way through the code is longer
 pub opens_within : (offset n : ℕ) (code : List InstrKind) (c : Core) (E : List ℕ → State → State → Type 0) → CanRun offset (masking ∷ code) c → longest code 0 ≤ n

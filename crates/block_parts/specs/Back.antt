@@ -2,7 +2,7 @@
 use Rattle.std.specs.Prelude.{ℕ, ◌%◌, ◌≡◌, ◌<◌, ◌≤◌, ◌⊎◌, true, List, slice_index}
 use Rattle.sloth_base.specs.Machine.{Core, State}
 use Rattle.rv32_instr.specs.declared.InstrKind.{InstrKind}
-use Rattle.rv32_routine.specs.Kernel.{CanRun, LeftAs}
+use Rattle.masked_code.specs.Kernel.{CanRun, LeftAs}
 
 -- the code stands at an offset, and the address to go back to in x31
 pub record CanGoBack (offset : ℕ) (code : List InstrKind) (core : Core) : Type 0 where

@@ -5,11 +5,11 @@ use Rattle.sloth_region.specs.Layout.{cur, active, words_high, controller_high, 
 use Rattle.rv32_instr.specs.declared.csr.TheConstants.{MEPC, ILEVEL, PLEVEL}
 use Rattle.rv32_instr.specs.declared.InstrKind.{InstrKind}
 use Rattle.rv32_instr.specs.declared.InstrKind.TheVariants.{Lui, Lw, Lbu, Sw, Sb, Add, Addi, Or, Xori, Slli, Csrrs, Csrrw, Mret}
-use Rattle.rv32_routine.specs.Kernel.{masking}
+use Rattle.masked_code.specs.Kernel.{masking}
 
 -- leaves the base of memory in x4
-abbrev pub opens : List InstrKind
-opens = masking ∷ Lui 4 words_high ∷ []
+abbrev pub opening_code : List InstrKind
+opening_code = masking ∷ Lui 4 words_high ∷ []
 
 -- the running task's pending byte, where `cur`, its number and 1 more, tells the place
 abbrev pub own_pending : ℤ
@@ -24,8 +24,8 @@ abbrev pub own_events : ℤ
 own_events = negsuc 3
 
 -- the end of the running task: its pending byte, its Active word and its events become 0; x4 holds the base of memory
-abbrev pub ends : List InstrKind
-ends =
+abbrev pub ending_code : List InstrKind
+ending_code =
     Lw 3 4 (pos cur) ∷ Lui 1 controller_high ∷ Add 1 1 3 ∷ Sb 1 0 own_pending ∷ Slli 1 3 3 ∷ Slli 3 3 2 ∷ Add 3 3 1 ∷ Add 3 3 4
     ∷ Sw 3 0 own_active ∷ Sw 3 0 own_events ∷ []
 
@@ -36,8 +36,8 @@ busy task rd other =
     ∷ Or rd rd other ∷ Lw other 4 (pos (active task)) ∷ Or rd rd other ∷ []
 
 -- the task's pending byte becomes 1
-abbrev pub raises : ℕ → List InstrKind
-raises task = Lui 1 controller_high ∷ Addi 3 0 (pos 1) ∷ Sb 1 3 (pos (pending_byte task)) ∷ []
+abbrev pub raising_code : ℕ → List InstrKind
+raising_code task = Lui 1 controller_high ∷ Addi 3 0 (pos 1) ∷ Sb 1 3 (pos (pending_byte task)) ∷ []
 
 -- back to the caller, whose address is in x31, at the level in x3
 abbrev pub back_at : List InstrKind

@@ -1,14 +1,14 @@
 //! Pieces of code that several services have.
 ghost use Rattle.std.specs.Prelude.{◌≡◌, ◌<◌, ◌++◌, OnOk};
-ghost use Rattle.block_parts.specs.Pieces.{opens, ends, busy, raises, back_at, back, goes_on_at};
+ghost use Rattle.block_parts.specs.Pieces.{opening_code, ending_code, busy, raising_code, back_at, back, goes_on_at};
 
+use masked_code::emit::emit;
 use rv32_instr::Instr;
 use rv32_instr::asm::{
     A0, X1, X3, X4, X31, ZERO, add, addi, csrrci, csrrs, csrrw, lbu, lui, lw, mret, or, sb, slli,
     sw, xori,
 };
 use rv32_instr::csr::{ILEVEL, MEPC, MIE, MSTATUS, PLEVEL};
-use rv32_routine::emit::emit;
 use sloth_base::numbers::Reg;
 use sloth_base::service::E_OK;
 use sloth_region::layout::{CONTROLLER_HIGH, CUR, WORDS_HIGH, active, enabled_byte, pending_byte};
@@ -31,14 +31,14 @@ pub const BACK: u32 = 4;
 
 /// Masks interrupts, and loads the address of the service words into x4.
 pub fn open(code: &mut Vec<Instr>) -> Result<(), AllocError>
-    ensures { OnOk result (code.new.items ≡ code.old.items ++ opens) }
+    ensures { OnOk result (code.new.items ≡ code.old.items ++ opening_code) }
 {
     emit(code, &[csrrci(ZERO, MSTATUS, MIE), lui(X4, WORDS_HIGH)])
 }
 
 /// Ends the running task: its pending byte, its Active word and its events become 0. x4 holds the base of memory.
 pub fn end(code: &mut Vec<Instr>) -> Result<(), AllocError>
-    ensures { OnOk result (code.new.items ≡ code.old.items ++ ends) }
+    ensures { OnOk result (code.new.items ≡ code.old.items ++ ending_code) }
 {
     let ended = [
         lw(X3, X4, CUR),
@@ -75,7 +75,7 @@ pub fn look_at(code: &mut Vec<Instr>, task: u8, rd: Reg, other: Reg) -> Result<(
 /// The task's pending byte becomes 1.
 pub fn raise(code: &mut Vec<Instr>, task: u8) -> Result<(), AllocError>
     requires { task < 30 }
-    ensures { OnOk result (code.new.items ≡ code.old.items ++ raises task) }
+    ensures { OnOk result (code.new.items ≡ code.old.items ++ raising_code task) }
 {
     let raised = [
         lui(X1, CONTROLLER_HIGH),

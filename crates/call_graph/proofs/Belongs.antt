@@ -8,12 +8,12 @@ use Rattle.std.proofs.Math.ListN.{get_or-map}
 use Rattle.std.proofs.Math.Bool.{or-true}
 use Rattle.sloth_base.specs.declared.app.App.{App}
 use Rattle.sloth_base.specs.declared.refusal.Refusal.{Refusal}
-use Rattle.sloth_refusal.specs.Order.{NoFault}
+use Rattle.least_fault.specs.Order.{NoFault}
 use Rattle.sloth_base.specs.Options.{is_number}
-use Rattle.app_rules.specs.Code.{Calls, CallChain, Reaches, TaskReaches, ReachesTaking, ReachesPause}
-use Rattle.app_rules.specs.WellFormed.{CycleFault, on_cycle}
+use Rattle.code_rules.specs.Code.{Calls, CallChain, Reaches, TaskReaches, ReachesTaking, ReachesPause}
+use Rattle.code_rules.specs.WellFormed.{CycleFault, on_cycle}
 use Rattle.call_graph.specs.declared.ranking.Ranks.{Ranks}
-use Rattle.call_graph.specs.Bits.{has}
+use Rattle.call_graph.specs.Bits.{is_member}
 use Rattle.call_graph.specs.Rows.{row_has, RowChain}
 use Rattle.call_graph.specs.Cycles.{RowCycle}
 use Rattle.call_graph.specs.Reached.{func_of, calls_itself, takes_itself, pauses_itself, reaches_by, takes_by, pauses_by, used_by}
@@ -57,12 +57,12 @@ module _ (app : App) (direct rows : List ℕ) (c : Closed app direct rows) where
     λ h. ⊎_elim
         (λ e. inl (eqb-true f g e))
         (λ e. let x = (c.closed f g).0 e in inr (x.0, chain_is f g x.0 x.1))
-        (or_cases (f == g) (has (get_or rows f 0) g) h),
+        (or_cases (f == g) (is_member (get_or rows f 0) g) h),
     λ r. by r,
   )
     where
       by : Reaches app f g → reaches_by f (get_or rows f 0) g ≡ true
-      by (inl e) = ap (λ b. b || has (get_or rows f 0) g) (eq-eqb f g e)
+      by (inl e) = ap (λ b. b || is_member (get_or rows f 0) g) (eq-eqb f g e)
       by (inr x) = let h = chained f g x.0 x.1 in ap (λ b. (f == g) || b) h ∙ or-true (f == g)
 
   pub Decides-takes : (f r : ℕ) → Decides (takes_by app.funcs f (get_or rows f 0) r) (ReachesTaking app f r)

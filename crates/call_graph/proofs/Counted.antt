@@ -4,18 +4,18 @@ use Rattle.std.specs.Prelude.{count_ones, ◌==◌}
 use Rattle.std.specs.Int.Count.{ones_step}
 use Rattle.std.proofs.lemmas.Bool.{true≢false, eqb-true, eqb-false}
 use Rattle.std.proofs.lemmas.Nat.Bits.{bit_at_lowest, bit_at-suc}
-use Rattle.call_graph.specs.Bits.{has}
+use Rattle.call_graph.specs.Bits.{is_member}
 use Rattle.call_graph.proofs.Sets.{has_none}
 
 abbrev pub IsSubset : ℕ → ℕ → Type 0
-IsSubset a b = (i : ℕ) → has a i ≡ true → has b i ≡ true
+IsSubset a b = (i : ℕ) → is_member a i ≡ true → is_member b i ≡ true
 
-has_lowest : (a : ℕ) → has a 0 ≡ (a % 2 == 1)
-unfolding has
+has_lowest : (a : ℕ) → is_member a 0 ≡ (a % 2 == 1)
+unfolding is_member
 has_lowest a = ap (λ x. x == 1) (bit_at_lowest a)
 
-has_higher : (a i : ℕ) → has a (suc i) ≡ has (a / 2) i
-unfolding has
+has_higher : (a i : ℕ) → is_member a (suc i) ≡ is_member (a / 2) i
+unfolding is_member
 has_higher a i = ap (λ x. x == 1) (bit_at-suc a i)
 
 halves : (a b : ℕ) → IsSubset a b → IsSubset (a / 2) (b / 2)
@@ -35,9 +35,9 @@ fewer (suc w) a b l m h =
     let low = lowest_le a b h in
     omega (arith, rest, low, ones_step a, ones_step b)
 
-less : (w a b j : ℕ) → a ≤ w → b ≤ w → IsSubset a b → has b j ≡ true → has a j ≡ false → count_ones a < count_ones b
+less : (w a b j : ℕ) → a ≤ w → b ≤ w → IsSubset a b → is_member b j ≡ true → is_member a j ≡ false → count_ones a < count_ones b
 less zero a b j l m h y n =
-    let f : b ≡ 0 = omega (arith, m) in absurd (true≢false (sym y ∙ ap (λ x. has x j) f ∙ has_none j))
+    let f : b ≡ 0 = omega (arith, m) in absurd (true≢false (sym y ∙ ap (λ x. is_member x j) f ∙ has_none j))
 less (suc w) a b zero l m h y n =
     let rest = fewer w (a / 2) (b / 2) (omega (arith, l)) (omega (arith, m)) (halves a b h) in
     let yes : b % 2 ≡ 1 = eqb-true (b % 2) 1 (sym (has_lowest b) ∙ y) in
@@ -48,5 +48,5 @@ less (suc w) a b (suc j) l m h y n =
     let low = lowest_le a b h in
     omega (arith, rest, low, ones_step a, ones_step b)
 
-pub counts_less : (a b j : ℕ) → IsSubset a b → has b j ≡ true → has a j ≡ false → count_ones a < count_ones b
+pub counts_less : (a b j : ℕ) → IsSubset a b → is_member b j ≡ true → is_member a j ≡ false → count_ones a < count_ones b
 counts_less a b j h y n = less (a + b) a b j (omega arith) (omega arith) h y n

@@ -5,8 +5,8 @@ use Rattle.sloth_base.specs.declared.app.Op.{Op}
 use Rattle.sloth_base.specs.declared.app.Op.TheVariants as op
 use Rattle.sloth_base.specs.declared.config.Config.{Config}
 use Rattle.sloth_base.specs.Named.{function, missing, no_item}
-use Rattle.app_rules.specs.AppRange.{AppInRange, IsTaskCode, IsOp, IsResource}
-use Rattle.app_rules.specs.Code.{IsItem}
+use Rattle.code_rules.specs.AppRange.{AppInRange, IsTaskCode, IsOp, IsResource}
+use Rattle.code_rules.specs.Code.{IsItem}
 use Rattle.call_graph.specs.Reached.{AreFew}
 use Rattle.call_graph.proofs.Itself.{Decides-calls, takes_are}
 

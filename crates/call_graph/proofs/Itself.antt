@@ -15,7 +15,7 @@ use Rattle.sloth_base.specs.declared.service.Service.{Service}
 use Rattle.sloth_base.specs.declared.service.Service.TheVariants as service
 use Rattle.sloth_base.specs.Named.{function, missing, no_item}
 use Rattle.sloth_base.specs.Options.{is_number}
-use Rattle.app_rules.specs.Code.{IsItem, serve, Calls, Pauses}
+use Rattle.code_rules.specs.Code.{IsItem, serve, Calls, Pauses}
 use Rattle.call_graph.specs.Rows.{is_call, is_get, is_taking, is_pausing, is_pause}
 use Rattle.call_graph.specs.Reached.{any_below, func_of, calls_itself, takes_itself, pauses_itself}
 

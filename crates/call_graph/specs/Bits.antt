@@ -3,5 +3,5 @@ use Rattle.std.specs.Prelude.{ℕ, Bool, ◌==◌}
 use Rattle.std.specs.Int.{bit_at}
 
 -- the set has this member
-unfoldable pub has : ℕ → ℕ → Bool
-has set member = bit_at set member == 1
+unfoldable pub is_member : ℕ → ℕ → Bool
+is_member set member = bit_at set member == 1

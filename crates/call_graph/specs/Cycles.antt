@@ -4,7 +4,7 @@ use Rattle.sloth_base.specs.declared.app.Func.{Func}
 use Rattle.sloth_base.specs.declared.refusal.Code.TheVariants as code
 use Rattle.sloth_base.specs.declared.refusal.Refusal.{Refusal}
 use Rattle.sloth_base.specs.Named.{missing}
-use Rattle.app_rules.specs.WellFormed.{at_line}
+use Rattle.code_rules.specs.WellFormed.{at_line}
 use Rattle.call_graph.specs.Rows.{row_has}
 
 -- V1 at function f, where its own row has it

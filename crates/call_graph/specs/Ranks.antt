@@ -1,9 +1,9 @@
 -- What is known of each function from its calls.
 use Rattle.std.specs.Prelude.{ℕ, ◌<◌, ◌≡◌, false, length, get_or, Decides}
 use Rattle.sloth_base.specs.declared.app.App.{App}
-use Rattle.app_rules.specs.Code.{Calls, ReachesTaking, ReachesPause, TaskReaches}
+use Rattle.code_rules.specs.Code.{Calls, ReachesTaking, ReachesPause, TaskReaches}
 use Rattle.call_graph.specs.declared.ranking.Ranks.{Ranks}
-use Rattle.call_graph.specs.Bits.{has}
+use Rattle.call_graph.specs.Bits.{is_member}
 
 -- one entry for each function
 pub record CoversFunctions (app : App) (ranks : Ranks) : Type 0 where
@@ -18,8 +18,8 @@ pub record RanksOf (app : App) (ranks : Ranks) : Type 0 where
   -- a rank is above that of every function that is called
   pub above : (f g : ℕ) → Calls app f g → get_or ranks.rank g 0 < get_or ranks.rank f 0
   -- the resources that each function reaches taking
-  pub resources : (f r : ℕ) → f < length app.funcs → Decides (has (get_or ranks.resources f 0) r) (ReachesTaking app f r)
+  pub resources : (f r : ℕ) → f < length app.funcs → Decides (is_member (get_or ranks.resources f 0) r) (ReachesTaking app f r)
   -- whether it reaches a WaitEvent or a Schedule
   pub pauses : (f : ℕ) → f < length app.funcs → Decides (get_or ranks.pauses f false) (ReachesPause app f)
   -- the tasks that reach it
-  pub users : (f t : ℕ) → f < length app.funcs → Decides (has (get_or ranks.users f 0) t) (TaskReaches app t f)
+  pub users : (f t : ℕ) → f < length app.funcs → Decides (is_member (get_or ranks.users f 0) t) (TaskReaches app t f)

@@ -4,7 +4,7 @@ use Rattle.std.specs.List.{list_any}
 use Rattle.sloth_base.specs.declared.app.Func.{Func}
 use Rattle.sloth_base.specs.Named.{missing}
 use Rattle.sloth_base.specs.Options.{is_number}
-use Rattle.call_graph.specs.Bits.{has}
+use Rattle.call_graph.specs.Bits.{is_member}
 use Rattle.call_graph.specs.Rows.{is_call, is_taking, is_pause}
 
 -- some number below n passes the test
@@ -53,7 +53,7 @@ pub record AreFew (funcs : List Func) : Type 0 where
 
 -- the function with this number and this row is the other, or reaches it
 abbrev pub reaches_by : (from row to : ℕ) → Bool
-reaches_by from row to = (from == to) || has row to
+reaches_by from row to = (from == to) || is_member row to
 
 -- the function with this number and this row reaches taking resource r
 abbrev pub takes_by : List Func → (from row r : ℕ) → Bool

@@ -4,7 +4,7 @@ use Rattle.sloth_base.specs.declared.app.Op.{Op}
 use Rattle.sloth_base.specs.declared.app.Op.TheVariants as op
 use Rattle.sloth_base.specs.declared.service.Service.{Service}
 use Rattle.sloth_base.specs.declared.service.Service.TheVariants as service
-use Rattle.call_graph.specs.Bits.{has}
+use Rattle.call_graph.specs.Bits.{is_member}
 
 -- ---- what an operation does itself
 
@@ -38,7 +38,7 @@ is_pause _ = false
 
 -- row i has bit j
 abbrev pub row_has : List ℕ → ℕ → ℕ → Bool
-row_has rows i j = has (get_or rows i 0) j
+row_has rows i j = is_member (get_or rows i 0) j
 
 -- row i has the first of these, the row of each has the next, and that of the last has j
 abbrev pub RowChain : List ℕ → ℕ → List ℕ → ℕ → Type 0
@@ -46,5 +46,5 @@ RowChain rows i [] j = row_has rows i j ≡ true
 RowChain rows i (k ∷ between) j = (row_has rows i k ≡ true) × RowChain rows k between j
 
 -- what a row becomes where ways through k are added
-abbrev pub widened : List ℕ → ℕ → ℕ → ℕ → Bool
-widened rows k i j = row_has rows i j || (row_has rows i k && row_has rows k j)
+abbrev pub widened_row : List ℕ → ℕ → ℕ → ℕ → Bool
+widened_row rows k i j = row_has rows i j || (row_has rows i k && row_has rows k j)

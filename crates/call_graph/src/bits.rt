@@ -1,11 +1,11 @@
 //! Sets of small numbers as bits.
 ghost use Rattle.std.specs.Prelude.{◌≡◌, ℕ, ◌<◌, ◌==◌, ◌||◌};
-ghost use Rattle.call_graph.specs.Bits.{has};
+ghost use Rattle.call_graph.specs.Bits.{is_member};
 
 /// Whether the set has this member.
 pub fn has(set: u64, member: usize) -> bool
     requires { member < 64 }
-    ensures { result ≡ has set member }
+    ensures { result ≡ is_member set member }
 {
     (set >> member) & 1 == 1
 }
@@ -13,7 +13,7 @@ pub fn has(set: u64, member: usize) -> bool
 /// The set with one member more.
 pub fn with(set: u64, member: u32) -> u64
     requires { member < 64 }
-    ensures { (k : ℕ) → has result k ≡ (has set k || (member == k)) }
+    ensures { (k : ℕ) → is_member result k ≡ (is_member set k || (member == k)) }
 {
     set | (1 << member)
 }
@@ -21,14 +21,14 @@ pub fn with(set: u64, member: u32) -> u64
 /// The set of tasks with one more.
 pub fn with_task(set: u32, task: u32) -> u32
     requires { task < 32 }
-    ensures { (k : ℕ) → has result k ≡ (has set k || (task == k)) }
+    ensures { (k : ℕ) → is_member result k ≡ (is_member set k || (task == k)) }
 {
     set | (1 << task)
 }
 
 /// The members of both.
 pub fn union(one: u64, other: u64) -> u64
-    ensures { (k : ℕ) → has result k ≡ (has one k || has other k) }
+    ensures { (k : ℕ) → is_member result k ≡ (is_member one k || is_member other k) }
 {
     one | other
 }

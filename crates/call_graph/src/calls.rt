@@ -1,7 +1,7 @@
 //! What a function does itself: the functions that it calls, the resources that it takes, and whether it waits or calls Schedule.
 ghost use Rattle.std.specs.Prelude.{◌≡◌, ℕ, ◌<◌, ◌==◌, ◌||◌, ◌&&◌, true};
 ghost use Rattle.std.specs.List.{list_any};
-ghost use Rattle.call_graph.specs.Bits.{has};
+ghost use Rattle.call_graph.specs.Bits.{is_member};
 ghost use Rattle.call_graph.specs.Rows.{is_call, is_get, is_taking, is_pause};
 
 use crate::bits::with;
@@ -10,7 +10,7 @@ use sloth_base::service::Service;
 
 fn with_call(calls: u64, op: Op) -> u64
     requires { (g : ℕ) → is_call g op ≡ true → g < 64 }
-    ensures { (g : ℕ) → has result g ≡ (has calls g || is_call g op) }
+    ensures { (g : ℕ) → is_member result g ≡ (is_member calls g || is_call g op) }
 {
     match op {
         Op::Invoke { func } => with(calls, func.0),
@@ -21,7 +21,7 @@ fn with_call(calls: u64, op: Op) -> u64
 /// The functions that these items call.
 pub fn called(items: &[Item]) -> u64
     requires { (g : ℕ) → list_any (λ item. is_call g item.op) items.now ≡ true → g < 64 }
-    ensures { (g : ℕ) → has result g ≡ list_any (λ item. is_call g item.op) items.now }
+    ensures { (g : ℕ) → is_member result g ≡ list_any (λ item. is_call g item.op) items.now }
 {
     let mut calls = 0;
     for item in items {
@@ -32,7 +32,7 @@ pub fn called(items: &[Item]) -> u64
 
 fn with_object(taken: u64, call: Call) -> u64
     requires { (r : ℕ) → (is_get call.service && (call.object == r)) ≡ true → r < 64 }
-    ensures { (r : ℕ) → has result r ≡ (has taken r || (is_get call.service && (call.object == r))) }
+    ensures { (r : ℕ) → is_member result r ≡ (is_member taken r || (is_get call.service && (call.object == r))) }
 {
     match call.service {
         Service::GetResource => with(taken, call.object),
@@ -42,7 +42,7 @@ fn with_object(taken: u64, call: Call) -> u64
 
 fn with_taken(taken: u64, op: Op) -> u64
     requires { (r : ℕ) → is_taking r op ≡ true → r < 64 }
-    ensures { (r : ℕ) → has result r ≡ (has taken r || is_taking r op) }
+    ensures { (r : ℕ) → is_member result r ≡ (is_member taken r || is_taking r op) }
 {
     match op {
         Op::Serve(call) => with_object(taken, call),
@@ -53,7 +53,7 @@ fn with_taken(taken: u64, op: Op) -> u64
 /// The resources that these items take.
 pub fn taken(items: &[Item]) -> u64
     requires { (r : ℕ) → list_any (λ item. is_taking r item.op) items.now ≡ true → r < 64 }
-    ensures { (r : ℕ) → has result r ≡ list_any (λ item. is_taking r item.op) items.now }
+    ensures { (r : ℕ) → is_member result r ≡ list_any (λ item. is_taking r item.op) items.now }
 {
     let mut resources = 0;
     for item in items {

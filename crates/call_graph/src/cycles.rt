@@ -1,12 +1,12 @@
 //! V1: functions that lie on a cycle of calls.
 ghost use Rattle.std.specs.Prelude.{◌≡◌, ◌≤◌, length};
-ghost use Rattle.sloth_refusal.specs.Search.{Finds};
+ghost use Rattle.least_fault.specs.Search.{Finds};
 ghost use Rattle.call_graph.specs.Cycles.{RowCycle};
 
 use crate::bits::has;
+use least_fault::{merge, when};
 use sloth_base::app::Func;
 use sloth_base::refusal::{Code, Part, Refusal};
-use sloth_refusal::{merge, when};
 
 /// The least function that its own row has, by its header's line.
 pub fn cycle(funcs: &[Func], rows: &[u64]) -> Option<Refusal>

@@ -2,9 +2,9 @@
 #![tactic(auto)]
 
 ghost use Rattle.std.specs.Prelude.{◌≡◌, IfErr, IfOk, OnOk};
-ghost use Rattle.sloth_refusal.specs.Order.{NoFault, ErrorIs};
-ghost use Rattle.app_rules.specs.AppRange.{IsTaskCode};
-ghost use Rattle.app_rules.specs.WellFormed.{CycleFault};
+ghost use Rattle.least_fault.specs.Order.{NoFault, ErrorIs};
+ghost use Rattle.code_rules.specs.AppRange.{IsTaskCode};
+ghost use Rattle.code_rules.specs.WellFormed.{CycleFault};
 ghost use Rattle.call_graph.specs.Ranks.{RanksOf};
 
 pub mod bits;

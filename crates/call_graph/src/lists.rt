@@ -1,6 +1,6 @@
 //! Lists with an entry for each function.
 ghost use Rattle.std.specs.Prelude.{◌≡◌, ℕ, ◌<◌, ◌≤◌, false, length, map, get_or, count_ones, IfOk};
-ghost use Rattle.call_graph.specs.Bits.{has};
+ghost use Rattle.call_graph.specs.Bits.{is_member};
 ghost use Rattle.call_graph.specs.Rows.{row_has};
 ghost use Rattle.call_graph.specs.Reached.{AreFew, func_of, calls_itself, takes_by, pauses_by, used_by};
 ghost use Rattle.call_graph.specs.Gathered.{Gathered};
@@ -48,7 +48,7 @@ fn resource_sets(alloc: Global, funcs: &[Func], rows: &[u64]) -> Result<List<u64
     requires small { AreFew funcs.now }
     ensures count { IfOk result (λ list. length list ≡ length rows.now) }
     ensures sets { IfOk result (λ list. (f r : ℕ) → f < length rows.now
-        → has (get_or list f 0) r ≡ takes_by funcs.now f (get_or rows.now f 0) r) }
+        → is_member (get_or list f 0) r ≡ takes_by funcs.now f (get_or rows.now f 0) r) }
 {
     let mut list = Vec::new(alloc);
     for (number, row) in rows.iter().enumerate() {
@@ -83,7 +83,7 @@ fn user_sets(alloc: Global, funcs: &[Func], rows: &[u64]) -> Result<List<u32>, N
     requires same { length rows.now ≡ length funcs.now }
     ensures count { IfOk result (λ list. length list ≡ length funcs.now) }
     ensures sets { IfOk result (λ list. (f t : ℕ) → f < length funcs.now
-        → has (get_or list f 0) t ≡ used_by funcs.now rows.now f t) }
+        → is_member (get_or list f 0) t ≡ used_by funcs.now rows.now f t) }
 {
     let mut list = Vec::new(alloc);
     for number in 0..funcs.len() {

@@ -1,7 +1,7 @@
 //! What a function reaches, from its number and its row.
 ghost use Rattle.std.specs.Prelude.{◌≡◌, ℕ, ◌<◌, ◌≤◌, ◌||◌, ◌&&◌, length};
 ghost use Rattle.sloth_base.specs.Options.{is_number};
-ghost use Rattle.call_graph.specs.Bits.{has};
+ghost use Rattle.call_graph.specs.Bits.{is_member};
 ghost use Rattle.call_graph.specs.Reached.{AreFew, TakesFew, IsOfFew, takes_itself, pauses_itself, reaches_by, takes_by, pauses_by, used_by};
 
 use crate::bits::{has, union, with_task};
@@ -18,7 +18,7 @@ fn is_reached(from: usize, row: u64, to: usize) -> bool
 
 fn with_taken(resources: u64, reached: bool, func: &Func) -> u64
     requires { TakesFew func.now }
-    ensures { (r : ℕ) → has result r ≡ (has resources r || (reached && takes_itself func.now r)) }
+    ensures { (r : ℕ) → is_member result r ≡ (is_member resources r || (reached && takes_itself func.now r)) }
 {
     if reached {
         union(resources, taken(func.items.items()))
@@ -30,7 +30,7 @@ fn with_taken(resources: u64, reached: bool, func: &Func) -> u64
 /// The resources that the function with this number and this row reaches taking.
 pub fn resources_of(funcs: &[Func], from: usize, row: u64) -> u64
     requires { AreFew funcs.now }
-    ensures { (r : ℕ) → has result r ≡ takes_by funcs.now from row r }
+    ensures { (r : ℕ) → is_member result r ≡ takes_by funcs.now from row r }
 {
     let mut resources = 0;
     for (number, func) in funcs.iter().enumerate() {
@@ -59,7 +59,7 @@ pub fn pauses_of(funcs: &[Func], from: usize, row: u64) -> bool
 
 fn with_user(users: u32, reaches: bool, func: &Func) -> u32
     requires { IsOfFew func.now }
-    ensures { (t : ℕ) → has result t ≡ (has users t || (reaches && is_number t func.now.task)) }
+    ensures { (t : ℕ) → is_member result t ≡ (is_member users t || (reaches && is_number t func.now.task)) }
 {
     match func.task {
         Some(task) if reaches => with_task(users, task.0),
@@ -72,7 +72,7 @@ pub fn users_of(funcs: &[Func], rows: &[u64], to: usize) -> u32
     requires few { AreFew funcs.now }
     requires same { length rows.now ≡ length funcs.now }
     requires known { to < length funcs.now }
-    ensures { (t : ℕ) → has result t ≡ used_by funcs.now rows.now to t }
+    ensures { (t : ℕ) → is_member result t ≡ used_by funcs.now rows.now to t }
 {
     let mut users = 0;
     for (number, func) in funcs.iter().enumerate() {

@@ -1,14 +1,14 @@
 //! The functions that each function reaches by chains of calls: a row of bits for each.
 ghost use Rattle.std.specs.Prelude.{◌≡◌, ℕ, ◌<◌, ◌≤◌, ◌||◌, ◌&&◌, length, Decides};
-ghost use Rattle.call_graph.specs.Bits.{has};
-ghost use Rattle.call_graph.specs.Rows.{row_has, widened, RowChain};
+ghost use Rattle.call_graph.specs.Bits.{is_member};
+ghost use Rattle.call_graph.specs.Rows.{row_has, widened_row, RowChain};
 
 use crate::bits::{has, union};
 
 /// A row that also has what the row of k has, where it has k.
 fn joined(own: u64, row: u64, k: usize) -> u64
     requires { k < 64 }
-    ensures { (j : ℕ) → has result j ≡ (has own j || (has own k && has row j)) }
+    ensures { (j : ℕ) → is_member result j ≡ (is_member own j || (is_member own k && is_member row j)) }
 {
     if has(own, k) { union(own, row) } else { own }
 }
@@ -16,7 +16,7 @@ fn joined(own: u64, row: u64, k: usize) -> u64
 fn round(rows: &mut [u64], k: usize)
     requires inside { k < length rows.old }
     requires few { length rows.old ≤ 64 }
-    ensures { (i j : ℕ) → i < length rows.old → row_has rows.new i j ≡ widened rows.old k i j }
+    ensures { (i j : ℕ) → i < length rows.old → row_has rows.new i j ≡ widened_row rows.old k i j }
 {
     let row = rows[k];
     for own in rows.iter_mut() {

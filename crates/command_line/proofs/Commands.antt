@@ -11,7 +11,7 @@ use Rattle.command_line.specs.declared.tool.Tool.{Tool}
 use Rattle.command_line.specs.declared.tool.Tool.TheVariants as tool
 use Rattle.command_line.specs.Tools.{ToolUse, tool_word, tool_words}
 use Rattle.command_line.proofs.ToolWords.{same-use}
-use Rattle.command_line.specs.Command.{Command, Building, Execution, Run, Builds, Executes, Lists, Samples, Uses, word_of, words_by, spelled, IsInLimit, KeepsLimit, IsCommand}
+use Rattle.command_line.specs.Command.{Command, Building, Execution, Run, Builds, Executes, Lists, Samples, Uses, word_of, words_by, spelling, IsInLimit, KeepsLimit, IsCommand}
 
 same-form : (f g : Form) → word_of f ≡ word_of g → f ≡ g
 same-form form.Counted form.Counted e = refl
@@ -91,7 +91,7 @@ tool-apart tool.Check = refl
 apart : (t : Tool) (word : List ℕ) → stands word ≡ true → tool_word t ≡ word → ⊥
 apart t word stood e = let not : stands word ≡ false = subst (λ w. stands w ≡ false) e (tool-apart t) in true≢false (sym stood ∙ not)
 
-not-tool : (c : Command) (used : ToolUse) (word : List ℕ) → stands word ≡ true → get_or (spelled c) 0 [] ≡ word → tool_words used ≡ spelled c → ⊥
+not-tool : (c : Command) (used : ToolUse) (word : List ℕ) → stands word ≡ true → get_or (spelling c) 0 [] ≡ word → tool_words used ≡ spelling c → ⊥
 not-tool c used word stood is e = apart used.tool word stood (ap (λ words. get_or words 0 []) e ∙ is)
 
 built-word : (r : Option Run) (o s i : List ℕ) → stands (get_or (words_by o s i r) 0 []) ≡ true
@@ -102,7 +102,7 @@ built-word (Some r) o s i = form-word r.form
     form-word form.Counted = refl
     form-word form.Bare = refl
 
-same-words : (c d : Command) → spelled c ≡ spelled d → KeepsLimit c → KeepsLimit d → c ≡ d
+same-words : (c d : Command) → spelling c ≡ spelling d → KeepsLimit c → KeepsLimit d → c ≡ d
 same-words (Builds b) (Builds d) e l m =
     let parts = same-parts b.oil b.src b.img d.oil d.src d.img b.run d.run e l m in ap Builds (same-building b d parts.0 parts.1 parts.2 parts.3)
 same-words (Builds b) (Executes d) e l m = absurd (not-exec b.oil b.src b.img d.img d.arr (decimal d.n) b.run e)

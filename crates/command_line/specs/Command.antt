@@ -44,12 +44,12 @@ words_by oil src img None = codes "build" ∷ oil ∷ src ∷ img ∷ []
 words_by oil src img (Some run) = word_of run.form ∷ oil ∷ src ∷ run.arr ∷ img ∷ decimal run.n ∷ []
 
 -- those, `exec IMG ARR N`, `list IMG`, `sample SEED IMG` and the words of tools
-abbrev pub spelled : Command → List (List ℕ)
-spelled (Builds b) = words_by b.oil b.src b.img b.run
-spelled (Executes e) = codes "exec" ∷ e.img ∷ e.arr ∷ decimal e.n ∷ []
-spelled (Lists img) = codes "list" ∷ img ∷ []
-spelled (Samples seed img) = codes "sample" ∷ decimal seed ∷ img ∷ []
-spelled (Uses used) = tool_words used
+abbrev pub spelling : Command → List (List ℕ)
+spelling (Builds b) = words_by b.oil b.src b.img b.run
+spelling (Executes e) = codes "exec" ∷ e.img ∷ e.arr ∷ decimal e.n ∷ []
+spelling (Lists img) = codes "list" ∷ img ∷ []
+spelling (Samples seed img) = codes "sample" ∷ decimal seed ∷ img ∷ []
+spelling (Uses used) = tool_words used
 
 -- at most so many instructions are run
 abbrev pub IsInLimit : Option Run → Type 0
@@ -66,7 +66,7 @@ KeepsLimit (Uses used) = IsToolUse used
 
 -- the words are those of this command
 abbrev pub IsCommand : List (List ℕ) → Command → Type 0
-IsCommand words c = (words ≡ spelled c) × KeepsLimit c
+IsCommand words c = (words ≡ spelling c) × KeepsLimit c
 
 -- the words are those of no command
 abbrev pub NoCommand : List (List ℕ) → Type 0

@@ -8,7 +8,7 @@ use Rattle.sloth_base.specs.ImageRange.{InFormat, IsName, IsMark}
 use Rattle.sloth_base.specs.declared.image.Image.{Image}
 use Rattle.sloth_base.specs.declared.image.Mark.{Mark}
 use Rattle.image_file.specs.ImageText.{four_bytes, two_bytes, mark_bytes, name_bytes}
-use Rattle.image_file.proofs.Whole.{length-marks}
+use Rattle.image_file.proofs.RightParts.{length-marks}
 use Rattle.elf_image.specs.ElfText.{ElfText, elf_header, elf_magic, load_header, note_header, note_bytes, padding, file_bytes, description_bytes}
 use Rattle.elf_image.specs.Faults.{AreRight, Described, HasElfHeader, HasElfMagic, HasLoadHeader, HasNote, HasNoteHeader, IsFramed, IsMemorySize, IsNoteSize, IsWithin, described_bytes}
 use Rattle.elf_image.proofs.Notes.{length-note, length-padding}

@@ -9,23 +9,23 @@ use Rattle.sloth_region.specs.Layout.{active, events, words_high}
 use Rattle.rv32_instr.specs.declared.InstrKind.{InstrKind}
 use Rattle.rv32_instr.specs.declared.InstrKind.TheVariants.{Lui}
 use Rattle.rv32_instr.specs.Ram.{word_at}
-use Rattle.rv32_routine.specs.Place.{at}
-use Rattle.rv32_routine.specs.Masked.{FromOpening}
-use Rattle.rv32_routine.specs.Kernel.{masking}
-use Rattle.rv32_routine.specs.Owes.{Owes}
-use Rattle.rv32_routine.proofs.Spread.{spread, spread_from}
-use Rattle.rv32_routine.proofs.Whole.{masked}
-use Rattle.rv32_routine.proofs.Leave.{behind}
+use Rattle.masked_code.specs.Place.{at}
+use Rattle.masked_code.specs.Masked.{FromOpening}
+use Rattle.masked_code.specs.Kernel.{masking}
+use Rattle.masked_code.specs.Owes.{Owes}
+use Rattle.masked_code.proofs.Spread.{spread, spread_from}
+use Rattle.masked_code.proofs.Routines.{masked}
+use Rattle.masked_code.proofs.Leave.{behind}
 use Rattle.block_parts.proofs.Returning.{goes_back, goes_back_with}
 use Rattle.block_parts.proofs.Busy.{Finds, looks_owe}
 use Rattle.block_parts.proofs.Landing.{lands}
 use Rattle.block_parts.proofs.Serving.{opens}
 use Rattle.block_parts.specs.Pieces.{busy, back}
-use Rattle.event_gen.specs.Pieces.{refuses, tells_events}
+use Rattle.event_gen.specs.Pieces.{refusal_code, tells_events}
 use Rattle.event_gen.specs.GetEvent.{MayGet, EventsTold, TellsEvents}
 
 abbrev pub body : ℕ → List InstrKind
-body task = Lui 4 words_high ∷ (busy task 3 1 ++ (refuses 2 ++ (tells_events task ++ back)))
+body task = Lui 4 words_high ∷ (busy task 3 1 ++ (refusal_code 2 ++ (tells_events task ++ back)))
 
 module _ (offset task : ℕ) (c : Core) (h : MayGet offset task (masking ∷ body task) c) where
   abbrev st : List ℕ → State
@@ -45,7 +45,7 @@ module _ (offset task : ℕ) (c : Core) (h : MayGet offset task (masking ∷ bod
 
   -- behind the look at the task, which found v
   looked_owe : (o : ℕ) (p : List ℕ) (v : ℕ) → o + 4 ≤ 0x20_0000 → Finds task (record c { pending = p }) v
-      → Owes offset (offset + 4 + 64) o (refuses 2 ++ (tells_events task ++ back)) 0 (λ u. EventsTold task (task ∷ u)) (st p)
+      → Owes offset (offset + 4 + 64) o (refusal_code 2 ++ (tells_events task ++ back)) 0 (λ u. EventsTold task (task ∷ u)) (st p)
       (record (masked (spread c)) { registers = 0 ∷ word ∷ x2 ∷ v ∷ 0x8000_0000 ∷ tail; pending = p })
   looked_owe o p v small found =
       let few = h.is_task in (
@@ -85,7 +85,7 @@ module _ (offset task : ℕ) (c : Core) (h : MayGet offset task (masking ∷ bod
       let fits = h.goes_back.can_run.inside in (
         0x8000_0000,
         refl,
-        looks_owe offset (offset + 4 + 64) task (EventsTold task) (refuses 2 ++ (tells_events task ++ back)) c h.is_task h.goes_back.can_run.lines
+        looks_owe offset (offset + 4 + 64) task (EventsTold task) (refusal_code 2 ++ (tells_events task ++ back)) c h.is_task h.goes_back.can_run.lines
             h.active_bit h.pending_bit h.enabled_bit (offset + 4 + 4) (get_or c.registers 1 0) (get_or c.registers 3 0)
             (λ lines v only found. looked_owe (behind 8 (offset + 4)) (arrive lines c.pending) v (omega arith) found),
       )

@@ -9,26 +9,26 @@ use Rattle.sloth_region.specs.Layout.{active, events, wait, words_high, controll
 use Rattle.rv32_instr.specs.declared.InstrKind.{InstrKind}
 use Rattle.rv32_instr.specs.declared.InstrKind.TheVariants.{Lui}
 use Rattle.rv32_instr.specs.Ram.{word_at, with_word}
-use Rattle.rv32_routine.specs.Place.{at}
-use Rattle.rv32_routine.specs.Masked.{FromOpening}
-use Rattle.rv32_routine.specs.Kernel.{masking}
-use Rattle.rv32_routine.specs.Owes.{Owes, Pending, Enabled}
-use Rattle.rv32_routine.proofs.Words.{word_at-other}
-use Rattle.rv32_routine.proofs.Spread.{spread, spread_from}
-use Rattle.rv32_routine.proofs.Whole.{masked}
-use Rattle.rv32_routine.proofs.Leave.{behind}
+use Rattle.masked_code.specs.Place.{at}
+use Rattle.masked_code.specs.Masked.{FromOpening}
+use Rattle.masked_code.specs.Kernel.{masking}
+use Rattle.masked_code.specs.Owes.{Owes, Pending, Enabled}
+use Rattle.masked_code.proofs.Words.{word_at-other}
+use Rattle.masked_code.proofs.Spread.{spread, spread_from}
+use Rattle.masked_code.proofs.Routines.{masked}
+use Rattle.masked_code.proofs.Leave.{behind}
 use Rattle.block_parts.proofs.Returning.{goes_back}
 use Rattle.block_parts.proofs.Busy.{Finds, looks_owe}
 use Rattle.block_parts.proofs.Landing.{lands}
 use Rattle.block_parts.proofs.Serving.{opens}
 use Rattle.block_parts.specs.Looks.{LooksSuspended}
 use Rattle.block_parts.specs.Back.{CanGoBack}
-use Rattle.block_parts.specs.Pieces.{busy, raises, back}
-use Rattle.event_gen.specs.Pieces.{refuses, adds_events, asks_awaited, enables}
+use Rattle.block_parts.specs.Pieces.{busy, raising_code, back}
+use Rattle.event_gen.specs.Pieces.{refusal_code, adds_events, asks_awaited, enabling_code}
 use Rattle.event_gen.specs.SetEvent.{MaySet, EventsSet, SetsEvents, with_mask}
 
 abbrev pub body : ℕ → List InstrKind
-body task = Lui 4 words_high ∷ (busy task 3 1 ++ (refuses 11 ++ (adds_events task ++ (asks_awaited task ++ (raises task ++ (enables task ++ back))))))
+body task = Lui 4 words_high ∷ (busy task 3 1 ++ (refusal_code 11 ++ (adds_events task ++ (asks_awaited task ++ (raising_code task ++ (enabling_code task ++ back))))))
 
 module _ (offset task : ℕ) (c : Core) (h : MaySet offset task (masking ∷ body task) c) where
   abbrev st : List ℕ → State
@@ -65,7 +65,7 @@ module _ (offset task : ℕ) (c : Core) (h : MaySet offset task (masking ∷ bod
 
   -- the look at the awaited events
   asked_owe : (o : ℕ) (p : List ℕ) → o + 8 ≤ 0x20_0000 → (LooksSuspended task (record c { pending = p }) → ⊥)
-      → Owes offset (offset + 4 + 100) o (asks_awaited task ++ (raises task ++ (enables task ++ back))) 0 (λ u. EventsSet task (task ∷ u)) (st p)
+      → Owes offset (offset + 4 + 100) o (asks_awaited task ++ (raising_code task ++ (enabling_code task ++ back))) 0 (λ u. EventsSet task (task ∷ u)) (st p)
       (record (masked (spread c)) { registers = 0 ∷ word ∷ x2 ∷ grown ∷ 0x8000_0000 ∷ set tail 5 E_OK; pending = p; ram = ram })
   asked_owe o p small not_suspended =
       let few = h.is_task in
@@ -128,7 +128,7 @@ module _ (offset task : ℕ) (c : Core) (h : MaySet offset task (masking ∷ bod
 
   -- the code behind the look at the task
   abbrev further : List InstrKind
-  further = refuses 11 ++ (adds_events task ++ (asks_awaited task ++ (raises task ++ (enables task ++ back))))
+  further = refusal_code 11 ++ (adds_events task ++ (asks_awaited task ++ (raising_code task ++ (enabling_code task ++ back))))
 
   -- behind the look, which found v
   looked_owe : (o : ℕ) (p : List ℕ) (v : ℕ) → o + 40 ≤ 0x20_0000 → Finds task (record c { pending = p }) v

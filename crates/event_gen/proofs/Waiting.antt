@@ -9,29 +9,29 @@ use Rattle.sloth_region.specs.Layout.{cur, active, events, wait, resume, below_w
 use Rattle.rv32_instr.specs.declared.InstrKind.{InstrKind}
 use Rattle.rv32_instr.specs.declared.InstrKind.TheVariants.{Lui, Addi}
 use Rattle.rv32_instr.specs.Ram.{word_at, with_word, with_words}
-use Rattle.rv32_routine.specs.Place.{at}
-use Rattle.rv32_routine.specs.Masked.{FromOpening}
-use Rattle.rv32_routine.specs.Pieces.{saves, registers_from}
-use Rattle.rv32_routine.specs.Kernel.{IsBelow, HasLeft, leave, masking}
-use Rattle.rv32_routine.specs.Owes.{IsApart, Owes, Enabled}
-use Rattle.rv32_routine.proofs.Words.{word_at-other, word_at-others}
-use Rattle.rv32_routine.proofs.Spread.{spread, spread_from}
-use Rattle.rv32_routine.proofs.Runs.{saves_owes}
-use Rattle.rv32_routine.proofs.Whole.{masked}
-use Rattle.rv32_routine.proofs.Leave.{leave_owes, behind}
+use Rattle.masked_code.specs.Place.{at}
+use Rattle.masked_code.specs.Masked.{FromOpening}
+use Rattle.masked_code.specs.Pieces.{saving_code, registers_from}
+use Rattle.masked_code.specs.Kernel.{IsBelow, HasLeft, leaving_code, masking}
+use Rattle.masked_code.specs.Owes.{IsApart, Owes, Enabled}
+use Rattle.masked_code.proofs.Words.{word_at-other, word_at-others}
+use Rattle.masked_code.proofs.Spread.{spread, spread_from}
+use Rattle.masked_code.proofs.Runs.{saves_owes}
+use Rattle.masked_code.proofs.Routines.{masked}
+use Rattle.masked_code.proofs.Leave.{leave_owes, behind}
 use Rattle.block_parts.proofs.Returning.{goes_back}
 use Rattle.block_parts.proofs.Landing.{lands}
 use Rattle.block_parts.proofs.Serving.{opens_within}
 use Rattle.block_parts.specs.Pieces.{back}
-use Rattle.event_gen.specs.Pieces.{finds_own, asks_set, answers_set, goes_to_rest, keeps, disables}
+use Rattle.event_gen.specs.Pieces.{finds_own, asks_set, answers_set, goes_to_rest, keeping_code, disabling_code}
 use Rattle.event_gen.specs.WaitEvent.{MayWait, Waited, HasWaited, Waits, set_of, rested_ram, kept_ram}
 
 -- the registers are saved before this code
 abbrev saved_first : List InstrKind → List InstrKind
-saved_first rest = Addi 1 2 (neg_ℤ (pos context_bytes)) ∷ (saves 27 5 1 ++ rest)
+saved_first rest = Addi 1 2 (neg_ℤ (pos context_bytes)) ∷ (saving_code 27 5 1 ++ rest)
 
 abbrev pub body : List InstrKind
-body = Lui 4 words_high ∷ (finds_own ++ (asks_set ++ (answers_set ++ (back ++ (goes_to_rest ++ saved_first (keeps ++ (disables ++ leave)))))))
+body = Lui 4 words_high ∷ (finds_own ++ (asks_set ++ (answers_set ++ (back ++ (goes_to_rest ++ saved_first (keeping_code ++ (disabling_code ++ leaving_code)))))))
 
 module _ (offset task place own : ℕ) (c : Core) (h : MayWait offset task place own (masking ∷ body) c) where
   abbrev st : State
@@ -142,7 +142,7 @@ module _ (offset task place own : ℕ) (c : Core) (h : MayWait offset task place
       }
 
   -- behind the saved registers
-  kept_owe : (o : ℕ) → found ≡ 0 → Owes offset end o (keeps ++ (disables ++ leave)) 0 (Waited task place own) st (record (masked (spread c)) { registers = 0 ∷ at_own ∷ sp ∷ (0x8000_0000 + 12 * (task + 1)) ∷ 0x8000_0000 ∷ tail; ram = with_words (rested_ram (spread c) task) (own + 4 * 5) (registers_from 27 5 (spread c).registers) })
+  kept_owe : (o : ℕ) → found ≡ 0 → Owes offset end o (keeping_code ++ (disabling_code ++ leaving_code)) 0 (Waited task place own) st (record (masked (spread c)) { registers = 0 ∷ at_own ∷ sp ∷ (0x8000_0000 + 12 * (task + 1)) ∷ 0x8000_0000 ∷ tail; ram = with_words (rested_ram (spread c) task) (own + 4 * 5) (registers_from 27 5 (spread c).registers) })
   kept_owe o none =
       let small = h.is_task in
       let al = h.aligned in
@@ -281,9 +281,9 @@ module _ (offset task place own : ℕ) (c : Core) (h : MayWait offset task place
 
   body_owes : Owes offset end (offset + 4) body 0 (Waited task place own) st (masked (spread c))
   body_owes =
-      looked_owe (goes_to_rest ++ saved_first (keeps ++ (disables ++ leave)))
-      (λ none. rested_owe (saved_first (keeps ++ (disables ++ leave))) (Waited task place own) (behind 14 (offset + 4))
-      (saved_owe (keeps ++ (disables ++ leave)) (Waited task place own) (behind 2 (behind 14 (offset + 4))) found (0x8000_0000 + 12 * (task + 1)) (rested_ram (spread c) task)
+      looked_owe (goes_to_rest ++ saved_first (keeping_code ++ (disabling_code ++ leaving_code)))
+      (λ none. rested_owe (saved_first (keeping_code ++ (disabling_code ++ leaving_code))) (Waited task place own) (behind 14 (offset + 4))
+      (saved_owe (keeping_code ++ (disabling_code ++ leaving_code)) (Waited task place own) (behind 2 (behind 14 (offset + 4))) found (0x8000_0000 + 12 * (task + 1)) (rested_ram (spread c) task)
       (kept_owe (behind 3 (behind 14 (offset + 4)) + 108) none)))
 
   runs_it : FromOpening 85 (at offset c) (Waited task place own)

@@ -11,13 +11,13 @@ use Rattle.event_gen.specs.GetEvent.{TellsEvents}
 use Rattle.event_gen.specs.WaitEvent.{Waits}
 
 -- the services on events; the object is a task, or 0 where there is none
-abbrev pub HasBlock : Service → ℕ → Type 0
-HasBlock service object = HasBlockUnless (not (is_on_events service)) (object_kind service) object
+abbrev pub HasEventBlock : Service → ℕ → Type 0
+HasEventBlock service object = HasBlockUnless (not (is_on_events service)) (object_kind service) object
 
 -- the code of a service with its object has the service's effect
-abbrev pub Serves : Service → ℕ → List InstrKind → Type 0
-Serves SetEvent object code = SetsEvents object code
-Serves ClearEvent object code = ClearsEvents code
-Serves GetEvent object code = TellsEvents object code
-Serves WaitEvent object code = Waits code
-Serves service object code = ⊥
+abbrev pub ServesEvent : Service → ℕ → List InstrKind → Type 0
+ServesEvent SetEvent object code = SetsEvents object code
+ServesEvent ClearEvent object code = ClearsEvents code
+ServesEvent GetEvent object code = TellsEvents object code
+ServesEvent WaitEvent object code = Waits code
+ServesEvent service object code = ⊥

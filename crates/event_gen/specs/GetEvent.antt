@@ -5,9 +5,9 @@ use Rattle.sloth_base.specs.Status.{E_OK, E_OS_STATE}
 use Rattle.sloth_region.specs.Layout.{active, events}
 use Rattle.rv32_instr.specs.declared.InstrKind.{InstrKind}
 use Rattle.rv32_instr.specs.Ram.{word_at}
-use Rattle.rv32_routine.specs.Masked.{FromOpening}
-use Rattle.rv32_routine.specs.Place.{at}
-use Rattle.rv32_routine.specs.Kernel.{masking}
+use Rattle.masked_code.specs.Masked.{FromOpening}
+use Rattle.masked_code.specs.Place.{at}
+use Rattle.masked_code.specs.Kernel.{masking}
 use Rattle.block_parts.specs.Back.{CanGoBack, WentBack, a0, a1}
 use Rattle.block_parts.specs.Looks.{LooksSuspended}
 

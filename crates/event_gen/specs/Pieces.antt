@@ -4,16 +4,16 @@ use Rattle.sloth_base.specs.Status.{E_OK, E_OS_STATE}
 use Rattle.sloth_region.specs.Layout.{cur, events, wait, resume, context_bytes, context_pc, controller_high, enabled_byte}
 use Rattle.rv32_instr.specs.declared.InstrKind.{InstrKind}
 use Rattle.rv32_instr.specs.declared.InstrKind.TheVariants.{Beq, Lui, Lw, Sw, Sb, Add, Addi, Or, And, Xori, Slli}
-use Rattle.rv32_routine.specs.Pieces.{past, saves}
-use Rattle.block_parts.specs.Pieces.{own_active, own_events, raises, back}
+use Rattle.masked_code.specs.Pieces.{past, saving_code}
+use Rattle.block_parts.specs.Pieces.{own_active, own_events, raising_code, back}
 
 -- x3 := 12 times `cur` behind the service words, where the running task's words end; x4 holds the base of memory
 abbrev pub finds_own : List InstrKind
 finds_own = Lw 3 4 (pos cur) ∷ Slli 1 3 3 ∷ Slli 3 3 2 ∷ Add 3 3 1 ∷ Add 3 3 4 ∷ []
 
 -- the status E_OS_STATE, and on behind so many instructions where x3 is 0
-abbrev pub refuses : ℕ → List InstrKind
-refuses passed = Addi 10 0 (pos E_OS_STATE) ∷ Beq 3 0 (pos (4 + 4 * passed)) ∷ []
+abbrev pub refusal_code : ℕ → List InstrKind
+refusal_code passed = Addi 10 0 (pos E_OS_STATE) ∷ Beq 3 0 (pos (4 + 4 * passed)) ∷ []
 
 -- ---- ClearEvent
 
@@ -34,12 +34,12 @@ abbrev pub adds_events : ℕ → List InstrKind
 adds_events task = Addi 10 0 (pos E_OK) ∷ Lw 3 4 (pos (events task)) ∷ Or 3 3 30 ∷ Sw 4 3 (pos (events task)) ∷ []
 
 -- enables the task's line; x1 holds the controller's address and x3 1
-abbrev pub enables : ℕ → List InstrKind
-enables task = Sb 1 3 (pos (enabled_byte task)) ∷ []
+abbrev pub enabling_code : ℕ → List InstrKind
+enabling_code task = Sb 1 3 (pos (enabled_byte task)) ∷ []
 
 -- goes on behind what wakes the task where it waits for none of the events in x3
 abbrev pub asks_awaited : ℕ → List InstrKind
-asks_awaited task = Lw 1 4 (pos (wait task)) ∷ And 3 3 1 ∷ Beq 3 0 (past (raises task ++ enables task)) ∷ []
+asks_awaited task = Lw 1 4 (pos (wait task)) ∷ And 3 3 1 ∷ Beq 3 0 (past (raising_code task ++ enabling_code task)) ∷ []
 
 -- ---- WaitEvent
 
@@ -69,12 +69,12 @@ goes_to_rest = Sw 3 0 own_active ∷ Sw 3 30 own_wait ∷ []
 
 -- the registers go into the context directly below x2
 abbrev pub saves_own : List InstrKind
-saves_own = Addi 1 2 (neg_ℤ (pos context_bytes)) ∷ saves 27 5 1
+saves_own = Addi 1 2 (neg_ℤ (pos context_bytes)) ∷ saving_code 27 5 1
 
 -- the context at x1 is the running task's own, with the address in x31 to go on at; leaves `cur` in x3
-abbrev pub keeps : List InstrKind
-keeps = Sw 1 31 (pos context_pc) ∷ Lw 3 4 (pos cur) ∷ Slli 30 3 2 ∷ Add 30 30 4 ∷ Sw 30 1 own_resume ∷ []
+abbrev pub keeping_code : List InstrKind
+keeping_code = Sw 1 31 (pos context_pc) ∷ Lw 3 4 (pos cur) ∷ Slli 30 3 2 ∷ Add 30 30 4 ∷ Sw 30 1 own_resume ∷ []
 
 -- the running task's line is not enabled; x3 holds `cur`
-abbrev pub disables : List InstrKind
-disables = Lui 30 controller_high ∷ Add 30 30 3 ∷ Sb 30 0 own_enabled ∷ []
+abbrev pub disabling_code : List InstrKind
+disabling_code = Lui 30 controller_high ∷ Add 30 30 3 ∷ Sb 30 0 own_enabled ∷ []

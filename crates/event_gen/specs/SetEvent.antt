@@ -5,9 +5,9 @@ use Rattle.sloth_base.specs.Status.{E_OK, E_OS_STATE}
 use Rattle.sloth_region.specs.Layout.{active, events, wait}
 use Rattle.rv32_instr.specs.declared.InstrKind.{InstrKind}
 use Rattle.rv32_instr.specs.Ram.{word_at, with_word}
-use Rattle.rv32_routine.specs.Masked.{FromOpening}
-use Rattle.rv32_routine.specs.Place.{at}
-use Rattle.rv32_routine.specs.Kernel.{masking}
+use Rattle.masked_code.specs.Masked.{FromOpening}
+use Rattle.masked_code.specs.Place.{at}
+use Rattle.masked_code.specs.Kernel.{masking}
 use Rattle.block_parts.specs.Back.{CanGoBack, WentBack, a0}
 use Rattle.block_parts.specs.Looks.{LooksSuspended}
 use Rattle.event_gen.specs.ClearEvent.{mask_register}
@@ -26,8 +26,8 @@ abbrev pub with_mask : ℕ → Core → ℕ
 with_mask task core = bit_or (word_at core.ram (events task)) (slice_index core.registers mask_register)
 
 -- those of them that the task's word of awaited events has; the word is stale where the task does not wait
-abbrev pub awaited : ℕ → Core → ℕ
-awaited task core = bit_and (with_mask task core) (word_at core.ram (wait task))
+abbrev pub awaited_events : ℕ → Core → ℕ
+awaited_events task core = bit_and (with_mask task core) (word_at core.ram (wait task))
 
 -- the core in which the events of the mask are set for the task
 abbrev pub set_core : ℕ → Core → Core
@@ -46,14 +46,14 @@ pub record HasNotSet (task : ℕ) (start end : State) : Type 0 where
 -- It is not Suspended and awaits none of its events, which now have those of the mask; the status is E_OK.
 pub record HasSet (task : ℕ) (start end : State) : Type 0 where
   pub not_suspended : LooksSuspended task start.core → ⊥
-  pub none_awaited : awaited task start.core ≡ 0
+  pub none_awaited : awaited_events task start.core ≡ 0
   pub status : slice_index end.core.registers a0 ≡ E_OK
   pub back : WentBack a0 (set_core task start.core) start end
 
 -- It is not Suspended and awaits one of its events, which now have those of the mask: its line is pending and enabled; the status is E_OK.
 pub record HasWoken (task : ℕ) (start end : State) : Type 0 where
   pub not_suspended : LooksSuspended task start.core → ⊥
-  pub one_awaited : awaited task start.core ≢ 0
+  pub one_awaited : awaited_events task start.core ≢ 0
   pub status : slice_index end.core.registers a0 ≡ E_OK
   pub back : WentBack a0 (woken_core task start.core) start end
 

@@ -6,10 +6,10 @@ use Rattle.sloth_base.specs.MemoryMap.{memory_base}
 use Rattle.sloth_region.specs.Layout.{cur, active, events, wait, resume, below_word, idle_context, context_bytes, context_level, context_cur, context_below}
 use Rattle.rv32_instr.specs.declared.InstrKind.{InstrKind}
 use Rattle.rv32_instr.specs.Ram.{word_at, with_word, with_words}
-use Rattle.rv32_routine.specs.Masked.{FromOpening}
-use Rattle.rv32_routine.specs.Place.{at}
-use Rattle.rv32_routine.specs.Pieces.{registers_from}
-use Rattle.rv32_routine.specs.Kernel.{IsBelow, LeftAs, masking}
+use Rattle.masked_code.specs.Masked.{FromOpening}
+use Rattle.masked_code.specs.Place.{at}
+use Rattle.masked_code.specs.Pieces.{registers_from}
+use Rattle.masked_code.specs.Kernel.{IsBelow, LeftAs, masking}
 use Rattle.block_parts.specs.Back.{CanGoBack, WentBack, a0}
 use Rattle.event_gen.specs.ClearEvent.{mask_register}
 

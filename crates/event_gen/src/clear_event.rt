@@ -5,9 +5,9 @@ ghost use Rattle.event_gen.specs.ClearEvent.{ClearsEvents};
 
 use crate::pieces::find_own;
 use block_parts::pieces::{OWN_EVENTS, go_back, open};
+use masked_code::emit::emit;
 use rv32_instr::Instr;
 use rv32_instr::asm::{A0, X1, X3, X30, ZERO, addi, and, lw, sw, xori};
-use rv32_routine::emit::emit;
 use sloth_base::service::E_OK;
 use std::alloc::{AllocError, Global};
 

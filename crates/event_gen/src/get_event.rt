@@ -5,9 +5,9 @@ ghost use Rattle.event_gen.specs.GetEvent.{TellsEvents};
 
 use crate::pieces::refuse;
 use block_parts::pieces::{go_back, look_at, open};
+use masked_code::emit::emit;
 use rv32_instr::Instr;
 use rv32_instr::asm::{A0, A1, X1, X3, X4, ZERO, addi, lw};
-use rv32_routine::emit::emit;
 use sloth_base::service::E_OK;
 use sloth_region::layout::events;
 use std::alloc::{AllocError, Global};

@@ -5,7 +5,7 @@ ghost use Rattle.std.specs.Prelude.{◌≡◌, ◌+◌, ◌*◌, ◌<◌, ◌≤
 ghost use Rattle.sloth_base.specs.Blocks.{block_number};
 ghost use Rattle.sloth_base.specs.ServiceCodes.{code_of};
 ghost use Rattle.block_parts.specs.Marks.{opening};
-ghost use Rattle.event_gen.specs.Block.{HasBlock, Serves};
+ghost use Rattle.event_gen.specs.Block.{HasEventBlock, ServesEvent};
 
 mod clear_event;
 mod get_event;
@@ -34,11 +34,11 @@ pub fn block(
     levels: &Levels,
     map: &Map,
 ) -> Result<Block, NoMemory>
-    requires { HasBlock service object }
+    requires { HasEventBlock service object }
     ensures at { IfOk result (λ block. block.at ≡ slice_index map.now.places.blocks (block_number service object)) }
     ensures marks { IfOk result (λ block. block.marks ≡ opening block.at (code_of service) ∷ []) }
     ensures size { IfOk result (λ block. length block.code ≤ 256) }
-    ensures effect { IfOk result (λ block. Serves service object block.code) }
+    ensures effect { IfOk result (λ block. ServesEvent service object block.code) }
 {
     let at = map.places.blocks[block_number(service, object)];
     let code = code(alloc, service, object as u8)?;
@@ -52,8 +52,8 @@ pub fn block(
 
 /// The instructions.
 fn code(alloc: Global, service: Service, object: u8) -> Result<Vec<Instr>, AllocError>
-    requires { HasBlock service object }
-    ensures { IfOk result (λ code. Serves service object code.items) }
+    requires { HasEventBlock service object }
+    ensures { IfOk result (λ code. ServesEvent service object code.items) }
 {
     match service {
         Service::SetEvent => set_event::code(alloc, object),

@@ -1,10 +1,10 @@
 //! Pieces of code that several services have.
 ghost use Rattle.std.specs.Prelude.{◌≡◌, ◌<◌, ◌++◌, OnOk};
-ghost use Rattle.event_gen.specs.Pieces.{finds_own, refuses};
+ghost use Rattle.event_gen.specs.Pieces.{finds_own, refusal_code};
 
+use masked_code::emit::{emit, past};
 use rv32_instr::Instr;
 use rv32_instr::asm::{A0, X1, X3, X4, ZERO, add, addi, beq, lw, slli};
-use rv32_routine::emit::{emit, past};
 use sloth_base::service::E_OS_STATE;
 use sloth_region::layout::CUR;
 use std::alloc::AllocError;
@@ -26,7 +26,7 @@ pub fn find_own(code: &mut Vec<Instr>) -> Result<(), AllocError>
 /// The status E_OS_STATE, and on behind so many instructions where x3 is 0.
 pub fn refuse(code: &mut Vec<Instr>, passed: u32) -> Result<(), AllocError>
     requires { passed < 500 }
-    ensures { OnOk result (code.new.items ≡ code.old.items ++ refuses passed) }
+    ensures { OnOk result (code.new.items ≡ code.old.items ++ refusal_code passed) }
 {
     let refused = [
         addi(A0, ZERO, E_OS_STATE as i32),

@@ -1,14 +1,14 @@
 //! SetEvent: the events of the mask are set for a task that isn't Suspended, and it becomes Ready where it waits for one of
 //! its set events.
 ghost use Rattle.std.specs.Prelude.{◌≡◌, ◌<◌, ◌++◌, IfOk, OnOk};
-ghost use Rattle.event_gen.specs.Pieces.{adds_events, asks_awaited, enables};
+ghost use Rattle.event_gen.specs.Pieces.{adds_events, asks_awaited, enabling_code};
 ghost use Rattle.event_gen.specs.SetEvent.{SetsEvents};
 
 use crate::pieces::refuse;
 use block_parts::pieces::{go_back, look_at, open, raise};
+use masked_code::emit::{emit, past};
 use rv32_instr::Instr;
 use rv32_instr::asm::{A0, X1, X3, X4, X30, ZERO, addi, and, beq, lw, or, sb, sw};
-use rv32_routine::emit::{emit, past};
 use sloth_base::service::E_OK;
 use sloth_region::layout::{enabled_byte, events, wait};
 use std::alloc::{AllocError, Global};
@@ -69,7 +69,7 @@ fn ask_awaited(code: &mut Vec<Instr>, task: u8) -> Result<(), AllocError>
 /// Enables the task's line. x1 holds the controller's address and x3 1.
 fn enable(code: &mut Vec<Instr>, task: u8) -> Result<(), AllocError>
     requires { task < 30 }
-    ensures { OnOk result (code.new.items ≡ code.old.items ++ enables task) }
+    ensures { OnOk result (code.new.items ≡ code.old.items ++ enabling_code task) }
 {
     emit(code, &[sb(X3, X1, enabled_byte(task))])
 }

@@ -1,16 +1,16 @@
 //! WaitEvent: the running task goes on where one of the events is set; else it waits, and what runs below it goes on.
 ghost use Rattle.std.specs.Prelude.{◌≡◌, ◌++◌, IfOk, OnOk};
-ghost use Rattle.event_gen.specs.Pieces.{asks_set, answers_set, goes_to_rest, saves_own, keeps, disables};
+ghost use Rattle.event_gen.specs.Pieces.{asks_set, answers_set, goes_to_rest, saves_own, keeping_code, disabling_code};
 ghost use Rattle.event_gen.specs.WaitEvent.{Waits};
 
 use crate::pieces::find_own;
 use block_parts::pieces::{BACK, OWN_ACTIVE, OWN_EVENTS, go_back, open};
+use masked_code::emit::{emit, past, save};
+use masked_code::pieces::leave;
 use rv32_instr::Instr;
 use rv32_instr::asm::{
     A0, X1, X2, X3, X4, X30, X31, ZERO, add, addi, and, beq, lui, lw, sb, slli, sw,
 };
-use rv32_routine::emit::{emit, past, save};
-use rv32_routine::pieces::leave;
 use sloth_base::service::E_OK;
 use sloth_region::layout::{CONTEXT_BYTES, CONTEXT_PC, CONTROLLER_HIGH, CUR, RESUME_WORDS};
 use std::alloc::{AllocError, Global};
@@ -79,7 +79,7 @@ fn save_own(code: &mut Vec<Instr>) -> Result<(), AllocError>
 
 /// The context at x1 is the running task's own, with the address in x31 to go on at. x4 holds the base of memory.
 fn keep(code: &mut Vec<Instr>) -> Result<(), AllocError>
-    ensures { OnOk result (code.new.items ≡ code.old.items ++ keeps) }
+    ensures { OnOk result (code.new.items ≡ code.old.items ++ keeping_code) }
 {
     let kept = [
         sw(X31, X1, CONTEXT_PC),
@@ -93,7 +93,7 @@ fn keep(code: &mut Vec<Instr>) -> Result<(), AllocError>
 
 /// The running task's line is not enabled. x3 holds `cur`.
 fn disable(code: &mut Vec<Instr>) -> Result<(), AllocError>
-    ensures { OnOk result (code.new.items ≡ code.old.items ++ disables) }
+    ensures { OnOk result (code.new.items ≡ code.old.items ++ disabling_code) }
 {
     let disabled = [
         lui(X30, CONTROLLER_HIGH),

@@ -10,15 +10,15 @@ use Rattle.sloth_base.specs.declared.app.Item.{Item}
 use Rattle.sloth_base.specs.declared.app.Label.{Label}
 use Rattle.sloth_base.specs.Named.{missing, function, nowhere, no_item, label_of, item_of}
 use Rattle.sloth_base.specs.declared.refusal.Refusal.{Refusal}
-use Rattle.sloth_refusal.specs.Order.{NoFault}
-use Rattle.app_rules.specs.AppRange.{IsResource, AppInRange}
-use Rattle.app_rules.specs.WellFormed.{RuleFault}
+use Rattle.least_fault.specs.Order.{NoFault}
+use Rattle.code_rules.specs.AppRange.{IsResource, AppInRange}
+use Rattle.code_rules.specs.WellFormed.{RuleFault}
 use Rattle.call_graph.specs.declared.ranking.Ranks.{Ranks}
 use Rattle.call_graph.specs.Ranks.{RanksOf}
 use Rattle.task_verify.specs.Cases.{AreOps}
 use Rattle.task_verify.proofs.Acyclic.{no_cycle}
 use Rattle.task_verify.proofs.Tests.{leads}
-use Rattle.app_rules.specs.Code.{held_at}
+use Rattle.code_rules.specs.Code.{held_at}
 use Rattle.task_verify.proofs.Paths.{reached_of}
 use Rattle.held_lists.specs.Filling.{bare_label, bare_func, SameButLists, IsClear, AreClear, IsFilling}
 use Rattle.held_lists.specs.RightLists.{HasRightLists}

@@ -7,7 +7,7 @@ use Rattle.std.proofs.lemmas.Slice.Eq.{bytes_eq-Decides}
 use Rattle.sloth_base.specs.declared.app.Func.{Func}
 use Rattle.sloth_base.specs.declared.app.Item.{Item}
 use Rattle.sloth_base.specs.Named.{label_of, item_of}
-use Rattle.app_rules.specs.Code.{falls, way, held_at, held_after, GoesOn, Path}
+use Rattle.code_rules.specs.Code.{is_followed, way, held_at, held_after, GoesOn, Path}
 use Rattle.task_verify.proofs.Paths.{goes_from_inside}
 use Rattle.held_lists.specs.Filling.{bare_func}
 use Rattle.held_lists.specs.RightLists.{HasRightLists}
@@ -31,7 +31,7 @@ module _ (f g : Func) (same : bare_func f ≡ bare_func g) (one : HasRightLists 
       (held_falls f one i a.0
       ∙ ap (held_after (item_of f i).op) e
       ∙ ap (λ (x : Item). held_after x.op (held_at g i)) (item_same f g same i)
-      ∙ sym (held_falls g other i (ap (λ (x : Item). falls x.op) (sym (item_same f g same i)) ∙ a.0)))
+      ∙ sym (held_falls g other i (ap (λ (x : Item). is_followed x.op) (sym (item_same f g same i)) ∙ a.0)))
   goes_alike i j (inr a) e =
       let l = goes_from_inside f i j (inr a) in
       let way_g : way (item_of g i).op ≡ Some a.0 = ap (λ (x : Item). way x.op) (sym (item_same f g same i)) ∙ a.1 in

@@ -12,8 +12,8 @@ use Rattle.sloth_base.specs.declared.app.Op.{Op}
 use Rattle.sloth_base.specs.declared.app.Op.TheVariants as op
 use Rattle.sloth_base.specs.ImageRange.{AreNames}
 use Rattle.sloth_base.specs.Named.{missing, function, nowhere, label_of, item_of, IsBodyOf}
-use Rattle.app_rules.specs.AppRange.{AppInRange, IsBody, IsOp}
-use Rattle.app_rules.specs.Code.{IsItem, Calls, CallChain, Reaches, TaskReaches, ReachesTaking, ReachesPause}
+use Rattle.code_rules.specs.AppRange.{AppInRange, IsBody, IsOp}
+use Rattle.code_rules.specs.Code.{IsItem, Calls, CallChain, Reaches, TaskReaches, ReachesTaking, ReachesPause}
 use Rattle.call_graph.specs.declared.ranking.Ranks.{Ranks}
 use Rattle.call_graph.specs.Ranks.{RanksOf}
 use Rattle.held_lists.specs.Filling.{bare_label, bare_func, SameButLists}

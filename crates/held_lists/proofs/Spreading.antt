@@ -16,9 +16,9 @@ use Rattle.sloth_base.specs.declared.app.Op.TheVariants as op
 use Rattle.sloth_base.specs.declared.service.Service.{Service}
 use Rattle.sloth_base.specs.declared.service.Service.TheVariants as service
 use Rattle.sloth_base.specs.Named.{item_of}
-use Rattle.app_rules.specs.AppRange.{IsResource, IsOp, AreOperands}
-use Rattle.app_rules.specs.Code.{way, is_in, without_last, held_behind, held_after, held_at, GoesOn}
-use Rattle.task_verify.specs.Ways.{next_of, jump_of, Visited, unmarked}
+use Rattle.code_rules.specs.AppRange.{IsResource, IsOp, AreOperands}
+use Rattle.code_rules.specs.Code.{way, is_in, without_last, held_behind, held_after, held_at, GoesOn}
+use Rattle.task_verify.specs.Ways.{next_of, jump_of, Visited, unmarked_count}
 use Rattle.task_verify.proofs.Paths.{next_goes, jump_goes, goes_from_inside}
 use Rattle.task_verify.proofs.Searches.{taken, gone_on, begun, ended, next_inside, jump_inside}
 use Rattle.held_lists.specs.Filling.{bare_func}
@@ -243,14 +243,14 @@ spread_done f lists pending none s = record {
 -- ---- the cost of a visit
 
 pub visit_costs : (old new : List Bool) (pending kept : List ℕ) (at : ℕ) → at < length old → Visited old new pending kept at
-    → 2 * unmarked new + length kept ≤ 2 * unmarked old + length pending
+    → 2 * unmarked_count new + length kept ≤ 2 * unmarked_count old + length pending
 visit_costs old new pending kept at l v = by (get_or old at false) refl v
   where
     by : (b : Bool) → get_or old at false ≡ b → MatchBool b ((new ≡ old) × (kept ≡ pending)) ((new ≡ set old at true) × (kept ≡ pending ++ at ∷ []))
-        → 2 * unmarked new + length kept ≤ 2 * unmarked old + length pending
-    by true e w = let a = ap unmarked w.0 in let b = ap (λ x. length x) w.1 in omega (arith, a, b)
+        → 2 * unmarked_count new + length kept ≤ 2 * unmarked_count old + length pending
+    by true e w = let a = ap unmarked_count w.0 in let b = ap (λ x. length x) w.1 in omega (arith, a, b)
     by false e w =
-        let a = ap unmarked w.0 in
+        let a = ap unmarked_count w.0 in
         let b = ap (λ x. length x) w.1 in
         let c = length_push pending at in
         let d = sum_by-set (λ b. cond (not b) 1 0) old at true false l in

@@ -11,8 +11,8 @@ use Rattle.sloth_base.specs.declared.service.Service.TheVariants as service
 use Rattle.sloth_base.specs.declared.refusal.Code.{Code}
 use Rattle.sloth_base.specs.declared.refusal.Code.TheVariants as code
 use Rattle.sloth_base.specs.Named.{missing, function, label_of, item_of, no_item}
-use Rattle.app_rules.specs.Code.{is_in, held_at}
-use Rattle.app_rules.specs.WellFormed.{WellFormed, at_header, at_label, at_item, Differs, falling_in, Breaks, holds_other, takes_held, is_unreached, TakesHeld, at_line}
+use Rattle.code_rules.specs.Code.{is_in, held_at}
+use Rattle.code_rules.specs.WellFormed.{WellFormed, at_header, at_label, at_item, Differs, falling_in, Breaks, holds_other, takes_held, is_unreached, TakesHeld, at_line}
 use Rattle.task_verify.proofs.Tests.{leads}
 use Rattle.held_lists.specs.Filling.{AreClear, IsFilling}
 use Rattle.held_lists.specs.RightLists.{HasRightLists}

@@ -5,7 +5,7 @@ use Rattle.sloth_base.specs.declared.app.App.{App}
 use Rattle.sloth_base.specs.declared.app.Func.{Func}
 use Rattle.sloth_base.specs.declared.app.Label.{Label}
 use Rattle.sloth_base.specs.Named.{missing}
-use Rattle.app_rules.specs.AppRange.{IsResource}
+use Rattle.code_rules.specs.AppRange.{IsResource}
 use Rattle.task_verify.specs.Cases.{AreOps}
 use Rattle.held_lists.specs.Filling.{bare_func, IsClear}
 use Rattle.held_lists.specs.RightLists.{HasItsLabels, HasRightLists}

@@ -5,7 +5,7 @@ use Rattle.sloth_base.specs.declared.app.App.{App}
 use Rattle.sloth_base.specs.declared.app.Func.{Func}
 use Rattle.sloth_base.specs.declared.app.Label.{Label}
 use Rattle.sloth_base.specs.Named.{function, label_of}
-use Rattle.app_rules.specs.WellFormed.{WellFormed}
+use Rattle.code_rules.specs.WellFormed.{WellFormed}
 
 -- a label without its list
 abbrev pub bare_label : Label → Label

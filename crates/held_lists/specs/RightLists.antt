@@ -5,8 +5,8 @@ use Rattle.sloth_base.specs.declared.app.Op.TheVariants as op
 use Rattle.sloth_base.specs.declared.service.Service.TheVariants as service
 use Rattle.sloth_base.specs.declared.app.Call.{Call}
 use Rattle.sloth_base.specs.Named.{item_of, label_of}
-use Rattle.app_rules.specs.Code.{way, is_in, held_at, is_entered, held_entering}
-use Rattle.app_rules.specs.WellFormed.{IsUnreached}
+use Rattle.code_rules.specs.Code.{way, is_in, held_at, is_entered, held_entering}
+use Rattle.code_rules.specs.WellFormed.{IsUnreached}
 use Rattle.task_verify.specs.Ways.{LeadsToLabels}
 use Rattle.held_lists.specs.Filling.{IsClear}
 

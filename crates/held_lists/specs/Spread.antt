@@ -8,8 +8,8 @@ use Rattle.sloth_base.specs.declared.app.Op.{Op}
 use Rattle.sloth_base.specs.declared.app.Op.TheVariants as op
 use Rattle.sloth_base.specs.declared.service.Service.{Service}
 use Rattle.sloth_base.specs.declared.service.Service.TheVariants as service
-use Rattle.app_rules.specs.AppRange.{IsResource}
-use Rattle.app_rules.specs.Code.{is_in, without_last, held_at}
+use Rattle.code_rules.specs.AppRange.{IsResource}
+use Rattle.code_rules.specs.Code.{is_in, without_last, held_at}
 use Rattle.task_verify.specs.Ways.{Reached, Marked, Searching}
 use Rattle.task_verify.specs.Cases.{AreOps}
 use Rattle.held_lists.specs.Filling.{bare_func}

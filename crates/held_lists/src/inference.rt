@@ -1,6 +1,6 @@
 //! Task code with the lists that keep every rule, if some do.
 ghost use Rattle.std.specs.Prelude.{◌≡◌, IfOk, IfErr};
-ghost use Rattle.app_rules.specs.AppRange.{AppInRange};
+ghost use Rattle.code_rules.specs.AppRange.{AppInRange};
 ghost use Rattle.call_graph.specs.Ranks.{RanksOf};
 ghost use Rattle.held_lists.specs.Filling.{IsFilling};
 ghost use Rattle.held_lists.specs.BodyFilling.{HaveTheirLabels, AreBodyFillings};

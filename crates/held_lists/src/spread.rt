@@ -2,8 +2,8 @@
 ghost use Rattle.std.specs.Prelude.{◌≡◌, ◌==◌, ◌+◌, ◌*◌, ℕ, ◌<◌, ◌≤◌, length, get_or, [], None, is_some, IfOk, OnOk};
 ghost use Rattle.std.specs.List.{list_any};
 ghost use Rattle.sloth_base.specs.Named.{item_of};
-ghost use Rattle.app_rules.specs.Code.{is_in};
-ghost use Rattle.task_verify.specs.Ways.{unmarked};
+ghost use Rattle.code_rules.specs.Code.{is_in};
+ghost use Rattle.task_verify.specs.Ways.{unmarked_count};
 ghost use Rattle.held_lists.specs.RightLists.{HasItsLabels};
 ghost use Rattle.held_lists.specs.Spread.{list_behind, list_after, list_at, marks, Placed, AreLists, Spreading};
 

@@ -17,14 +17,14 @@ use Rattle.sloth_base.specs.declared.app.Func.{Func}
 use Rattle.sloth_base.specs.declared.app.Label.{Label}
 use Rattle.sloth_base.specs.declared.refusal.Code.TheVariants as code
 use Rattle.sloth_base.specs.declared.refusal.Part.TheVariants.{Src}
-use Rattle.sloth_refusal.specs.Order.{NoFault}
-use Rattle.sloth_refusal.specs.Search.{SomeFrom}
-use Rattle.sloth_refusal.proofs.Nowhere.{case_false}
+use Rattle.least_fault.specs.Order.{NoFault}
+use Rattle.least_fault.specs.Search.{SomeFrom}
+use Rattle.least_fault.proofs.Nowhere.{case_false}
 use Rattle.std.specs.List.{flat_map}
 use Rattle.std.proofs.lemmas.List.Elements.{All-append, All-map}
 use Rattle.sloth_base.specs.Named.{missing}
-use Rattle.app_rules.specs.AppRange.{IsResource, AppInRange}
-use Rattle.app_rules.specs.WellFormed.{WellFormed}
+use Rattle.code_rules.specs.AppRange.{IsResource, AppInRange}
+use Rattle.code_rules.specs.WellFormed.{WellFormed}
 use Rattle.text_pieces.specs.Bytes.{is_name}
 use Rattle.asm_lines.specs.declared.operands.Operand.{Operand}
 use Rattle.asm_lines.specs.declared.operands.Operand.TheVariants.{Name}
@@ -34,7 +34,7 @@ use Rattle.asm_lines.specs.declared.table.Mnemonic.TheVariants as m
 use Rattle.asm_lines.specs.Faults.{is_a1, after_line, ends_inside, FaultAt, SourceFault, TextFault, source_lines}
 use Rattle.asm_names.specs.declared.scope.Scope.{Scope}
 use Rattle.asm_names.specs.declared.scope.Kind.TheVariants as kind
-use Rattle.asm_names.specs.Said.{is_label, name_of, written}
+use Rattle.asm_names.specs.Said.{is_label, name_of, written_name}
 use Rattle.asm_names.specs.Bodies.{bodies_of}
 use Rattle.asm_names.specs.Scopes.{any_unknown, is_scheduler, is_lacking, kind_of, scope_of}
 use Rattle.asm_names.specs.NameFaults.{writes_long, NameFault}
@@ -80,11 +80,11 @@ module _ (config : Config) (range : InRange config) where
   written_names (r ∷ held) h =
       (word_name (resource_name config r) (name_of_resource r (h 0 r (omega arith))).word, written_names held (λ k d l. h (suc k) d (omega (arith, l))))
 
-  short_names : (held : List ℕ) → All (IsResource config) held → list_any (λ x. writes_long (written x)) (map Name (resource_names config held)) ≡ false
+  short_names : (held : List ℕ) → All (IsResource config) held → list_any (λ x. writes_long (written_name x)) (map Name (resource_names config held)) ≡ false
   short_names [] h = refl
   short_names (r ∷ held) h =
       let s = (name_of_resource r (h 0 r (omega arith))).short in
-      ap (λ b. b || list_any (λ x. writes_long (written x)) (map Name (resource_names config held))) (le-ltb 64 (length (resource_name config r)) s)
+      ap (λ b. b || list_any (λ x. writes_long (written_name x)) (map Name (resource_names config held))) (le-ltb 64 (length (resource_name config r)) s)
       ∙ short_names held (λ k d l. h (suc k) d (omega (arith, l)))
 
   module _ (scope : Scope) (named : scope.resources ≡ config.resources) (schedules : scope.has_scheduler ≡ config.res_scheduler) where

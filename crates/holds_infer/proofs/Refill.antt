@@ -13,7 +13,7 @@ use Rattle.sloth_base.specs.declared.app.App.{App}
 use Rattle.sloth_base.specs.declared.app.Func.{Func}
 use Rattle.sloth_base.specs.declared.app.Label.{Label}
 use Rattle.sloth_base.specs.Named.{nowhere}
-use Rattle.app_rules.specs.AppRange.{IsResource}
+use Rattle.code_rules.specs.AppRange.{IsResource}
 use Rattle.asm_lines.specs.declared.operands.Operand.TheVariants.{Name}
 use Rattle.asm_lines.specs.declared.source_line.SourceLine.{SourceLine}
 use Rattle.asm_lines.specs.declared.source_line.SourceLine.TheVariants.{Statement}

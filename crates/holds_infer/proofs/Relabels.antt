@@ -18,7 +18,7 @@ use Rattle.asm_names.specs.Said.{is_data, is_label, opens_body, closes_body, fir
 use Rattle.asm_names.specs.Bodies.{BodyText, bodies_from, bodies_of, body_name, is_called_body, function_names, called_names}
 use Rattle.asm_names.specs.Scopes.{scope_of}
 use Rattle.asm_parse.specs.Operations.{op_of}
-use Rattle.asm_parse.specs.Apps.{item_by, item_of, items_from, label_of, label_holds, labels_from, count_op, task_of, func_of, symbol_of, app_of}
+use Rattle.asm_parse.specs.Apps.{item_by, item_of, items_from, label_of, label_holds, labels_from, count_op, body_task, func_of, symbol_of, app_of}
 use Rattle.held_lists.specs.Filling.{bare_label, bare_func, bare_app}
 use Rattle.holds_infer.specs.Relabel.{func_holds, all_holds, label_statement, first_list, other_lists, resource_names, relabel, AreInPlace}
 
@@ -163,7 +163,7 @@ scope_same config ls =
 
 func_same : (config : Config) (scope : Scope) (b : BodyText) → bare_func (func_of config scope (strip_body b)) ≡ bare_func (func_of config scope b)
 func_same config scope b =
-    let P : List (List ℕ) → List Item → List Label → Func = λ names items labels. record { name = body_name b; line = b.line; task = task_of scope b; frame_words = number_of b.header; items = items; labels = labels } in
+    let P : List (List ℕ) → List Item → List Label → Func = λ names items labels. record { name = body_name b; line = b.line; task = body_task scope b; frame_words = number_of b.header; items = items; labels = labels } in
     let names = names_same b.lines in
     ap (λ ns. P ns (items_from config scope ns (b.line + 1) (strip_all b.lines)) (map bare_label (labels_from config scope ns (b.line + 1) 0 (strip_all b.lines)))) names
     ∙ ap (λ xs. P [] xs (map bare_label (labels_from config scope (label_names b.lines) (b.line + 1) 0 (strip_all b.lines)))) (items_same config scope (label_names b.lines) (b.line + 1) b.lines)

@@ -10,7 +10,7 @@ use Rattle.std.proofs.lemmas.List.Splits.{slice_split_none, slice_split_at}
 use Rattle.std.proofs.Math.Seq.{drop-append_seam}
 use Rattle.sloth_base.specs.declared.config.Config.{Config}
 use Rattle.sloth_base.specs.declared.app.App.{App}
-use Rattle.text_pieces.specs.Bytes.{is_name, has}
+use Rattle.text_pieces.specs.Bytes.{is_name, is_byte_of}
 use Rattle.asm_lines.specs.declared.source_line.SourceLine.{SourceLine}
 use Rattle.asm_lines.specs.Lines.{line_of, without_returns, lines}
 use Rattle.asm_lines.specs.SourceLines.{source_line}
@@ -25,10 +25,10 @@ use Rattle.holds_infer.proofs.Written.{AreWritten, text_lacks, label_read}
 
 abbrev AllLack : List (List ℕ) → Type 0
 AllLack [] = Unit {0}
-AllLack (p ∷ ps) = (has 10 p ≡ false) × AllLack ps
+AllLack (p ∷ ps) = (is_byte_of 10 p ≡ false) × AllLack ps
 
-clean : (x : List ℕ) → has 10 x ≡ false → All (λ b. (b == 10) ≡ false) x
-unfolding has
+clean : (x : List ℕ) → is_byte_of 10 x ≡ false → All (λ b. (b == 10) ≡ false) x
+unfolding is_byte_of
 clean [] h = All-nil (λ b. (b == 10) ≡ false)
 clean (b ∷ x) h = let w = neither (b == 10) (list_any (λ y. y == 10) x) h in All-cons (λ b. (b == 10) ≡ false) b x w.0 (clean x w.1)
 
@@ -40,12 +40,12 @@ split_joined (x ∷ y ∷ ps) l h =
     ∙ ap (λ r. x ∷ r) (split_joined (y ∷ ps) (omega arith) h.1)
 
 onto_lacks : (b : ℕ) (ps : List (List ℕ)) → (b == 10) ≡ false → AllLack ps → AllLack (onto_first b ps)
-unfolding has
+unfolding is_byte_of
 onto_lacks b [] e h = (ap (λ c. c || false) e, tt)
 onto_lacks b (p ∷ ps) e h = (ap (λ c. c || list_any (λ x. x == 10) p) e ∙ h.0, h.1)
 
 parts_lack : (t : List ℕ) → AllLack (slice_split (λ b. b == 10) t)
-unfolding has
+unfolding is_byte_of
 parts_lack [] = (refl, tt)
 parts_lack (b ∷ t) = by (b == 10) refl (parts_lack t)
   where
@@ -65,27 +65,27 @@ some_parts (b ∷ t) = by (b == 10)
     by true = omega arith
     by false = onto_some b (slice_split (λ b. b == 10) t)
 
-drop_lacks : (c k : ℕ) (t : List ℕ) → has c t ≡ false → has c (drop k t) ≡ false
-unfolding has
+drop_lacks : (c k : ℕ) (t : List ℕ) → is_byte_of c t ≡ false → is_byte_of c (drop k t) ≡ false
+unfolding is_byte_of
 drop_lacks c zero t h = h
 drop_lacks c (suc k) [] h = h
 drop_lacks c (suc k) (b ∷ t) h = drop_lacks c k t (neither (b == c) (list_any (λ y. y == c) t) h).1
 
 -- ---- line ends
 
-keeps_end : (t : List ℕ) → has 13 t ≡ false → strip_carriage_return t ≡ t
+keeps_end : (t : List ℕ) → is_byte_of 13 t ≡ false → strip_carriage_return t ≡ t
 keeps_end t h = by (slice_index t (length t - 1) == 13) refl
   where
     by : (b : Bool) → (slice_index t (length t - 1) == 13) ≡ b → cond b (take (length t - 1) t) t ≡ t
     by false e = refl
-    by true e = absurd (true≢false (sym (has_here 13 (take (length t - 1) t) [] refl) ∙ ap (has 13) (sym (ends_there t 13 refl e)) ∙ h))
+    by true e = absurd (true≢false (sym (has_here 13 (take (length t - 1) t) [] refl) ∙ ap (is_byte_of 13) (sym (ends_there t 13 refl e)) ∙ h))
 
 loses_end : (t : List ℕ) → strip_carriage_return (t ++ 13 ∷ []) ≡ t
 loses_end t =
     ap (λ n. cond (n == 13) (take (length (t ++ 13 ∷ []) - 1) (t ++ 13 ∷ [])) (t ++ 13 ∷ [])) (last_is t 13) ∙ but_last t 13
 
 -- with the end of another line the text is as before
-pub with_end : (last : Bool) (part t : List ℕ) → has 13 t ≡ false → line_of last (t ++ line_end last part) ≡ t
+pub with_end : (last : Bool) (part t : List ℕ) → is_byte_of 13 t ≡ false → line_of last (t ++ line_end last part) ≡ t
 with_end true part t h = ap (λ x. t ++ x) (drop_all (length part) part (omega arith)) ∙ append-nil t
 with_end false part t h = by (slice_index part (length part - 1) == 13) refl
   where

@@ -6,7 +6,7 @@ use Rattle.std.proofs.lemmas.Bool.{false≢true, eqb-true}
 use Rattle.std.proofs.lemmas.List.{reverse-append, length-reverse}
 use Rattle.std.proofs.lemmas.List.Folds.{list_all-append}
 use Rattle.sloth_base.specs.ImageRange.{continues_word}
-use Rattle.text_pieces.specs.Bytes.{is_name, has}
+use Rattle.text_pieces.specs.Bytes.{is_name, is_byte_of}
 use Rattle.sloth_base.specs.ServiceCodes.{service_named}
 use Rattle.asm_lines.specs.declared.operands.Operand.TheVariants.{Name, Wrong}
 use Rattle.asm_lines.specs.declared.source_line.SourceLine.TheVariants.{Empty, Statement}
@@ -14,7 +14,7 @@ use Rattle.asm_lines.specs.declared.table.Mnemonic.TheVariants as m
 use Rattle.asm_lines.specs.Bytes.{is_shown, trim}
 use Rattle.asm_lines.specs.Table.{mnemonic_of, alu_of, imm_of, shift_of, load_of, store_of, branch_of, plain_of}
 use Rattle.asm_lines.specs.Operands.{before}
-use Rattle.asm_lines.specs.SourceLines.{source_line, statement_of, known, read_operands, has_empty}
+use Rattle.asm_lines.specs.SourceLines.{source_line, statement_of, known_statement, read_operands, has_empty}
 use Rattle.asm_lines.specs.Grammar.{starts_bare, Bare, IsTrimmed, is_whole, IsOperands, is_last, is_more, is_something, IsShape}
 use Rattle.asm_lines.proofs.Cuts.{lacks, all_weaker}
 use Rattle.asm_lines.proofs.Shapes.{remains_made, shape_made}
@@ -55,7 +55,7 @@ text_line : (name : List ℕ) (ns : List (List ℕ)) → is_name name ≡ true �
 text_line name ns h w = join_all is_line_byte (codes "label ") (name ++ more ns) refl (join_all is_line_byte name (more ns) (name_line name h) (more_line ns w))
 
 -- a text of such bytes has no LF, no CR and no `#`
-pub text_lacks : (c : ℕ) → is_line_byte c ≡ false → (name : List ℕ) (ns : List (List ℕ)) → is_name name ≡ true → AreWritten ns → has c (label_text name ns) ≡ false
+pub text_lacks : (c : ℕ) → is_line_byte c ≡ false → (name : List ℕ) (ns : List (List ℕ)) → is_name name ≡ true → AreWritten ns → is_byte_of c (label_text name ns) ≡ false
 text_lacks c f name ns h w = lacks is_line_byte c f (label_text name ns) (text_line name ns h w)
 
 shown : (b : ℕ) → is_line_byte b ≡ true → is_shown b ≡ true
@@ -96,8 +96,8 @@ untrimmed t b = record { before = []; behind = []; blanks_before = refl; blanks_
 behind_blank : (n : List ℕ) → is_name n ≡ true → IsTrimmed (32 ∷ n) n
 behind_blank n h = record { before = 32 ∷ []; behind = []; blanks_before = refl; blanks_behind = refl; text = ap (λ x. 32 ∷ x) (sym (append-nil n)); bare = name_bare n h }
 
-no_comma : (n : List ℕ) → is_name n ≡ true → has 44 (32 ∷ n) ≡ false
-unfolding has
+no_comma : (n : List ℕ) → is_name n ≡ true → is_byte_of 44 (32 ∷ n) ≡ false
+unfolding is_byte_of
 no_comma n h = lacks continues_word 44 refl n (name_bytes n h)
 
 operands : (x : List ℕ) (ns : List (List ℕ)) → is_name x ≡ true → AreWritten ns → IsOperands (32 ∷ (x ++ more ns)) (x ∷ ns)
@@ -143,5 +143,5 @@ label_read name ns h w =
     ap (λ x. cond (length x == 0) Empty (statement_of x)) kept
     ∙ ap (λ b. cond b Empty (statement_of t)) (not_empty t (omega arith))
     ∙ shape_made t (codes "label") (name ∷ ns) (shape name ns h w)
-    ∙ ap (λ o. known o (name ∷ ns)) label_word
+    ∙ ap (λ o. known_statement o (name ∷ ns)) label_word
     ∙ ap (λ os. Statement m.Label os) (operands_read 0 (name ∷ ns) (h, w))

@@ -2,13 +2,13 @@
 ghost use Rattle.std.specs.Prelude.{◌≡◌, ◌++◌, ◌+◌, ◌^◌, ◌<◌, [], ◌∷◌, cond, length, map, get_or, IfOk, OnOk};
 ghost use Rattle.std.specs.List.{join_with_byte};
 ghost use Rattle.text_pieces.specs.Names.{now};
-ghost use Rattle.sloth_refusal.specs.Order.{NoFault};
+ghost use Rattle.least_fault.specs.Order.{NoFault};
 ghost use Rattle.asm_lines.specs.Lines.{without_returns};
 ghost use Rattle.asm_lines.specs.SourceLines.{source_line};
 ghost use Rattle.asm_lines.specs.Faults.{source_lines, TextFault};
 ghost use Rattle.asm_names.specs.Said.{is_label};
-ghost use Rattle.app_rules.specs.AppRange.{AppInRange};
-ghost use Rattle.app_rules.specs.WellFormed.{WellFormed};
+ghost use Rattle.code_rules.specs.AppRange.{AppInRange};
+ghost use Rattle.code_rules.specs.WellFormed.{WellFormed};
 ghost use Rattle.sloth_source.specs.SourceText.{HasApp, SourceText};
 ghost use Rattle.held_lists.specs.Filling.{SameButLists};
 ghost use Rattle.holds_infer.specs.Relabel.{func_holds, all_holds};

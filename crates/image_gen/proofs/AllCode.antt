@@ -24,7 +24,7 @@ use Rattle.sloth_base.specs.declared.places.Levels.{Levels}
 use Rattle.sloth_base.specs.declared.service.Service.{Service}
 use Rattle.sloth_base.specs.declared.service.Service.TheVariants as service
 use Rattle.sloth_region.specs.declared.map.Map.{Map}
-use Rattle.app_rules.specs.AppRange.{IsOp, IsRegister}
+use Rattle.code_rules.specs.AppRange.{IsOp, IsRegister}
 use Rattle.rv32_instr.specs.declared.InstrKind.{InstrKind}
 use Rattle.rv32_instr.specs.declared.block.Block.{Block}
 use Rattle.rv32_expand.specs.Expansion.{block_address}

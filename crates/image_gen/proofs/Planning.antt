@@ -14,9 +14,9 @@ use Rattle.sloth_base.specs.declared.places.Levels.{Levels}
 use Rattle.sloth_base.specs.declared.service.Service.{Service}
 use Rattle.sloth_base.specs.Blocks.{block_objects, block_count, block_number, block_code, block_object}
 use Rattle.sloth_region.specs.declared.map.Map.{Map}
-use Rattle.app_rules.specs.AppRange.{AreOperands, IsOp}
-use Rattle.app_rules.specs.WellFormed.{WellFormed}
-use Rattle.app_rules.proofs.Objects.{object_number}
+use Rattle.code_rules.specs.AppRange.{AreOperands, IsOp}
+use Rattle.code_rules.specs.WellFormed.{WellFormed}
+use Rattle.code_rules.proofs.Objects.{object_number}
 use Rattle.prio_levels.specs.Levels.{AreLevels}
 use Rattle.rv32_expand.specs.InPlace.{IsItem}
 use Rattle.rv32_expand.specs.Sizes.{AreSizes}

@@ -29,7 +29,7 @@ use Rattle.service_gen.specs.Block.{further_marks}
 use Rattle.block_parts.specs.Marks.{opening, back_mark}
 use Rattle.service_blocks.specs.Calls.{ServesCall}
 use Rattle.service_gen.specs.Schedule.{way_back}
-use Rattle.rv32_routine.specs.Kernel.{masking}
+use Rattle.masked_code.specs.Kernel.{masking}
 use Rattle.sloth_base.specs.Arithmetic.{sum32}
 use Rattle.sloth_base.specs.Blocks.{block_count, block_code, block_object}
 use Rattle.mem_map.specs.Plan.{item_bytes, items_at, prologue_extent, service_bytes, service_extents, services_at}

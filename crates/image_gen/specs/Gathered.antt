@@ -13,7 +13,7 @@ use Rattle.sloth_base.specs.Blocks.{block_objects, block_count, block_number}
 use Rattle.sloth_base.specs.MemoryMap.{vectors_base}
 use Rattle.sloth_region.specs.declared.map.Map.{Map}
 use Rattle.sloth_region.specs.Region.{FollowWithin}
-use Rattle.app_rules.specs.WellFormed.{WellFormed}
+use Rattle.code_rules.specs.WellFormed.{WellFormed}
 use Rattle.stack_bounds.specs.declared.stacks.Stacks.{Stacks}
 use Rattle.prio_levels.specs.Levels.{AreLevels}
 use Rattle.rv32_instr.specs.declared.block.Block.{Block}

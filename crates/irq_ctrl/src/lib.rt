@@ -25,7 +25,7 @@ impl Model for Controller {
 
 impl Controller {
     ghost use Rattle.sloth_base.specs.Lines.{controller_byte, with_controller_byte};
-    ghost use Rattle.sloth_base.specs.Choose.{may_take, better, choose_line, IsChosen};
+    ghost use Rattle.sloth_base.specs.Choose.{may_take, better_line, choose_line, IsChosen};
     ghost use Rattle.sloth_base.specs.Take.{without_pending};
     ghost use Rattle.irq_ctrl.specs.Fresh.{fresh_lines};
 
@@ -131,7 +131,7 @@ impl Controller {
     fn better(&self, best: Option<Line>, line: Line) -> Line
         requires found { ForSome best (λ b. b < 32) }
         requires in_range { line < 32 }
-        ensures is { better self.now best line ≡ Some result }
+        ensures is { better_line self.now best line ≡ Some result }
         ensures in_range { result < 32 }
     {
         match best {

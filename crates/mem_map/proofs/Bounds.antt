@@ -10,7 +10,7 @@ use Rattle.sloth_base.specs.declared.app.Func.{Func}
 use Rattle.sloth_base.specs.declared.app.Symbol.{Symbol}
 use Rattle.sloth_base.specs.declared.config.Config.{Config}
 use Rattle.sloth_base.specs.Blocks.{block_count, block_object}
-use Rattle.app_rules.specs.AppRange.{AppInRange}
+use Rattle.code_rules.specs.AppRange.{AppInRange}
 use Rattle.rv32_expand.specs.InPlace.{IsItem}
 use Rattle.rv32_expand.specs.Sizes.{AreSizes, items_before}
 use Rattle.rv32_expand.proofs.Counts.{size_few}

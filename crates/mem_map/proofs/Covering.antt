@@ -17,8 +17,8 @@ use Rattle.sloth_base.specs.declared.places.Places.{Places}
 use Rattle.sloth_base.specs.declared.service.Service.{Service}
 use Rattle.sloth_base.specs.declared.service.Service.TheVariants as service
 use Rattle.sloth_base.specs.Blocks.{block_count, block_number}
-use Rattle.app_rules.specs.AppRange.{AppInRange, AreOperands, IsOp}
-use Rattle.app_rules.proofs.Objects.{object_number}
+use Rattle.code_rules.specs.AppRange.{AppInRange, AreOperands, IsOp}
+use Rattle.code_rules.proofs.Objects.{object_number}
 use Rattle.rv32_expand.specs.Expansion.{item_address, block_address, is_long}
 use Rattle.rv32_expand.specs.InPlace.{IsItem}
 use Rattle.rv32_expand.specs.Sizes.{AreSizes, AgreeWithSizes, Covers, IsWordAddress, items_before}

@@ -10,7 +10,7 @@ use Rattle.sloth_base.specs.ConfigRange.{scheduler_number}
 use Rattle.sloth_region.specs.declared.extent.Extent.{Extent}
 use Rattle.sloth_region.specs.declared.map.Map.{Map}
 use Rattle.sloth_region.specs.Region.{aligned}
-use Rattle.app_rules.specs.AppRange.{AppInRange}
+use Rattle.code_rules.specs.AppRange.{AppInRange}
 use Rattle.rv32_expand.specs.Sizes.{AreSizes}
 use Rattle.stack_bounds.specs.declared.stacks.Stacks.{Stacks}
 use Rattle.stack_bounds.specs.Bounds.{AreParts, HaveRoom, IsLength}

@@ -5,7 +5,7 @@ use Rattle.std.proofs.lemmas.Bool.Decides.{leb_tells}
 use Rattle.std.proofs.lemmas.Bool.{le-ltb, lt-ltb, le-leb, lt-leb}
 use Rattle.sloth_base.specs.declared.event.Arrival.{Arrival}
 use Rattle.sloth_base.specs.Arrivals.{NeverFalls, moments}
-use Rattle.observe.specs.Progress.{from, here, behind, within}
+use Rattle.observe.specs.Progress.{from, here, behind, arrivals_within}
 
 skips : (from to : ℕ) (arrival : Arrival) (arrivals : List Arrival) → nat_lt arrival.at to ≡ false → moments from to (arrival ∷ arrivals) ≡ moments from to arrivals
 skips from to arrival arrivals off = rw off (elim (nat_le from arrival.at) as (λ b. cond (b && false) (arrival ∷ moments from to arrivals) (moments from to arrivals) ≡ moments from to arrivals) [ true ↦ refl | false ↦ refl ])
@@ -79,7 +79,7 @@ none_left n arrival more = let e : suc n - suc n ≡ 0 = omega arith in rw e ref
 one_more : (n k : ℕ) (arrival : Arrival) (more : List Arrival) → k ≤ n → take (suc n - k) (arrival ∷ more) ≡ arrival ∷ take (n - k) more
 one_more n k arrival more h = let e : suc n - k ≡ suc (n - k) = omega arith in rw e refl
 
-pub within-from : (before b e : ℕ) (arrivals : List Arrival) → NeverFalls before arrivals → b ≤ e → within (from b arrivals) (from e arrivals) ≡ moments b e arrivals
+pub within-from : (before b e : ℕ) (arrivals : List Arrival) → NeverFalls before arrivals → b ≤ e → arrivals_within (from b arrivals) (from e arrivals) ≡ moments b e arrivals
 within-from before b e [] up h = refl
 within-from before b e (arrival ∷ arrivals) up h = elim (leb_tells b arrival.at) [
   | inr early ↦ (let off : nat_le e arrival.at ≡ false = lt-leb e arrival.at (omega arith) in

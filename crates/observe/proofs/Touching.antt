@@ -10,20 +10,20 @@ use Rattle.std.proofs.lemmas.Grind.{get_or-set_at}
 use Rattle.std.proofs.Math.Bool.{or-false, and-false, or-true}
 use Rattle.sloth_base.specs.declared.event.Arrival.{Arrival}
 use Rattle.sloth_base.specs.declared.step.Step.{Step}
-use Rattle.observe.specs.Observe.{touches, is_early}
+use Rattle.observe.specs.Observe.{is_touch, is_early}
 use Rattle.sloth_base.specs.Options.{is_number}
-use Rattle.observe.specs.Touched.{was_touched, noted, HasPlace, Tells}
+use Rattle.observe.specs.Touched.{was_touched, noted_touches, HasPlace, Tells}
 
-any-more : (at line : ℕ) (steps : List Step) (step : Step) → list_any (touches at line) (steps ++ step ∷ []) ≡ (list_any (touches at line) steps || touches at line step)
-any-more at line steps step = list_any-append (touches at line) steps (step ∷ []) ∙ ap (λ b. list_any (touches at line) steps || b) (or-false (touches at line step))
+any-more : (at line : ℕ) (steps : List Step) (step : Step) → list_any (is_touch at line) (steps ++ step ∷ []) ≡ (list_any (is_touch at line) steps || is_touch at line step)
+any-more at line steps step = list_any-append (is_touch at line) steps (step ∷ []) ∙ ap (λ b. list_any (is_touch at line) steps || b) (or-false (is_touch at line step))
 
 -- a step that does not touch the line
-any-same : (at line : ℕ) (steps : List Step) (step : Step) → is_number line step.touched ≡ false → list_any (touches at line) (steps ++ step ∷ []) ≡ list_any (touches at line) steps
+any-same : (at line : ℕ) (steps : List Step) (step : Step) → is_number line step.touched ≡ false → list_any (is_touch at line) (steps ++ step ∷ []) ≡ list_any (is_touch at line) steps
 any-same at line steps step off = any-more at line steps step ∙ rw (off, and-false, or-false) refl
 
 -- a step that does
 any-here : (at line : ℕ) (table : List ℕ) (count : ℕ) (steps : List Step) (step : Step) → Tells table count steps → step.count ≡ count → is_number line step.touched ≡ true
-    → nat_lt at (step.count + 1) ≡ list_any (touches at line) (steps ++ step ∷ [])
+    → nat_lt at (step.count + 1) ≡ list_any (is_touch at line) (steps ++ step ∷ [])
 any-here at line table count steps step t e on = elim (leb_tells at step.count) [
   | inl early ↦ (let now : nat_lt at (step.count + 1) ≡ true = lt-ltb at (step.count + 1) (omega arith) in
       now ∙ sym (any-more at line steps step ∙ rw (early.0, on, or-true) refl))
@@ -60,12 +60,12 @@ noted-line l table count steps step is in_range t e = record {
 }
 
 noted-at : (touched : Option ℕ) (table : List ℕ) (count : ℕ) (steps : List Step) (step : Step) → step.touched ≡ touched → IfSome touched (λ line. line < 256) → Tells table count steps → step.count ≡ count
-    → Tells (noted touched step.count table) (count + 1) (steps ++ step ∷ [])
+    → Tells (noted_touches touched step.count table) (count + 1) (steps ++ step ∷ [])
 noted-at None table count steps step is place t e = noted-none table count steps step (λ line. rw is refl) t
 noted-at (Some l) table count steps step is place t e = noted-line l table count steps step is place t e
 
 -- the table goes on with the step
-pub noted-keeps : (table : List ℕ) (count : ℕ) (steps : List Step) (step : Step) → HasPlace step → Tells table count steps → step.count ≡ count → Tells (noted step.touched step.count table) (count + 1) (steps ++ step ∷ [])
+pub noted-keeps : (table : List ℕ) (count : ℕ) (steps : List Step) (step : Step) → HasPlace step → Tells table count steps → step.count ≡ count → Tells (noted_touches step.touched step.count table) (count + 1) (steps ++ step ∷ [])
 noted-keeps table count steps step place t e = noted-at step.touched table count steps step refl place t e
 
 zeros : (n line : ℕ) → slice_index (replicate n 0) line ≡ 0

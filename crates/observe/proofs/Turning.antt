@@ -10,9 +10,9 @@ use Rattle.sloth_base.specs.declared.image.MarkKind.TheVariants as kind
 use Rattle.sloth_base.specs.declared.step.Step.{Step}
 use Rattle.sloth_base.specs.Arrivals.{NeverFalls, moments}
 use Rattle.observe.specs.Pieces.{Outside, Stretch, begins}
-use Rattle.observe.specs.Observe.{View, piece_events, found_admits, placed, masked_from, admit, last_of, outside_events, events_of_kind, mark_at, stamp, stretch_event}
-use Rattle.observe.specs.Touched.{was_touched, noted, HasPlace, Tells}
-use Rattle.observe.specs.Progress.{Progress, left_over, advanced_from, passed, begun, joined, noting, stood_outside, only, here, behind, within, one_or_none, IsOpen, IsStretch, from, behind_stretch}
+use Rattle.observe.specs.Observe.{View, piece_events, found_admits, placed_events, masked_from, admission, last_of, outside_events, events_of_kind, mark_at, stamp, stretch_event}
+use Rattle.observe.specs.Touched.{was_touched, noted_touches, HasPlace, Tells}
+use Rattle.observe.specs.Progress.{Progress, left_over, advanced_from, passed_progress, begun, joined_progress, noted_progress, stood_outside, only_element, here, behind, arrivals_within, one_or_none, IsOpen, IsStretch, from, behind_stretch}
 use Rattle.observe.proofs.Growing.{kept, Brings}
 use Rattle.observe.proofs.Moments.{here-from, behind-from, within-from, moments-none}
 use Rattle.observe.proofs.Touching.{noted-keeps, tells-none, filter-early, filter-late}
@@ -39,11 +39,11 @@ last-more first (next ∷ more) step = last-more next more step
 -- what the end of a stretch brings
 ending-is : (view : View) (arrivals : List Arrival) (first step : Step) (steps : List Step) (inside coming : List Arrival) (table : List ℕ) (count : ℕ)
     → inside ≡ from (masked_from first) arrivals → coming ≡ from (step.count + 1) arrivals → masked_from first ≤ step.count + 1 → NeverFalls 0 arrivals → Tells table count steps
-    → map (admit view) (filter (was_touched table) (within inside coming))
-    ++ (stamp first.count step.count (stretch_event view first step) ∷ map (admit view) (filter (λ arrival. not (was_touched table arrival)) (within inside coming)))
-    ≡ placed view steps (moments (masked_from first) (step.count + 1) arrivals) first step
+    → map (admission view) (filter (was_touched table) (arrivals_within inside coming))
+    ++ (stamp first.count step.count (stretch_event view first step) ∷ map (admission view) (filter (λ arrival. not (was_touched table arrival)) (arrivals_within inside coming)))
+    ≡ placed_events view steps (moments (masked_from first) (step.count + 1) arrivals) first step
 ending-is view arrivals first step steps inside coming table count i c le ordered t =
-    let between : within inside coming ≡ moments (masked_from first) (step.count + 1) arrivals = rw (i, c) (within-from 0 (masked_from first) (step.count + 1) arrivals ordered le) in
+    let between : arrivals_within inside coming ≡ moments (masked_from first) (step.count + 1) arrivals = rw (i, c) (within-from 0 (masked_from first) (step.count + 1) arrivals ordered le) in
     rw (
       between,
       filter-early table count steps (moments (masked_from first) (step.count + 1) arrivals) t,
@@ -51,11 +51,11 @@ ending-is view arrivals first step steps inside coming table count i c le ordere
     )
     refl
 
-one-event : (view : View) (step : Step) (mark : Option Mark) → one_or_none (only (map (stamp step.count step.count) (outside_events mark view step))) ≡ map (stamp step.count step.count) (outside_events mark view step)
+one-event : (view : View) (step : Step) (mark : Option Mark) → one_or_none (only_element (map (stamp step.count step.count) (outside_events mark view step))) ≡ map (stamp step.count step.count) (outside_events mark view step)
 one-event view step None = refl
 one-event view step (Some mark) = kinds mark.kind
   where
-    kinds : (k : MarkKind) → one_or_none (only (map (stamp step.count step.count) (events_of_kind k view mark step))) ≡ map (stamp step.count step.count) (events_of_kind k view mark step)
+    kinds : (k : MarkKind) → one_or_none (only_element (map (stamp step.count step.count) (events_of_kind k view mark step))) ≡ map (stamp step.count step.count) (events_of_kind k view mark step)
     kinds kind.Item = refl
     kinds kind.Jump = refl
     kinds kind.Opening = refl
@@ -81,18 +81,18 @@ turned-outside view arrivals p step r none off = record {
 
 -- the step follows others of its stretch
 turned-next : (view : View) (arrivals : List Arrival) (p : Progress) (first : Step) (more : List Step) (step : Step) → Ready arrivals p step → IsStretch arrivals p first (first ∷ more) → HasPlace step → (b : Bool) → step.enabled_after ≡ b
-    → Turned view arrivals (joined view (passed p step) first step) (first ∷ more) step
+    → Turned view arrivals (joined_progress view (passed_progress p step) first step) (first ∷ more) step
 turned-next view arrivals p first more step r h place true on = record {
   brings =
       let masked : masked_from first ≤ step.count + 1 = (let b : masked_from first ≤ p.expected = h.begun in let e : step.count ≡ p.expected = r.count in omega arith) in
-      let m : Progress = noting (passed p step) step in
+      let m : Progress = noted_progress (passed_progress p step) step in
       let P : Bool → Type 0 = λ b.
       flat_map (piece_events view arrivals) (if b then Stretch (first ∷ (more ++ step ∷ [])) ∷ [] else []) ++ found_admits view arrivals (if b then [] else first ∷ (more ++ step ∷ []))
       ≡ found_admits view arrivals (first ∷ more) ++ left_over view (if b then behind_stretch view m first step else record m { first = Some first }) in
       let body : P true =
       rw (
         last-more first more step,
-        ending-is view arrivals first step (first ∷ (more ++ step ∷ [])) p.inside (behind step.count p.coming) (noted step.touched step.count p.touched) (p.expected + 1) h.inside (coming-is arrivals p step r) masked r.ordered
+        ending-is view arrivals first step (first ∷ (more ++ step ∷ [])) p.inside (behind step.count p.coming) (noted_touches step.touched step.count p.touched) (p.expected + 1) h.inside (coming-is arrivals p step r) masked r.ordered
             (noted-keeps p.touched p.expected (first ∷ more) step place h.tells r.count),
       )
       (simp append-nil) in
@@ -106,7 +106,7 @@ turned-next view arrivals p first more step r h place false off = record {
   expected = rw off (expected-is arrivals p step r);
   coming = rw off (coming-is arrivals p step r);
   stretch =
-      let m : Progress = noting (passed p step) step in
+      let m : Progress = noted_progress (passed_progress p step) step in
       let now : Bool → Progress = λ b. if b then behind_stretch view m first step else record m { first = Some first } in
       let P : Bool → Type 0 = λ b. IsOpen arrivals (now b) (now b).first (if b then [] else first ∷ (more ++ step ∷ [])) in
       subst P (sym off) (
@@ -126,19 +126,19 @@ first-inside arrivals p step r true on = rw on (coming-is arrivals p step r)
 first-inside arrivals p step r false off = rw off r.coming
 
 first-found : (view : View) (arrivals : List Arrival) (p : Progress) (step : Step) → Ready arrivals p step → (b : Bool) → step.enabled_before ≡ b
-    → map (admit view) (if step.enabled_before then here step.count p.coming else []) ≡ map (admit view) (moments step.count (masked_from step) arrivals)
-first-found view arrivals p step r true on = rw on (ap (map (admit view)) (here-is arrivals p step r))
-first-found view arrivals p step r false off = rw off (ap (map (admit view)) (sym (moments-none step.count arrivals)))
+    → map (admission view) (if step.enabled_before then here step.count p.coming else []) ≡ map (admission view) (moments step.count (masked_from step) arrivals)
+first-found view arrivals p step r true on = rw on (ap (map (admission view)) (here-is arrivals p step r))
+first-found view arrivals p step r false off = rw off (ap (map (admission view)) (sym (moments-none step.count arrivals)))
 
 first-masked : (step : Step) → masked_from step ≤ step.count + 1
 first-masked step = elim step.enabled_before as (λ b. (if b then step.count + 1 else step.count) ≤ step.count + 1) [ true ↦ omega arith | false ↦ omega arith ]
 
 -- the step begins a stretch
 turned-first : (view : View) (arrivals : List Arrival) (p : Progress) (step : Step) → Ready arrivals p step → begins step ≡ true → (b : Bool) → step.enabled_after ≡ b
-    → Turned view arrivals (joined view (begun p step) step step) [] step
+    → Turned view arrivals (joined_progress view (begun p step) step step) [] step
 turned-first view arrivals p step r opens true on = record {
   brings =
-      let m : Progress = noting (begun p step) step in
+      let m : Progress = noted_progress (begun p step) step in
       let P : Bool → Type 0 = λ b.
       flat_map (piece_events view arrivals) (if not (begins step) then Outside step ∷ [] else if b then Stretch (step ∷ []) ∷ [] else [])
       ++ found_admits view arrivals (if not (begins step) then [] else if b then [] else step ∷ [])
@@ -147,7 +147,7 @@ turned-first view arrivals p step r opens true on = record {
       rw (
         opens,
         first-found view arrivals p step r step.enabled_before refl,
-        ending-is view arrivals step step (step ∷ []) (if step.enabled_before then behind step.count p.coming else p.coming) (behind step.count p.coming) (noted step.touched step.count (replicate 256 0)) (step.count + 1)
+        ending-is view arrivals step step (step ∷ []) (if step.enabled_before then behind step.count p.coming else p.coming) (behind step.count p.coming) (noted_touches step.touched step.count (replicate 256 0)) (step.count + 1)
             (first-inside arrivals p step r step.enabled_before refl) (coming-is arrivals p step r) (first-masked step) r.ordered
             (noted-keeps (replicate 256 0) step.count [] step (r.opens opens) (tells-none step.count) refl),
       )
@@ -162,10 +162,10 @@ turned-first view arrivals p step r opens false off = record {
   expected = rw off (expected-is arrivals p step r);
   coming = rw off (coming-is arrivals p step r);
   stretch =
-      let m : Progress = noting (begun p step) step in
+      let m : Progress = noted_progress (begun p step) step in
       let now : Bool → Progress = λ b. if b then behind_stretch view m step step else record m { first = Some step } in
       let P : Bool → Type 0 = λ b. IsOpen arrivals (now b) (now b).first (if not (begins step) then [] else if b then [] else step ∷ []) in
-      let Q : ℕ → Type 0 = λ n. Tells (noted step.touched step.count (replicate 256 0)) n (step ∷ []) in
+      let Q : ℕ → Type 0 = λ n. Tells (noted_touches step.touched step.count (replicate 256 0)) n (step ∷ []) in
       let K : Bool → Type 0 = λ b. IsOpen arrivals (now false) (Some step) (if not b then [] else step ∷ []) in
       let opened : IsOpen arrivals (now false) (Some step) (step ∷ []) = (
         refl,

@@ -40,8 +40,8 @@ abbrev pub NO_TASK : ℕ
 NO_TASK = 4294967295
 
 -- The task of the first word of memory: that word is 0 where no task runs, and a task's number plus 1 where it does.
-abbrev pub task_of : ℕ → ℕ → ℕ
-task_of tasks cur = if nat_lt 0 cur && nat_le cur tasks then cur - 1 else NO_TASK
+abbrev pub running_task : ℕ → ℕ → ℕ
+running_task tasks cur = if nat_lt 0 cur && nat_le cur tasks then cur - 1 else NO_TASK
 
 -- the event of a stretch that begins with the taking of a line, by what the line is for
 abbrev pub entry_event : LineKind → Event
@@ -68,14 +68,14 @@ stamp from at what = record { stamp = record { from = from; at = at }; event = w
 abbrev pub service_event : Option Service → View → Step → Step → Event
 service_event (Some called) view first last =
     if first.cur_before == last.cur_after
-    then event.Call (task_of view.owners.tasks first.cur_before) called (slice_index last.regs 10)
-    else event.Left (task_of view.owners.tasks first.cur_before) called
+    then event.Call (running_task view.owners.tasks first.cur_before) called (slice_index last.regs 10)
+    else event.Left (running_task view.owners.tasks first.cur_before) called
 service_event None view first last = event.Stray
 
 -- the event of a stretch that begins at this mark, which no line began
 abbrev pub marked_event : MarkKind → View → Mark → Step → Step → Event
 marked_event kind.Opening view mark first last = service_event (service_of mark.a) view first last
-marked_event kind.Back view mark first last = event.Back (task_of view.owners.tasks first.cur_before)
+marked_event kind.Back view mark first last = event.Back (running_task view.owners.tasks first.cur_before)
 marked_event kind.Item view mark first last = event.Stray
 marked_event kind.Jump view mark first last = event.Stray
 marked_event kind.Idle view mark first last = event.Stray
@@ -96,7 +96,7 @@ stretch_event view first last = if first.count == 0 then event.Boot else later_e
 
 -- an instruction at an item mark runs the item, and the mark names the register of its result
 abbrev pub events_of_kind : MarkKind → View → Mark → Step → List Event
-events_of_kind kind.Item view mark step = event.Run (task_of view.owners.tasks step.cur_before) mark.b mark.c (slice_index step.regs mark.a) ∷ []
+events_of_kind kind.Item view mark step = event.Run (running_task view.owners.tasks step.cur_before) mark.b mark.c (slice_index step.regs mark.a) ∷ []
 events_of_kind kind.Idle view mark step = event.Idle ∷ []
 events_of_kind kind.Jump view mark step = []
 events_of_kind kind.Opening view mark step = []
@@ -110,16 +110,16 @@ outside_events None view step = []
 -- ---- the admits
 
 -- the event of an arrival at its own moment
-abbrev pub admit : View → Arrival → Stamped
-admit view arrival = stamp arrival.at arrival.at (arrival_event (line_kind view.owners arrival.line))
+abbrev pub admission : View → Arrival → Stamped
+admission view arrival = stamp arrival.at arrival.at (arrival_event (line_kind view.owners arrival.line))
 
 -- the step, at that moment or later, loads the pending byte of the line or stores zero to it
-abbrev pub touches : ℕ → ℕ → Step → Bool
-touches at line step = nat_le at step.count && is_number line step.touched
+abbrev pub is_touch : ℕ → ℕ → Step → Bool
+is_touch at line step = nat_le at step.count && is_number line step.touched
 
 -- the arrival comes before a step of these that touches its line
 abbrev pub is_early : List Step → Arrival → Bool
-is_early steps arrival = list_any (touches arrival.at arrival.line) steps
+is_early steps arrival = list_any (is_touch arrival.at arrival.line) steps
 
 -- the first moment of a stretch that finds MIE 0
 abbrev pub masked_from : Step → ℕ
@@ -133,25 +133,25 @@ last_of step (next ∷ more) = last_of next more
 -- an arrival that the first moment of a stretch finds with MIE 1
 abbrev pub found_admits : View → List Arrival → List Step → List Stamped
 found_admits view arrivals [] = []
-found_admits view arrivals (first ∷ more) = map (admit view) (moments first.count (masked_from first) arrivals)
+found_admits view arrivals (first ∷ more) = map (admission view) (moments first.count (masked_from first) arrivals)
 
 -- The event of a stretch, with the arrivals inside it: the early ones before it and the late ones behind it.
-abbrev pub placed : View → List Step → List Arrival → Step → Step → List Stamped
-placed view steps inside first last =
-    map (admit view) (filter (is_early steps) inside)
+abbrev pub placed_events : View → List Step → List Arrival → Step → Step → List Stamped
+placed_events view steps inside first last =
+    map (admission view) (filter (is_early steps) inside)
     ++ (stamp first.count last.count (stretch_event view first last)
-    ∷ map (admit view) (filter (λ arrival. not (is_early steps arrival)) inside))
+    ∷ map (admission view) (filter (λ arrival. not (is_early steps arrival)) inside))
 
 -- the event of a stretch, and the arrivals while interrupts are masked
 abbrev pub stretch_events : View → List Arrival → List Step → List Stamped
 stretch_events view arrivals [] = []
 stretch_events view arrivals (first ∷ more) =
-    placed view (first ∷ more) (moments (masked_from first) ((last_of first more).count + 1) arrivals) first (last_of first more)
+    placed_events view (first ∷ more) (moments (masked_from first) ((last_of first more).count + 1) arrivals) first (last_of first more)
 
 -- the events of a piece of a run
 abbrev pub piece_events : View → List Arrival → Piece → List Stamped
 piece_events view arrivals (Outside step) =
-    map (admit view) (moments step.count (step.count + 1) arrivals)
+    map (admission view) (moments step.count (step.count + 1) arrivals)
     ++ map (stamp step.count step.count) (outside_events (mark_at view step.pc) view step)
 piece_events view arrivals (Stretch steps) = found_admits view arrivals steps ++ stretch_events view arrivals steps
 

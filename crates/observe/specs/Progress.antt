@@ -6,8 +6,8 @@ use Rattle.sloth_base.specs.declared.step.Step.{Step}
 use Rattle.sloth_base.specs.Arrivals.{NeverFalls}
 use Rattle.observe.specs.declared.observer.Observer.{Observer}
 use Rattle.observe.specs.Pieces.{begins, cut_off}
-use Rattle.observe.specs.Observe.{View, mark_at, outside_events, stretch_event, stamp, admit, masked_from, observe}
-use Rattle.observe.specs.Touched.{was_touched, noted, Tells}
+use Rattle.observe.specs.Observe.{View, mark_at, outside_events, stretch_event, stamp, admission, masked_from, observe}
+use Rattle.observe.specs.Touched.{was_touched, noted_touches, Tells}
 
 -- an observer without its references, its view and its list of arrivals
 pub record Progress : Type 0 where
@@ -65,10 +65,10 @@ one_or_none (Some what) = what ∷ []
 -- the events that are still to be told
 abbrev pub left_over : View → Progress → List Stamped
 left_over view p =
-    map (admit view) p.found
-    ++ (map (admit view) (filter (was_touched p.touched) p.before)
+    map (admission view) p.found
+    ++ (map (admission view) (filter (was_touched p.touched) p.before)
     ++ (one_or_none p.event
-    ++ map (admit view) (filter (λ arrival. not (was_touched p.touched arrival)) p.after)))
+    ++ map (admission view) (filter (λ arrival. not (was_touched p.touched arrival)) p.after)))
 
 -- the finished events that the observer has not handed out
 abbrev pub remaining : Observer → List Stamped
@@ -85,63 +85,63 @@ abbrev pub behind : ℕ → List Arrival → List Arrival
 behind count coming = drop (length (here count coming)) coming
 
 -- of the arrivals from the start of a stretch on those inside it, where these are coming behind it
-abbrev pub within : List Arrival → List Arrival → List Arrival
-within inside coming = take (length inside - length coming) inside
+abbrev pub arrivals_within : List Arrival → List Arrival → List Arrival
+arrivals_within inside coming = take (length inside - length coming) inside
 
 -- after the last step of a stretch
 abbrev pub behind_stretch : View → Progress → Step → Step → Progress
 behind_stretch view p first last = record p {
   first = None;
-  before = within p.inside p.coming;
+  before = arrivals_within p.inside p.coming;
   event = Some (stamp first.count last.count (stretch_event view first last));
-  after = within p.inside p.coming;
+  after = arrivals_within p.inside p.coming;
 }
 
 -- the step's line is noted
-abbrev pub noting : Progress → Step → Progress
-noting p step = record p { touched = noted step.touched step.count p.touched }
+abbrev pub noted_progress : Progress → Step → Progress
+noted_progress p step = record p { touched = noted_touches step.touched step.count p.touched }
 
 -- the stretch of the first step goes on with this one
-abbrev pub joined : View → Progress → Step → Step → Progress
-joined view p first step =
-    if step.enabled_after then behind_stretch view (noting p step) first step else record (noting p step) { first = Some first }
+abbrev pub joined_progress : View → Progress → Step → Step → Progress
+joined_progress view p first step =
+    if step.enabled_after then behind_stretch view (noted_progress p step) first step else record (noted_progress p step) { first = Some first }
 
 -- the step is counted, and its arrivals have passed
-abbrev pub passed : Progress → Step → Progress
-passed p step = record p { expected = p.expected + 1; coming = behind step.count p.coming; found = []; before = []; event = None; after = [] }
+abbrev pub passed_progress : Progress → Step → Progress
+passed_progress p step = record p { expected = p.expected + 1; coming = behind step.count p.coming; found = []; before = []; event = None; after = [] }
 
 -- after the first step of a stretch
 abbrev pub begun : Progress → Step → Progress
-begun p step = record (passed p step) {
+begun p step = record (passed_progress p step) {
   touched = replicate 256 0;
   inside = if step.enabled_before then behind step.count p.coming else p.coming;
   found = if step.enabled_before then here step.count p.coming else [];
 }
 
 -- the only element
-abbrev pub only : List Stamped → Option Stamped
-only [] = None
-only (what ∷ more) = Some what
+abbrev pub only_element : List Stamped → Option Stamped
+only_element [] = None
+only_element (what ∷ more) = Some what
 
 -- after a step outside the stretches
 abbrev pub stood_outside : View → Progress → Step → Progress
-stood_outside view p step = record (passed p step) {
+stood_outside view p step = record (passed_progress p step) {
   found = here step.count p.coming;
-  event = only (map (stamp step.count step.count) (outside_events (mark_at view step.pc) view step));
+  event = only_element (map (stamp step.count step.count) (outside_events (mark_at view step.pc) view step));
 }
 
 -- after a step; the first step of the stretch that it may be in is given
 abbrev pub advanced_from : Option Step → View → Progress → Step → Progress
-advanced_from None view p step = if begins step then joined view (begun p step) step step else stood_outside view p step
-advanced_from (Some first) view p step = joined view (passed p step) first step
+advanced_from None view p step = if begins step then joined_progress view (begun p step) step step else stood_outside view p step
+advanced_from (Some first) view p step = joined_progress view (passed_progress p step) first step
 
 -- after a step
-abbrev pub advanced : View → Progress → Step → Progress
-advanced view p step = advanced_from p.first view p step
+abbrev pub advanced_progress : View → Progress → Step → Progress
+advanced_progress view p step = advanced_from p.first view p step
 
 -- all but what is to be handed out
-abbrev pub settled : Progress → Progress
-settled p = record p { found = []; before = []; event = None; after = [] }
+abbrev pub settled_progress : Progress → Progress
+settled_progress p = record p { found = []; before = []; event = None; after = [] }
 
 -- ---- what holds of an observer
 

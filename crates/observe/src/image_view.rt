@@ -28,10 +28,10 @@ impl<'a> Model for ImageView<'a> {
 
 impl ImageView<'_> {
     ghost use Rattle.std.specs.Prelude.{◌≡◌, map, slice_index};
-    ghost use Rattle.observe.specs.Observe.{task_of, entry_event, arrival_event, mark_at, service_event, marked_event, unentered_event, stretch_event, outside_events, stamp};
+    ghost use Rattle.observe.specs.Observe.{running_task, entry_event, arrival_event, mark_at, service_event, marked_event, unentered_event, stretch_event, outside_events, stamp};
     ghost use Rattle.sloth_base.specs.Owners.{line_kind};
     ghost use Rattle.sloth_base.specs.ServiceCodes.{service_of};
-    ghost use Rattle.observe.specs.Progress.{only};
+    ghost use Rattle.observe.specs.Progress.{only_element};
 
     // The mark on the instruction at this address.
     fn mark(&self, address: u32) -> Option<Mark>
@@ -48,7 +48,7 @@ impl ImageView<'_> {
 
     // The task of the first word of memory.
     fn task(&self, cur: u32) -> u32
-        ensures { result ≡ task_of self.now.owners.tasks cur }
+        ensures { result ≡ running_task self.now.owners.tasks cur }
     {
         if 0 < cur && cur as usize <= self.owners.tasks {
             cur - 1
@@ -79,7 +79,7 @@ impl ImageView<'_> {
 
     /// The event of a step outside the stretches.
     pub fn outside_event(&self, step: &Step) -> Option<Stamped>
-        ensures { result ≡ only (map (stamp step.now.count step.now.count) (outside_events (mark_at self.now step.now.pc) self.now step.now)) }
+        ensures { result ≡ only_element (map (stamp step.now.count step.now.count) (outside_events (mark_at self.now step.now.pc) self.now step.now)) }
     {
         let mark = self.mark(step.pc)?;
         let event = match mark.kind {

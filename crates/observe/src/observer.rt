@@ -1,7 +1,7 @@
 //! An observer that is fed one step at a time.
 ghost use Rattle.std.specs.Prelude.{◌≡◌, ◌<◌, ◌≤◌, ◌+◌, ◌++◌, ◌∷◌, [], true, List, length, take_while, nat_le, IfSome, IfNone, OnSome, IsOk, IfOk, IsNone, ◌↔◌};
 ghost use Rattle.observe.specs.Pieces.{begins};
-ghost use Rattle.observe.specs.Observe.{admit, observe, view_of_image};
+ghost use Rattle.observe.specs.Observe.{admission, observe, view_of_image};
 ghost use Rattle.sloth_base.specs.ImageRange.{AreAscending};
 
 use crate::image_view::ImageView;
@@ -39,7 +39,7 @@ impl<'a> Observer<'a> {
     ghost use Rattle.sloth_base.specs.declared.event.Stamped.{Stamped as AnyStamped};
     ghost use Rattle.sloth_base.specs.Arrivals.{NeverFalls};
     ghost use Rattle.observe.specs.Touched.{HasPlace};
-    ghost use Rattle.observe.specs.Progress.{Fed, progress_of, view_of, arrivals_of, expected_of, remaining, left_over, here, passed, joined, advanced, one_or_none, settled, noting};
+    ghost use Rattle.observe.specs.Progress.{Fed, progress_of, view_of, arrivals_of, expected_of, remaining, left_over, here, passed_progress, joined_progress, advanced_progress, one_or_none, settled_progress, noted_progress};
 
     /// An observer of a run of the image with these arrivals, which has seen no step. It needs no memory of its own.
     pub fn new(
@@ -79,7 +79,7 @@ impl<'a> Observer<'a> {
     // Counts the step, and gives the arrivals of its moment.
     fn pass(&mut self, step: &Step) -> &'a [Arrival]
         requires expected { step.now.count ≡ expected_of self.old }
-        ensures passed { progress_of self.new ≡ passed (progress_of self.old) step.now }
+        ensures passed { progress_of self.new ≡ passed_progress (progress_of self.old) step.now }
         ensures here { result.now ≡ here step.now.count self.old.coming.now }
         ensures view { view_of self.new ≡ view_of self.old }
         ensures arrivals { arrivals_of self.new ≡ arrivals_of self.old }
@@ -98,7 +98,7 @@ impl<'a> Observer<'a> {
     // The stretch of the first step goes on with this one.
     fn join(&mut self, first: &Step, step: &Step)
         ensures place { HasPlace step.now }
-        ensures joined { progress_of self.new ≡ joined (view_of self.old) (progress_of self.old) first.now step.now }
+        ensures joined { progress_of self.new ≡ joined_progress (view_of self.old) (progress_of self.old) first.now step.now }
         ensures view { view_of self.new ≡ view_of self.old }
         ensures arrivals { arrivals_of self.new ≡ arrivals_of self.old }
     {
@@ -125,7 +125,7 @@ impl<'a> Observer<'a> {
     // Notes the line that the step touches.
     fn note(&mut self, step: &Step)
         ensures place { HasPlace step.now }
-        ensures noted { progress_of self.new ≡ noting (progress_of self.old) step.now }
+        ensures noted { progress_of self.new ≡ noted_progress (progress_of self.old) step.now }
         ensures view { view_of self.new ≡ view_of self.old }
         ensures arrivals { arrivals_of self.new ≡ arrivals_of self.old }
     {
@@ -139,7 +139,7 @@ impl<'a> Observer<'a> {
         requires expected { step.now.count ≡ expected_of self.old }
         ensures joins { IfSome self.old.first (λ first. HasPlace step.now) }
         ensures opens { begins step.now ≡ true → HasPlace step.now }
-        ensures advanced { progress_of self.new ≡ advanced (view_of self.old) (progress_of self.old) step.now }
+        ensures advanced { progress_of self.new ≡ advanced_progress (view_of self.old) (progress_of self.old) step.now }
         ensures view { view_of self.new ≡ view_of self.old }
         ensures arrivals { arrivals_of self.new ≡ arrivals_of self.old }
     {
@@ -181,7 +181,7 @@ impl<'a> Observer<'a> {
     fn pop(&mut self) -> Option<Stamped>
         ensures pops { remaining self.old ≡ one_or_none result ++ remaining self.new }
         ensures none { IfNone result (remaining self.new ≡ []) }
-        ensures same { settled (progress_of self.new) ≡ settled (progress_of self.old) }
+        ensures same { settled_progress (progress_of self.new) ≡ settled_progress (progress_of self.old) }
         ensures view { view_of self.new ≡ view_of self.old }
         ensures arrivals { arrivals_of self.new ≡ arrivals_of self.old }
     {
@@ -244,7 +244,7 @@ fn begins(step: &Step) -> bool
 }
 
 fn admit(view: &ImageView, arrival: &Arrival) -> Stamped
-    ensures { result ≡ admit view.now arrival.now }
+    ensures { result ≡ admission view.now arrival.now }
 {
     Stamped {
         stamp: Stamp {

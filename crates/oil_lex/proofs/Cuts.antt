@@ -8,7 +8,7 @@ use Rattle.std.proofs.Math.Seq.{take-append_seam, drop-append_seam}
 use Rattle.sloth_base.specs.declared.refusal.Code.TheVariants as code
 use Rattle.sloth_base.specs.declared.refusal.Part.TheVariants.{Oil}
 use Rattle.sloth_base.specs.declared.refusal.Refusal.{Refusal}
-use Rattle.sloth_refusal.specs.Order.{Precedes, IsLeast, NoFault, ErrorIs}
+use Rattle.least_fault.specs.Order.{Precedes, IsLeast, NoFault, ErrorIs}
 use Rattle.sloth_base.specs.declared.refusal.BuildError.{BuildError}
 use Rattle.sloth_base.specs.declared.refusal.BuildError.TheVariants.{Refused, Memory}
 use Rattle.oil_lex.specs.declared.pieces.PieceKind.{PieceKind}

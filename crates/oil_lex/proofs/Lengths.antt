@@ -6,7 +6,7 @@ use Rattle.std.proofs.Math.ListN.{drop_of_length-le}
 use Rattle.std.proofs.lemmas.List.{take_all}
 use Rattle.std.specs.List.{prefix_len}
 use Rattle.std.specs.Prelude.{◌==◌}
-use Rattle.oil_lex.specs.Pieces.{closes, EachPasses, Stops, NeverCloses}
+use Rattle.oil_lex.specs.Pieces.{is_comment_end, EachPasses, Stops, NeverCloses}
 use Rattle.oil_lex.specs.Front.{comment_length}
 
 pub either : (a b : Bool) → (not a && not b) ≡ false → (a ≡ true) ⊎ (b ≡ true)
@@ -18,7 +18,7 @@ pub no_byte : (a : Bool) → (a && false) ≡ true → ⊥
 no_byte true h = cc
 no_byte false h = cc
 
-pub comment_length_at : (xs : List ℕ) (i : ℕ) → i < length xs → comment_length (drop i xs) ≡ cond (closes (drop i xs)) 0 (1 + comment_length (drop (i + 1) xs))
+pub comment_length_at : (xs : List ℕ) (i : ℕ) → i < length xs → comment_length (drop i xs) ≡ cond (is_comment_end (drop i xs)) 0 (1 + comment_length (drop (i + 1) xs))
 unfolding comment_length
 comment_length_at xs i h = rw (add-one, drop-cons xs i 0 h) refl
 
@@ -57,15 +57,15 @@ pub closes_behind : (w r : List ℕ) → NeverCloses (w ++ 42 ∷ []) → commen
 unfolding comment_length
 closes_behind [] r n = refl
 closes_behind (b ∷ []) r n = rw (n.0) refl
-closes_behind (b ∷ c ∷ w) r n = let ih = closes_behind (c ∷ w) r n.1 in let first : closes (b ∷ c ∷ (w ++ 42 ∷ 47 ∷ r)) ≡ false = n.0 in rw first (omega (arith, ih))
+closes_behind (b ∷ c ∷ w) r n = let ih = closes_behind (c ∷ w) r n.1 in let first : is_comment_end (b ∷ c ∷ (w ++ 42 ∷ 47 ∷ r)) ≡ false = n.0 in rw first (omega (arith, ih))
 
 -- where the length is that of the whole text, nothing closes it
 pub open_all : (s : List ℕ) → comment_length s ≡ length s → NeverCloses s
 unfolding comment_length
 open_all [] e = tt
 open_all (b ∷ s) e =
-    let P : Bool → Type 0 = λ v. closes (b ∷ s) ≡ v → cond v 0 (1 + comment_length s) ≡ length (b ∷ s) → (closes (b ∷ s) ≡ false) × NeverCloses s in
-    elim (closes (b ∷ s)) as P [
+    let P : Bool → Type 0 = λ v. is_comment_end (b ∷ s) ≡ v → cond v 0 (1 + comment_length s) ≡ length (b ∷ s) → (is_comment_end (b ∷ s) ≡ false) × NeverCloses s in
+    elim (is_comment_end (b ∷ s)) as P [
       | true ↦ λ h f. absurd (omega arith)
       | false ↦ λ h f. (h, open_all s (omega arith))
     ] refl e
@@ -76,23 +76,23 @@ comment_length_le [] = omega arith
 comment_length_le (b ∷ s) =
     let ih = comment_length_le s in
     let P : Bool → Type 0 = λ v. cond v 0 (1 + comment_length s) ≤ length (b ∷ s) in
-    elim (closes (b ∷ s)) as P [ true ↦ omega arith | false ↦ omega (arith, ih) ]
+    elim (is_comment_end (b ∷ s)) as P [ true ↦ omega arith | false ↦ omega (arith, ih) ]
 
-pub comment_length_stop : (xs : List ℕ) (i : ℕ) → i < length xs → closes (drop i xs) ≡ true → comment_length (drop i xs) ≡ 0
+pub comment_length_stop : (xs : List ℕ) (i : ℕ) → i < length xs → is_comment_end (drop i xs) ≡ true → comment_length (drop i xs) ≡ 0
 comment_length_stop xs i h t = comment_length_at xs i h ∙ ap (λ v. cond v 0 (1 + comment_length (drop (i + 1) xs))) t
 
-pub comment_length_step : (xs : List ℕ) (i : ℕ) → i < length xs → closes (drop i xs) ≡ false → comment_length (drop i xs) ≡ 1 + comment_length (drop (i + 1) xs)
+pub comment_length_step : (xs : List ℕ) (i : ℕ) → i < length xs → is_comment_end (drop i xs) ≡ false → comment_length (drop i xs) ≡ 1 + comment_length (drop (i + 1) xs)
 comment_length_step xs i h t = comment_length_at xs i h ∙ ap (λ v. cond v 0 (1 + comment_length (drop (i + 1) xs))) t
 
 -- a text that closes at once
-pub closes_is : (s : List ℕ) → closes s ≡ true → (r : List ℕ) × (s ≡ 42 ∷ 47 ∷ r)
+pub closes_is : (s : List ℕ) → is_comment_end s ≡ true → (r : List ℕ) × (s ≡ 42 ∷ 47 ∷ r)
 closes_is [] h = cc
 closes_is (a ∷ []) h = absurd (no_byte (a == 42) h)
 closes_is (a ∷ b ∷ r) h =
     let p = and_parts (a == 42) (b == 47) h in
     (r, ap (λ x. x ∷ b ∷ r) (eqb-true a 42 p.0) ∙ ap (λ x. 42 ∷ x ∷ r) (eqb-true b 47 p.1))
 
-where_it_stands : (b : ℕ) (w r : List ℕ) → closes (b ∷ (w ++ 42 ∷ 47 ∷ r)) ≡ false → closes (b ∷ (w ++ 42 ∷ [])) ≡ false
+where_it_stands : (b : ℕ) (w r : List ℕ) → is_comment_end (b ∷ (w ++ 42 ∷ 47 ∷ r)) ≡ false → is_comment_end (b ∷ (w ++ 42 ∷ [])) ≡ false
 where_it_stands b [] r h = h
 where_it_stands b (c ∷ w) r h = h
 
@@ -100,9 +100,9 @@ where_it_stands b (c ∷ w) r h = h
 abbrev pub Opened : List ℕ → ℕ → Type 0
 Opened s n = (w r : List ℕ) × (s ≡ w ++ 42 ∷ 47 ∷ r) × (n ≡ length w) × NeverCloses (w ++ 42 ∷ [])
 
-more_opened : (b : ℕ) (s : List ℕ) (n : ℕ) → closes (b ∷ s) ≡ false → Opened s n → Opened (b ∷ s) (1 + n)
+more_opened : (b : ℕ) (s : List ℕ) (n : ℕ) → is_comment_end (b ∷ s) ≡ false → Opened s n → Opened (b ∷ s) (1 + n)
 more_opened b s n h o =
-    let f = subst (λ (x : List ℕ). closes (b ∷ x) ≡ false) o.2 h in
+    let f = subst (λ (x : List ℕ). is_comment_end (b ∷ x) ≡ false) o.2 h in
     let e = o.3 in
     (b ∷ o.0, o.1, ap (λ x. b ∷ x) o.2, omega (arith, e), (where_it_stands b o.0 o.1 f, o.4))
 
@@ -110,8 +110,8 @@ pub open_front : (s : List ℕ) → comment_length s < length s → Opened s (co
 unfolding comment_length
 open_front [] h = absurd (omega arith)
 open_front (b ∷ s) h =
-    let P : Bool → Type 0 = λ v. closes (b ∷ s) ≡ v → cond v 0 (1 + comment_length s) < length (b ∷ s) → Opened (b ∷ s) (cond v 0 (1 + comment_length s)) in
-    elim (closes (b ∷ s)) as P [
+    let P : Bool → Type 0 = λ v. is_comment_end (b ∷ s) ≡ v → cond v 0 (1 + comment_length s) < length (b ∷ s) → Opened (b ∷ s) (cond v 0 (1 + comment_length s)) in
+    elim (is_comment_end (b ∷ s)) as P [
       | true ↦ λ t f. let c = closes_is (b ∷ s) t in ([], c.0, c.1, refl, (refl, tt))
       | false ↦ λ t f. more_opened b s (comment_length s) t (open_front s (omega arith))
     ] refl h

@@ -8,20 +8,20 @@ use Rattle.oil_lex.specs.declared.bytes.Run.TheVariants.{WordBytes, Digits, HexD
 use Rattle.oil_lex.specs.declared.pieces.PieceKind.{PieceKind}
 use Rattle.oil_lex.specs.declared.pieces.PieceKind.TheVariants as kind
 use Rattle.oil_lex.specs.Bytes.{class_of, is_word_byte, is_digit, is_hex_digit, is_quoted, is_not_lf}
-use Rattle.oil_lex.specs.Pieces.{closes, begins_hex}
+use Rattle.oil_lex.specs.Pieces.{is_comment_end, begins_hex}
 
 -- a byte goes on with a run
-abbrev pub passes : Run → ℕ → Bool
-passes WordBytes b = is_word_byte b
-passes Digits b = is_digit b
-passes HexDigits b = is_hex_digit b
-passes Quoted b = is_quoted b
-passes CommentLine b = is_not_lf b
+abbrev pub is_passed : Run → ℕ → Bool
+is_passed WordBytes b = is_word_byte b
+is_passed Digits b = is_digit b
+is_passed HexDigits b = is_hex_digit b
+is_passed Quoted b = is_quoted b
+is_passed CommentLine b = is_not_lf b
 
 -- how many bytes stand before the first `*/`, or all
 unfoldable pub comment_length : List ℕ → ℕ
 comment_length [] = 0
-comment_length (b ∷ bs) = if closes (b ∷ bs) then 0 else (1 + comment_length bs)
+comment_length (b ∷ bs) = if is_comment_end (b ∷ bs) then 0 else (1 + comment_length bs)
 
 -- behind a `/*`
 unfoldable pub comment_piece : List ℕ → PieceKind × ℕ
@@ -30,24 +30,24 @@ comment_piece s = if nat_lt (comment_length s) (length s) then (kind.BlockCommen
 -- behind a quote
 unfoldable pub text_piece : List ℕ → PieceKind × ℕ
 text_piece s =
-    if slice_index s (prefix_len (passes Quoted) s) == 34 then (kind.Text, prefix_len (passes Quoted) s + 2)
-    else (kind.UnclosedText, prefix_len (passes Quoted) s + 1)
+    if slice_index s (prefix_len (is_passed Quoted) s) == 34 then (kind.Text, prefix_len (is_passed Quoted) s + 2)
+    else (kind.UnclosedText, prefix_len (is_passed Quoted) s + 1)
 
 -- a comment, or the sign `/`
 unfoldable pub slash_piece : List ℕ → PieceKind × ℕ
 slash_piece t =
-    if slice_index t 1 == 47 then (kind.LineComment, prefix_len (passes CommentLine) (drop 2 t) + 2)
+    if slice_index t 1 == 47 then (kind.LineComment, prefix_len (is_passed CommentLine) (drop 2 t) + 2)
     else (if slice_index t 1 == 42 then comment_piece (drop 2 t) else (kind.Sign, 1))
 
 -- a number, hexadecimal or decimal
 unfoldable pub number_piece : List ℕ → PieceKind × ℕ
 number_piece t =
-    if begins_hex t then (kind.Hexadecimal, prefix_len (passes HexDigits) (drop 3 t) + 3) else (kind.Decimal, prefix_len (passes Digits) (drop 1 t) + 1)
+    if begins_hex t then (kind.Hexadecimal, prefix_len (is_passed HexDigits) (drop 3 t) + 3) else (kind.Decimal, prefix_len (is_passed Digits) (drop 1 t) + 1)
 
 -- the kind and length of the piece at the front, by the class of its first byte
 unfoldable pub piece_by : Class → List ℕ → PieceKind × ℕ
 piece_by class.Blank t = (kind.Blank, 1)
-piece_by class.Letter t = (kind.Word, prefix_len (passes WordBytes) (drop 1 t) + 1)
+piece_by class.Letter t = (kind.Word, prefix_len (is_passed WordBytes) (drop 1 t) + 1)
 piece_by class.Digit t = number_piece t
 piece_by class.Quote t = text_piece (drop 1 t)
 piece_by class.Slash t = slash_piece t

@@ -16,13 +16,13 @@ Stops p [] = Unit {0}
 Stops p (b ∷ bs) = p b ≡ false
 
 -- the text begins with `*/`
-abbrev pub closes : List ℕ → Bool
-closes t = (slice_index t 0 == 42) && (slice_index t 1 == 47)
+abbrev pub is_comment_end : List ℕ → Bool
+is_comment_end t = (slice_index t 0 == 42) && (slice_index t 1 == 47)
 
 -- no `*/` stands in the text
 abbrev pub NeverCloses : List ℕ → Type 0
 NeverCloses [] = Unit {0}
-NeverCloses (b ∷ bs) = (closes (b ∷ bs) ≡ false) × NeverCloses bs
+NeverCloses (b ∷ bs) = (is_comment_end (b ∷ bs) ≡ false) × NeverCloses bs
 
 -- the text begins with `0x` or `0X` and a hexadecimal digit
 abbrev pub begins_hex : List ℕ → Bool

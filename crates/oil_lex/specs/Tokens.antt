@@ -12,7 +12,7 @@ use Rattle.oil_lex.specs.declared.pieces.Meaning.{Meaning}
 use Rattle.oil_lex.specs.declared.pieces.Meaning.TheVariants.{Nothing, IsToken, IsFault}
 use Rattle.oil_lex.specs.declared.pieces.PieceKind.{PieceKind}
 use Rattle.oil_lex.specs.declared.pieces.PieceKind.TheVariants as kind
-use Rattle.text_pieces.specs.Digits.{value_from, capped}
+use Rattle.text_pieces.specs.Digits.{value_from, capped_value}
 use Rattle.oil_lex.specs.Pieces.{Piece, Cut}
 
 -- how many lines end in these bytes
@@ -32,8 +32,8 @@ lexeme t = record { kind = t.kind; line = t.line; bytes = t.span.now }
 -- what a piece means: a token, a fault, or neither
 abbrev pub meaning : PieceKind → List ℕ → Meaning
 meaning kind.Word bs = IsToken token.Word
-meaning kind.Decimal bs = IsToken (token.Number (capped (value_from 10 0 bs)))
-meaning kind.Hexadecimal bs = IsToken (token.Number (capped (value_from 16 0 (drop 2 bs))))
+meaning kind.Decimal bs = IsToken (token.Number (capped_value (value_from 10 0 bs)))
+meaning kind.Hexadecimal bs = IsToken (token.Number (capped_value (value_from 16 0 (drop 2 bs))))
 meaning kind.Text bs = IsToken token.Text
 meaning kind.Sign bs = IsToken token.Sign
 meaning kind.Stray bs = IsFault code.O1

@@ -3,8 +3,8 @@
 ghost use Rattle.std.specs.Prelude.{◌≡◌, ◌<◌, ◌≤◌, length, IsTrue};
 ghost use Rattle.std.specs.List.{prefix_len};
 ghost use Rattle.oil_lex.specs.Bytes.{class_of};
-ghost use Rattle.oil_lex.specs.Pieces.{begins_hex, closes};
-ghost use Rattle.oil_lex.specs.Front.{passes, comment_length};
+ghost use Rattle.oil_lex.specs.Pieces.{begins_hex, is_comment_end};
+ghost use Rattle.oil_lex.specs.Front.{is_passed, comment_length};
 
 use text_pieces::bytes::continues_word;
 
@@ -62,7 +62,7 @@ pub fn class_of(byte: u8) -> Class
 
 #[tactic(auto, unfolding(crate::specs::Bytes::is_word_byte, crate::specs::Bytes::is_digit, crate::specs::Bytes::is_hex_digit, crate::specs::Bytes::is_quoted, crate::specs::Bytes::is_not_lf))]
 fn passes(run: Run, byte: u8) -> bool
-    ensures { result ≡ passes run byte }
+    ensures { result ≡ is_passed run byte }
 {
     match run {
         Run::WordBytes => continues_word(byte),
@@ -75,7 +75,7 @@ fn passes(run: Run, byte: u8) -> bool
 
 /// How many bytes at the front may stand in the run.
 pub fn run_length(bytes: &[u8], run: Run) -> usize
-    ensures value { result ≡ prefix_len (passes run) bytes.now }
+    ensures value { result ≡ prefix_len (is_passed run) bytes.now }
     ensures within { result ≤ length bytes.now }
 {
     for (i, byte) in bytes.iter().enumerate() {
@@ -88,7 +88,7 @@ pub fn run_length(bytes: &[u8], run: Run) -> usize
 
 /// Whether a `*/` stands at the front.
 fn closes(bytes: &[u8]) -> bool
-    ensures { result ≡ closes bytes.now }
+    ensures { result ≡ is_comment_end bytes.now }
 {
     bytes.len() > 1 && bytes[0] == b'*' && bytes[1] == b'/'
 }

@@ -1,7 +1,7 @@
 //! The tokens of a text.
 
 ghost use Rattle.std.specs.Prelude.{List, ℕ, ◌≡◌, ◌<◌, length, map, ◌++◌, IfOk, IfErr, OnOk};
-ghost use Rattle.sloth_refusal.specs.Order.{ErrorIs, NoFault};
+ghost use Rattle.least_fault.specs.Order.{ErrorIs, NoFault};
 ghost use Rattle.oil_lex.specs.Pieces.{Piece, Cut};
 ghost use Rattle.oil_lex.specs.Tokens.{Lexeme, AreTokens, TextFault, lexeme, lexemes_by, IsNoFault, RefusedBy};
 

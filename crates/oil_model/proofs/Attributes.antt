@@ -4,18 +4,18 @@ use Rattle.std.specs.Prelude.{◌==◌, not}
 use Rattle.std.specs.Str.{bytes_eq}
 use Rattle.std.proofs.lemmas.Slice.Eq.{bytes_eq-Decides}
 use Rattle.sloth_base.specs.declared.refusal.Code.TheVariants.{O10, O12}
-use Rattle.sloth_refusal.specs.Order.{NoFault}
+use Rattle.least_fault.specs.Order.{NoFault}
 use Rattle.oil_parse.specs.declared.tree.OilAttr.{OilAttr}
 use Rattle.oil_parse.specs.declared.tree.OilObject.{OilObject}
 use Rattle.oil_parse.specs.declared.tree.OilTree.{OilTree}
 use Rattle.oil_model.specs.declared.table.Attribute.{Attribute}
 use Rattle.oil_model.specs.declared.table.Place.TheVariants.{Nowhere}
-use Rattle.oil_model.specs.Table.{place_of, attribute_of, allows}
+use Rattle.oil_model.specs.Table.{place_of, attribute_of, is_allowed}
 use Rattle.oil_model.specs.Objects.{is_of_kind, is_use, has_scheduler}
 use Rattle.oil_model.specs.AttributeFaults.{inner_place, place_at, misses_value, refers_to_none, is_refused, AttributeFault, RowFault}
 use Rattle.oil_model.specs.ModelFaults.{ModelFault}
 use Rattle.text_pieces.proofs.Tests.{and_left, and_right}
-use Rattle.sloth_refusal.proofs.Nowhere.{nowhere, case_false}
+use Rattle.least_fault.proofs.Nowhere.{nowhere, case_false}
 use Rattle.oil_model.proofs.NoFaults.{inner_at}
 use Rattle.sloth_base.specs.declared.refusal.Part.TheVariants.{Oil}
 
@@ -49,10 +49,10 @@ module _ (tree : OilTree) (none : NoFault (ModelFault tree)) (i : ℕ) (d : OilO
         let a = get_or o.attrs k e in
         subst (λ q. NoFault (RowFault tree.objects (has_scheduler tree.objects) q (take k o.attrs) a)) (row_of_use o.kind K name (take k o.attrs) a kind used ∙ listed) (attribute_at k e h)
 
-    pub allowed : allows row (get_or (get_or tree.objects i d).attrs k e).value ≡ true
+    pub allowed : is_allowed row (get_or (get_or tree.objects i d).attrs k e).value ≡ true
     allowed =
         let a = get_or (get_or tree.objects i d).attrs k e in
-        not_false (allows row a.value) (case_false Oil (is_refused (Some row) a.value) a.line O12 (λ r x. row_here r (inr (inr (inr x)))))
+        not_false (is_allowed row a.value) (case_false Oil (is_refused (Some row) a.value) a.line O12 (λ r x. row_here r (inr (inr (inr x)))))
 
     pub refers : misses_value tree.objects (has_scheduler tree.objects) row (get_or (get_or tree.objects i d).attrs k e).value ≡ false
     refers =

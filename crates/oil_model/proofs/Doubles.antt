@@ -5,7 +5,7 @@ use Rattle.std.specs.List.{list_any}
 use Rattle.std.specs.Str.{bytes_eq}
 use Rattle.std.proofs.lemmas.Slice.Eq.{bytes_eq-Decides}
 use Rattle.oil_parse.specs.declared.tree.OilObject.{OilObject}
-use Rattle.oil_model.specs.Objects.{is_of_kind, declares, has}
+use Rattle.oil_model.specs.Objects.{is_of_kind, is_declaration, is_declared}
 use Rattle.oil_model.specs.ObjectFaults.{doubles}
 use Rattle.text_pieces.proofs.Tests.{or_nothing, and_left, any_implies}
 
@@ -22,20 +22,20 @@ any_same : {X : Type 0} (p q : X → Bool) → ((x : X) → p x ≡ q x) → (xs
 any_same p q e xs = ap (λ f. list_any f xs) (λ i x. e x i)
 
 pub doubled : (object : OilObject) (front : List OilObject)
-    → list_any (doubles object) front ≡ (has front object.kind object.name || (is_of_kind (codes "OS") object && list_any (is_of_kind (codes "OS")) front))
+    → list_any (doubles object) front ≡ (is_declared front object.kind object.name || (is_of_kind (codes "OS") object && list_any (is_of_kind (codes "OS")) front))
 doubled object front = by (is_of_kind (codes "OS") object) refl
   where
     by : (b : Bool) → is_of_kind (codes "OS") object ≡ b
-        → list_any (doubles object) front ≡ (has front object.kind object.name || (is_of_kind (codes "OS") object && list_any (is_of_kind (codes "OS")) front))
+        → list_any (doubles object) front ≡ (is_declared front object.kind object.name || (is_of_kind (codes "OS") object && list_any (is_of_kind (codes "OS")) front))
     by false e =
-        any_same (doubles object) (declares object.kind object.name)
+        any_same (doubles object) (is_declaration object.kind object.name)
         (λ (x : OilObject). ap (λ b. bytes_eq x.kind object.kind && (bytes_eq x.name object.name || b)) e ∙ ap (λ b. bytes_eq x.kind object.kind && b) (or_nothing (bytes_eq x.name object.name))) front
-        ∙ sym (ap (λ b. has front object.kind object.name || (b && list_any (is_of_kind (codes "OS")) front)) e ∙ or_nothing (has front object.kind object.name))
+        ∙ sym (ap (λ b. is_declared front object.kind object.name || (b && list_any (is_of_kind (codes "OS")) front)) e ∙ or_nothing (is_declared front object.kind object.name))
     by true e =
         let os : object.kind ≡ codes "OS" = (bytes_eq-Decides object.kind (codes "OS")).0 e in
         any_same (doubles object) (is_of_kind (codes "OS"))
         (λ (x : OilObject). ap (λ b. bytes_eq x.kind object.kind && (bytes_eq x.name object.name || b)) e ∙ all_of_kind (bytes_eq x.kind object.kind) (bytes_eq x.name object.name) ∙ ap (bytes_eq x.kind) os) front
-        ∙ sym (ap (λ b. has front object.kind object.name || (b && list_any (is_of_kind (codes "OS")) front)) e
-        ∙ or_takes (has front object.kind object.name) (list_any (is_of_kind (codes "OS")) front)
-        (any_implies (declares object.kind object.name) (is_of_kind (codes "OS"))
+        ∙ sym (ap (λ b. is_declared front object.kind object.name || (b && list_any (is_of_kind (codes "OS")) front)) e
+        ∙ or_takes (is_declared front object.kind object.name) (list_any (is_of_kind (codes "OS")) front)
+        (any_implies (is_declaration object.kind object.name) (is_of_kind (codes "OS"))
         (λ (x : OilObject) h. ap (bytes_eq x.kind) (sym os) ∙ and_left (bytes_eq x.kind object.kind) (bytes_eq x.name object.name) h) front))

@@ -14,7 +14,7 @@ use Rattle.oil_parse.specs.declared.tree.OilValue.TheVariants.{Word, Number, Tex
 use Rattle.oil_parse.specs.declared.tree.OilAttr.{OilAttr}
 use Rattle.oil_model.specs.Objects.{is_use}
 use Rattle.oil_model.specs.Events.{mask_named}
-use Rattle.oil_model.specs.TaskFaults.{have_common_bit, clashes, shares_bit}
+use Rattle.oil_model.specs.TaskFaults.{have_common_bit, is_event_clash, shares_bit}
 use Rattle.oil_model.specs.References.{event_word, refers_to_clash, referred_word}
 use Rattle.oil_model.specs.KeptReferences.{is_to, has_bit, is_clash, AreKept}
 use Rattle.text_pieces.proofs.Tests.{and_true, and_swap, and_left, and_right, or_left_true, or_right_true, or_split, or_nothing, or_absorbs, any_implies, any_but, any_none}
@@ -63,7 +63,7 @@ same_true m n e = ⊎_elim (λ t. t.1) (λ f. absurd (true≢false (sym e ∙ f.
 
 -- What an attribute says of another event, by the event that it refers to.
 module _ (events : List EventDecl) where
-  refers_at : (word v : List ℕ) (b : Bool) (x : OilValue) → (if b then referred_word x else None) ≡ Some v → (b && clashes events x (Word word)) ≡ have_common_bit events v word
+  refers_at : (word v : List ℕ) (b : Bool) (x : OilValue) → (if b then referred_word x else None) ≡ Some v → (b && is_event_clash events x (Word word)) ≡ have_common_bit events v word
   refers_at word v true (Word w) e = let g : w ≡ v = cc in ap (λ (y : List ℕ). have_common_bit events y word) g
   refers_at word v true (Number n) e = cc
   refers_at word v true (Text t) e = cc
@@ -72,7 +72,7 @@ module _ (events : List EventDecl) where
   pub refers : (word v : List ℕ) (attr : OilAttr) → event_word attr ≡ Some v → refers_to_clash events word attr ≡ have_common_bit events v word
   refers word v attr e = refers_at word v (is_use (codes "EVENT") attr) attr.value e
 
-  refers_none_at : (word : List ℕ) (b : Bool) (x : OilValue) → (if b then referred_word x else None) ≡ None → (b && clashes events x (Word word)) ≡ false
+  refers_none_at : (word : List ℕ) (b : Bool) (x : OilValue) → (if b then referred_word x else None) ≡ None → (b && is_event_clash events x (Word word)) ≡ false
   refers_none_at word true (Word w) e = cc
   refers_none_at word true (Number n) e = refl
   refers_none_at word true (Text t) e = refl
@@ -83,7 +83,7 @@ module _ (events : List EventDecl) where
 
   module _ (before : List OilAttr) where
     abbrev any_shares : OilValue → Bool
-    any_shares x = list_any (λ earlier. is_use (codes "EVENT") earlier && clashes events earlier.value x) before
+    any_shares x = list_any (λ earlier. is_use (codes "EVENT") earlier && is_event_clash events earlier.value x) before
 
     shares_at : (v : List ℕ) (b : Bool) (x : OilValue) → (if b then referred_word x else None) ≡ Some v → (b && any_shares x) ≡ list_any (refers_to_clash events v) before
     shares_at v true (Word w) e = let g : w ≡ v = cc in ap (λ (y : List ℕ). list_any (refers_to_clash events y) before) g
@@ -94,7 +94,7 @@ module _ (events : List EventDecl) where
     pub shares : (v : List ℕ) (attr : OilAttr) → event_word attr ≡ Some v → shares_bit events before attr ≡ list_any (refers_to_clash events v) before
     shares v attr e = shares_at v (is_use (codes "EVENT") attr) attr.value e
 
-    no_clash : (y : OilValue) (b : Bool) (x : OilValue) → (if b then referred_word x else None) ≡ None → b ≡ true → clashes events y x ≡ false
+    no_clash : (y : OilValue) (b : Bool) (x : OilValue) → (if b then referred_word x else None) ≡ None → b ≡ true → is_event_clash events y x ≡ false
     no_clash y true (Word w) e t = cc
     no_clash (Word v) true (Number n) e t = refl
     no_clash (Number m) true (Number n) e t = refl
@@ -109,7 +109,7 @@ module _ (events : List EventDecl) where
     and_false false c e = refl
 
     shares_none_at : (b : Bool) (x : OilValue) → (if b then referred_word x else None) ≡ None → (b && any_shares x) ≡ false
-    shares_none_at true x e = any_none (λ (earlier : OilAttr). is_use (codes "EVENT") earlier && clashes events earlier.value x) (λ earlier. and_false (is_use (codes "EVENT") earlier) _ (no_clash earlier.value true x e refl)) before
+    shares_none_at true x e = any_none (λ (earlier : OilAttr). is_use (codes "EVENT") earlier && is_event_clash events earlier.value x) (λ earlier. and_false (is_use (codes "EVENT") earlier) _ (no_clash earlier.value true x e refl)) before
     shares_none_at false x e = refl
 
     pub shares_none : (attr : OilAttr) → event_word attr ≡ None → shares_bit events before attr ≡ false

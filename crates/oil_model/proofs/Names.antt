@@ -10,7 +10,7 @@ use Rattle.std.proofs.lemmas.List.Quantifiers.{position-Some}
 use Rattle.std.proofs.lemmas.Slice.Eq.{bytes_eq-Decides}
 use Rattle.sloth_base.specs.declared.config.EventDecl.{EventDecl}
 use Rattle.oil_parse.specs.declared.tree.OilObject.{OilObject}
-use Rattle.oil_model.specs.Objects.{is_of_kind, has}
+use Rattle.oil_model.specs.Objects.{is_of_kind, is_declared}
 use Rattle.oil_model.specs.Events.{mask_given, mask_named}
 use Rattle.oil_model.specs.Objects.{names_of}
 use Rattle.text_pieces.proofs.Places.{further, bytes_eq-sym, position-cons, position-any}
@@ -43,21 +43,21 @@ mask_some word events names i d n e h =
 pub mask_none : (word : List ℕ) (events : List EventDecl) (names : List (List ℕ)) → names ≡ map (λ (e : EventDecl). e.name) events → position (bytes_eq word) names ≡ None → 0 ≡ mask_named events word
 mask_none word events names n e = sym (ap mask_given (event_at word events ∙ ap (place_in events) (ap (position (bytes_eq word)) (sym n) ∙ e)))
 
-any_named : (kind word : List ℕ) (objects : List OilObject) → list_any (bytes_eq word) (names_of kind objects) ≡ has objects kind word
+any_named : (kind word : List ℕ) (objects : List OilObject) → list_any (bytes_eq word) (names_of kind objects) ≡ is_declared objects kind word
 any_named kind word [] = refl
 any_named kind word (o ∷ objects) = by (bytes_eq o.kind kind) refl (any_named kind word objects)
   where
-    by : (b : Bool) → bytes_eq o.kind kind ≡ b → list_any (bytes_eq word) (names_of kind objects) ≡ has objects kind word → list_any (bytes_eq word) (names_of kind (o ∷ objects)) ≡ has (o ∷ objects) kind word
+    by : (b : Bool) → bytes_eq o.kind kind ≡ b → list_any (bytes_eq word) (names_of kind objects) ≡ is_declared objects kind word → list_any (bytes_eq word) (names_of kind (o ∷ objects)) ≡ is_declared (o ∷ objects) kind word
     by true e again =
         ap (λ b. list_any (bytes_eq word) (map (λ (x : OilObject). x.name) (cond b (o ∷ filter (is_of_kind kind) objects) (filter (is_of_kind kind) objects)))) e
         ∙ ap (λ b. b || list_any (bytes_eq word) (names_of kind objects)) (bytes_eq-sym word o.name) ∙ ap (λ b. bytes_eq o.name word || b) again
-        ∙ sym (ap (λ b. (b && bytes_eq o.name word) || has objects kind word) e)
+        ∙ sym (ap (λ b. (b && bytes_eq o.name word) || is_declared objects kind word) e)
     by false e again =
         ap (λ b. list_any (bytes_eq word) (map (λ (x : OilObject). x.name) (cond b (o ∷ filter (is_of_kind kind) objects) (filter (is_of_kind kind) objects)))) e ∙ again
-        ∙ sym (ap (λ b. (b && bytes_eq o.name word) || has objects kind word) e)
+        ∙ sym (ap (λ b. (b && bytes_eq o.name word) || is_declared objects kind word) e)
 
 -- a name has a number where there is an object of the kind and the name
-pub numbered : (kind word : List ℕ) (objects : List OilObject) (names : List (List ℕ)) → names ≡ names_of kind objects → is_some (position (bytes_eq word) names) ≡ has objects kind word
+pub numbered : (kind word : List ℕ) (objects : List OilObject) (names : List (List ℕ)) → names ≡ names_of kind objects → is_some (position (bytes_eq word) names) ≡ is_declared objects kind word
 numbered kind word objects names e =
     ap (λ (x : List (List ℕ)). is_some (position (bytes_eq word) x)) e ∙ position-any (bytes_eq word) (names_of kind objects) ∙ any_named kind word objects
 

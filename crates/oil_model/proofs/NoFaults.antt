@@ -8,8 +8,8 @@ use Rattle.std.proofs.Math.Seq.{take-length}
 use Rattle.sloth_base.specs.declared.refusal.Code.{Code}
 use Rattle.sloth_base.specs.declared.refusal.Code.TheVariants.{O7, O14}
 use Rattle.sloth_base.specs.declared.refusal.Refusal.{Refusal}
-use Rattle.sloth_refusal.specs.Order.{NoFault}
-use Rattle.sloth_refusal.proofs.Nowhere.{nowhere, case_false}
+use Rattle.least_fault.specs.Order.{NoFault}
+use Rattle.least_fault.proofs.Nowhere.{nowhere, case_false}
 use Rattle.sloth_base.specs.declared.refusal.Part.TheVariants.{Oil}
 use Rattle.oil_parse.specs.declared.tree.OilObject.{OilObject}
 use Rattle.oil_parse.specs.declared.tree.OilTree.{OilTree}

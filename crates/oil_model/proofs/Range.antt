@@ -8,13 +8,13 @@ use Rattle.sloth_base.specs.declared.config.EventDecl.{EventDecl}
 use Rattle.sloth_base.specs.declared.config.TaskDecl.{TaskDecl}
 use Rattle.sloth_base.specs.ImageRange.{IsWord, AreNames}
 use Rattle.sloth_base.specs.ConfigRange.{IsTask, InRange}
-use Rattle.sloth_refusal.specs.Order.{NoFault}
+use Rattle.least_fault.specs.Order.{NoFault}
 use Rattle.oil_parse.specs.declared.tree.OilObject.{OilObject}
 use Rattle.oil_parse.specs.declared.tree.OilTree.{OilTree}
 use Rattle.oil_model.specs.Objects.{is_of_kind, has_scheduler}
 use Rattle.oil_model.specs.Events.{number_masks, events_of}
 use Rattle.oil_model.specs.ModelFaults.{ModelFault}
-use Rattle.oil_model.specs.Configs.{resource_names, task_of, tasks_of, config_of}
+use Rattle.oil_model.specs.Configs.{resource_names, declared_task, tasks_of, config_of}
 use Rattle.oil_model.proofs.NoFaults.{few_tasks, few_names, few_events}
 use Rattle.text_pieces.proofs.Tests.{All-kept}
 use Rattle.oil_model.proofs.Lists.{pairs_kept}
@@ -24,7 +24,7 @@ use Rattle.oil_model.proofs.RangeUnions.{is_union}
 use Rattle.oil_model.proofs.RangeTasks.{priority_value, priority_is, resources_within, no_shared, priorities_apart}
 use Rattle.oil_model.proofs.RangeExtended.{extended}
 
-task_names : (names : List (List ℕ)) (events : List EventDecl) (xs : List OilObject) → map (λ (t : TaskDecl). t.name) (map (task_of names events) xs) ≡ map (λ (o : OilObject). o.name) xs
+task_names : (names : List (List ℕ)) (events : List EventDecl) (xs : List OilObject) → map (λ (t : TaskDecl). t.name) (map (declared_task names events) xs) ≡ map (λ (o : OilObject). o.name) xs
 task_names names events [] = refl
 task_names names events (x ∷ xs) = ap (λ ys. x.name ∷ ys) (task_names names events xs)
 
@@ -44,13 +44,13 @@ module _ (tree : OilTree) (none : NoFault (ModelFault tree)) (words : All (λ (o
 
   number_of_tasks : length (tasks_of (resource_names tree.objects) (events_of tree.objects) tree.objects) ≤ 30
   number_of_tasks =
-      let a = length-map (filter (is_of_kind (codes "TASK")) tree.objects) (task_of (resource_names tree.objects) (events_of tree.objects)) in
+      let a = length-map (filter (is_of_kind (codes "TASK")) tree.objects) (declared_task (resource_names tree.objects) (events_of tree.objects)) in
       let f = length-filter (is_of_kind (codes "TASK")) tree.objects in
       let n = few_tasks tree none in
       omega (arith, a, f, n)
 
   is_task : (i : ℕ) (d : OilObject) → i < length tree.objects → is_of_kind (codes "TASK") (get_or tree.objects i d) ≡ true
-      → IsTask (config_of tree.objects) (task_of (resource_names tree.objects) (events_of tree.objects) (get_or tree.objects i d))
+      → IsTask (config_of tree.objects) (declared_task (resource_names tree.objects) (events_of tree.objects) (get_or tree.objects i d))
   is_task i d h t =
       let o = get_or tree.objects i d in
       let p = priority_value tree none i d h t in
@@ -67,7 +67,7 @@ module _ (tree : OilTree) (none : NoFault (ModelFault tree)) (words : All (λ (o
     where
       by : (os : List OilObject) → tree.objects ≡ os → AllPairs (λ (s t : TaskDecl). s.priority ≢ t.priority) (tasks_of (resource_names tree.objects) (events_of tree.objects) tree.objects)
       by [] e = subst (λ (ys : List OilObject). AllPairs (λ (s t : TaskDecl). s.priority ≢ t.priority) (tasks_of (resource_names tree.objects) (events_of tree.objects) ys)) (sym e) (λ i j c h k. absurd (omega arith))
-      by (x ∷ os) e = pairs_kept (is_of_kind (codes "TASK")) (task_of (resource_names tree.objects) (events_of tree.objects)) (λ (s t : TaskDecl). s.priority ≢ t.priority) tree.objects
+      by (x ∷ os) e = pairs_kept (is_of_kind (codes "TASK")) (declared_task (resource_names tree.objects) (events_of tree.objects)) (λ (s t : TaskDecl). s.priority ≢ t.priority) tree.objects
           (priorities_apart tree none) x
 
   pub in_range : InRange (config_of tree.objects)
@@ -80,6 +80,6 @@ module _ (tree : OilTree) (none : NoFault (ModelFault tree)) (words : All (λ (o
     event_names = names_of_events;
     priorities_differ = differing;
     masks = λ k d h. (masks_positive tree none k d h, fit k d h);
-    tasks = All-kept (is_of_kind (codes "TASK")) (task_of (resource_names tree.objects) (events_of tree.objects)) (IsTask (config_of tree.objects)) tree.objects is_task;
+    tasks = All-kept (is_of_kind (codes "TASK")) (declared_task (resource_names tree.objects) (events_of tree.objects)) (IsTask (config_of tree.objects)) tree.objects is_task;
     scheduler_alone = scheduler_alone tree none;
   }

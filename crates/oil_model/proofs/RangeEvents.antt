@@ -9,18 +9,18 @@ use Rattle.std.proofs.Math.Seq.{drop-cons}
 use Rattle.std.proofs.Math.ListN.{drop_of_length-le}
 use Rattle.sloth_base.specs.declared.config.EventDecl.{EventDecl}
 use Rattle.sloth_base.specs.declared.refusal.Code.TheVariants.{O15}
-use Rattle.sloth_refusal.specs.Order.{NoFault}
+use Rattle.least_fault.specs.Order.{NoFault}
 use Rattle.oil_parse.specs.declared.tree.OilValue.{OilValue}
 use Rattle.oil_parse.specs.declared.tree.OilValue.TheVariants.{Word, Number, Text}
 use Rattle.oil_parse.specs.declared.tree.OilAttr.{OilAttr}
 use Rattle.oil_parse.specs.declared.tree.OilObject.{OilObject}
 use Rattle.oil_parse.specs.declared.tree.OilTree.{OilTree}
 use Rattle.oil_model.specs.declared.table.Attribute.TheVariants.{Mask}
-use Rattle.oil_model.specs.Table.{allows, is_word}
+use Rattle.oil_model.specs.Table.{is_allowed, is_word}
 use Rattle.oil_model.specs.Objects.{is_of_kind, is_use, is_used, is_given, number_of, number_given}
 use Rattle.oil_model.specs.Events.{bits, is_event, is_auto, number_mask, number_masks, free_bit, mask_by, taken_more, taken_before, lacks_bit, event_decls, events_of, BitFault}
 use Rattle.oil_model.specs.ModelFaults.{ModelFault}
-use Rattle.sloth_refusal.proofs.Nowhere.{nowhere, case_false}
+use Rattle.least_fault.proofs.Nowhere.{nowhere, case_false}
 use Rattle.sloth_base.specs.declared.refusal.Part.TheVariants.{Oil}
 use Rattle.oil_model.proofs.Lists.{found_has, first_of}
 use Rattle.oil_model.proofs.Attributes.{allowed}
@@ -63,7 +63,7 @@ free_positive taken e = by (find (λ bit. bit_and taken bit == 0) bits) refl e
     by (Some bit) q f = ltb-true 0 bit (found_has (λ b. bit_and taken b == 0) (λ b. nat_lt 0 b ≡ true) bits bit q bits_positive)
 
 -- a mask that the table allows, and that isn't AUTO, is a number and not 0
-number_positive : (value : OilValue) → allows Mask value ≡ true → is_word value (codes "AUTO") ≡ false → 0 < unwrap_or (number_of value) 0
+number_positive : (value : OilValue) → is_allowed Mask value ≡ true → is_word value (codes "AUTO") ≡ false → 0 < unwrap_or (number_of value) 0
 number_positive (Word word) a w = true_not_false (bytes_eq word (codes "AUTO")) a w
 number_positive (Number number) a w = leb-true 1 number a
 number_positive (Text bytes) a w = cc
@@ -80,7 +80,7 @@ module _ (tree : OilTree) (none : NoFault (ModelFault tree)) where
       let o = get_or tree.objects i d in
       let f = first_of (is_use (codes "MASK")) o.attrs (not_false' (is_used o.attrs (codes "MASK")) (first (not (is_used o.attrs (codes "MASK"))) _ auto)) in
       let at : is_use (codes "MASK") (get_or o.attrs f.place f.item) ≡ true = ap (is_use (codes "MASK")) f.stands ∙ f.passes in
-      let a = ap (λ (x : OilAttr). allows Mask x.value) (sym f.stands) ∙ allowed tree none i d h (codes "EVENT") (codes "MASK") Mask refl f.place f.item f.within ev at in
+      let a = ap (λ (x : OilAttr). is_allowed Mask x.value) (sym f.stands) ∙ allowed tree none i d h (codes "EVENT") (codes "MASK") Mask refl f.place f.item f.within ev at in
       let w : is_word f.item.value (codes "AUTO") ≡ false = ap (λ x. is_given x (codes "AUTO")) (sym f.found) ∙ second (not (is_used o.attrs (codes "MASK"))) _ auto in
       subst (λ (x : Option ℕ). 0 < unwrap_or x 0) (ap number_given (sym f.found)) (number_positive f.item.value a w)
     where

@@ -5,14 +5,14 @@ use Rattle.std.specs.List.{list_any}
 use Rattle.std.specs.Str.{bytes_eq}
 use Rattle.std.proofs.lemmas.Bool.{ne_eqb, eq-eqb}
 use Rattle.sloth_base.specs.declared.config.EventDecl.{EventDecl}
-use Rattle.sloth_refusal.specs.Order.{NoFault}
+use Rattle.least_fault.specs.Order.{NoFault}
 use Rattle.oil_parse.specs.declared.tree.OilValue.{OilValue}
 use Rattle.oil_parse.specs.declared.tree.OilValue.TheVariants.{Word, Number, Text}
 use Rattle.oil_parse.specs.declared.tree.OilObject.{OilObject}
 use Rattle.oil_parse.specs.declared.tree.OilTree.{OilTree}
 use Rattle.oil_model.specs.declared.table.Attribute.TheVariants.{Event}
-use Rattle.oil_model.specs.Table.{allows}
-use Rattle.oil_model.specs.Objects.{is_of_kind, is_use, is_used, has, has_scheduler}
+use Rattle.oil_model.specs.Table.{is_allowed}
+use Rattle.oil_model.specs.Objects.{is_of_kind, is_use, is_used, is_declared, has_scheduler}
 use Rattle.oil_model.specs.Events.{is_event, number_masks, mask_by, event_decls, events_of, mask_named, mask_given}
 use Rattle.oil_model.specs.AttributeFaults.{misses_value}
 use Rattle.oil_model.specs.ModelFaults.{ModelFault}
@@ -25,25 +25,25 @@ use Rattle.oil_model.proofs.Unions.{Within, within_both, within_zero}
 use Rattle.oil_model.proofs.RangeUnions.{listed_within, fold_within}
 
 -- an event of a name is declared where an object of that name is
-declared : (taken : ℕ) (objects : List OilObject) (name : List ℕ) → has objects (codes "EVENT") name ≡ list_any (λ (e : EventDecl). bytes_eq e.name name) (event_decls taken objects)
+declared : (taken : ℕ) (objects : List OilObject) (name : List ℕ) → is_declared objects (codes "EVENT") name ≡ list_any (λ (e : EventDecl). bytes_eq e.name name) (event_decls taken objects)
 declared taken [] name = refl
 declared taken (o ∷ objects) name = by (declared (bit_or taken (mask_by taken o)) objects name) (declared taken objects name) (is_event o) refl
   where
-    by : has objects (codes "EVENT") name ≡ list_any (λ (e : EventDecl). bytes_eq e.name name) (event_decls (bit_or taken (mask_by taken o)) objects)
-        → has objects (codes "EVENT") name ≡ list_any (λ (e : EventDecl). bytes_eq e.name name) (event_decls taken objects)
-        → (b : Bool) → is_event o ≡ b → has (o ∷ objects) (codes "EVENT") name ≡ list_any (λ (e : EventDecl). bytes_eq e.name name) (event_decls taken (o ∷ objects))
+    by : is_declared objects (codes "EVENT") name ≡ list_any (λ (e : EventDecl). bytes_eq e.name name) (event_decls (bit_or taken (mask_by taken o)) objects)
+        → is_declared objects (codes "EVENT") name ≡ list_any (λ (e : EventDecl). bytes_eq e.name name) (event_decls taken objects)
+        → (b : Bool) → is_event o ≡ b → is_declared (o ∷ objects) (codes "EVENT") name ≡ list_any (λ (e : EventDecl). bytes_eq e.name name) (event_decls taken (o ∷ objects))
     by first rest true t = rw t (ap (λ b. bytes_eq o.name name || b) first)
     by first rest false t = rw t rest
 
 module _ (tree : OilTree) (none : NoFault (ModelFault tree)) where
-  named_positive : (name : List ℕ) → has tree.objects (codes "EVENT") name ≡ true → 0 < mask_named (events_of tree.objects) name
+  named_positive : (name : List ℕ) → is_declared tree.objects (codes "EVENT") name ≡ true → 0 < mask_named (events_of tree.objects) name
   named_positive name h =
       let f = first_of (λ (e : EventDecl). bytes_eq e.name name) (events_of tree.objects) (sym (declared (number_masks tree.objects) tree.objects name) ∙ h) in
       let m = found_has (λ (e : EventDecl). bytes_eq e.name name) (λ (e : EventDecl). 0 < e.mask) (events_of tree.objects) f.item f.found (masks_positive tree none) in
       subst (λ n. 0 < n) (ap mask_given (sym f.found)) m
 
-  value_positive : (v : OilValue) → allows Event v ≡ true → misses_value tree.objects (has_scheduler tree.objects) Event v ≡ false → 0 < mask_of_value (events_of tree.objects) v
-  value_positive (Word w) a m = named_positive w (not_false (has tree.objects (codes "EVENT") w) m)
+  value_positive : (v : OilValue) → is_allowed Event v ≡ true → misses_value tree.objects (has_scheduler tree.objects) Event v ≡ false → 0 < mask_of_value (events_of tree.objects) v
+  value_positive (Word w) a m = named_positive w (not_false (is_declared tree.objects (codes "EVENT") w) m)
     where
       not_false : (b : Bool) → not b ≡ false → b ≡ true
       not_false true e = refl

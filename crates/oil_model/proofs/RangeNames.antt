@@ -9,14 +9,14 @@ use Rattle.std.proofs.lemmas.List.Elements.{All-weaker}
 use Rattle.sloth_base.specs.ImageRange.{IsWord, IsName, AreNames}
 use Rattle.sloth_base.specs.ConfigRange.{res_scheduler_name}
 use Rattle.sloth_base.specs.declared.refusal.Code.TheVariants.{O9}
-use Rattle.sloth_refusal.specs.Order.{NoFault}
+use Rattle.least_fault.specs.Order.{NoFault}
 use Rattle.oil_parse.specs.declared.tree.OilObject.{OilObject}
 use Rattle.oil_parse.specs.declared.tree.OilTree.{OilTree}
 use Rattle.oil_model.specs.Objects.{is_of_kind, has_scheduler}
 use Rattle.oil_model.specs.ObjectFaults.{doubles, is_doubled, comes_behind}
 use Rattle.oil_model.specs.ModelFaults.{ModelFault}
 use Rattle.text_pieces.proofs.Tests.{or_left, or_right, none_pass, All-kept}
-use Rattle.sloth_refusal.proofs.Nowhere.{case_false}
+use Rattle.least_fault.proofs.Nowhere.{case_false}
 use Rattle.oil_model.proofs.NoFaults.{inner_at, not_above}
 use Rattle.sloth_base.specs.declared.refusal.Part.TheVariants.{Oil}
 use Rattle.oil_model.proofs.Lists.{pairs_kept}

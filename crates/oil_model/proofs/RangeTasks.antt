@@ -8,14 +8,14 @@ use Rattle.std.proofs.lemmas.List.{get_or-take, length-take-le}
 use Rattle.std.proofs.lemmas.List.Elements.{All-nil, All-push}
 use Rattle.std.proofs.lemmas.List.Quantifiers.{position-Some}
 use Rattle.sloth_base.specs.declared.refusal.Code.TheVariants.{O11, O13, O15}
-use Rattle.sloth_refusal.specs.Order.{NoFault}
+use Rattle.least_fault.specs.Order.{NoFault}
 use Rattle.oil_parse.specs.declared.tree.OilValue.{OilValue}
 use Rattle.oil_parse.specs.declared.tree.OilValue.TheVariants.{Word, Number, Text}
 use Rattle.oil_parse.specs.declared.tree.OilAttr.{OilAttr}
 use Rattle.oil_parse.specs.declared.tree.OilObject.{OilObject}
 use Rattle.oil_parse.specs.declared.tree.OilTree.{OilTree}
 use Rattle.oil_model.specs.declared.table.Attribute.TheVariants.{Priority}
-use Rattle.oil_model.specs.Table.{allows}
+use Rattle.oil_model.specs.Table.{is_allowed}
 use Rattle.oil_model.specs.Objects.{is_of_kind, is_use, is_used, first_number, number_of, number_given}
 use Rattle.oil_model.specs.Events.{events_of}
 use Rattle.oil_model.specs.ObjectFaults.{lacks_attribute}
@@ -23,7 +23,7 @@ use Rattle.oil_model.specs.TaskFaults.{has_priority, is_taken, repeats_priority,
 use Rattle.sloth_base.specs.Options.{is_number}
 use Rattle.oil_model.specs.ModelFaults.{ModelFault}
 use Rattle.oil_model.specs.Configs.{resource_number, listed_resource, with_number, with_resource, resources_of}
-use Rattle.sloth_refusal.proofs.Nowhere.{nowhere, case_false}
+use Rattle.least_fault.proofs.Nowhere.{nowhere, case_false}
 use Rattle.oil_model.proofs.NoFaults.{inner_at}
 use Rattle.sloth_base.specs.declared.refusal.Part.TheVariants.{Oil}
 use Rattle.text_pieces.proofs.Tests.{none_pass}
@@ -37,7 +37,7 @@ pub record IsPriority (value : OilValue) : Type 0 where
   pub is : number_of value ≡ Some number
   pub small : number ≤ 65535
 
-priority_number : (value : OilValue) → allows Priority value ≡ true → IsPriority value
+priority_number : (value : OilValue) → is_allowed Priority value ≡ true → IsPriority value
 priority_number (Word word) a = cc
 priority_number (Number number) a = record { number = number; is = refl; small = leb-true number 65535 a }
 priority_number (Text bytes) a = cc
@@ -91,7 +91,7 @@ module _ (tree : OilTree) (none : NoFault (ModelFault tree)) (i : ℕ) (d : OilO
   priority_value =
       let o = get_or tree.objects i d in
       let f = first_priority in
-      priority_number f.item.value (ap (λ (x : OilAttr). allows Priority x.value) (sym f.stands)
+      priority_number f.item.value (ap (λ (x : OilAttr). is_allowed Priority x.value) (sym f.stands)
       ∙ allowed tree none i d within (codes "TASK") (codes "PRIORITY") Priority refl f.place f.item f.within task (ap (is_use (codes "PRIORITY")) f.stands ∙ f.passes))
 
   pub priority_is : first_number (get_or tree.objects i d).attrs (codes "PRIORITY") ≡ Some priority_value.number

@@ -16,7 +16,7 @@ use Rattle.oil_parse.specs.declared.tree.OilAttr.{OilAttr}
 use Rattle.oil_model.specs.Table.{is_word}
 use Rattle.oil_model.specs.Objects.{is_use}
 use Rattle.oil_model.specs.Events.{mask_named, mask_given}
-use Rattle.oil_model.specs.TaskFaults.{have_common_bit, clashes, shares_with, shares_bit}
+use Rattle.oil_model.specs.TaskFaults.{have_common_bit, is_event_clash, shares_with, shares_bit}
 use Rattle.oil_model.specs.Configs.{mask_of_value, listed_mask, event_mask}
 use Rattle.oil_model.proofs.Lists.{IsFirst, first_of}
 use Rattle.text_pieces.proofs.Tests.{and_left, and_right, none_pass}
@@ -139,10 +139,10 @@ module _ (events : List EventDecl) (apart : Apart events) (attrs : List OilAttr)
       let none : list_any (shares_with events b) (take q attrs) ≡ false = second_false (is_use (codes "EVENT") b) (list_any (shares_with events b) (take q attrs)) used shares in
       let at = none_pass (shares_with events b) (take q attrs) none p a (let e = length-take-le q attrs (omega arith) in omega (arith, l, e)) in
       let with_a : shares_with events b a ≡ false = ap (shares_with events b) (sym sa ∙ sym (get_or-take q attrs p a l)) ∙ at in
-      let clash : clashes events a.value b.value ≡ false = second_false (is_use (codes "EVENT") a) (clashes events a.value b.value) (and_left (is_use (codes "EVENT") a) (is_word a.value m) ta) with_a in
+      let clash : is_event_clash events a.value b.value ≡ false = second_false (is_use (codes "EVENT") a) (is_event_clash events a.value b.value) (and_left (is_use (codes "EVENT") a) (is_word a.value m) ta) with_a in
       let va : a.value ≡ Word m = value_is a.value m (and_right (is_use (codes "EVENT") a) (is_word a.value m) ta) in
       let vb : b.value ≡ Word n = value_is b.value n (and_right (is_use (codes "EVENT") b) (is_word b.value n) tb) in
-      let common : have_common_bit events m n ≡ false = ap (λ v. clashes events v (Word n)) (sym va) ∙ ap (clashes events a.value) (sym vb) ∙ clash in
+      let common : have_common_bit events m n ≡ false = ap (λ v. is_event_clash events v (Word n)) (sym va) ∙ ap (is_event_clash events a.value) (sym vb) ∙ clash in
       let apart_names : not (bytes_eq m n) ≡ true = differ m n ne in
       let test = second_false (not (bytes_eq m n)) (not (bit_and (mask_named events m) (mask_named events n) == 0)) apart_names common in
       eqb-true (bit_and (mask_named events m) (mask_named events n)) 0 (not_false (bit_and (mask_named events m) (mask_named events n) == 0) test)

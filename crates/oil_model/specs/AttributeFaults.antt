@@ -13,16 +13,16 @@ use Rattle.oil_model.specs.declared.table.Place.TheVariants.{Nowhere}
 use Rattle.oil_model.specs.declared.table.Attribute.{Attribute}
 use Rattle.oil_model.specs.declared.table.Attribute.TheVariants as attribute
 use Rattle.oil_model.specs.Cases.{Case}
-use Rattle.oil_model.specs.Table.{attribute_of, is_single, allows, block_place}
-use Rattle.oil_model.specs.Objects.{is_use, has}
+use Rattle.oil_model.specs.Table.{attribute_of, is_single, is_allowed, block_place}
+use Rattle.oil_model.specs.Objects.{is_use, is_declared}
 
 -- the place that the last attribute opened, with one more attribute
-abbrev pub opened : Place → Place → OilAttr → Place
-opened place inner attr = if attr.depth == 0 then block_place place attr else inner
+abbrev pub opened_place : Place → Place → OilAttr → Place
+opened_place place inner attr = if attr.depth == 0 then block_place place attr else inner
 
 -- the place that the block of the last attribute in the object's own block is
 abbrev pub inner_place : Place → List OilAttr → Place
-inner_place place before = fold (opened place) Nowhere before
+inner_place place before = fold (opened_place place) Nowhere before
 
 -- the place of an attribute, where the object is a place and the last attribute in its own block opened another: no attribute may stand deeper
 abbrev pub place_by : Place → Place → OilAttr → Place
@@ -38,15 +38,15 @@ is_second_use None before attr = false
 is_second_use (Some row) before attr = is_single row && ((attr.depth == 0) && list_any (is_use attr.name) before)
 
 -- the word refers to no object
-abbrev pub misses : List OilObject → Bool → Attribute → List ℕ → Bool
-misses objects scheduler attribute.Mode word = not (bytes_eq word (codes "OSDEFAULTAPPMODE"))
-misses objects scheduler attribute.Resource word = not (scheduler && bytes_eq word (codes "RES_SCHEDULER")) && not (has objects (codes "RESOURCE") word)
-misses objects scheduler attribute.Event word = not (has objects (codes "EVENT") word)
-misses objects scheduler _ word = false
+abbrev pub is_missing : List OilObject → Bool → Attribute → List ℕ → Bool
+is_missing objects scheduler attribute.Mode word = not (bytes_eq word (codes "OSDEFAULTAPPMODE"))
+is_missing objects scheduler attribute.Resource word = not (scheduler && bytes_eq word (codes "RES_SCHEDULER")) && not (is_declared objects (codes "RESOURCE") word)
+is_missing objects scheduler attribute.Event word = not (is_declared objects (codes "EVENT") word)
+is_missing objects scheduler _ word = false
 
 -- a value names an object that is not there
 abbrev pub misses_value : List OilObject → Bool → Attribute → OilValue → Bool
-misses_value objects scheduler row (Word word) = misses objects scheduler row word
+misses_value objects scheduler row (Word word) = is_missing objects scheduler row word
 misses_value objects scheduler row _ = false
 
 -- a value of an attribute names an object that is not there
@@ -57,7 +57,7 @@ refers_to_none objects scheduler (Some row) value = misses_value objects schedul
 -- an attribute does not allow a value
 abbrev pub is_refused : Option Attribute → OilValue → Bool
 is_refused None value = false
-is_refused (Some row) value = not (allows row value)
+is_refused (Some row) value = not (is_allowed row value)
 
 -- O8, O9, O10 and O12 of an attribute with this row of the table, behind these attributes of its object
 abbrev pub RowFault : List OilObject → Bool → Option Attribute → List OilAttr → OilAttr → Refusal → Type 0

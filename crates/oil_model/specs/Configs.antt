@@ -54,8 +54,8 @@ abbrev pub event_mask : List EventDecl → List OilAttr → ℕ
 event_mask events attrs = fold (λ mask attr. bit_or mask (listed_mask events attr)) 0 attrs
 
 -- the task that an object declares
-abbrev pub task_of : List (List ℕ) → List EventDecl → OilObject → TaskDecl
-task_of names events object = record {
+abbrev pub declared_task : List (List ℕ) → List EventDecl → OilObject → TaskDecl
+declared_task names events object = record {
   name = object.name;
   priority = unwrap_or (first_number object.attrs (codes "PRIORITY")) 0;
   extended = is_used object.attrs (codes "EVENT");
@@ -67,7 +67,7 @@ task_of names events object = record {
 
 -- the tasks that objects declare
 abbrev pub tasks_of : List (List ℕ) → List EventDecl → List OilObject → List TaskDecl
-tasks_of names events objects = map (task_of names events) (filter (is_of_kind (codes "TASK")) objects)
+tasks_of names events objects = map (declared_task names events) (filter (is_of_kind (codes "TASK")) objects)
 
 -- the configuration of these objects
 abbrev pub config_of : List OilObject → Config

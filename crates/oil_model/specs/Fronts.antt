@@ -6,7 +6,7 @@ use Rattle.std.specs.Borrow.{Bor}
 use Rattle.indexmap.specs.IndexSet.{IndexSet}
 use Rattle.oil_parse.specs.declared.tree.OilAttr.{OilAttr}
 use Rattle.oil_parse.specs.declared.tree.OilObject.{OilObject}
-use Rattle.oil_model.specs.Objects.{is_of_kind, is_used, has, first_number}
+use Rattle.oil_model.specs.Objects.{is_of_kind, is_used, is_declared, first_number}
 use Rattle.oil_model.specs.TaskFaults.{has_priority}
 
 -- the priority of a task
@@ -16,7 +16,7 @@ priority_of object = if is_of_kind (codes "TASK") object then first_number objec
 -- what is kept of the objects before one
 pub record IsFront {S R : Type 0} (objects : List OilObject) (names : IndexSet (Bor (List ℕ) × Bor (List ℕ)) S)
     (priorities : IndexSet ℕ R) (tasks resources events : ℕ) (has_os : Bool) : Type 0 where
-  pub named : (kind name : List ℕ) → list_any (λ k. bytes_eq k.0.now kind && bytes_eq k.1.now name) names.keys ≡ has objects kind name
+  pub named : (kind name : List ℕ) → list_any (λ k. bytes_eq k.0.now kind && bytes_eq k.1.now name) names.keys ≡ is_declared objects kind name
   pub taken : (priority : ℕ) → list_any (λ given. given == priority) priorities.keys ≡ list_any (has_priority priority) objects
   pub task_count : tasks ≡ count_by (is_of_kind (codes "TASK")) objects
   pub resource_count : resources ≡ count_by (is_of_kind (codes "RESOURCE")) objects

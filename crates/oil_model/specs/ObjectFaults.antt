@@ -7,7 +7,7 @@ use Rattle.sloth_base.specs.declared.refusal.Refusal.{Refusal}
 use Rattle.oil_parse.specs.declared.tree.OilObject.{OilObject}
 use Rattle.oil_model.specs.Cases.{Case}
 use Rattle.oil_model.specs.Table.{is_nowhere, place_of}
-use Rattle.oil_model.specs.Objects.{is_of_kind, is_used, declares}
+use Rattle.oil_model.specs.Objects.{is_of_kind, is_used, is_declaration}
 
 -- the kind of an object is one of the subset
 abbrev pub is_known : OilObject → Bool
@@ -19,7 +19,7 @@ doubles object earlier = bytes_eq earlier.kind object.kind && (bytes_eq earlier.
 
 -- an object has the name of an earlier one of its kind, or that of RES_SCHEDULER where that resource exists
 abbrev pub is_doubled : Bool → List OilObject → OilObject → Bool
-is_doubled scheduler front object = list_any (doubles object) front || (scheduler && declares (codes "RESOURCE") (codes "RES_SCHEDULER") object)
+is_doubled scheduler front object = list_any (doubles object) front || (scheduler && is_declaration (codes "RESOURCE") (codes "RES_SCHEDULER") object)
 
 -- a task without a required attribute
 abbrev pub lacks_attribute : OilObject → Bool

@@ -40,12 +40,12 @@ abbrev pub first_number : List OilAttr → List ℕ → Option ℕ
 first_number attrs name = number_given (find (is_use name) attrs)
 
 -- an object of this kind and name
-abbrev pub declares : List ℕ → List ℕ → OilObject → Bool
-declares kind name object = bytes_eq object.kind kind && bytes_eq object.name name
+abbrev pub is_declaration : List ℕ → List ℕ → OilObject → Bool
+is_declaration kind name object = bytes_eq object.kind kind && bytes_eq object.name name
 
 -- an object of this kind and name
-abbrev pub has : List OilObject → List ℕ → List ℕ → Bool
-has objects kind name = list_any (declares kind name) objects
+abbrev pub is_declared : List OilObject → List ℕ → List ℕ → Bool
+is_declared objects kind name = list_any (is_declaration kind name) objects
 
 -- an object of this kind
 abbrev pub is_of_kind : List ℕ → OilObject → Bool

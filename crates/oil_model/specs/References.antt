@@ -5,7 +5,7 @@ use Rattle.oil_parse.specs.declared.tree.OilValue.{OilValue}
 use Rattle.oil_parse.specs.declared.tree.OilValue.TheVariants.{Word}
 use Rattle.oil_parse.specs.declared.tree.OilAttr.{OilAttr}
 use Rattle.oil_model.specs.Objects.{is_use}
-use Rattle.oil_model.specs.TaskFaults.{clashes}
+use Rattle.oil_model.specs.TaskFaults.{is_event_clash}
 
 -- the attributes of a task before one, and the events of the tree
 pub record Referring : Type 0 where
@@ -23,4 +23,4 @@ event_word attr = if is_use (codes "EVENT") attr then referred_word attr.value e
 
 -- an attribute refers to another event that shares a bit with this one
 abbrev pub refers_to_clash : List EventDecl → List ℕ → OilAttr → Bool
-refers_to_clash events word attr = is_use (codes "EVENT") attr && clashes events attr.value (Word word)
+refers_to_clash events word attr = is_use (codes "EVENT") attr && is_event_clash events attr.value (Word word)

@@ -49,17 +49,17 @@ task_attribute name =
     else None
 
 -- the one attribute of an object
-abbrev pub only : List ℕ → List ℕ → Attribute → Option Attribute
-only name word row = if bytes_eq name word then Some row else None
+abbrev pub only_attribute : List ℕ → List ℕ → Attribute → Option Attribute
+only_attribute name word row = if bytes_eq name word then Some row else None
 
 -- the row for an attribute of this name at this place, if there is one
 abbrev pub attribute_of : Place → List ℕ → Option Attribute
 attribute_of place.Os name = os_attribute name
-attribute_of place.AppMode name = only name (codes "VALUE") attribute.Value
+attribute_of place.AppMode name = only_attribute name (codes "VALUE") attribute.Value
 attribute_of place.Task name = task_attribute name
-attribute_of place.Activation name = only name (codes "APPMODE") attribute.Mode
-attribute_of place.Resource name = only name (codes "RESOURCEPROPERTY") attribute.Property
-attribute_of place.Event name = only name (codes "MASK") attribute.Mask
+attribute_of place.Activation name = only_attribute name (codes "APPMODE") attribute.Mode
+attribute_of place.Resource name = only_attribute name (codes "RESOURCEPROPERTY") attribute.Property
+attribute_of place.Event name = only_attribute name (codes "MASK") attribute.Mask
 attribute_of place.Nowhere name = None
 
 -- it may be used once
@@ -93,10 +93,10 @@ allows_number attribute.Mask number = nat_le 1 number
 allows_number _ number = false
 
 -- The table lists the value. A reference is any word.
-abbrev pub allows : Attribute → OilValue → Bool
-allows row (Word word) = allows_word row word
-allows row (Number number) = allows_number row number
-allows row (Text bytes) = false
+abbrev pub is_allowed : Attribute → OilValue → Bool
+is_allowed row (Word word) = allows_word row word
+is_allowed row (Number number) = allows_number row number
+is_allowed row (Text bytes) = false
 
 -- a value is this word
 abbrev pub is_word : OilValue → List ℕ → Bool

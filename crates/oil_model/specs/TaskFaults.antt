@@ -32,13 +32,13 @@ abbrev pub have_common_bit : List EventDecl → List ℕ → List ℕ → Bool
 have_common_bit events one other = not (bytes_eq one other) && not (bit_and (mask_named events one) (mask_named events other) == 0)
 
 -- two values name events that share a bit
-abbrev pub clashes : List EventDecl → OilValue → OilValue → Bool
-clashes events (Word one) (Word other) = have_common_bit events one other
-clashes events _ _ = false
+abbrev pub is_event_clash : List EventDecl → OilValue → OilValue → Bool
+is_event_clash events (Word one) (Word other) = have_common_bit events one other
+is_event_clash events _ _ = false
 
 -- an earlier EVENT attribute names an event that shares a bit with that of this one
 abbrev pub shares_with : List EventDecl → OilAttr → OilAttr → Bool
-shares_with events attr earlier = is_use (codes "EVENT") earlier && clashes events earlier.value attr.value
+shares_with events attr earlier = is_use (codes "EVENT") earlier && is_event_clash events earlier.value attr.value
 
 -- an event that shares a bit with an earlier one of the task
 abbrev pub shares_bit : List EventDecl → List OilAttr → OilAttr → Bool

@@ -1,21 +1,21 @@
 //! The faults of an attribute by the attribute table.
 ghost use Rattle.std.specs.Prelude.{◌≡◌, ◌&&◌, IfOk, bytes_eq, codes, is_none};
 ghost use Rattle.oil_model.specs.declared.table.Attribute.TheVariants.{Resource};
-ghost use Rattle.sloth_refusal.specs.Search.{Finds, Somewhere};
-ghost use Rattle.oil_model.specs.AttributeFaults.{opened, place_by, is_second_use, misses, misses_value, refers_to_none, is_refused, RowFault, AttributeFault};
+ghost use Rattle.least_fault.specs.Search.{Finds, Somewhere};
+ghost use Rattle.oil_model.specs.AttributeFaults.{opened_place, place_by, is_second_use, is_missing, misses_value, refers_to_none, is_refused, RowFault, AttributeFault};
 
 use crate::before::Before;
 use crate::object_table::ObjectTable;
 use crate::table::{Attribute, Place, allows, attribute_of, block_place, is_single};
+use least_fault::{merge, when};
 use oil_parse::tree::{OilAttr, OilValue};
 use sloth_base::memory::NoMemory;
 use sloth_base::refusal::{Code, Part, Refusal};
-use sloth_refusal::{merge, when};
 use std::alloc::Global;
 use text_pieces::bytes::same;
 
 fn opened(place: Place, inner: Place, attr: &OilAttr) -> Place
-    ensures { result ≡ opened place inner attr.now }
+    ensures { result ≡ opened_place place inner attr.now }
 {
     if attr.depth == 0 {
         block_place(place, attr)
@@ -52,7 +52,7 @@ fn is_second_use(row: Option<Attribute>, before: &Before, attr: &OilAttr) -> boo
 }
 
 fn misses(objects: &ObjectTable, scheduler: bool, attribute: Attribute, word: &[u8]) -> bool
-    ensures { result ≡ misses objects.now scheduler attribute word.now }
+    ensures { result ≡ is_missing objects.now scheduler attribute word.now }
 {
     match attribute {
         Attribute::Mode => !same(word, b"OSDEFAULTAPPMODE"),
@@ -69,7 +69,7 @@ fn is_scheduler(scheduler: bool, word: &[u8]) -> bool
 }
 
 fn misses_resource(objects: &ObjectTable, scheduler: bool, word: &[u8]) -> bool
-    ensures { result ≡ misses objects.now scheduler Resource word.now }
+    ensures { result ≡ is_missing objects.now scheduler Resource word.now }
 {
     !is_scheduler(scheduler, word) && !objects.has_resource(word)
 }

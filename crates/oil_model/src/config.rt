@@ -1,7 +1,7 @@
 //! The configuration of a tree that has no fault.
 ghost use Rattle.std.specs.Prelude.{◌≡◌, ◌≤◌, ◌==◌, IfOk, OnOk, position, bytes_eq, length};
 ghost use Rattle.std.specs.List.{list_any};
-ghost use Rattle.oil_model.specs.Configs.{resource_names, resource_number, listed_resource, with_number, with_resource, resources_of, mask_of_value, listed_mask, event_mask, task_of, tasks_of};
+ghost use Rattle.oil_model.specs.Configs.{resource_names, resource_number, listed_resource, with_number, with_resource, resources_of, mask_of_value, listed_mask, event_mask, declared_task, tasks_of};
 
 use crate::event_table::EventTable;
 use crate::objects::{first_is, first_number, is_of_kind, is_use, is_used};
@@ -134,7 +134,7 @@ fn task_of(
     object: &OilObject,
 ) -> Result<TaskDecl, NoMemory>
     requires { length names.now ≤ 32 }
-    ensures { IfOk result (λ task. task ≡ task_of names.now events.now object.now) }
+    ensures { IfOk result (λ task. task ≡ declared_task names.now events.now object.now) }
 {
     let attrs = object.attrs.items();
     Ok(TaskDecl {

@@ -1,16 +1,16 @@
 //! Events and their masks. AUTO events, in the order of their objects, take the lowest bit that is in no number mask and was given
 //! to no earlier AUTO event (OIL 2.5, section 3.2.6).
 ghost use Rattle.std.specs.Prelude.{◌≡◌, ◌<◌, All, IfOk, find};
-ghost use Rattle.sloth_refusal.specs.Search.{Finds, Somewhere};
+ghost use Rattle.least_fault.specs.Search.{Finds, Somewhere};
 ghost use Rattle.oil_model.specs.Events.{is_event, number_bits, number_masks, free_bit, is_auto, mask_by, taken_more, number_mask, lacks_bit, BitFault, events_of};
 
 use crate::objects::{first_is, first_number, is_of_kind, is_used};
+use least_fault::{merge, when};
 use oil_parse::tree::OilObject;
 use sloth_base::config::EventDecl;
 use sloth_base::memory::NoMemory;
 use sloth_base::name::Name;
 use sloth_base::refusal::{Code, Part, Refusal};
-use sloth_refusal::{merge, when};
 use std::alloc::Global;
 use text_pieces::growth::push;
 

@@ -1,7 +1,7 @@
 //! The objects before one, and what of them bears on it.
 ghost use Rattle.std.specs.Prelude.{◌≡◌, ◌+◌, ◌<◌, ◌||◌, ◌==◌, ℕ, [], ◌∷◌, ◌++◌, if◌then◌else◌, IfOk, OnOk, codes, count_by};
 ghost use Rattle.std.specs.List.{list_any};
-ghost use Rattle.oil_model.specs.Objects.{has, is_of_kind};
+ghost use Rattle.oil_model.specs.Objects.{is_declared, is_of_kind};
 ghost use Rattle.oil_model.specs.TaskFaults.{has_priority};
 ghost use Rattle.oil_model.specs.Fronts.{priority_of};
 
@@ -87,7 +87,7 @@ impl<'t> Front<'t> {
 
     /// Whether one of the objects is of this kind and name.
     pub fn has(&self, kind: &[u8], name: &[u8]) -> bool
-        ensures { result ≡ has self.now kind.now name.now }
+        ensures { result ≡ is_declared self.now kind.now name.now }
     {
         self.names.contains(&(kind, name))
     }

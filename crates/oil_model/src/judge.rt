@@ -1,7 +1,7 @@
 //! The least fault of a tree.
 ghost use Rattle.std.specs.Prelude.{◌≡◌, IfOk, codes, true};
 ghost use Rattle.std.specs.List.{list_any};
-ghost use Rattle.sloth_refusal.specs.Search.{Finds, Somewhere};
+ghost use Rattle.least_fault.specs.Search.{Finds, Somewhere};
 ghost use Rattle.oil_model.specs.Objects.{has_scheduler, is_of_kind};
 ghost use Rattle.oil_model.specs.Events.{events_of};
 ghost use Rattle.oil_model.specs.ObjectFaults.{is_known};
@@ -16,10 +16,10 @@ use crate::object_table::ObjectTable;
 use crate::objects::is_of_kind;
 use crate::table::{is_nowhere, place_of};
 use crate::task_faults::task_faults;
+use least_fault::{merge, when};
 use oil_parse::tree::{OilObject, OilTree};
 use sloth_base::memory::NoMemory;
 use sloth_base::refusal::{Code, Part, Refusal};
-use sloth_refusal::{merge, when};
 use std::alloc::Global;
 
 fn faults_of_task<'t>(

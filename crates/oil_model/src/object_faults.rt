@@ -1,20 +1,20 @@
 //! The faults of an object as a whole.
 ghost use Rattle.std.specs.Prelude.{◌≡◌, ◌&&◌, ◌==◌, codes};
-ghost use Rattle.sloth_refusal.specs.Search.{Finds};
+ghost use Rattle.least_fault.specs.Search.{Finds};
 ghost use Rattle.std.specs.List.{list_any};
-ghost use Rattle.oil_model.specs.Objects.{is_of_kind, declares, has};
+ghost use Rattle.oil_model.specs.Objects.{is_of_kind, is_declaration, is_declared};
 ghost use Rattle.oil_model.specs.ObjectFaults.{doubles, is_doubled, lacks_attribute, is_strange_mode, is_above, KindFault, KnownFault};
 
 use crate::front::Front;
 use crate::objects::{declares, is_of_kind, is_used};
 use crate::table::{is_nowhere, place_of};
+use least_fault::{merge, when};
 use oil_parse::tree::OilObject;
 use sloth_base::refusal::{Code, Part, Refusal};
-use sloth_refusal::{merge, when};
 use text_pieces::bytes::same;
 
 fn is_second_of_its_name(front: &Front, object: &OilObject) -> bool
-    ensures { result ≡ has front.now object.now.kind object.now.name }
+    ensures { result ≡ is_declared front.now object.now.kind object.now.name }
 {
     front.has(object.kind.bytes(), object.name.bytes())
 }
@@ -32,7 +32,7 @@ fn is_second(front: &Front, object: &OilObject) -> bool
 }
 
 fn takes_scheduler(scheduler: bool, object: &OilObject) -> bool
-    ensures { result ≡ (scheduler && declares (codes "RESOURCE") (codes "RES_SCHEDULER") object.now) }
+    ensures { result ≡ (scheduler && is_declaration (codes "RESOURCE") (codes "RES_SCHEDULER") object.now) }
 {
     scheduler && declares(object, b"RESOURCE", b"RES_SCHEDULER")
 }

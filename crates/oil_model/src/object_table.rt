@@ -1,6 +1,6 @@
 //! Objects by their names.
 ghost use Rattle.std.specs.Prelude.{◌≡◌, codes};
-ghost use Rattle.oil_model.specs.Objects.{has};
+ghost use Rattle.oil_model.specs.Objects.{is_declared};
 ghost use Rattle.oil_model.specs.Objects.{names_of};
 
 use oil_parse::tree::OilObject;
@@ -48,14 +48,14 @@ impl<'t> ObjectTable<'t> {
 
     /// Whether there is a resource of this name.
     pub fn has_resource(&self, word: &[u8]) -> bool
-        ensures { result ≡ has self.now (codes "RESOURCE") word.now }
+        ensures { result ≡ is_declared self.now (codes "RESOURCE") word.now }
     {
         self.resources.number(word).is_some()
     }
 
     /// Whether there is an event of this name.
     pub fn has_event(&self, word: &[u8]) -> bool
-        ensures { result ≡ has self.now (codes "EVENT") word.now }
+        ensures { result ≡ is_declared self.now (codes "EVENT") word.now }
     {
         self.events.number(word).is_some()
     }

@@ -1,6 +1,6 @@
 //! What an object says by the attributes of its own block. Of two uses of one attribute the first counts.
 ghost use Rattle.std.specs.Prelude.{◌≡◌, codes, find, option_copied};
-ghost use Rattle.oil_model.specs.Objects.{is_use, is_used, first_is, number_of, first_number, declares, has_scheduler, os_scheduler, is_of_kind};
+ghost use Rattle.oil_model.specs.Objects.{is_use, is_used, first_is, number_of, first_number, is_declaration, has_scheduler, os_scheduler, is_of_kind};
 
 use crate::table::is_word;
 use oil_parse::tree::{OilAttr, OilObject, OilValue};
@@ -66,7 +66,7 @@ pub fn is_of_kind(object: &OilObject, kind: &[u8]) -> bool
 
 /// Whether the object is of this kind and name.
 pub fn declares(object: &OilObject, kind: &[u8], name: &[u8]) -> bool
-    ensures { result ≡ declares kind.now name.now object.now }
+    ensures { result ≡ is_declaration kind.now name.now object.now }
 {
     is_of_kind(object, kind) && same(object.name.bytes(), name)
 }

@@ -1,7 +1,7 @@
 //! The configuration of a tree, or its least fault.
 ghost use Rattle.std.specs.Prelude.{◌≡◌, ◌≤◌, IfOk, OnOk, IfErr, length, codes};
-ghost use Rattle.sloth_refusal.specs.Search.{Finds};
-ghost use Rattle.sloth_refusal.specs.Order.{NoFault, IsLeast, ErrorIs};
+ghost use Rattle.least_fault.specs.Search.{Finds};
+ghost use Rattle.least_fault.specs.Order.{NoFault, IsLeast, ErrorIs};
 ghost use Rattle.sloth_base.specs.ConfigRange.{InRange};
 ghost use Rattle.sloth_base.specs.declared.config.Config.{Config};
 ghost use Rattle.oil_parse.specs.declared.tree.OilTree.{OilTree};

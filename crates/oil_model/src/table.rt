@@ -1,7 +1,7 @@
 //! The attribute table: which attributes may stand where, and which values they take (OIL 2.5, section 3).
 ghost use Rattle.std.specs.Prelude.{◌≡◌};
 ghost use Rattle.std.specs.Str.{bytes_eq};
-ghost use Rattle.oil_model.specs.Table.{place_of, is_hook, is_flag, os_attribute, task_attribute, only, attribute_of, is_single, allows_word, allows_number, allows, is_word, activation_place, block_place, is_nowhere};
+ghost use Rattle.oil_model.specs.Table.{place_of, is_hook, is_flag, os_attribute, task_attribute, only_attribute, attribute_of, is_single, allows_word, allows_number, is_allowed, is_word, activation_place, block_place, is_nowhere};
 
 use oil_parse::tree::{OilAttr, OilValue};
 use text_pieces::bytes::same;
@@ -109,7 +109,7 @@ fn task_attribute(name: &[u8]) -> Option<Attribute>
 
 /// The row of a place that has one row alone.
 fn only(name: &[u8], word: &[u8], attribute: Attribute) -> Option<Attribute>
-    ensures { result ≡ only name.now word.now attribute }
+    ensures { result ≡ only_attribute name.now word.now attribute }
 {
     if same(name, word) {
         Some(attribute)
@@ -172,7 +172,7 @@ fn allows_number(attribute: Attribute, number: u32) -> bool
 
 /// Whether the table lists this value for the attribute. A reference may be any word.
 pub fn allows(attribute: Attribute, value: &OilValue) -> bool
-    ensures { result ≡ allows attribute value.now }
+    ensures { result ≡ is_allowed attribute value.now }
 {
     match value {
         OilValue::Word(word) => allows_word(attribute, word.bytes()),

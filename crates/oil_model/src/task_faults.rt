@@ -1,6 +1,6 @@
 //! The faults of an attribute of a task that rest on other tasks and on events.
 ghost use Rattle.std.specs.Prelude.{◌≡◌, ◌&&◌, ◌||◌, not, IfOk, codes};
-ghost use Rattle.sloth_refusal.specs.Search.{Finds, Somewhere};
+ghost use Rattle.least_fault.specs.Search.{Finds, Somewhere};
 ghost use Rattle.oil_model.specs.Objects.{is_use, is_used, number_of};
 ghost use Rattle.oil_model.specs.TaskFaults.{is_taken, TaskFault};
 
@@ -8,10 +8,10 @@ use crate::event_table::EventTable;
 use crate::front::Front;
 use crate::objects::{is_use, number_of};
 use crate::references::References;
+use least_fault::{merge, when};
 use oil_parse::tree::OilAttr;
 use sloth_base::memory::NoMemory;
 use sloth_base::refusal::{Code, Part, Refusal};
-use sloth_refusal::{merge, when};
 use std::alloc::Global;
 
 fn is_taken(front: &Front, priority: Option<u32>) -> bool

@@ -15,7 +15,7 @@ use Rattle.oil_parse.specs.Shapes.{shape, IsWordToken}
 use Rattle.oil_parse.specs.declared.tree.OilObject.{OilObject}
 use Rattle.oil_parse.specs.declared.tree.OilTree.{OilTree}
 use Rattle.oil_parse.specs.Grammar.{IsValue, IsEnd, bare, described, IsAttrs, no_attr, attr, block, attr_of, IsObject, plain_object, block_object, IsObjects, no_object, object, IsBalanced, no_token, token_in, braces, IsSection, no_section, section, IsHead, head, IsFile, file}
-use Rattle.oil_parse.specs.Machine.{fresh, next, behind, Built, taken, pushed, at_end}
+use Rattle.oil_parse.specs.Machine.{nothing_built, next, behind, Built, taken, whole_object, at_end}
 use Rattle.oil_parse.proofs.Steps.{step, build}
 use Rattle.oil_parse.proofs.Steps.{step_append}
 
@@ -54,7 +54,7 @@ unfolding next taken
 end_takes (bare s) p b = takes_by (behind p) s refl none_takes
 end_takes (described c x s) p b = takes_by (Describing p) c refl (takes_by (Closing p) x refl (takes_by (behind p) s refl none_takes))
 
-object_end_takes : {f : List Lexeme} → IsEnd f → (b : Built) → Takes ObjectTail b f Objects (pushed b)
+object_end_takes : {f : List Lexeme} → IsEnd f → (b : Built) → Takes ObjectTail b f Objects (whole_object b)
 unfolding next taken
 object_end_takes (bare s) b = takes_by Objects s refl none_takes
 object_end_takes (described c x s) b = takes_by (Describing Object) c refl (takes_by (Closing Object) x refl (takes_by Objects s refl none_takes))
@@ -120,12 +120,12 @@ object_takes : {ts : List Lexeme} {o : OilObject} → IsObject ts o → (b : Bui
 unfolding next taken
 object_takes (plain_object {k} {n} {f} v w g) b =
     let b1 = record b { kind = k.bytes; line = k.line; attrs = []; name = n.bytes } in
-    (pushed b1, takes_by ObjectName v.1 refl (takes_by ObjectTail w.1 refl (object_end_takes g b1)), refl, refl)
+    (whole_object b1, takes_by ObjectName v.1 refl (takes_by ObjectTail w.1 refl (object_end_takes g b1)), refl, refl)
 object_takes (block_object {k} {n} {o} c us f {al} v w s a z g) b =
     let b1 = record b { kind = k.bytes; line = k.line; attrs = []; name = n.bytes } in
     let r = attrs_take a b1 in
     let b2 = with_attrs b1 al r.0 r.1 in (
-      pushed b2,
+      whole_object b2,
       takes_by ObjectName v.1 refl (takes_by ObjectTail w.1 refl (takes_by (Attrs 0) s refl
           (takes_then (Attrs 0) b2 r.2 (takes_by (Ending Object) z refl (end_takes g Object b2))))),
       refl,
@@ -190,8 +190,8 @@ file_takes (file c n o z hs xs us f {os} h s k w q a y g) b =
 -- Tokens have one tree.
 pub file_one : {ts : List Lexeme} {t u : OilTree} → IsFile ts t → IsFile ts u → t ≡ u
 file_one {ts} {t} {u} f g =
-    let a = file_takes f fresh in
-    let b = file_takes g fresh in
+    let a = file_takes f nothing_built in
+    let b = file_takes g nothing_built in
     let e : a.0 ≡ b.0 = sym a.1.builds ∙ b.1.builds in
     ap (λ (x : ℕ). record t { cpu_line = x }) (sym a.2 ∙ (ap (λ (x : Built). x.cpu_line) e ∙ b.2))
     ∙ ap (λ (x : List OilObject). record u { objects = x }) (sym a.3 ∙ (ap (λ (x : Built). x.objects) e ∙ b.3))

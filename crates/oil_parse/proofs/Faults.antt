@@ -15,7 +15,7 @@ use Rattle.oil_parse.specs.Shapes.{shape}
 use Rattle.oil_parse.specs.declared.tree.OilTree.{OilTree}
 use Rattle.oil_parse.specs.Grammar.{IsSection, IsHead, IsFile, file}
 use Rattle.oil_parse.specs.Faults.{Viable, InCpu, is_too_big, last_line, EndFault, GrammarFault}
-use Rattle.oil_parse.specs.Machine.{next, closed, fresh}
+use Rattle.oil_parse.specs.Machine.{next, closed_construct, nothing_built}
 use Rattle.oil_parse.proofs.Steps.{step, TooBig, MachineFault}
 use Rattle.oil_parse.proofs.Steps.{none_done, step_append, step_none}
 use Rattle.oil_parse.proofs.Sound.{file_read}
@@ -29,7 +29,7 @@ viable ts e h =
     (f.0, r.0, r.1)
 
 pub file_done : (ts : List Lexeme) (tree : OilTree) → IsFile ts tree → step (Some Start) ts ≡ Some Done
-file_done ts tree f = (file_takes f fresh).1.leads
+file_done ts tree f = (file_takes f nothing_built).1.leads
 
 some_step : (o : Option Expect) (more : List Lexeme) → step o more ≡ Some Done → (e : Expect) × (o ≡ Some e)
 some_step None more h = absurd (none_done more h)
@@ -68,7 +68,7 @@ abbrev leads_later : Option Expect → Bool
 leads_later None = true
 leads_later (Some e) = is_later e
 
-later_closed : (d : ℕ) → is_later (Ending (closed d)) ≡ true
+later_closed : (d : ℕ) → is_later (Ending (closed_construct d)) ≡ true
 later_closed zero = refl
 later_closed (suc d) = refl
 
@@ -117,8 +117,8 @@ up_to hs xs c = hs ++ (xs ++ c ∷ [])
 
 up_to_cpu : (hs xs : List Lexeme) (c : Lexeme) → IsHead hs → IsSection xs → shape c ≡ Word Cpu → step (Some Start) (up_to hs xs c) ≡ Some CpuName
 up_to_cpu hs xs c h s k =
-    let w : Takes CpuName (record fresh { cpu_line = c.line }) [] CpuName (record fresh { cpu_line = c.line }) = record { leads = refl; builds = refl } in
-    (cpu_takes h s c fresh k w).leads
+    let w : Takes CpuName (record nothing_built { cpu_line = c.line }) [] CpuName (record nothing_built { cpu_line = c.line }) = record { leads = refl; builds = refl } in
+    (cpu_takes h s c nothing_built k w).leads
 
 joined : (hs xs rest : List Lexeme) (c : Lexeme) → hs ++ (xs ++ c ∷ rest) ≡ up_to hs xs c ++ rest
 joined hs xs rest c = simp append_assoc

@@ -8,9 +8,9 @@ use Rattle.sloth_base.specs.declared.refusal.BuildError.{BuildError}
 use Rattle.sloth_base.specs.declared.refusal.BuildError.TheVariants.{Refused, Memory}
 use Rattle.sloth_base.specs.declared.refusal.Part.TheVariants.{Oil}
 use Rattle.sloth_base.specs.declared.refusal.Code.TheVariants as code
-use Rattle.sloth_refusal.specs.Order.{IsLeast, NoFault, ErrorIs}
-use Rattle.sloth_refusal.specs.Search.{lesser, Kept}
-use Rattle.sloth_refusal.proofs.Kept.{kept_on, kept_found, kept_none, kept_least, least_same}
+use Rattle.least_fault.specs.Order.{IsLeast, NoFault, ErrorIs}
+use Rattle.least_fault.specs.Search.{lesser, Kept}
+use Rattle.least_fault.proofs.Kept.{kept_on, kept_found, kept_none, kept_least, least_same}
 use Rattle.oil_lex.specs.declared.kinds.TokenKind.{TokenKind}
 use Rattle.oil_lex.specs.declared.kinds.TokenKind.TheVariants as token
 use Rattle.oil_lex.specs.declared.kinds.Token.{Token}
@@ -28,7 +28,7 @@ use Rattle.oil_parse.specs.Shapes.{shape_by}
 use Rattle.oil_parse.specs.declared.tree.OilTree.{OilTree}
 use Rattle.oil_parse.specs.Grammar.{IsFile}
 use Rattle.oil_parse.specs.Faults.{GrammarFault}
-use Rattle.oil_parse.specs.Machine.{next, taken, Built, fresh, too_big, TakesFit, left, behind}
+use Rattle.oil_parse.specs.Machine.{next, taken, Built, nothing_built, too_big, TakesFit, expected_behind, behind}
 use Rattle.oil_parse.proofs.Steps.{step, build, TooBig, MachineFault}
 use Rattle.oil_parse.specs.Parser.{draft, Moved, Stopped}
 use Rattle.oil_parse.proofs.Sound.{file_read}
@@ -44,7 +44,7 @@ Within _ i = Unit {0}
 pub record Reads (all : List Lexeme) (p : Parser) (rest : List Lexeme) : Type 0 where
   pub kept : Kept (MachineFault Start 1 all) (MachineFault p.expect p.last rest) p.least
   pub steps : step (Some p.expect) rest ≡ step (Some Start) all
-  pub builds : p.least ≡ None → build (Some p.expect) (draft p.draft) rest ≡ build (Some Start) fresh all
+  pub builds : p.least ≡ None → build (Some p.expect) (draft p.draft) rest ≡ build (Some Start) nothing_built all
 
 pub fits : (e : Expect) (k : TokenKind) (bs : List ℕ) → too_big e (shape_by k bs) ≡ false → TakesFit e k
 unfolding shape_by
@@ -131,7 +131,7 @@ pub whole : (all : List Lexeme) (p : Parser) → Reads all p [] → p.expect ≡
 whole all p k d e =
     let s : step (Some Start) all ≡ Some Done = sym k.steps ∙ ap Some d in
     let f = file_read all s in
-    let b = file_takes f.1 fresh in
+    let b = file_takes f.1 nothing_built in
     let q : draft p.draft ≡ b.0 = k.builds e ∙ b.1.builds in
     let same : f.0 ≡ record { cpu_line = (draft p.draft).cpu_line; objects = (draft p.draft).objects } =
     ap (λ (x : ℕ). record f.0 { cpu_line = x }) (sym b.2 ∙ ap (λ (x : Built). x.cpu_line) (sym q))
@@ -142,7 +142,7 @@ whole all p k d e =
     )
 
 -- one more token, one more brace at most
-within_left : (n i : ℕ) → n ≤ i → Within (left n) (i + 1)
+within_left : (n i : ℕ) → n ≤ i → Within (expected_behind n) (i + 1)
 within_left zero i h = tt
 within_left (suc n) i h = omega arith
 

@@ -4,7 +4,7 @@ use Rattle.std.specs.Prelude.{ℕ, ◌+◌, Bool, false, if◌then◌else◌, na
 use Rattle.sloth_base.specs.declared.refusal.Part.TheVariants.{Oil}
 use Rattle.sloth_base.specs.declared.refusal.Code.TheVariants as code
 use Rattle.sloth_base.specs.declared.refusal.Refusal.{Refusal}
-use Rattle.sloth_refusal.specs.Search.{lesser}
+use Rattle.least_fault.specs.Search.{lesser}
 use Rattle.oil_lex.specs.declared.kinds.TokenKind.{TokenKind}
 use Rattle.oil_lex.specs.declared.kinds.TokenKind.TheVariants as token
 use Rattle.oil_lex.specs.Tokens.{Lexeme}
@@ -28,14 +28,14 @@ behind (Attr d) = Attrs d
 behind File = Done
 
 -- the construct that a `}` of attributes closes
-abbrev pub closed : ℕ → Construct
-closed zero = Object
-closed (suc d) = Attr d
+abbrev pub closed_construct : ℕ → Construct
+closed_construct zero = Object
+closed_construct (suc d) = Attr d
 
 -- what comes behind a `}` in a section IMPLEMENTATION
-abbrev pub left : ℕ → Expect
-left zero = Ending Section
-left (suc n) = Inside n
+abbrev pub expected_behind : ℕ → Expect
+expected_behind zero = Ending Section
+expected_behind (suc n) = Inside n
 
 -- what comes behind a token of this shape, if it may stand here
 unfoldable pub next : Expect → Shape → Option Expect
@@ -51,7 +51,7 @@ next Body (Word Cpu) = Some CpuName
 next SectionName (Word k) = Some SectionOpen
 next SectionOpen Open = Some (Inside 0)
 next (Inside n) Open = Some (Inside (suc n))
-next (Inside n) Close = Some (left n)
+next (Inside n) Close = Some (expected_behind n)
 next (Inside n) (Word k) = Some (Inside n)
 next (Inside n) (Number v) = Some (Inside n)
 next (Inside n) Text = Some (Inside n)
@@ -69,7 +69,7 @@ next ObjectTail Open = Some (Attrs 0)
 next ObjectTail Colon = Some (Describing Object)
 next ObjectTail Semicolon = Some Objects
 next (Attrs d) (Word k) = Some (AttrIs d)
-next (Attrs d) Close = Some (Ending (closed d))
+next (Attrs d) Close = Some (Ending (closed_construct d))
 next (AttrIs d) Equals = Some (AttrValue d)
 next (AttrValue d) (Word k) = Some (AttrTail d)
 next (AttrValue d) (Number v) = Some (AttrTail d)
@@ -96,12 +96,12 @@ pub record Built : Type 0 where
   pub attr_line : ℕ
 
 -- the object is whole
-abbrev pub pushed : Built → Built
-pushed b = record b { objects = b.objects ++ record { kind = b.kind; name = b.name; line = b.line; attrs = b.attrs } ∷ []; attrs = [] }
+abbrev pub whole_object : Built → Built
+whole_object b = record b { objects = b.objects ++ record { kind = b.kind; name = b.name; line = b.line; attrs = b.attrs } ∷ []; attrs = [] }
 
 -- a construct is whole
 abbrev pub at_end : Construct → Built → Built
-at_end Object b = pushed b
+at_end Object b = whole_object b
 at_end _ b = b
 
 -- what a token adds where it may stand
@@ -110,7 +110,7 @@ taken Body x t b = record b { cpu_line = t.line }
 taken CpuWord x t b = record b { cpu_line = t.line }
 taken Objects (Word k) t b = record b { kind = t.bytes; line = t.line; attrs = [] }
 taken ObjectName x t b = record b { name = t.bytes }
-taken ObjectTail Semicolon t b = pushed b
+taken ObjectTail Semicolon t b = whole_object b
 taken (Ending p) Semicolon t b = at_end p b
 taken (Closing p) x t b = at_end p b
 taken (Attrs d) (Word k) t b = record b { attr_name = t.bytes; attr_line = t.line }
@@ -118,8 +118,8 @@ taken (AttrValue d) x t b = record b { attrs = b.attrs ++ record { name = b.attr
 taken _ _ t b = b
 
 -- nothing has been read
-abbrev pub fresh : Built
-fresh = record { cpu_line = 0; objects = []; kind = []; name = []; line = 0; attrs = []; attr_name = []; attr_line = 0 }
+abbrev pub nothing_built : Built
+nothing_built = record { cpu_line = 0; objects = []; kind = []; name = []; line = 0; attrs = []; attr_name = []; attr_line = 0 }
 
 -- a value above the greatest number
 abbrev pub too_big : Expect → Shape → Bool

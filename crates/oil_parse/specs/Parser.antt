@@ -4,7 +4,7 @@ use Rattle.sloth_base.specs.declared.refusal.Part.TheVariants.{Oil}
 use Rattle.sloth_base.specs.declared.refusal.Code.TheVariants as code
 use Rattle.sloth_base.specs.declared.refusal.BuildError.{BuildError}
 use Rattle.sloth_base.specs.declared.refusal.BuildError.TheVariants.{Refused, Memory}
-use Rattle.sloth_refusal.specs.Search.{lesser}
+use Rattle.least_fault.specs.Search.{lesser}
 use Rattle.oil_lex.specs.Tokens.{Lexeme}
 use Rattle.oil_parse.specs.declared.draft.Draft.{Draft}
 use Rattle.oil_parse.specs.declared.parser.Parser.{Parser}

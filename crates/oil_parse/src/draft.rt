@@ -3,7 +3,7 @@
 ghost use Rattle.std.specs.Prelude.{◌≡◌, IfOk, OnOk};
 ghost use Rattle.oil_lex.specs.Tokens.{lexeme};
 ghost use Rattle.oil_parse.specs.Grammar.{value_by};
-ghost use Rattle.oil_parse.specs.Machine.{taken, pushed, fresh, ValueFits, TakesFit, with_attr};
+ghost use Rattle.oil_parse.specs.Machine.{taken, whole_object, nothing_built, ValueFits, TakesFit, with_attr};
 ghost use Rattle.oil_parse.specs.Parser.{draft};
 
 use crate::machine::{Construct, Expect, Shape};
@@ -48,7 +48,7 @@ fn value_of(alloc: Global, kind: TokenKind, bytes: &[u8]) -> Result<OilValue, No
 
 impl<'a> Draft<'a> {
     pub fn new(alloc: Global) -> Draft<'a>
-        ensures { draft result ≡ fresh }
+        ensures { draft result ≡ nothing_built }
     {
         Draft {
             cpu_line: 0,
@@ -64,7 +64,7 @@ impl<'a> Draft<'a> {
 
     /// The object is whole.
     fn push_object(&mut self, alloc: Global) -> Result<(), NoMemory>
-        ensures { OnOk result (draft self.new ≡ pushed (draft self.old)) }
+        ensures { OnOk result (draft self.new ≡ whole_object (draft self.old)) }
     {
         let kind = Name::new(alloc, self.kind)?;
         let name = Name::new(alloc, self.name)?;

@@ -3,7 +3,7 @@
 ghost use Rattle.std.specs.Prelude.{◌≡◌, ◌+◌, ◌^◌, ◌<◌, ◌≤◌, ◌↔◌, IsTrue, length};
 ghost use Rattle.oil_lex.specs.Tokens.{lexeme};
 ghost use Rattle.oil_parse.specs.Shapes.{shape, key_of, sign_of};
-ghost use Rattle.oil_parse.specs.Machine.{next, behind, closed, left, Shallow};
+ghost use Rattle.oil_parse.specs.Machine.{next, behind, closed_construct, expected_behind, Shallow};
 
 use oil_lex::{Token, TokenKind};
 
@@ -127,7 +127,7 @@ fn behind(construct: Construct) -> Expect
 
 /// What a `}` of attributes closes.
 fn closed(depth: u32) -> Construct
-    ensures { result ≡ closed depth }
+    ensures { result ≡ closed_construct depth }
 {
     if depth == 0 {
         Construct::Object
@@ -138,7 +138,7 @@ fn closed(depth: u32) -> Construct
 
 /// What comes behind a `}` in a section IMPLEMENTATION.
 fn left(count: usize) -> Expect
-    ensures { result ≡ left count }
+    ensures { result ≡ expected_behind count }
 {
     if count == 0 {
         Expect::Ending(Construct::Section)

@@ -1,7 +1,7 @@
 //! Reads tokens into a tree.
 
 ghost use Rattle.std.specs.Prelude.{List, ℕ, ◌≡◌, ◌↔◌, ◌⊎◌, All, map, IfOk, IfErr, OnOk};
-ghost use Rattle.sloth_refusal.specs.Order.{ErrorIs, NoFault};
+ghost use Rattle.least_fault.specs.Order.{ErrorIs, NoFault};
 ghost use Rattle.oil_lex.specs.Tokens.{lexeme, Lexeme, AreTokens, TextFault};
 ghost use Rattle.sloth_base.specs.declared.refusal.Refusal.{Refusal};
 ghost use Rattle.oil_parse.specs.declared.tree.OilTree.{OilTree};
@@ -15,10 +15,10 @@ ghost use Rattle.oil_parse.specs.Parser.{Moved, Stopped};
 use crate::draft::Draft;
 use crate::machine::{Expect, Shape, next, shape_of};
 use crate::tree::OilTree;
+use least_fault::lesser;
 use oil_lex::Token;
 use sloth_base::list::List;
 use sloth_base::refusal::{BuildError, Code, Part, Refusal};
-use sloth_refusal::lesser;
 use std::alloc::Global;
 
 /// What was read so far, what may come next, the last token's line and the least refusal.

@@ -9,16 +9,16 @@ use Rattle.sloth_base.specs.declared.event.Event.TheVariants as event
 use Rattle.sloth_base.specs.declared.event.Stamped.{Stamped}
 use Rattle.sloth_base.specs.declared.service.Service.{Service}
 use Rattle.sloth_base.specs.Named.{declaration}
-use Rattle.osek_machine.specs.declared.state.TaskState.TheVariants as mode
-use Rattle.osek_machine.specs.State.{Task, System, sleeping, task, opening}
-use Rattle.osek_machine.specs.Priority.{is_in, IsTop}
-use Rattle.osek_machine.specs.Services.{activated, starts, Outcome, GoesOn, Leaves, IsAfter}
-use Rattle.osek_machine.specs.Steps.{admitted, Serves, OsekStep}
-use Rattle.osek_machine.specs.Runs.{Leads}
+use Rattle.osek_scheduler.specs.declared.state.TaskState.TheVariants as mode
+use Rattle.osek_scheduler.specs.State.{Task, System, sleeping_task, task, opening}
+use Rattle.osek_scheduler.specs.Priority.{is_in, IsTop}
+use Rattle.osek_scheduler.specs.Services.{activated_state, started_task, Outcome, GoesOn, Leaves, IsAfter}
+use Rattle.osek_scheduler.specs.Steps.{admitted_state, ServesCall, OsekStep}
+use Rattle.osek_scheduler.specs.Runs.{Leads}
 use Rattle.osek_valid.specs.Apart.{IsActive, Apart}
 use Rattle.osek_valid.proofs.Apart.{Same, Acts, boot_calm, admit_calm, enter_acts, run_acts, call_acts, left_acts, back_acts, step_apart, opening_apart}
 use Rattle.osek_valid.proofs.Steps.{length-autostarted, autostarted_at}
-use Rattle.osek_machine.proofs.Outcomes.{by_suspended}
+use Rattle.osek_scheduler.proofs.Outcomes.{by_suspended}
 use Rattle.osek_blocking.proofs.Staying.{Stays, own, readied, outcome_stays}
 
 -- task u is Ready
@@ -34,7 +34,7 @@ pub record Ordered (config : Config) (s : System) : Type 0 where
 settled_stays : (t : ℕ) (s a b : System) → Stays t s a → b.tasks ≡ a.tasks → Stays t s b
 settled_stays t s a b h same = record {
   count = ap length same ∙ h.count;
-  ready = λ u n r. subst (λ (ts : List Task). (get_or ts u sleeping).state ≡ mode.Ready) (sym same) (h.ready u n r);
+  ready = λ u n r. subst (λ (ts : List Task). (get_or ts u sleeping_task).state ≡ mode.Ready) (sym same) (h.ready u n r);
 }
 
 -- ---- effects
@@ -103,17 +103,17 @@ module _ (config : Config) (t : ℕ) (s : System) where
       false_from_ne_true _
       (λ h. no_both t (subst (λ v. (task s v).state ≡ mode.Ready) (sym (eqb-true t u h)) r) asleep)
 
-  admits : Admits config s (admitted t s)
+  admits : Admits config s (admitted_state t s)
   admits = record {
     count =
-        by_suspended (task s t).state (record (activated s t) { fresh = t ∷ s.fresh }) s (λ (x : System). length x.tasks ≡ length s.tasks)
+        by_suspended (task s t).state (record (activated_state s t) { fresh = t ∷ s.fresh }) s (λ (x : System). length x.tasks ≡ length s.tasks)
         (λ _. (readied t s t).count) (λ _. refl);
     same = admit_calm config s t;
     ready =
-        by_suspended (task s t).state (record (activated s t) { fresh = t ∷ s.fresh }) s (λ (x : System). (u : ℕ) → IsReady s u → IsReady x u)
+        by_suspended (task s t).state (record (activated_state s t) { fresh = t ∷ s.fresh }) s (λ (x : System). (u : ℕ) → IsReady s u → IsReady x u)
         (λ asleep u r. (readied t s t).ready u (λ e. no_both t (subst (λ v. (task s v).state ≡ mode.Ready) e r) asleep) r) (λ _ u r. r);
     fresh =
-        by_suspended (task s t).state (record (activated s t) { fresh = t ∷ s.fresh }) s
+        by_suspended (task s t).state (record (activated_state s t) { fresh = t ∷ s.fresh }) s
         (λ (x : System). (u : ℕ) → IsReady s u → is_in u x.fresh ≡ is_in u s.fresh)
         (λ asleep u r. ap (λ b. b || is_in u s.fresh) (not_it u r asleep)) (λ _ u r. refl);
   }
@@ -121,7 +121,7 @@ module _ (config : Config) (t : ℕ) (s : System) where
 -- ---- each event
 
 module _ (config : Config) (app : App) (s next : System) (o : Ordered config s) where
-  answer_stays : (t : ℕ) (served : Service) (answer : Outcome) → Serves config app t served s answer → IsAfter (Stays t s) answer
+  answer_stays : (t : ℕ) (served : Service) (answer : Outcome) → ServesCall config app t served s answer → IsAfter (Stays t s) answer
   answer_stays t served answer h = subst (IsAfter (Stays t s)) h.is (outcome_stays t config served h.call.object h.call.mask s)
 
   pub effect : (e : Event) → OsekStep config app e s next → Effect config s next e
@@ -137,7 +137,7 @@ module _ (config : Config) (app : App) (s next : System) (o : Ordered config s) 
   effect (event.Enter t) h = record {
     moves = record {
       acts = enter_acts config app t s next h;
-      stays = subst (Stays t s) (sym h.4) (settled_stays t s _ _ (own t s (record (starts app t (task s t).frames (task s t)) { state = mode.Active; raised = (declaration config t).non })) refl);
+      stays = subst (Stays t s) (sym h.4) (settled_stays t s _ _ (own t s (record (started_task app t (task s t).frames (task s t)) { state = mode.Active; raised = (declaration config t).non })) refl);
       top = h.1;
     };
     was = h.2;
@@ -198,7 +198,7 @@ module _ (config : Config) (app : App) (s next : System) (o : Ordered config s) 
 
 module _ (config : Config) (app : App) where
   pub opening_ordered : Ordered config (opening config app)
-  opening_ordered = record { count = length-map config.tasks (λ _. sleeping); apart = opening_apart config app }
+  opening_ordered = record { count = length-map config.tasks (λ _. sleeping_task); apart = opening_apart config app }
 
   pub leads_ordered : (events : List Stamped) (s end : System) → Ordered config s → Leads config app events s end → Ordered config end
   leads_ordered [] s end o h = subst (Ordered config) (sym h) o

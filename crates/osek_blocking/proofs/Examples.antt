@@ -8,11 +8,11 @@ use Rattle.sloth_base.specs.declared.event.Event.{Event}
 use Rattle.sloth_base.specs.declared.event.Event.TheVariants as event
 use Rattle.sloth_base.specs.declared.event.Stamped.{Stamped}
 use Rattle.sloth_base.specs.declared.service.Service.TheVariants as service
-use Rattle.osek_machine.specs.State.{System, task, opening}
-use Rattle.osek_machine.specs.Priority.{is_in}
-use Rattle.osek_machine.specs.Next.{system_after, is_ready}
-use Rattle.osek_machine.proofs.Examples.{full, system, body, code, serve, accepts}
-use Rattle.osek_machine.proofs.Next.{step_of}
+use Rattle.osek_scheduler.specs.State.{System, task, opening}
+use Rattle.osek_scheduler.specs.Priority.{is_in}
+use Rattle.osek_scheduler.specs.Next.{system_after, is_ready}
+use Rattle.osek_scheduler.proofs.Examples.{full, system, body, code, serve, accepts}
+use Rattle.osek_scheduler.proofs.Next.{step_of}
 use Rattle.osek_valid.specs.Apart.{priority_of, static_priority}
 use Rattle.osek_blocking.specs.Blocking.{up_to_entry, IsRaisedTo, FindsFresh, IsBlockedBy, BlocksOnce}
 use Rattle.osek_blocking.specs.Protocol.{GetsResource}

@@ -10,13 +10,13 @@ use Rattle.sloth_base.specs.declared.app.App.{App}
 use Rattle.sloth_base.specs.declared.event.Event.{Event}
 use Rattle.sloth_base.specs.declared.event.Event.TheVariants as event
 use Rattle.sloth_base.specs.declared.event.Stamped.{Stamped}
-use Rattle.osek_machine.specs.declared.state.TaskState.TheVariants as mode
-use Rattle.osek_machine.specs.State.{System, task, opening}
-use Rattle.osek_machine.specs.Priority.{is_in, is_active, IsTop}
-use Rattle.osek_machine.specs.Steps.{OsekStep}
-use Rattle.osek_machine.specs.Runs.{Leads, OsekRun}
-use Rattle.osek_machine.proofs.Leading.{follows_leads, leads-parts, one_step, one_end}
-use Rattle.osek_machine.proofs.Tests.{Decides-is_active, Decides-leb}
+use Rattle.osek_scheduler.specs.declared.state.TaskState.TheVariants as mode
+use Rattle.osek_scheduler.specs.State.{System, task, opening}
+use Rattle.osek_scheduler.specs.Priority.{is_in, is_active, IsTop}
+use Rattle.osek_scheduler.specs.Steps.{OsekStep}
+use Rattle.osek_scheduler.specs.Runs.{Leads, OsekRun}
+use Rattle.osek_scheduler.proofs.Leading.{follows_leads, leads-parts, one_step, one_end}
+use Rattle.osek_scheduler.proofs.Tests.{Decides-is_active, Decides-leb}
 use Rattle.osek_valid.specs.Apart.{priority_of, static_priority, IsActive, IsOver}
 use Rattle.osek_valid.proofs.Apart.{Same, rank_active, rank_ready}
 use Rattle.osek_blocking.specs.Blocking.{is_entry_of, up_to_entry, IsOfLower, IsRaisedTo, FindsFresh, IsBlockedBy, BlocksOnce}

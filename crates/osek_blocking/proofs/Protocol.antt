@@ -10,13 +10,13 @@ use Rattle.sloth_base.specs.declared.event.Stamped.{Stamped}
 use Rattle.sloth_base.specs.declared.service.Service.{Service}
 use Rattle.sloth_base.specs.declared.service.Service.TheVariants as service
 use Rattle.sloth_base.specs.Status.{E_OK}
-use Rattle.app_rules.specs.WellFormed.{WellFormed}
-use Rattle.osek_machine.specs.State.{System, opening}
-use Rattle.osek_machine.specs.Services.{Outcome, GoesOn, Leaves}
-use Rattle.osek_machine.specs.Outcomes.{outcome}
-use Rattle.osek_machine.specs.Steps.{Serves, OsekStep}
-use Rattle.osek_machine.specs.Runs.{Leads, OsekRun}
-use Rattle.osek_machine.proofs.Leading.{follows_leads}
+use Rattle.code_rules.specs.WellFormed.{WellFormed}
+use Rattle.osek_scheduler.specs.State.{System, opening}
+use Rattle.osek_scheduler.specs.Services.{Outcome, GoesOn, Leaves}
+use Rattle.osek_scheduler.specs.Outcomes.{outcome}
+use Rattle.osek_scheduler.specs.Steps.{ServesCall, OsekStep}
+use Rattle.osek_scheduler.specs.Runs.{Leads, OsekRun}
+use Rattle.osek_scheduler.proofs.Leading.{follows_leads}
 use Rattle.osek_valid.proofs.Apart.{opening_apart}
 use Rattle.osek_valid.proofs.Facts.{facts}
 use Rattle.osek_valid.proofs.Reached.{run_valid}
@@ -41,7 +41,7 @@ module _ (config : Config) (app : App) (s next : System) where
   never_leaves t object mask after e = cc
 
   -- the outcome of a service that is GetResource
-  of_get : (t : ℕ) (served : Service) (answer : Outcome) → (h : Serves config app t served s answer) → served ≡ service.GetResource
+  of_get : (t : ℕ) (served : Service) (answer : Outcome) → (h : ServesCall config app t served s answer) → served ≡ service.GetResource
       → outcome config service.GetResource h.call.object h.call.mask t s ≡ answer
   of_get t served answer h is = subst (λ (v : Service). outcome config v h.call.object h.call.mask t s ≡ answer) is h.is
 

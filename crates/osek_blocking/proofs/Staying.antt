@@ -4,11 +4,11 @@ use Rattle.std.specs.Prelude.{◌≢◌}
 use Rattle.std.proofs.lemmas.List.{length-set}
 use Rattle.sloth_base.specs.declared.config.Config.{Config}
 use Rattle.sloth_base.specs.declared.service.Service.{Service}
-use Rattle.osek_machine.specs.declared.state.TaskState.TheVariants as mode
-use Rattle.osek_machine.specs.State.{Task, System, task, with_task}
-use Rattle.osek_machine.specs.Services.{activated, with_events, IsAfter}
-use Rattle.osek_machine.specs.Outcomes.{decision, outcome}
-use Rattle.osek_machine.proofs.Outcomes.{KeptByOthers, outcome_keeps_all}
+use Rattle.osek_scheduler.specs.declared.state.TaskState.TheVariants as mode
+use Rattle.osek_scheduler.specs.State.{Task, System, task, with_task}
+use Rattle.osek_scheduler.specs.Services.{activated_state, with_events, IsAfter}
+use Rattle.osek_scheduler.specs.Outcomes.{decision, outcome}
+use Rattle.osek_scheduler.proofs.Outcomes.{KeptByOthers, outcome_keeps_all}
 use Rattle.osek_valid.proofs.Apart.{at_task}
 
 -- as many tasks, and each that is Ready and not c stays so
@@ -26,7 +26,7 @@ module _ (c : ℕ) where
   pub own : (s : System) (new : Task) → Stays c s (with_task s c new)
   own s new = record { count = length-set s.tasks c new; ready = λ u n e. at_task s c u new IsReady e (λ same. absurd (n same)) }
 
-  pub readied : (s : System) (t : ℕ) → Stays c s (activated s t)
+  pub readied : (s : System) (t : ℕ) → Stays c s (activated_state s t)
   readied s t = record {
     count = length-set s.tasks t (record (task s t) { state = mode.Ready });
     ready = λ u n e. at_task s t u (record (task s t) { state = mode.Ready }) IsReady e (λ _. refl);
@@ -40,7 +40,7 @@ module _ (c : ℕ) where
 
   stays_besides : (s : System) → KeptByOthers (Stays c s)
   stays_besides s = record {
-    activates = λ x t h. then s x (activated x t) h (readied x t);
+    activates = λ x t h. then s x (activated_state x t) h (readied x t);
     sets = λ x t events h. then s x (with_events x t events) h (eventful x t events);
     stores = λ x symbols h. record { count = h.count; ready = h.ready };
   }

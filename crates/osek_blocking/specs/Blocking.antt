@@ -7,11 +7,11 @@ use Rattle.sloth_base.specs.declared.event.Stamped.{Stamped}
 pub use Rattle.sloth_base.specs.Events.{working_task, is_call}
 use Rattle.sloth_base.specs.Events.{entered_task}
 use Rattle.sloth_base.specs.Options.{is_number}
-use Rattle.osek_machine.specs.declared.state.TaskState.TheVariants as mode
-use Rattle.osek_machine.specs.State.{System, task, opening}
-use Rattle.osek_machine.specs.Priority.{is_in}
-use Rattle.osek_machine.specs.Steps.{OsekStep}
-use Rattle.osek_machine.specs.Runs.{Leads}
+use Rattle.osek_scheduler.specs.declared.state.TaskState.TheVariants as mode
+use Rattle.osek_scheduler.specs.State.{System, task, opening}
+use Rattle.osek_scheduler.specs.Priority.{is_in}
+use Rattle.osek_scheduler.specs.Steps.{OsekStep}
+use Rattle.osek_scheduler.specs.Runs.{Leads}
 use Rattle.osek_valid.specs.Apart.{priority_of, static_priority}
 
 -- ---- events

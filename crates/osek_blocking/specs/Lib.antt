@@ -1,3 +1,3 @@
 pub mod Blocking
 pub mod Protocol
-pub mod Laws
+pub mod ProtocolKept

@@ -7,8 +7,8 @@ use Rattle.sloth_base.specs.declared.event.Event.TheVariants as event
 use Rattle.sloth_base.specs.declared.event.Stamped.{Stamped}
 use Rattle.sloth_base.specs.declared.service.Service.TheVariants as service
 use Rattle.sloth_base.specs.Status.{E_OK}
-use Rattle.osek_machine.specs.State.{System, opening}
-use Rattle.osek_machine.specs.Runs.{Leads}
+use Rattle.osek_scheduler.specs.State.{System, opening}
+use Rattle.osek_scheduler.specs.Runs.{Leads}
 use Rattle.osek_valid.specs.Apart.{Excludes}
 use Rattle.osek_blocking.specs.Blocking.{BlocksOnce}
 

@@ -1,5 +1,5 @@
 //! Laws of runs.
-ghost use Rattle.osek_blocking.specs.Laws.{RunsBlockOnce, RunsExclude, ResourcesAreGot, RunsKeepCeilingProtocol};
+ghost use Rattle.osek_blocking.specs.ProtocolKept.{RunsBlockOnce, RunsExclude, ResourcesAreGot, RunsKeepCeilingProtocol};
 
 /// In every run a Ready task is blocked by one lower task at most, and only while that task's current priority is at least its own.
 pub fn runs_block_once()

@@ -1,5 +1,8 @@
-pub mod Tests
-pub mod Next
-pub mod Leading
-pub mod Examples
-pub mod Outcomes
+pub mod Below
+pub mod Follows
+pub mod Lists
+pub mod Only
+pub mod Rooms
+pub mod Row
+pub mod Sound
+pub mod Started

@@ -1,68 +1,29 @@
--- Changes of a task, one by one.
-use Rattle.std.specs.Prelude.{ℕ, ◌-◌, ◌==◌, List, [], ◌∷◌, ◌++◌, true, false, cond, replicate, set, bit_and, bit_or}
-use Rattle.sloth_base.specs.Status.{E_OK}
-use Rattle.app_rules.specs.Code.{without_last}
-use Rattle.osek_machine.specs.declared.change.TaskChange.{TaskChange}
-use Rattle.osek_machine.specs.declared.change.TaskChange.TheVariants as change
-use Rattle.osek_machine.specs.declared.state.TaskState.{TaskState}
-use Rattle.osek_machine.specs.declared.state.TaskState.TheVariants as mode
-use Rattle.osek_machine.specs.State.{Frame, Task, System, task, with_task, zero_registers}
-use Rattle.osek_machine.specs.Meaning.{with_register}
-use Rattle.osek_machine.specs.Services.{moved, answers, answers_with, waits}
+-- The room of a task for its changes.
+use Rattle.std.specs.Prelude.{◌<◌, ◌≤◌, length}
+use Rattle.osek_scheduler.specs.State.{Task}
+use Rattle.osek_scheduler.specs.declared.change.TaskChange.{TaskChange}
+use Rattle.osek_scheduler.specs.declared.change.TaskChange.TheVariants as change
+pub use Rattle.osek_scheduler.specs.Changes.{changed_task, entry, woken_by, with_change}
+use Rattle.osek_machine.specs.Frames.{out_of, CanMove, HasWord}
 
--- ---- functions in progress, the innermost first
-
--- the innermost function goes to an item
-abbrev pub at_item : ℕ → List Frame → List Frame
-at_item item [] = []
-at_item item (frame ∷ outer) = record frame { item = item } ∷ outer
-
--- a word of the innermost frame is changed
-abbrev pub with_word : ℕ → ℕ → List Frame → List Frame
-with_word word value [] = []
-with_word word value (frame ∷ outer) = record frame { words = set frame.words word value } ∷ outer
-
--- the innermost function is left
-abbrev pub out_of : List Frame → List Frame
-out_of [] = []
-out_of (frame ∷ outer) = outer
-
--- a function that is entered, with so many words
-abbrev pub entry : (func words : ℕ) → Frame
-entry func words = record { func = func; item = 0; words = replicate words 0 }
-
--- ---- changes
-
--- the state of a task when it has these events
-abbrev pub woken_by : TaskState → ℕ → TaskState
-woken_by mode.Suspended events = mode.Suspended
-woken_by mode.Ready events = mode.Ready
-woken_by mode.Active events = mode.Active
-woken_by (mode.Waiting mask) events = cond (bit_and events mask == 0) (mode.Waiting mask) mode.Ready
-
--- the task after a change
-abbrev pub changed : TaskChange → Task → Task
-changed change.Activate k = record k { state = mode.Ready }
-changed (change.AddEvents mask) k = record k { events = bit_or k.events mask; state = woken_by k.state (bit_or k.events mask) }
-changed (change.Answer status) k = answers status k
-changed (change.AnswerWith value) k = answers_with value k
-changed change.End k = record k { state = mode.Suspended; registers = zero_registers; frames = []; events = 0; raised = false }
-changed (change.Wait mask) k = waits mask k
-changed change.Pause k = record (answers E_OK k) { raised = false; owed = true }
-changed (change.Take resource) k = record (answers E_OK k) { held = k.held ++ resource ∷ [] }
-changed change.Release k = record (answers E_OK k) { held = without_last k.held }
-changed (change.ClearEvents mask) k = record (answers E_OK k) { events = bit_and k.events (4294967295 - mask) }
-changed (change.Start func words non) k =
-    record k { registers = zero_registers; frames = entry func words ∷ []; state = mode.Active; raised = non }
-changed (change.Resume non) k = record k { registers = set k.registers 5 E_OK; state = mode.Active; raised = non }
-changed (change.ComeBack non) k = record k { owed = false; raised = non }
-changed (change.Write rd value) k = record k { registers = with_register k.registers rd value; frames = moved k.frames }
-changed (change.GoTo item) k = record k { frames = at_item item k.frames }
-changed change.MoveOn k = record k { frames = moved k.frames }
-changed (change.StoreWord word value) k = record k { frames = moved (with_word word value k.frames) }
-changed (change.Invoke func words) k = record k { frames = entry func words ∷ k.frames }
-changed change.Return k = record k { frames = moved (out_of k.frames) }
-
--- the system after a change of one task
-abbrev pub with_change : ℕ → TaskChange → System → System
-with_change t c s = with_task s t (changed c (task s t))
+-- the task has room for a change
+abbrev pub Allows : TaskChange → Task → Type 0
+Allows change.Activate k = Unit {0}
+Allows (change.AddEvents mask) k = Unit {0}
+Allows (change.Answer status) k = CanMove k.frames
+Allows (change.AnswerWith value) k = CanMove k.frames
+Allows change.End k = Unit {0}
+Allows (change.Wait mask) k = CanMove k.frames
+Allows change.Pause k = CanMove k.frames
+Allows (change.Take resource) k = CanMove k.frames × (length k.held < 33)
+Allows change.Release k = CanMove k.frames
+Allows (change.ClearEvents mask) k = CanMove k.frames
+Allows (change.Start func words non) k = words ≤ 32
+Allows (change.Resume non) k = Unit {0}
+Allows (change.ComeBack non) k = Unit {0}
+Allows (change.Write rd value) k = CanMove k.frames
+Allows (change.GoTo item) k = Unit {0}
+Allows change.MoveOn k = CanMove k.frames
+Allows (change.StoreWord word value) k = CanMove k.frames × HasWord word k.frames
+Allows (change.Invoke func words) k = (length k.frames < 64) × (words ≤ 32)
+Allows change.Return k = CanMove (out_of k.frames)

@@ -1,11 +1,7 @@
-pub mod State
-pub mod Priority
-pub mod Meaning
-pub mod Services
+pub mod Above
 pub mod Changes
-pub mod Outcomes
+pub mod Frames
+pub mod NextEvents
+pub mod Plans
+pub mod Running
 pub mod Steps
-pub mod Runs
-pub mod InTime
-pub mod Next
-pub mod Laws

@@ -1,82 +1,51 @@
--- One event of the abstract scheduler.
-use Rattle.std.specs.Prelude.{ℕ, ◌<◌, ◌≡◌, List, [], ◌∷◌, true, false, cond, length, Some}
+-- The next state by the plan of an event.
+use Rattle.std.specs.Prelude.{ℕ, ◌≤◌, ◌≡◌, not, is_some, length, Option, Some}
+use Rattle.sloth_base.specs.Options.{is_number}
 use Rattle.sloth_base.specs.declared.config.Config.{Config}
-use Rattle.sloth_base.specs.declared.config.TaskDecl.{TaskDecl}
 use Rattle.sloth_base.specs.declared.app.App.{App}
-use Rattle.sloth_base.specs.declared.app.Call.{Call}
 use Rattle.sloth_base.specs.declared.app.Op.{Op}
-use Rattle.sloth_base.specs.declared.app.Op.TheVariants as op
-use Rattle.sloth_base.specs.declared.event.Event.{Event}
-use Rattle.sloth_base.specs.declared.event.Event.TheVariants as event
+use Rattle.code_rules.specs.WellFormed.{WellFormed}
 use Rattle.sloth_base.specs.declared.service.Service.{Service}
-use Rattle.osek_machine.specs.declared.state.TaskState.TheVariants as mode
-use Rattle.osek_machine.specs.State.{Frame, Task, System, task, with_task, declaration, HasBody}
-use Rattle.sloth_base.specs.Named.{function}
-use Rattle.sloth_base.specs.Named as named
-use Rattle.osek_machine.specs.Priority.{IsTop, IsDue}
-use Rattle.osek_machine.specs.Meaning.{Meant, meaning}
-use Rattle.osek_machine.specs.Services.{if_suspended, activated, is_there, Outcome, GoesOn, Leaves, entered}
-use Rattle.osek_machine.specs.Outcomes.{outcome}
+use Rattle.osek_scheduler.specs.State.{Task, System, task}
+use Rattle.osek_scheduler.specs.Meaning.{on_some, if_true}
+use Rattle.osek_scheduler.specs.Steps.{settled_state}
+use Rattle.osek_valid.specs.Valid.{Valid, AreDistinct}
+use Rattle.osek_valid.specs.Apart.{Apart}
+use Rattle.osek_scheduler.specs.declared.plan.Plan.{Plan}
+use Rattle.osek_machine.specs.Frames.{CanMove}
+use Rattle.osek_machine.specs.Plans.{carried_out}
+use Rattle.osek_machine.specs.Running.{IsComputed, own_operation, serving_plan}
 
--- every event but an admit empties `fresh`
-abbrev pub settled : System → System
-settled s = record s { fresh = [] }
+-- the plan of a service by which its caller goes on with this status
+abbrev pub answer_plan : Config → App → ℕ → Service → ℕ → System → Option Plan
+answer_plan config app t served status s =
+    on_some (serving_plan config app t served s) (λ p. if_true (is_number status p.answer) (Some p))
 
--- the tasks with each Ready that the configuration starts by itself
-abbrev pub autostarted : List TaskDecl → List Task → List Task
-autostarted [] tasks = tasks
-autostarted (d ∷ declarations) [] = []
-autostarted (d ∷ declarations) (t ∷ tasks) = cond d.autostart (record t { state = mode.Ready }) t ∷ autostarted declarations tasks
+-- the plan of a service by which its caller leaves
+abbrev pub leave_plan : Config → App → ℕ → Service → System → Option Plan
+leave_plan config app t served s = on_some (serving_plan config app t served s) (λ p. if_true (not (is_some p.answer)) (Some p))
 
--- an activation from outside
-abbrev pub admitted : ℕ → System → System
-admitted t s = if_suspended (task s t).state (record (activated s t) { fresh = t ∷ s.fresh }) s
+-- the system after a plan of task t
+abbrev pub followed_state : ℕ → System → Option Plan → Option System
+followed_state t s o = on_some o (λ p. Some (settled_state (carried_out t p s)))
 
--- a task runs and owes no `back`; its next operation is this one
-pub record IsAt (app : App) (s : System) (t : ℕ) (operation : Op) : Type 0 where
-  pub active : (task s t).state ≡ mode.Active
-  pub free : (task s t).owed ≡ false
-  pub frame : Frame
-  pub outer : List Frame
-  pub frames : (task s t).frames ≡ frame ∷ outer
-  pub inside : frame.item < length (function app frame.func).items
-  pub next : named.operation app frame.func frame.item ≡ operation
+-- what is read of task code is in range, whatever the state
+pub record IsRead (config : Config) (app : App) (s : System) : Type 0 where
+  pub count : length s.tasks ≡ length config.tasks
+  pub few : length config.tasks ≤ 30
+  pub functions : length app.funcs ≤ 64
+  pub computed : (k : Task) (o : Op) → own_operation app k ≡ Some o → IsComputed o
+  pub moves : (t : ℕ) → CanMove (task s t).frames
 
--- the running task executes an item that is no service
-pub record Executes (config : Config) (app : App) (t func item result : ℕ) (s next : System) : Type 0 where
-  pub top : IsTop config s [] t
-  pub operation : Op
-  pub at : IsAt app s t operation
-  pub in_function : at.frame.func ≡ func
-  pub at_item : at.frame.item ≡ item
-  pub meant : Meant
-  pub means : meaning app operation (task s t).registers at.frame at.outer s.symbols ≡ Some meant
-  pub shows : meant.result ≡ result
-  pub is : next ≡ settled (record (with_task s t (record (task s t) { registers = meant.registers; frames = meant.frames })) { symbols = meant.symbols })
+-- a configuration, its task code, and the state of a run
+pub record Machine : Type 0 where
+  pub config : Config
+  pub app : App
+  pub system : System
 
--- the running task calls a service, with this outcome; arrivals admitted since the last event did not preempt it yet
-pub record Serves (config : Config) (app : App) (t : ℕ) (served : Service) (s : System) (answer : Outcome) : Type 0 where
-  pub top : IsTop config s s.fresh t
-  pub call : Call
-  pub at : IsAt app s t (op.Serve call)
-  pub same : call.service ≡ served
-  pub names : is_there config (task s t).held served call.object ≡ true
-  pub is : outcome config served call.object call.mask t s ≡ answer
-
--- the next state after an event
-abbrev pub OsekStep : Config → App → Event → System → System → Type 0
-OsekStep config app event.Boot s next =
-    (s.booted ≡ false) × (next ≡ settled (record s { tasks = autostarted config.tasks s.tasks; booted = true }))
-OsekStep config app (event.Admit t) s next = (s.booted ≡ true) × (t < length config.tasks) × (next ≡ admitted t s)
-OsekStep config app (event.Enter t) s next =
-    (s.booted ≡ true) × IsTop config s [] t × ((task s t).state ≡ mode.Ready) × HasBody app t × (next ≡ settled (entered config app t s))
-OsekStep config app (event.Run t func item result) s next = (s.booted ≡ true) × Executes config app t func item result s next
-OsekStep config app (event.Call t served status) s next =
-    (s.booted ≡ true) × ((after : System) × Serves config app t served s (GoesOn status after) × (next ≡ settled after))
-OsekStep config app (event.Left t served) s next =
-    (s.booted ≡ true) × ((after : System) × Serves config app t served s (Leaves after) × (next ≡ settled after))
-OsekStep config app (event.Back t) s next =
-    (s.booted ≡ true) × IsTop config s [] t × ((task s t).state ≡ mode.Active) × ((task s t).owed ≡ true)
-    × (next ≡ settled (with_task s t (record (task s t) { owed = false; raised = (declaration config t).non })))
-OsekStep config app event.Idle s next = (s.booted ≡ true) × ((t : ℕ) → t < length config.tasks → ¬ (IsDue s t)) × (next ≡ settled s)
-OsekStep config app event.Stray s next = ⊥
+-- a state that a run of well-formed task code may lead to
+pub record IsSound (config : Config) (app : App) (s : System) : Type 0 where
+  pub well_formed : WellFormed config app
+  pub valid : Valid config app s
+  pub apart : Apart config s
+  pub distinct : AreDistinct s.fresh

@@ -1,7 +1,12 @@
-//! Laws of the definitions.
-ghost use Rattle.osek_machine.specs.Laws.{StepIsComputed};
+//! Laws of runs of the abstract scheduler.
+ghost use Rattle.osek_machine.specs.NextEvents.{OneNextEvent, OneRun};
 
-/// An event has a next state exactly where the computed step finds one, and it is that one: so there is at most one.
-pub fn step_is_computed()
-    ensures { StepIsComputed }
+/// Where no arrival was admitted since the last event, one event at most comes next, arrivals aside.
+pub fn one_next_event()
+    ensures { OneNextEvent }
+{}
+
+/// Without arrivals there is one run of each length at most.
+pub fn one_run()
+    ensures { OneRun }
 {}

@@ -1,9 +1,20 @@
-//! The abstract scheduler: the task model, the services, events, resources and the priority ceiling protocol of
-//! OSEK OS 2.2.3, with no levels, interrupt lines, contexts or addresses. Definitions, which stand in `specs/`, and the law
-//! that the next state can be computed.
+//! The abstract scheduler as a program, and its next event.
 #![tactic(auto)]
 
-pub mod change;
+pub mod above;
+pub mod arithmetic;
+pub mod data;
+pub mod events;
+pub mod frame;
+pub mod fresh;
+pub mod held;
+pub mod items;
 pub mod laws;
-pub mod plan;
-pub mod state;
+pub mod osek;
+pub mod priority;
+pub mod room;
+pub mod services;
+pub mod stack;
+pub mod store;
+
+pub use osek::{NotARun, Osek};

@@ -1,7 +1,7 @@
 // The abstract scheduler, one event after another.
 
-use osek_machine::state::TaskState;
-use osek_run::{NotARun, Osek};
+use osek_machine::{NotARun, Osek};
+use osek_scheduler::state::TaskState;
 use sloth_base::event::Event;
 use sloth_base::numbers::TaskId;
 use sloth_base::service::Service;

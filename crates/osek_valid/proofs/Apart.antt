@@ -8,15 +8,15 @@ use Rattle.sloth_base.specs.declared.app.App.{App}
 use Rattle.sloth_base.specs.declared.event.Event.{Event}
 use Rattle.sloth_base.specs.declared.event.Event.TheVariants as event
 use Rattle.sloth_base.specs.declared.service.Service.{Service}
-use Rattle.osek_machine.specs.declared.state.TaskState.{TaskState}
-use Rattle.osek_machine.specs.declared.state.TaskState.TheVariants as mode
-use Rattle.osek_machine.specs.State.{Task, System, sleeping, task, with_task, opening, zero_registers}
+use Rattle.osek_scheduler.specs.declared.state.TaskState.{TaskState}
+use Rattle.osek_scheduler.specs.declared.state.TaskState.TheVariants as mode
+use Rattle.osek_scheduler.specs.State.{Task, System, sleeping_task, task, with_task, opening, zero_registers}
 use Rattle.sloth_base.specs.Named.{declaration}
-use Rattle.osek_machine.specs.Priority.{is_in, is_active, rank, IsTop}
-use Rattle.osek_machine.specs.Services.{activated, with_events, Outcome, GoesOn, Leaves, IsAfter, starts}
-use Rattle.osek_machine.specs.Outcomes.{decision, outcome}
-use Rattle.osek_machine.proofs.Outcomes.{by_suspended, KeptByOthers, outcome_keeps_all}
-use Rattle.osek_machine.specs.Steps.{settled, autostarted, admitted, OsekStep, Executes, Serves}
+use Rattle.osek_scheduler.specs.Priority.{is_in, is_active, rank, IsTop}
+use Rattle.osek_scheduler.specs.Services.{activated_state, with_events, Outcome, GoesOn, Leaves, IsAfter, started_task}
+use Rattle.osek_scheduler.specs.Outcomes.{decision, outcome}
+use Rattle.osek_scheduler.proofs.Outcomes.{by_suspended, KeptByOthers, outcome_keeps_all}
+use Rattle.osek_scheduler.specs.Steps.{settled_state, autostarted_tasks, admitted_state, OsekStep, Executes, ServesCall}
 use Rattle.osek_valid.specs.Apart.{priority_of, static_priority, AreTwo, Apart}
 use Rattle.osek_valid.proofs.Steps.{autostarted_at, asleep_at}
 
@@ -35,14 +35,14 @@ at_task s t u new P same here = by (cases_eq u t)
     within : (u < length s.tasks) ⊎ (length s.tasks ≤ u) → u ≡ t → P (task (with_task s t new) u)
     within (inl lt) e =
         let Q : ℕ → Type 0 = λ x. x < length s.tasks → P (task (with_task s t new) x) in
-        subst Q (sym e) (λ l. subst P (sym (get_or-set_same s.tasks t new sleeping l)) (here e)) lt
+        subst Q (sym e) (λ l. subst P (sym (get_or-set_same s.tasks t new sleeping_task l)) (here e)) lt
     within (inr past) e =
-        let Q : List Task → Type 0 = λ l. P (get_or l u sleeping) in
+        let Q : List Task → Type 0 = λ l. P (get_or l u sleeping_task) in
         subst Q (sym (set_past s.tasks t new (subst (λ x. length s.tasks ≤ x) e past))) same
 
     by : (u ≡ t) ⊎ (u ≡ t → ⊥) → P (task (with_task s t new) u)
     by (inl e) = within (cases_lt u (length s.tasks)) e
-    by (inr n) = subst P (sym (get_or-set_other s.tasks t u new sleeping n)) same
+    by (inr n) = subst P (sym (get_or-set_other s.tasks t u new sleeping_task n)) same
 
 module _ (config : Config) where
   -- a task that is Active now was so before, at the same priority
@@ -64,7 +64,7 @@ module _ (config : Config) where
   own : (c : ℕ) (s : System) (new : Task) → Calm c s (with_task s c new)
   own c s new u n = at_task s c u new (Same u (task s u)) (itself u (task s u)) (λ e. absurd (n e))
 
-  readied : (c : ℕ) (s : System) (t : ℕ) → Calm c s (activated s t)
+  readied : (c : ℕ) (s : System) (t : ℕ) → Calm c s (activated_state s t)
   readied c s t u n = at_task s t u (record (task s t) { state = mode.Ready }) (Same u (task s u)) (itself u (task s u)) (λ e h. absurd cc)
 
   eventful : (c : ℕ) (s : System) (t events : ℕ) → Calm c s (with_events s t events)
@@ -74,7 +74,7 @@ module _ (config : Config) where
 
   calm_besides : (c : ℕ) (s : System) → KeptByOthers (Calm c s)
   calm_besides c s = record {
-    activates = λ x t h. then c s x (activated x t) h (readied c x t);
+    activates = λ x t h. then c s x (activated_state x t) h (readied c x t);
     sets = λ x t events h. then c s x (with_events x t events) h (eventful c x t events);
     stores = λ x symbols h. h;
   }
@@ -178,32 +178,32 @@ module _ (config : Config) where
   run_calm app t func item result s next h =
       subst (Calm t s) (sym h.is) (own t s (record (task s t) { registers = h.meant.registers; frames = h.meant.frames }))
 
-  answer_calm : (app : App) (t : ℕ) (served : Service) (s : System) (answer : Outcome) → Serves config app t served s answer → IsAfter (Calm t s) answer
+  answer_calm : (app : App) (t : ℕ) (served : Service) (s : System) (answer : Outcome) → ServesCall config app t served s answer → IsAfter (Calm t s) answer
   answer_calm app t served s answer h = subst (IsAfter (Calm t s)) h.is (outcome_calm served h.call.object h.call.mask t s)
 
-  pub boot_calm : (s : System) (u : ℕ) → Same u (task s u) (get_or (autostarted config.tasks s.tasks) u sleeping)
+  pub boot_calm : (s : System) (u : ℕ) → Same u (task s u) (get_or (autostarted_tasks config.tasks s.tasks) u sleeping_task)
   boot_calm s u = autostarted_at (Same u (task s u)) config.tasks s.tasks u (itself u (task s u)) (λ e. absurd cc)
 
-  pub admit_calm : (s : System) (t u : ℕ) → Same u (task s u) (task (admitted t s) u)
+  pub admit_calm : (s : System) (t u : ℕ) → Same u (task s u) (task (admitted_state t s) u)
   admit_calm s t u =
-      by_suspended (task s t).state (record (activated s t) { fresh = t ∷ s.fresh }) s (λ (x : System). Same u (task s u) (task x u))
+      by_suspended (task s t).state (record (activated_state s t) { fresh = t ∷ s.fresh }) s (λ (x : System). Same u (task s u) (task x u))
       (λ _. at_task s t u (record (task s t) { state = mode.Ready }) (Same u (task s u)) (itself u (task s u)) (λ e h. absurd cc))
       (λ _. itself u (task s u))
 
-  admit_fresh : (s : System) (t : ℕ) → Apart config s → t < length s.tasks → (u : ℕ) → is_in u (admitted t s).fresh ≡ true
-      → (task (admitted t s) u).state ≡ mode.Ready
+  admit_fresh : (s : System) (t : ℕ) → Apart config s → t < length s.tasks → (u : ℕ) → is_in u (admitted_state t s).fresh ≡ true
+      → (task (admitted_state t s) u).state ≡ mode.Ready
   admit_fresh s t a lt =
-      by_suspended (task s t).state (record (activated s t) { fresh = t ∷ s.fresh }) s
+      by_suspended (task s t).state (record (activated_state s t) { fresh = t ∷ s.fresh }) s
       (λ (x : System). (u : ℕ) → is_in u x.fresh ≡ true → (task x u).state ≡ mode.Ready)
       (λ _ u h. fresh u (cases_eq u t) (or_cases _ _ h)) (λ _. a.fresh_ready)
     where
-      fresh : (u : ℕ) → (u ≡ t) ⊎ (u ≡ t → ⊥) → ((t == u) ≡ true) ⊎ (is_in u s.fresh ≡ true) → (task (activated s t) u).state ≡ mode.Ready
+      fresh : (u : ℕ) → (u ≡ t) ⊎ (u ≡ t → ⊥) → ((t == u) ≡ true) ⊎ (is_in u s.fresh ≡ true) → (task (activated_state s t) u).state ≡ mode.Ready
       fresh u (inl e) h =
-          let P : ℕ → Type 0 = λ x. (task (activated s t) x).state ≡ mode.Ready in
-          subst P (sym e) (ap (λ k. k.state) (get_or-set_same s.tasks t (record (task s t) { state = mode.Ready }) sleeping lt))
+          let P : ℕ → Type 0 = λ x. (task (activated_state s t) x).state ≡ mode.Ready in
+          subst P (sym e) (ap (λ k. k.state) (get_or-set_same s.tasks t (record (task s t) { state = mode.Ready }) sleeping_task lt))
       fresh u (inr n) (inl e) = absurd (n (sym (eqb-true t u e)))
       fresh u (inr n) (inr e) =
-          ap (λ k. k.state) (get_or-set_other s.tasks t u (record (task s t) { state = mode.Ready }) sleeping n) ∙ a.fresh_ready u e
+          ap (λ k. k.state) (get_or-set_other s.tasks t u (record (task s t) { state = mode.Ready }) sleeping_task n) ∙ a.fresh_ready u e
 
   -- ---- events of a task
 
@@ -212,7 +212,7 @@ module _ (config : Config) where
       subst (Acts t s) (sym h.4)
       (record {
         above = entered_above s t h.1 h.2;
-        calm = own t s (record (starts app t (task s t).frames (task s t)) { state = mode.Active; raised = (declaration config t).non });
+        calm = own t s (record (started_task app t (task s t).frames (task s t)) { state = mode.Active; raised = (declaration config t).non });
         settles = refl;
       })
 
@@ -255,17 +255,17 @@ module _ (config : Config) where
       → Apart config next
   step_apart app event.Boot s next h count a =
       subst (Apart config) (sym h.1)
-      (apart_kept s (settled (record s { tasks = autostarted config.tasks s.tasks; booted = true })) a (boot_calm s) (λ u x. absurd (false≢true x)))
+      (apart_kept s (settled_state (record s { tasks = autostarted_tasks config.tasks s.tasks; booted = true })) a (boot_calm s) (λ u x. absurd (false≢true x)))
   step_apart app (event.Admit t) s next h count a =
       subst (Apart config) (sym h.2)
-      (apart_kept s (admitted t s) a (admit_calm s t) (admit_fresh s t a (subst (λ n. t < n) (sym count) h.1)))
+      (apart_kept s (admitted_state t s) a (admit_calm s t) (admit_fresh s t a (subst (λ n. t < n) (sym count) h.1)))
   step_apart app (event.Enter t) s next h count a = apart_of s next t a (enter_acts app t s next h)
   step_apart app (event.Run t func item result) s next h count a = apart_of s next t a (run_acts app t func item result s next h a)
   step_apart app (event.Call t served status) s next h count a = apart_of s next t a (call_acts app t status served s next h a)
   step_apart app (event.Left t served) s next h count a = apart_of s next t a (left_acts app t served s next h a)
   step_apart app (event.Back t) s next h count a = apart_of s next t a (back_acts app t s next h a)
   step_apart app event.Idle s next h count a =
-      subst (Apart config) (sym h.2) (apart_kept s (settled s) a (λ u. itself u (task s u)) (λ u x. absurd (false≢true x)))
+      subst (Apart config) (sym h.2) (apart_kept s (settled_state s) a (λ u. itself u (task s u)) (λ u x. absurd (false≢true x)))
   step_apart app event.Stray s next h count a = absurd h
 
   pub opening_apart : (app : App) → Apart config (opening config app)

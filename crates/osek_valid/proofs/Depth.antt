@@ -3,8 +3,8 @@ use Rattle.std.proofs.Common.{◌≡◌, ℕ, ◌==◌, ◌⊎◌, List, [], ◌
 use Rattle.std.proofs.lemmas.Bool.{false≢true, false_from_ne_true, or_cases, eqb-true}
 use Rattle.sloth_base.specs.declared.config.Config.{Config}
 use Rattle.sloth_base.specs.declared.app.App.{App}
-use Rattle.osek_machine.specs.State.{Frame}
-use Rattle.app_rules.specs.Code.{CallChain, Calls, Reaches, is_in}
+use Rattle.osek_scheduler.specs.State.{Frame}
+use Rattle.code_rules.specs.Code.{CallChain, Calls, Reaches, is_in}
 use Rattle.osek_valid.proofs.Facts.{Facts}
 use Rattle.osek_valid.specs.Valid.{IsCalledFrom, AreCalls, AreDistinct}
 use Rattle.osek_valid.proofs.Stacks.{calls_reach}

@@ -5,11 +5,11 @@ use Rattle.std.proofs.lemmas.Bool.{false≢true, cases_eq, or_cases, eqb-true, n
 use Rattle.sloth_base.specs.declared.config.Config.{Config}
 use Rattle.sloth_base.specs.declared.config.TaskDecl.{TaskDecl}
 use Rattle.sloth_base.specs.declared.app.App.{App}
-use Rattle.osek_machine.specs.declared.state.TaskState.{TaskState}
-use Rattle.osek_machine.specs.declared.state.TaskState.TheVariants as mode
-use Rattle.osek_machine.specs.State.{Task, System, task}
+use Rattle.osek_scheduler.specs.declared.state.TaskState.{TaskState}
+use Rattle.osek_scheduler.specs.declared.state.TaskState.TheVariants as mode
+use Rattle.osek_scheduler.specs.State.{Task, System, task}
 use Rattle.sloth_base.specs.Named.{undeclared}
-use Rattle.osek_machine.specs.Priority.{is_in, greatest, highest, ceiling}
+use Rattle.osek_scheduler.specs.Priority.{is_in, greatest, highest_priority, ceiling}
 use Rattle.osek_valid.specs.Valid.{MayHold, InState, IsValidTask, Valid}
 use Rattle.osek_valid.specs.Apart.{priority_of, static_priority, Apart, Excludes}
 use Rattle.osek_valid.proofs.Apart.{at_least_static}
@@ -52,10 +52,10 @@ module _ (config : Config) (app : App) where
   pub below_ceiling : (t r : ℕ) → t < length config.tasks → MayHold config t r → static_priority config t ≤ ceiling config r
   below_ceiling t r lt may = by (cases_eq r 32) may
     where
-      at : (b : Bool) → (r == 32) ≡ b → static_priority config t ≤ cond b (highest config) (greatest (map (λ d. d.priority) (filter (λ d. is_in r d.resources) config.tasks)))
+      at : (b : Bool) → (r == 32) ≡ b → static_priority config t ≤ cond b (highest_priority config) (greatest (map (λ d. d.priority) (filter (λ d. is_in r d.resources) config.tasks)))
           → static_priority config t ≤ ceiling config r
       at b e h =
-          let P : Bool → Type 0 = λ c. static_priority config t ≤ cond c (highest config) (greatest (map (λ d. d.priority) (filter (λ d. is_in r d.resources) config.tasks))) in
+          let P : Bool → Type 0 = λ c. static_priority config t ≤ cond c (highest_priority config) (greatest (map (λ d. d.priority) (filter (λ d. is_in r d.resources) config.tasks))) in
           subst P (sym e) h
 
       by : (r ≡ 32) ⊎ (r ≡ 32 → ⊥) → MayHold config t r → static_priority config t ≤ ceiling config r

@@ -15,10 +15,10 @@ use Rattle.sloth_base.specs.declared.service.Service.{Service}
 use Rattle.sloth_base.specs.declared.service.Service.TheVariants as service
 use Rattle.sloth_base.specs.Arithmetic.{size_of}
 use Rattle.sloth_base.specs.Named.{function, missing, declaration, operation, label_of, nowhere, no_item, symbol_size}
-use Rattle.app_rules.specs.AppRange.{AppInRange, IsBody, IsOp, IsMask, mask_of, no_event}
-use Rattle.app_rules.specs.Code.{IsItem, serve, CallChain, Reaches, TaskReaches, Pauses, Ends, way, GoesOn, is_in, is_last, marked, labelled, fallen, is_fallen_into}
-use Rattle.app_rules.specs.WellFormed
-use Rattle.app_rules.specs.WellFormed.{HasEvents, held_before, Breaks, at_header, at_label, at_item, falling_in, on_cycle}
+use Rattle.code_rules.specs.AppRange.{AppInRange, IsBody, IsOp, IsMask, mask_of, no_event}
+use Rattle.code_rules.specs.Code.{IsItem, serve, CallChain, Reaches, TaskReaches, Pauses, Ends, way, GoesOn, is_in, is_last, mark_at_labels, held_at_labels, held_fallen_into, is_fallen_into}
+use Rattle.code_rules.specs.WellFormed
+use Rattle.code_rules.specs.WellFormed.{HasEvents, held_before, Breaks, at_header, at_label, at_item, falling_in, on_cycle}
 use Rattle.osek_valid.specs.Valid.{MayHold}
 
 -- ---- the facts
@@ -50,7 +50,7 @@ pub record Facts (config : Config) (app : App) : Type 0 where
   pub stays_inside : (f i j : ℕ) → f < length app.funcs → i < length (function app f).items → GoesOn (function app f) i j → j < length (function app f).items
   pub jumps_agree : (f i k : ℕ) → GoesTo app f i k → (label_of (function app f) k).holds ≡ held_before app f i
   pub labels_agree : (f i : ℕ) → f < length app.funcs
-      → LabelsAgree i (is_fallen_into (function app f) i) (fallen (function app f) i) (function app f).labels
+      → LabelsAgree i (is_fallen_into (function app f) i) (held_fallen_into (function app f) i) (function app f).labels
   pub releases_last : (f i r m : ℕ) → IsItem app f i (serve service.ReleaseResource r m) → (front : List ℕ) × (held_before app f i ≡ front ++ r ∷ [])
   pub takes_new : (f i r m : ℕ) → IsItem app f i (serve service.GetResource r m) → is_in r (held_before app f i) ≡ false
   pub calls_take_new : (f i g h j r m : ℕ) → IsItem app f i (op.Invoke g) → Reaches app g h → IsItem app h j (serve service.GetResource r m)
@@ -121,8 +121,8 @@ front_of r (x ∷ y ∷ ys) e = let f = front_of r (y ∷ ys) e in (x ∷ f.0, a
 
 -- the labels one by one, and all of them at one place
 labels_agree_of : (i : ℕ) (into : Bool) (held : List ℕ) (labels : List Label)
-    → ((k : ℕ) → k < length labels → (get_or labels k nowhere).item ≡ i → marked i (take k labels) into ≡ true
-    → (get_or labels k nowhere).holds ≡ labelled i (take k labels) held)
+    → ((k : ℕ) → k < length labels → (get_or labels k nowhere).item ≡ i → mark_at_labels i (take k labels) into ≡ true
+    → (get_or labels k nowhere).holds ≡ held_at_labels i (take k labels) held)
     → LabelsAgree i into held labels
 labels_agree_of i into held [] h = tt
 labels_agree_of i into held (l ∷ labels) h = (
@@ -194,12 +194,12 @@ module _ (config : Config) (app : App) (w : WellFormed.WellFormed config app) wh
       by (suc n) h = omega arith
 
   agrees : (f i k : ℕ) → f < length app.funcs → k < length (function app f).labels → (label_of (function app f) k).item ≡ i
-      → marked i (take k (function app f).labels) (is_fallen_into (function app f) i) ≡ true
-      → (label_of (function app f) k).holds ≡ labelled i (take k (function app f).labels) (fallen (function app f) i)
+      → mark_at_labels i (take k (function app f).labels) (is_fallen_into (function app f) i) ≡ true
+      → (label_of (function app f) k).holds ≡ held_at_labels i (take k (function app f).labels) (held_fallen_into (function app f) i)
   agrees f i k known lt is into =
       let g = function app f in
-      let P : ℕ → Type 0 = λ x. marked x (take k g.labels) (is_fallen_into g x) ≡ true in
-      let Q : ℕ → Type 0 = λ x. (label_of g k).holds ≡ labelled x (take k g.labels) (fallen g x) in
+      let P : ℕ → Type 0 = λ x. mark_at_labels x (take k g.labels) (is_fallen_into g x) ≡ true in
+      let Q : ℕ → Type 0 = λ x. (label_of g k).holds ≡ held_at_labels x (take k g.labels) (held_fallen_into g x) in
       subst Q is (stable_list _ _ (λ n. w.no_fault _ (f, known, at_label k lt (falling_in (subst P (sym is) into) n))))
 
   pub facts : Facts config app

@@ -5,15 +5,15 @@ use Rattle.std.proofs.lemmas.List.{length-set, get_or-set_same, get_or-set_other
 use Rattle.sloth_base.specs.declared.config.Config.{Config}
 use Rattle.sloth_base.specs.declared.app.App.{App}
 use Rattle.sloth_base.specs.declared.app.Op.{Op}
-use Rattle.osek_machine.specs.declared.state.TaskState.TheVariants as mode
-use Rattle.osek_machine.specs.State.{Frame, Task, System, sleeping, task, with_task}
-use Rattle.osek_machine.specs.Meaning.{going_on}
-use Rattle.osek_machine.specs.Services.{moved}
-use Rattle.osek_machine.specs.Steps.{settled, IsAt}
+use Rattle.osek_scheduler.specs.declared.state.TaskState.TheVariants as mode
+use Rattle.osek_scheduler.specs.State.{Frame, Task, System, sleeping_task, task, with_task}
+use Rattle.osek_scheduler.specs.Meaning.{going_on}
+use Rattle.osek_scheduler.specs.Services.{moved_frames}
+use Rattle.osek_scheduler.specs.Steps.{settled_state, IsAt}
 use Rattle.sloth_base.specs.Named.{declaration}
-use Rattle.app_rules.specs.Code.{IsItem, falls, held_after, is_in}
+use Rattle.code_rules.specs.Code.{IsItem, is_followed, held_after, is_in}
 use Rattle.osek_valid.proofs.Facts.{Facts}
-use Rattle.app_rules.specs.WellFormed.{held_before, HasEvents}
+use Rattle.code_rules.specs.WellFormed.{held_before, HasEvents}
 use Rattle.osek_valid.specs.Valid.{MayHold, IsFrame, IsCalledFrom, AreCalls, held_by, AreDistinct, InState, IsValidTask, Valid}
 use Rattle.osek_valid.proofs.Held.{falls_inside, falls_holds}
 
@@ -29,14 +29,14 @@ module _ (config : Config) (app : App) where
         ⊎_elim
         (λ (e : u ≡ t).
         subst (λ x. IsValidTask config app x (task (with_task s t new) x)) (sym e)
-        (subst (IsValidTask config app t) (sym (get_or-set_same s.tasks t new sleeping (subst (λ n. t < n) (sym v.count) declared))) good))
-        (λ (n : u ≡ t → ⊥). subst (IsValidTask config app u) (sym (get_or-set_other s.tasks t u new sleeping n)) (v.each u lt))
+        (subst (IsValidTask config app t) (sym (get_or-set_same s.tasks t new sleeping_task (subst (λ n. t < n) (sym v.count) declared))) good))
+        (λ (n : u ≡ t → ⊥). subst (IsValidTask config app u) (sym (get_or-set_other s.tasks t u new sleeping_task n)) (v.each u lt))
         (cases_eq u t);
     sizes = v.sizes;
     asleep = λ e. absurd (true≢false (sym booted ∙ e));
   }
 
-  pub settles : (s : System) → Valid config app s → Valid config app (settled s)
+  pub settles : (s : System) → Valid config app s → Valid config app (settled_state s)
   settles s v = record { count = v.count; each = v.each; sizes = v.sizes; asleep = v.asleep }
 
 -- the state of each task stays where that of the changed one does
@@ -46,12 +46,12 @@ state_kept s t u new e = at (cases_eq u t)
     here : (u < length s.tasks) ⊎ (length s.tasks ≤ u) → u ≡ t → (task (with_task s t new) u).state ≡ (task s u).state
     here (inl lt) is =
         let P : ℕ → Type 0 = λ x. (x < length s.tasks) → (task (with_task s t new) x).state ≡ (task s x).state in
-        subst P (sym is) (λ l. ap (λ k. k.state) (get_or-set_same s.tasks t new sleeping l) ∙ e) lt
-    here (inr past) is = ap (λ l. (get_or l u sleeping).state) (set_past s.tasks t new (subst (λ x. length s.tasks ≤ x) is past))
+        subst P (sym is) (λ l. ap (λ k. k.state) (get_or-set_same s.tasks t new sleeping_task l) ∙ e) lt
+    here (inr past) is = ap (λ l. (get_or l u sleeping_task).state) (set_past s.tasks t new (subst (λ x. length s.tasks ≤ x) is past))
 
     at : (u ≡ t) ⊎ (u ≡ t → ⊥) → (task (with_task s t new) u).state ≡ (task s u).state
     at (inl is) = here (cases_lt u (length s.tasks)) is
-    at (inr differs) = ap (λ k. k.state) (get_or-set_other s.tasks t u new sleeping differs)
+    at (inr differs) = ap (λ k. k.state) (get_or-set_other s.tasks t u new sleeping_task differs)
 
 -- ---- one task
 
@@ -121,20 +121,20 @@ module _ (config : Config) (app : App) (w : Facts config app) (t : ℕ) (k : Tas
   same_held new next e h = e ∙ r.held ∙ ap (λ l. held_by app outer ++ l) (sym h)
 
   -- the next place is fallen into
-  pub next_frame : falls o ≡ true → IsFrame app (going_on frame)
+  pub next_frame : is_followed o ≡ true → IsFrame app (going_on frame)
   next_frame goes = record { known = r.is_frame.known; inside = falls_inside config app w frame.func frame.item o r.item goes; words = r.is_frame.words }
 
-  pub falls_on : (new : Task) → falls o ≡ true → new.state ≡ k.state → new.frames ≡ moved k.frames
+  pub falls_on : (new : Task) → is_followed o ≡ true → new.state ≡ k.state → new.frames ≡ moved_frames k.frames
       → new.held ≡ held_by app outer ++ held_after o (held_before app frame.func frame.item) → new.raised ≡ ((declaration config t).non && not new.owed)
       → (new.owed ≡ true → new.held ≡ []) → length new.registers ≡ 25 → ((q : ℕ) → is_in q new.held ≡ true → MayHold config t q) → AreDistinct new.held
       → HasEvents (declaration config t) new.events → IsValidTask config app t new
   falls_on new goes state frames held raised owed registers listed distinct events =
-      runs_on config app t new (going_on frame) outer (state ∙ r.active) (frames ∙ ap moved r.frames) (next_frame goes) r.called
+      runs_on config app t new (going_on frame) outer (state ∙ r.active) (frames ∙ ap moved_frames r.frames) (next_frame goes) r.called
       (held ∙ ap (λ l. held_by app outer ++ l) (sym (falls_holds config app w frame.func frame.item o r.item goes)))
       raised owed registers listed distinct events
 
   -- it goes on with what it holds
-  pub goes_on : (new : Task) → falls o ≡ true → ((held : List ℕ) → held_after o held ≡ held) → new.state ≡ k.state → new.frames ≡ moved k.frames
+  pub goes_on : (new : Task) → is_followed o ≡ true → ((held : List ℕ) → held_after o held ≡ held) → new.state ≡ k.state → new.frames ≡ moved_frames k.frames
       → new.held ≡ k.held → new.raised ≡ k.raised → new.owed ≡ k.owed → length new.registers ≡ 25
       → HasEvents (declaration config t) new.events → IsValidTask config app t new
   goes_on new goes holds state frames held raised owed registers events =

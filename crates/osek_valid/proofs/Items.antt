@@ -8,16 +8,16 @@ use Rattle.sloth_base.specs.declared.app.App.{App}
 use Rattle.sloth_base.specs.declared.app.Op.{Op}
 use Rattle.sloth_base.specs.declared.app.Op.TheVariants as op
 use Rattle.sloth_base.specs.declared.app.Width.{Width}
-use Rattle.osek_machine.specs.State.{Frame, Task, System, task, entry_frame}
+use Rattle.osek_scheduler.specs.State.{Frame, Task, System, task, entry_frame}
 use Rattle.sloth_base.specs.Named.{function, label_of, nowhere}
 use Rattle.std.proofs.lemmas.Option.{get_or_from_slice_get, same_Some}
-use Rattle.osek_machine.specs.Meaning.{Meant, meaning, execution, writes, loads, stores, goes_to, accessed, stored, bytes_of, with_register, register, going_on, target, on_some, returned, loaded}
-use Rattle.osek_machine.specs.Services.{moved}
-use Rattle.osek_machine.specs.Steps.{Executes}
-use Rattle.osek_machine.proofs.Tests.{if_true_some, on_some_from}
-use Rattle.app_rules.specs.Code.{falls, held_after}
+use Rattle.osek_scheduler.specs.Meaning.{Meant, meaning, execution, write_meaning, load_meaning, store_meaning, goes_to, accessed_bytes, bytes_after_store, bytes_of, with_register, register, going_on, target, on_some, returned, loaded_word}
+use Rattle.osek_scheduler.specs.Services.{moved_frames}
+use Rattle.osek_scheduler.specs.Steps.{Executes}
+use Rattle.osek_scheduler.proofs.Tests.{if_true_some, on_some_from}
+use Rattle.code_rules.specs.Code.{is_followed, held_after}
 use Rattle.osek_valid.proofs.Facts.{Facts, GoesTo}
-use Rattle.app_rules.specs.WellFormed.{held_before}
+use Rattle.code_rules.specs.WellFormed.{held_before}
 use Rattle.osek_valid.specs.Valid.{IsCalledFrom, held_by, IsValidTask, Valid}
 use Rattle.osek_valid.proofs.Held.{held_at_begin, falls_inside, falls_holds, jumps_inside, jumps_holds}
 use Rattle.osek_valid.proofs.Going.{keeps, settles, Running, running, runs_on}
@@ -34,7 +34,7 @@ length-bytes_of : (n value : ℕ) → length (bytes_of n value) ≡ n
 length-bytes_of zero value = refl
 length-bytes_of (suc n) value = ap suc (length-bytes_of n (value / 256))
 
-length-stored : (w : Width) (bytes : List ℕ) (offset value : ℕ) → offset + size_of w ≤ length bytes → length (stored w bytes offset value) ≡ length bytes
+length-stored : (w : Width) (bytes : List ℕ) (offset value : ℕ) → offset + size_of w ≤ length bytes → length (bytes_after_store w bytes offset value) ≡ length bytes
 length-stored w bytes offset value le = sum (bytes_of (size_of w) _) (length-bytes_of (size_of w) _)
   where
     count : (a b c : ℕ) → a ≡ offset → b ≡ size_of w → c ≡ length bytes - (offset + size_of w) → a + (b + c) ≡ length bytes
@@ -52,7 +52,7 @@ length-with_register zero value x = refl
 length-with_register (suc rd) value x = length-set x (suc rd - 5) value
 
 -- where an access lies inside its symbol
-pub accessed_is : (symbols : List (List ℕ)) (y : ℕ) (w : Width) (offset : ℕ) (bytes : List ℕ) → accessed symbols y w offset ≡ Some bytes
+pub accessed_is : (symbols : List (List ℕ)) (y : ℕ) (w : Width) (offset : ℕ) (bytes : List ℕ) → accessed_bytes symbols y w offset ≡ Some bytes
     → (bytes ≡ get_or symbols y []) × (offset + size_of w ≤ length (get_or symbols y []))
 accessed_is symbols y w offset bytes e = by (ltb y (length symbols) && leb (offset + size_of w) (length (get_or symbols y []))) refl e
   where
@@ -72,34 +72,34 @@ module _ (config : Config) (app : App) (w : Facts config app) (t : ℕ) (k : Tas
   fine m meant e f = subst Fine (same_Some m meant e) f
 
   module _ (o : Op) (r : Running config app t k frame outer o) where
-    writes_fine : (rd value : ℕ) (meant : Meant) → falls o ≡ true → ((held : List ℕ) → held_after o held ≡ held)
-        → writes rd value k.registers frame outer symbols ≡ Some meant → Fine meant
+    writes_fine : (rd value : ℕ) (meant : Meant) → is_followed o ≡ true → ((held : List ℕ) → held_after o held ≡ held)
+        → write_meaning rd value k.registers frame outer symbols ≡ Some meant → Fine meant
     writes_fine rd value meant goes holds e =
         fine _ meant e (
           going.goes_on config app w t k frame outer o r
               (record k { registers = with_register k.registers rd value; frames = going_on frame ∷ outer })
-              goes holds refl (sym (ap moved r.frames)) refl refl refl (length-with_register rd value k.registers ∙ r.registers) r.events,
+              goes holds refl (sym (ap moved_frames r.frames)) refl refl refl (length-with_register rd value k.registers ∙ r.registers) r.events,
           refl,
         )
 
-    loads_fine : (width : Width) (rd y offset : ℕ) (meant : Meant) → falls o ≡ true → ((held : List ℕ) → held_after o held ≡ held)
-        → loads width rd y offset k.registers frame outer symbols ≡ Some meant → Fine meant
+    loads_fine : (width : Width) (rd y offset : ℕ) (meant : Meant) → is_followed o ≡ true → ((held : List ℕ) → held_after o held ≡ held)
+        → load_meaning width rd y offset k.registers frame outer symbols ≡ Some meant → Fine meant
     loads_fine width rd y offset meant goes holds e =
-        let found = on_some_from (accessed symbols y width offset) (λ bytes. writes rd (loaded width bytes offset) k.registers frame outer symbols) meant e in
-        writes_fine rd (loaded width found.0 offset) meant goes holds found.2
+        let found = on_some_from (accessed_bytes symbols y width offset) (λ bytes. write_meaning rd (loaded_word width bytes offset) k.registers frame outer symbols) meant e in
+        writes_fine rd (loaded_word width found.0 offset) meant goes holds found.2
 
-    stores_fine : (width : Width) (rs y offset : ℕ) (meant : Meant) → falls o ≡ true → ((held : List ℕ) → held_after o held ≡ held)
-        → stores width rs y offset k.registers frame outer symbols ≡ Some meant → Fine meant
+    stores_fine : (width : Width) (rs y offset : ℕ) (meant : Meant) → is_followed o ≡ true → ((held : List ℕ) → held_after o held ≡ held)
+        → store_meaning width rs y offset k.registers frame outer symbols ≡ Some meant → Fine meant
     stores_fine width rs y offset meant goes holds e =
-        let found = on_some_from (accessed symbols y width offset) (λ bytes. Some (record {
+        let found = on_some_from (accessed_bytes symbols y width offset) (λ bytes. Some (record {
           registers = k.registers;
           frames = going_on frame ∷ outer;
-          symbols = set symbols y (stored width bytes offset (register k.registers rs));
+          symbols = set symbols y (bytes_after_store width bytes offset (register k.registers rs));
           result = register k.registers rs;
         })) meant e in
         let inside = accessed_is symbols y width offset found.0 found.1 in
         fine _ meant found.2 (
-          going.goes_on config app w t k frame outer o r (record k { frames = going_on frame ∷ outer }) goes holds refl (sym (ap moved r.frames))
+          going.goes_on config app w t k frame outer o r (record k { frames = going_on frame ∷ outer }) goes holds refl (sym (ap moved_frames r.frames))
               refl refl refl r.registers r.events,
           set_lengths symbols y _
               (length-stored width found.0 offset (register k.registers rs) (subst (λ l. offset + size_of width ≤ length l) (sym inside.0) inside.1)

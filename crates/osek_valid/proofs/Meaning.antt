@@ -12,13 +12,13 @@ use Rattle.sloth_base.specs.declared.app.Symbol.{Symbol}
 use Rattle.sloth_base.specs.declared.app.Width.{Width}
 use Rattle.sloth_base.specs.declared.event.Event.{Event}
 use Rattle.sloth_base.specs.declared.event.Event.TheVariants as event
-use Rattle.osek_machine.specs.declared.state.TaskState.{TaskState}
-use Rattle.osek_machine.specs.declared.state.TaskState.TheVariants as mode
-use Rattle.osek_machine.specs.State.{Frame, Task, System, task, with_task}
+use Rattle.osek_scheduler.specs.declared.state.TaskState.{TaskState}
+use Rattle.osek_scheduler.specs.declared.state.TaskState.TheVariants as mode
+use Rattle.osek_scheduler.specs.State.{Frame, Task, System, task, with_task}
 use Rattle.sloth_base.specs.Named.{function, operation, symbol_size, no_symbol, label_of, nowhere}
-use Rattle.osek_machine.specs.Priority.{is_in, IsTop}
-use Rattle.osek_machine.specs.Meaning.{Meant, meaning, loads, stores, accessed, register, is_own, registers_of, execution, target, on_some, returned}
-use Rattle.osek_machine.specs.InTime.{admitted_line}
+use Rattle.osek_scheduler.specs.Priority.{is_in, IsTop}
+use Rattle.osek_scheduler.specs.Meaning.{Meant, meaning, load_meaning, store_meaning, accessed_bytes, register, is_own, registers_of, execution, target, on_some, returned}
+use Rattle.osek_scheduler.specs.InTime.{admitted_line}
 use Rattle.sloth_base.specs.ServiceCodes.{is_service, object_kind}
 use Rattle.sloth_base.specs.declared.service.ObjectKind.{ObjectKind}
 use Rattle.sloth_base.specs.declared.service.ObjectKind.TheVariants as object
@@ -28,13 +28,13 @@ use Rattle.sloth_base.proofs.Services.{same_service}
 use Rattle.std.specs.List.{list_all}
 use Rattle.std.proofs.lemmas.List.{append_assoc}
 use Rattle.std.proofs.lemmas.Option.{slice_get-get_or}
-use Rattle.osek_machine.specs.Services.{is_there, is_resource, Outcome, GoesOn, Leaves, is_object}
-use Rattle.osek_machine.specs.Outcomes.{outcome}
-use Rattle.osek_machine.specs.Steps.{settled, IsAt, OsekStep}
-use Rattle.osek_machine.proofs.Tests.{on_some_is, if_true_is}
+use Rattle.osek_scheduler.specs.Services.{is_there, is_resource, Outcome, GoesOn, Leaves, is_object}
+use Rattle.osek_scheduler.specs.Outcomes.{outcome}
+use Rattle.osek_scheduler.specs.Steps.{settled_state, IsAt, OsekStep}
+use Rattle.osek_scheduler.proofs.Tests.{on_some_is, if_true_is}
 use Rattle.sloth_base.specs.Arithmetic.{size_of}
-use Rattle.app_rules.specs.AppRange.{IsRegister, IsOp, IsLabel, IsResource, IsObject}
-use Rattle.app_rules.specs.Code.{serve, is_last}
+use Rattle.code_rules.specs.AppRange.{IsRegister, IsOp, IsLabel, IsResource, IsObject}
+use Rattle.code_rules.specs.Code.{serve, is_last}
 use Rattle.osek_valid.proofs.Facts.{Facts}
 use Rattle.osek_valid.specs.Valid.{held_by, AreCalls, IsCalledFrom, InState, IsValidTask, Valid}
 use Rattle.osek_valid.specs.Apart.{Apart}
@@ -94,17 +94,17 @@ module _ (config : Config) (app : App) (w : Facts config app) (t : ℕ) (k : Tas
   Means o = (m : Meant) × (meaning app o k.registers frame outer symbols ≡ Some m)
 
   inside : (y offset : ℕ) (width : Width) → y < length app.symbols → offset + size_of width ≤ symbol_size app y
-      → accessed symbols y width offset ≡ Some (get_or symbols y [])
+      → accessed_bytes symbols y width offset ≡ Some (get_or symbols y [])
   inside y offset width lt le =
       let r = sizes_at symbols app.symbols y same lt in
       cond-true _ _ _ (and_from _ _ (lt-ltb _ _ r.0) (le-leb _ _ (subst (λ n. offset + size_of width ≤ n) (sym r.1) le)))
 
   load_means : (width : Width) (rd y offset : ℕ) → y < length app.symbols → offset + size_of width ≤ symbol_size app y
-      → (m : Meant) × (loads width rd y offset k.registers frame outer symbols ≡ Some m)
+      → (m : Meant) × (load_meaning width rd y offset k.registers frame outer symbols ≡ Some m)
   load_means width rd y offset lt le = (_, on_some_is _ _ (get_or symbols y []) (Some _) (inside y offset width lt le) refl)
 
   store_means : (width : Width) (rs y offset : ℕ) → y < length app.symbols → offset + size_of width ≤ symbol_size app y
-      → (m : Meant) × (stores width rs y offset k.registers frame outer symbols ≡ Some m)
+      → (m : Meant) × (store_meaning width rs y offset k.registers frame outer symbols ≡ Some m)
   store_means width rs y offset lt le = (_, on_some_is _ _ (get_or symbols y []) (Some _) (inside y offset width lt le) refl)
 
   masked_in : (y mask x : ℕ) (width : Width) → mask + size_of width ≤ symbol_size app y → bit_and x mask + size_of width ≤ symbol_size app y
@@ -253,11 +253,11 @@ module _ (config : Config) (app : App) where
       answered_by call at (GoesOn status after) e = (
         event.Call t call.service status,
         refl,
-        settled after,
+        settled_state after,
         (booted, (after, record { top = top_but; call = call; at = at; same = refl; names = names call at; is = e }, refl)),
       )
       answered_by call at (Leaves after) e =
-          (event.Left t call.service, refl, settled after, (booted, (after, record { top = top_but; call = call; at = at; same = refl; names = names call at; is = e }, refl)))
+          (event.Left t call.service, refl, settled_state after, (booted, (after, record { top = top_but; call = call; at = at; same = refl; names = names call at; is = e }, refl)))
 
       by : (o : Op) → (at : IsAt app s t o)
           → ((m : Meant) × (meaning app o (task s t).registers at.frame at.outer s.symbols ≡ Some m)) ⊎ ((call : Call) × (o ≡ op.Serve call))
@@ -265,7 +265,7 @@ module _ (config : Config) (app : App) where
       by o at (inl m) = (
         event.Run t at.frame.func at.frame.item m.0.result,
         refl,
-        settled (record (with_task s t (record (task s t) { registers = m.0.registers; frames = m.0.frames })) { symbols = m.0.symbols }),
+        settled_state (record (with_task s t (record (task s t) { registers = m.0.registers; frames = m.0.frames })) { symbols = m.0.symbols }),
         (
           booted,
           record {

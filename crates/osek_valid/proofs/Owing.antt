@@ -10,18 +10,18 @@ use Rattle.sloth_base.specs.declared.service.Service.TheVariants as service
 use Rattle.sloth_base.specs.Named.{declaration}
 use Rattle.sloth_base.specs.ServiceCodes.{is_service}
 use Rattle.sloth_base.proofs.Services.{same_service}
-use Rattle.app_rules.specs.Code.{IsItem, serve, TaskReaches}
+use Rattle.code_rules.specs.Code.{IsItem, serve, TaskReaches}
 use Rattle.stack_bounds.specs.Bounds.{ReachesSchedule}
-use Rattle.osek_machine.specs.declared.state.TaskState.TheVariants as mode
-use Rattle.osek_machine.specs.State.{Frame, Task, System, sleeping, task, with_task, opening}
-use Rattle.osek_machine.specs.Services.{activated, with_events, Outcome, GoesOn, Leaves, IsAfter, starts}
-use Rattle.osek_machine.specs.Changes.{changed, with_change}
-use Rattle.osek_machine.specs.Outcomes.{OnPlans, all_plans, decision, outcome}
-use Rattle.osek_machine.specs.declared.change.TaskChange.{TaskChange}
-use Rattle.osek_machine.specs.declared.change.TaskChange.TheVariants as change
-use Rattle.osek_machine.specs.declared.plan.Plan.{Plan}
-use Rattle.osek_machine.proofs.Outcomes.{by_suspended, on_all, on_tested, KeptByOthers, outcome_keeps}
-use Rattle.osek_machine.specs.Steps.{OsekStep, Serves, admitted}
+use Rattle.osek_scheduler.specs.declared.state.TaskState.TheVariants as mode
+use Rattle.osek_scheduler.specs.State.{Frame, Task, System, sleeping_task, task, with_task, opening}
+use Rattle.osek_scheduler.specs.Services.{activated_state, with_events, Outcome, GoesOn, Leaves, IsAfter, started_task}
+use Rattle.osek_scheduler.specs.Changes.{changed_task, with_change}
+use Rattle.osek_scheduler.specs.Outcomes.{OnPlans, all_plans, decision, outcome}
+use Rattle.osek_scheduler.specs.declared.change.TaskChange.{TaskChange}
+use Rattle.osek_scheduler.specs.declared.change.TaskChange.TheVariants as change
+use Rattle.osek_scheduler.specs.declared.plan.Plan.{Plan}
+use Rattle.osek_scheduler.proofs.Outcomes.{by_suspended, on_all, on_tested, KeptByOthers, outcome_keeps}
+use Rattle.osek_scheduler.specs.Steps.{OsekStep, ServesCall, admitted_state}
 use Rattle.osek_valid.specs.Valid.{Valid}
 use Rattle.osek_valid.specs.Together.{OwesBySchedule}
 use Rattle.osek_valid.proofs.Apart.{at_task}
@@ -35,7 +35,7 @@ abbrev is_pause : TaskChange → Bool
 is_pause change.Pause = true
 is_pause _ = false
 
-owed_before : (c : TaskChange) (k : Task) → is_pause c ≡ false → (changed c k).owed ≡ true → k.owed ≡ true
+owed_before : (c : TaskChange) (k : Task) → is_pause c ≡ false → (changed_task c k).owed ≡ true → k.owed ≡ true
 owed_before change.Pause k e owed = absurd (false≢true (sym e))
 owed_before (change.ComeBack non) k e owed = absurd (false≢true owed)
 owed_before c k e owed = owed
@@ -55,7 +55,7 @@ module _ (app : App) where
       at_task s t u new (λ k. k.owed ≡ true → ReachesSchedule app u) (each u)
       (λ e. subst (λ x. new.owed ≡ true → ReachesSchedule app x) (sym e) h)
 
-  readied : (s : System) (t : ℕ) → Owes s → Owes (activated s t)
+  readied : (s : System) (t : ℕ) → Owes s → Owes (activated_state s t)
   readied s t each = one s t (record (task s t) { state = mode.Ready }) each (each t)
 
   eventful : (s : System) (t events : ℕ) → Owes s → Owes (with_events s t events)
@@ -69,7 +69,7 @@ module _ (app : App) where
   module _ (config : Config) (s : System) (c : ℕ) (each : Owes s) where
     -- a change of the caller with which it owes no more than before
     own : (p : Plan) → not (is_pause p.change) ≡ true → Owes (with_change c p.change s)
-    own p h = one s c (changed p.change (task s c)) each (λ owed. each c (owed_before p.change (task s c) (not-true _ h) owed))
+    own p h = one s c (changed_task p.change (task s c)) each (λ owed. each c (owed_before p.change (task s c) (not-true _ h) owed))
 
     outcome_owes : (sv : Service) (o m : ℕ) → (sv ≡ service.Schedule → ReachesSchedule app c) → IsAfter Owes (outcome config sv o m c s)
     outcome_owes sv o m reaches = outcome_keeps Owes owes_besides c s (decision config sv o m c s) (by (is_service sv service.Schedule) refl)
@@ -77,18 +77,18 @@ module _ (app : App) where
         by : (b : Bool) → is_service sv service.Schedule ≡ b → OnPlans s (λ p. Owes (with_change c p.change s)) (decision config sv o m c s)
         by true e =
             on_all s (λ p. Owes (with_change c p.change s))
-            (λ p. one s c (changed p.change (task s c)) each (λ _. reaches (same_service sv service.Schedule e))) (decision config sv o m c s)
+            (λ p. one s c (changed_task p.change (task s c)) each (λ _. reaches (same_service sv service.Schedule e))) (decision config sv o m c s)
         by false e =
             on_tested s (λ p. Owes (with_change c p.change s)) (λ p. not (is_pause p.change)) own (decision config sv o m c s) (pauses_alone config sv o m c s e)
 
   -- ---- all events
 
-  starts_owes : (t : ℕ) (frames : List Frame) (old : Task) → (starts app t frames old).owed ≡ old.owed
+  starts_owes : (t : ℕ) (frames : List Frame) (old : Task) → (started_task app t frames old).owed ≡ old.owed
   starts_owes t [] old = refl
   starts_owes t (frame ∷ outer) old = refl
 
   module _ (config : Config) (w : Facts config app) where
-    serves_owes : (t : ℕ) (served : Service) (s : System) (answer : Outcome) → Serves config app t served s answer → Valid config app s → Owes s → IsAfter Owes answer
+    serves_owes : (t : ℕ) (served : Service) (s : System) (answer : Outcome) → ServesCall config app t served s answer → Valid config app s → Owes s → IsAfter Owes answer
     serves_owes t served s answer h v each = subst (IsAfter Owes) h.is (outcome_owes config s t each served h.call.object h.call.mask reaches)
       where
         reaches : served ≡ service.Schedule → ReachesSchedule app t
@@ -104,9 +104,9 @@ module _ (app : App) where
               subst (λ (x : Service). IsItem app f h.at.frame.item (serve x h.call.object h.call.mask)) is r.item,
             )
 
-    admit_owes : (s : System) (t : ℕ) → Owes s → Owes (admitted t s)
+    admit_owes : (s : System) (t : ℕ) → Owes s → Owes (admitted_state t s)
     admit_owes s t each =
-        by_suspended (task s t).state (record (activated s t) { fresh = t ∷ s.fresh }) s Owes (λ _. readied s t each) (λ _. each)
+        by_suspended (task s t).state (record (activated_state s t) { fresh = t ∷ s.fresh }) s Owes (λ _. readied s t each) (λ _. each)
 
     pub step_owes : (e : Event) (s next : System) → OsekStep config app e s next → Valid config app s → Owes s → Owes next
     step_owes event.Boot s next h v each =
@@ -114,7 +114,7 @@ module _ (app : App) where
     step_owes (event.Admit t) s next h v each = subst Owes (sym h.2) (admit_owes s t each)
     step_owes (event.Enter t) s next h v each =
         subst Owes (sym h.4)
-        (one s t (record (starts app t (task s t).frames (task s t)) { state = mode.Active; raised = (declaration config t).non }) each
+        (one s t (record (started_task app t (task s t).frames (task s t)) { state = mode.Active; raised = (declaration config t).non }) each
         (λ e. each t (sym (starts_owes t (task s t).frames (task s t)) ∙ e)))
     step_owes (event.Run t func item result) s next h v each =
         subst Owes (sym h.1.is) (one s t (record (task s t) { registers = h.1.meant.registers; frames = h.1.meant.frames }) each (each t))

@@ -5,12 +5,12 @@ use Rattle.sloth_base.specs.declared.config.Config.{Config}
 use Rattle.sloth_base.specs.declared.app.App.{App}
 use Rattle.sloth_base.specs.declared.event.Event.{Event}
 use Rattle.sloth_base.specs.declared.event.Event.TheVariants as event
-use Rattle.osek_machine.specs.declared.state.TaskState.{TaskState}
-use Rattle.osek_machine.specs.declared.state.TaskState.TheVariants as mode
-use Rattle.osek_machine.specs.State.{System, task}
-use Rattle.osek_machine.specs.Priority.{rank, IsDue, IsTop}
-use Rattle.osek_machine.specs.InTime.{admitted_line}
-use Rattle.osek_machine.specs.Steps.{OsekStep}
+use Rattle.osek_scheduler.specs.declared.state.TaskState.{TaskState}
+use Rattle.osek_scheduler.specs.declared.state.TaskState.TheVariants as mode
+use Rattle.osek_scheduler.specs.State.{System, task}
+use Rattle.osek_scheduler.specs.Priority.{rank, IsDue, IsTop}
+use Rattle.osek_scheduler.specs.InTime.{admitted_line}
+use Rattle.osek_scheduler.specs.Steps.{OsekStep}
 use Rattle.osek_valid.proofs.Facts.{Facts}
 use Rattle.osek_valid.specs.Valid.{Valid}
 use Rattle.osek_valid.specs.Apart.{Apart}

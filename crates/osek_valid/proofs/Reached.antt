@@ -3,12 +3,12 @@ use Rattle.std.proofs.Common.{List, [], ◌∷◌, subst, sym}
 use Rattle.sloth_base.specs.declared.config.Config.{Config}
 use Rattle.sloth_base.specs.declared.app.App.{App}
 use Rattle.sloth_base.specs.declared.event.Stamped.{Stamped}
-use Rattle.osek_machine.specs.State.{System, task}
-use Rattle.osek_machine.specs.Runs.{Leads}
+use Rattle.osek_scheduler.specs.State.{System, task}
+use Rattle.osek_scheduler.specs.Runs.{Leads}
 use Rattle.osek_valid.proofs.Facts.{Facts, facts}
 use Rattle.osek_valid.specs.Valid.{Valid}
 use Rattle.osek_valid.specs.Apart.{Apart, Excludes}
-use Rattle.osek_valid.specs.Laws.{ItemsMean}
+use Rattle.osek_valid.specs.WellFormedRuns.{ItemsMean}
 use Rattle.osek_valid.proofs.Going.{running}
 use Rattle.osek_valid.proofs.Meaning.{position, means}
 use Rattle.osek_valid.proofs.Steps.{step_valid}

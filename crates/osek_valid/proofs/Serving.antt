@@ -11,18 +11,18 @@ use Rattle.sloth_base.specs.declared.app.Op.{Op}
 use Rattle.sloth_base.specs.declared.app.Op.TheVariants as op
 use Rattle.sloth_base.specs.declared.service.Service.{Service}
 use Rattle.sloth_base.specs.declared.service.Service.TheVariants as service
-use Rattle.osek_machine.specs.declared.state.TaskState.{TaskState}
-use Rattle.osek_machine.specs.declared.state.TaskState.TheVariants as mode
-use Rattle.osek_machine.specs.State.{Frame, Task, System, sleeping, task, with_task, zero_registers}
+use Rattle.osek_scheduler.specs.declared.state.TaskState.{TaskState}
+use Rattle.osek_scheduler.specs.declared.state.TaskState.TheVariants as mode
+use Rattle.osek_scheduler.specs.State.{Frame, Task, System, sleeping_task, task, with_task, zero_registers}
 use Rattle.sloth_base.specs.Named.{declaration, undeclared}
 use Rattle.sloth_base.specs.Status.{E_OK, E_OS_LIMIT, E_OS_STATE}
-use Rattle.osek_machine.specs.Services.{activated, answers, answers_with, answered, answered_with, ended, waits, woken, with_events, set_events, moved, Outcome, IsAfter, state_number}
-use Rattle.osek_machine.specs.Outcomes.{carried_out, shown, OnPlans, decision, outcome}
-use Rattle.osek_machine.proofs.Outcomes.{on_outcome}
-use Rattle.osek_machine.specs.Steps.{Serves}
-use Rattle.app_rules.specs.Code.{serve, falls, held_after, Pauses, Ends, is_in, without_last}
+use Rattle.osek_scheduler.specs.Services.{activated_state, answers, answers_with, answered_state, answered_with, ended_state, waiting_task, woken_state, with_events, set_events, moved_frames, Outcome, IsAfter, state_number}
+use Rattle.osek_scheduler.specs.Outcomes.{carried_out, shown, OnPlans, decision, outcome}
+use Rattle.osek_scheduler.proofs.Outcomes.{on_outcome}
+use Rattle.osek_scheduler.specs.Steps.{ServesCall}
+use Rattle.code_rules.specs.Code.{serve, is_followed, held_after, Pauses, Ends, is_in, without_last}
 use Rattle.osek_valid.proofs.Facts.{Facts}
-use Rattle.app_rules.specs.WellFormed.{held_before, HasEvents}
+use Rattle.code_rules.specs.WellFormed.{held_before, HasEvents}
 use Rattle.osek_valid.specs.Valid.{MayHold, held_by, InState, IsValidTask, Valid}
 use Rattle.osek_valid.proofs.Stacks.{is_in-append, distinct-push, in-without_last, distinct-without_last, without_last-push, task_reaches, outer_free, outer_new, in_body_alone}
 use Rattle.osek_valid.proofs.Going.{keeps, state_kept, Running, running, falls_on, goes_on}
@@ -66,13 +66,13 @@ module _ (config : Config) (app : App) where
       }
 
   pub activated_valid : (s : System) (t : ℕ) → Valid config app s → s.booted ≡ true → t < length config.tasks → (task s t).state ≡ mode.Suspended
-      → Valid config app (activated s t)
+      → Valid config app (activated_state s t)
   activated_valid s t v booted declared asleep =
       keeps config app s t (record (task s t) { state = mode.Ready }) v booted declared (ready_task t (task s t) (v.each t declared) asleep)
 
   -- a task that waits becomes Ready
   woken_valid : (s : System) (t mask : ℕ) → Valid config app s → s.booted ≡ true → t < length config.tasks → (task s t).state ≡ mode.Waiting mask
-      → Valid config app (activated s t)
+      → Valid config app (activated_state s t)
   woken_valid s t mask v booted declared waiting =
       let k = v.each t declared in
       let rests = subst (InState config t (task s t)) waiting k.in_state in
@@ -110,12 +110,12 @@ module _ (config : Config) (app : App) where
       by (mode.Waiting mask) e h = (record { holds = h.0.holds; not_owed = h.0.not_owed; not_raised = h.0.not_raised }, h.1, h.2, h.3)
 
   woken_by : (m : TaskState) (events t : ℕ) (s : System) → (task s t).state ≡ m → Valid config app s → s.booted ≡ true → t < length config.tasks
-      → Valid config app (woken m events t s)
+      → Valid config app (woken_state m events t s)
   woken_by mode.Suspended events t s e v booted declared = v
   woken_by mode.Ready events t s e v booted declared = v
   woken_by mode.Active events t s e v booted declared = v
   woken_by (mode.Waiting mask) events t s e v booted declared =
-      cond_both (bit_and events mask == 0) s (activated s t) (Valid config app) (λ _. v) (λ _. woken_valid s t mask v booted declared e)
+      cond_both (bit_and events mask == 0) s (activated_state s t) (Valid config app) (λ _. v) (λ _. woken_valid s t mask v booted declared e)
 
   set_events_valid : (s : System) (t mask : ℕ) → Valid config app s → s.booted ≡ true → t < length config.tasks → ((task s t).state ≡ mode.Suspended → ⊥)
       → HasEvents (declaration config t) mask → Valid config app (set_events t mask s)
@@ -144,24 +144,24 @@ module _ (config : Config) (app : App) (w : Facts config app) (s : System) (v : 
   k = task s c
 
   -- the caller goes on with what it holds
-  on : (o : Op) → Running config app c k frame outer o → falls o ≡ true → ((held : List ℕ) → held_after o held ≡ held) → (new : Task) → new.state ≡ k.state
-      → new.frames ≡ moved k.frames → new.held ≡ k.held → new.raised ≡ k.raised → new.owed ≡ k.owed → length new.registers ≡ 25
+  on : (o : Op) → Running config app c k frame outer o → is_followed o ≡ true → ((held : List ℕ) → held_after o held ≡ held) → (new : Task) → new.state ≡ k.state
+      → new.frames ≡ moved_frames k.frames → new.held ≡ k.held → new.raised ≡ k.raised → new.owed ≡ k.owed → length new.registers ≡ 25
       → HasEvents (declaration config c) new.events → Valid config app (with_task s c new)
   on o r goes holds new state frames held raised owed registers events =
       keeps config app s c new v booted r.declared (goes_on config app w c k frame outer o r new goes holds state frames held raised owed registers events)
 
-  answered_is : (o : Op) → Running config app c k frame outer o → falls o ≡ true → ((held : List ℕ) → held_after o held ≡ held) → (status : ℕ)
-      → Valid config app (answered status c s)
+  answered_is : (o : Op) → Running config app c k frame outer o → is_followed o ≡ true → ((held : List ℕ) → held_after o held ≡ held) → (status : ℕ)
+      → Valid config app (answered_state status c s)
   answered_is o r goes holds status = on o r goes holds (answers status k) refl refl refl refl refl (length-set k.registers 5 status ∙ r.registers) r.events
 
-  answered_with_is : (o : Op) → Running config app c k frame outer o → falls o ≡ true → ((held : List ℕ) → held_after o held ≡ held) → (value : ℕ)
+  answered_with_is : (o : Op) → Running config app c k frame outer o → is_followed o ≡ true → ((held : List ℕ) → held_after o held ≡ held) → (value : ℕ)
       → Valid config app (answered_with value c s)
   answered_with_is o r goes holds value =
       on o r goes holds (answers_with value k) refl refl refl refl refl (length-set (set k.registers 5 E_OK) 6 value ∙ length-set k.registers 5 E_OK ∙ r.registers)
       r.events
 
   -- the state of each task behind the caller's answer
-  same_state : (status t : ℕ) → (task (answered status c s) t).state ≡ (task s t).state
+  same_state : (status t : ℕ) → (task (answered_state status c s) t).state ≡ (task s t).state
   same_state status t = state_kept s c t (answers status k) refl
 
   -- ---- nothing is held
@@ -183,7 +183,7 @@ module _ (config : Config) (app : App) (w : Facts config app) (s : System) (v : 
   -- ---- the end of a task
 
   ended_is : (sv : Service) (o m : ℕ) → Running config app c k frame outer (serve sv o m) → Ends sv
-      → Valid config app (ended c s)
+      → Valid config app (ended_state c s)
   ended_is sv o m r ends =
       let none = ends_free sv o m r ends in
       keeps config app s c (record k { state = mode.Suspended; registers = zero_registers; frames = []; events = 0; raised = false }) v booted r.declared
@@ -206,11 +206,11 @@ module _ (config : Config) (app : App) (w : Facts config app) (s : System) (v : 
       let gone = ended_is service.ChainTask t m r (inr refl) in
       let new : Task = record k { state = mode.Suspended; registers = zero_registers; frames = []; events = 0; raised = false } in
       let declared = (w.items frame.func frame.item (serve service.ChainTask t m) r.item).0 in (
-        λ _. activated_valid config app (ended c s) c gone booted r.declared
-            (ap (λ x. x.state) (get_or-set_same s.tasks c new sleeping (subst (λ n. c < n) (sym v.count) r.declared))),
+        λ _. activated_valid config app (ended_state c s) c gone booted r.declared
+            (ap (λ x. x.state) (get_or-set_same s.tasks c new sleeping_task (subst (λ n. c < n) (sym v.count) r.declared))),
         λ differs. (
-          λ asleep. activated_valid config app (ended c s) t gone booted declared
-              (ap (λ x. x.state) (get_or-set_other s.tasks c t new sleeping (eqb-false t c differs)) ∙ asleep),
+          λ asleep. activated_valid config app (ended_state c s) t gone booted declared
+              (ap (λ x. x.state) (get_or-set_other s.tasks c t new sleeping_task (eqb-false t c differs)) ∙ asleep),
           λ _. answered_is (serve service.ChainTask t m) r refl (λ _. refl) E_OS_LIMIT,
         ),
       )
@@ -270,7 +270,7 @@ module _ (config : Config) (app : App) (w : Facts config app) (s : System) (v : 
       no_more true = refl
       no_more false = refl
 
-  waits_is : (o m : ℕ) → Running config app c k frame outer (serve service.WaitEvent o m) → Valid config app (with_task s c (waits m k))
+  waits_is : (o m : ℕ) → Running config app c k frame outer (serve service.WaitEvent o m) → Valid config app (with_task s c (waiting_task m k))
   waits_is o m r =
       let op = serve service.WaitEvent o m in
       let none = waits_free service.WaitEvent o m r (inl refl) in
@@ -278,7 +278,7 @@ module _ (config : Config) (app : App) (w : Facts config app) (s : System) (v : 
       r.listed r.distinct r.events in
       let active = subst (InState config c (answers E_OK k)) r.active next.in_state in
       let own = w.waits_own c frame.func frame.item o m (task_reaches config app w c frame.func outer r.declared r.called) r.item in
-      keeps config app s c (waits m k) v booted r.declared
+      keeps config app s c (waiting_task m k) v booted r.declared
       (record {
         registers = r.registers;
         calls = next.calls;
@@ -298,7 +298,7 @@ module _ (config : Config) (app : App) (w : Facts config app) (s : System) (v : 
 
   plans_valid : (sv : Service) (o m : ℕ) → Running config app c k frame outer (serve sv o m) → PlansAreValid sv o m
   plans_valid service.ActivateTask t m r = (
-    λ asleep. activated_valid config app (answered E_OK c s) t (answered_is (serve service.ActivateTask t m) r refl (λ _. refl) E_OK) booted
+    λ asleep. activated_valid config app (answered_state E_OK c s) t (answered_is (serve service.ActivateTask t m) r refl (λ _. refl) E_OK) booted
         (w.items frame.func frame.item (serve service.ActivateTask t m) r.item).0 (same_state E_OK t ∙ asleep),
     λ _. answered_is (serve service.ActivateTask t m) r refl (λ _. refl) E_OS_LIMIT,
   )
@@ -311,7 +311,7 @@ module _ (config : Config) (app : App) (w : Facts config app) (s : System) (v : 
   plans_valid service.ReleaseResource q m r = releases_is q m r
   plans_valid service.SetEvent t m r = (
     λ _. answered_is (serve service.SetEvent t m) r refl (λ _. refl) E_OS_STATE,
-    λ awake. set_events_valid config app (answered E_OK c s) t m (answered_is (serve service.SetEvent t m) r refl (λ _. refl) E_OK) booted
+    λ awake. set_events_valid config app (answered_state E_OK c s) t m (answered_is (serve service.SetEvent t m) r refl (λ _. refl) E_OK) booted
         (w.items frame.func frame.item (serve service.SetEvent t m) r.item).0 (λ e. awake (sym (same_state E_OK t) ∙ e))
         (w.sets_declared frame.func frame.item t m r.item),
   )
@@ -328,7 +328,7 @@ module _ (config : Config) (app : App) (w : Facts config app) (s : System) (v : 
   outcome_valid sv o m r = on_outcome (IsAfter (Valid config app)) c s (decision config sv o m c s) (plans_valid sv o m r)
 
 pub serves_valid : (config : Config) (app : App) → Facts config app → (t : ℕ) (served : Service) (s : System) (answer : Outcome) → Valid config app s
-    → s.booted ≡ true → Serves config app t served s answer → IsAfter (Valid config app) answer
+    → s.booted ≡ true → ServesCall config app t served s answer → IsAfter (Valid config app) answer
 serves_valid config app w t served s answer v booted h =
     let at = running config app s t (op.Serve h.call) v h.top.declared h.at in
     let R : Service → Type 0 = λ x. Running config app t (task s t) h.at.frame h.at.outer (serve x h.call.object h.call.mask) in

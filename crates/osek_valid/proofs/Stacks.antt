@@ -9,10 +9,10 @@ use Rattle.sloth_base.specs.declared.service.Service.{Service}
 use Rattle.sloth_base.specs.declared.service.Service.TheVariants as service
 use Rattle.sloth_base.specs.Options.{is_number}
 use Rattle.sloth_base.specs.Named.{function, body_of, missing, IsBodyOf}
-use Rattle.osek_machine.specs.State.{Frame}
-use Rattle.app_rules.specs.Code.{IsItem, serve, Calls, Reaches, TaskReaches, Pauses, is_in, without_last}
+use Rattle.osek_scheduler.specs.State.{Frame}
+use Rattle.code_rules.specs.Code.{IsItem, serve, Calls, Reaches, TaskReaches, Pauses, is_in, without_last}
 use Rattle.osek_valid.proofs.Facts.{Facts}
-use Rattle.app_rules.specs.WellFormed.{held_before}
+use Rattle.code_rules.specs.WellFormed.{held_before}
 use Rattle.osek_valid.specs.Valid.{IsCalledFrom, held_by, AreDistinct}
 
 -- ---- lists of resources

@@ -8,23 +8,23 @@ use Rattle.sloth_base.specs.declared.app.App.{App}
 use Rattle.sloth_base.specs.declared.app.Symbol.{Symbol}
 use Rattle.sloth_base.specs.declared.event.Event.{Event}
 use Rattle.sloth_base.specs.declared.event.Event.TheVariants as event
-use Rattle.osek_machine.specs.declared.state.TaskState.TheVariants as mode
-use Rattle.osek_machine.specs.State.{Frame, Task, System, sleeping, task, with_task, entry_frame, opening}
+use Rattle.osek_scheduler.specs.declared.state.TaskState.TheVariants as mode
+use Rattle.osek_scheduler.specs.State.{Frame, Task, System, sleeping_task, task, with_task, entry_frame, opening}
 use Rattle.sloth_base.specs.Named.{declaration, function, body_of}
-use Rattle.osek_machine.specs.Services.{activated, starts, entered, GoesOn, Leaves}
-use Rattle.osek_machine.specs.Steps.{settled, autostarted, admitted, OsekStep}
+use Rattle.osek_scheduler.specs.Services.{activated_state, started_task, entered_state, GoesOn, Leaves}
+use Rattle.osek_scheduler.specs.Steps.{settled_state, autostarted_tasks, admitted_state, OsekStep}
 use Rattle.osek_valid.proofs.Facts.{Facts}
 use Rattle.osek_valid.specs.Valid.{AreCalls, held_by, Rests, InState, IsValidTask, Valid}
 use Rattle.osek_valid.proofs.Held.{held_at_begin}
 use Rattle.osek_valid.proofs.Stacks.{has_body}
 use Rattle.osek_valid.proofs.Going.{keeps, settles, runs_on}
 use Rattle.osek_valid.proofs.Items.{executes_valid}
-use Rattle.osek_machine.proofs.Outcomes.{by_suspended}
+use Rattle.osek_scheduler.proofs.Outcomes.{by_suspended}
 use Rattle.osek_valid.proofs.Serving.{covers_none, ready_task, activated_valid, serves_valid}
 
 -- ---- the opening
 
-pub asleep_at : (ds : List TaskDecl) (t : ℕ) → get_or (map (λ _. sleeping) ds) t sleeping ≡ sleeping
+pub asleep_at : (ds : List TaskDecl) (t : ℕ) → get_or (map (λ _. sleeping_task) ds) t sleeping_task ≡ sleeping_task
 asleep_at [] t = refl
 asleep_at (d ∷ ds) zero = refl
 asleep_at (d ∷ ds) (suc t) = asleep_at ds t
@@ -35,7 +35,7 @@ sizes_kept (y ∷ ys) = ap (λ l. length y.bytes ∷ l) (sizes_kept ys)
 
 pub opening_valid : (config : Config) (app : App) → Valid config app (opening config app)
 opening_valid config app = record {
-  count = length-map config.tasks (λ _. sleeping);
+  count = length-map config.tasks (λ _. sleeping_task);
   each = λ t lt. subst (IsValidTask config app t) (sym (asleep_at config.tasks t)) (record {
     registers = refl;
     calls = tt;
@@ -51,13 +51,13 @@ opening_valid config app = record {
 
 -- ---- boot
 
-pub length-autostarted : (ds : List TaskDecl) (ts : List Task) → length (autostarted ds ts) ≡ length ts
+pub length-autostarted : (ds : List TaskDecl) (ts : List Task) → length (autostarted_tasks ds ts) ≡ length ts
 length-autostarted [] ts = refl
 length-autostarted (d ∷ ds) [] = refl
 length-autostarted (d ∷ ds) (t ∷ ts) = ap suc (length-autostarted ds ts)
 
-pub autostarted_at : (P : Task → Type 0) (ds : List TaskDecl) (ts : List Task) (t : ℕ) → P (get_or ts t sleeping)
-    → P (record (get_or ts t sleeping) { state = mode.Ready }) → P (get_or (autostarted ds ts) t sleeping)
+pub autostarted_at : (P : Task → Type 0) (ds : List TaskDecl) (ts : List Task) (t : ℕ) → P (get_or ts t sleeping_task)
+    → P (record (get_or ts t sleeping_task) { state = mode.Ready }) → P (get_or (autostarted_tasks ds ts) t sleeping_task)
 autostarted_at P [] ts t same ready = same
 autostarted_at P (d ∷ ds) [] t same ready = same
 autostarted_at P (d ∷ ds) (k ∷ ts) zero same ready = by d.autostart
@@ -68,7 +68,7 @@ autostarted_at P (d ∷ ds) (k ∷ ts) zero same ready = by d.autostart
 autostarted_at P (d ∷ ds) (k ∷ ts) (suc t) same ready = autostarted_at P ds ts t same ready
 
 boot_valid : (config : Config) (app : App) (s : System) → Valid config app s → s.booted ≡ false
-    → Valid config app (settled (record s { tasks = autostarted config.tasks s.tasks; booted = true }))
+    → Valid config app (settled_state (record s { tasks = autostarted_tasks config.tasks s.tasks; booted = true }))
 boot_valid config app s v asleep = record {
   count = length-autostarted config.tasks s.tasks ∙ v.count;
   each = λ t lt. autostarted_at (IsValidTask config app t) config.tasks s.tasks t (v.each t lt)
@@ -84,9 +84,9 @@ and_not true owed e = sym (ap not e)
 and_not false owed e = refl
 
 enter_valid : (config : Config) (app : App) → Facts config app → (s : System) (t : ℕ) → Valid config app s → s.booted ≡ true → t < length config.tasks
-    → (task s t).state ≡ mode.Ready → Valid config app (entered config app t s)
+    → (task s t).state ≡ mode.Ready → Valid config app (entered_state config app t s)
 enter_valid config app w s t v booted declared ready =
-    keeps config app s t (record (starts app t (task s t).frames (task s t)) { state = mode.Active; raised = (declaration config t).non }) v booted declared
+    keeps config app s t (record (started_task app t (task s t).frames (task s t)) { state = mode.Active; raised = (declaration config t).non }) v booted declared
     (by (task s t).frames refl)
   where
     k : IsValidTask config app t (task s t)
@@ -96,16 +96,16 @@ enter_valid config app w s t v booted declared ready =
     rests = (subst (InState config t (task s t)) ready k.in_state).0
 
     by : (fs : List Frame) → (task s t).frames ≡ fs
-        → IsValidTask config app t (record (starts app t fs (task s t)) { state = mode.Active; raised = (declaration config t).non })
+        → IsValidTask config app t (record (started_task app t fs (task s t)) { state = mode.Active; raised = (declaration config t).non })
     by [] e =
         let body = has_body config app w t declared in
-        runs_on config app t (record (starts app t [] (task s t)) { state = mode.Active; raised = (declaration config t).non })
+        runs_on config app t (record (started_task app t [] (task s t)) { state = mode.Active; raised = (declaration config t).non })
         (entry_frame app (body_of app.funcs t)) [] refl refl
         (record { known = body.0; inside = w.has_items _ body.0; words = length-replicate (function app (body_of app.funcs t)).frame_words 0 })
         refl (rests.holds ∙ sym (held_at_begin config app w (body_of app.funcs t) body.0)) (and_not _ _ rests.not_owed) (λ _. rests.holds) refl k.listed k.distinct k.events
     by (frame ∷ outer) e =
         let stack = subst (AreCalls app t) e k.calls in
-        runs_on config app t (record (starts app t (frame ∷ outer) (task s t)) { state = mode.Active; raised = (declaration config t).non })
+        runs_on config app t (record (started_task app t (frame ∷ outer) (task s t)) { state = mode.Active; raised = (declaration config t).non })
         frame outer refl e stack.0 stack.1 (k.held ∙ ap (held_by app) e) (and_not _ _ rests.not_owed) (λ _. rests.holds)
         (length-set (task s t).registers 5 0 ∙ k.registers) k.listed k.distinct k.events
 
@@ -128,9 +128,9 @@ back_valid config app s t v booted declared active =
 
 -- ---- all events
 
-admit_valid : (config : Config) (app : App) (s : System) (t : ℕ) → Valid config app s → s.booted ≡ true → t < length config.tasks → Valid config app (admitted t s)
+admit_valid : (config : Config) (app : App) (s : System) (t : ℕ) → Valid config app s → s.booted ≡ true → t < length config.tasks → Valid config app (admitted_state t s)
 admit_valid config app s t v booted declared =
-    by_suspended (task s t).state (record (activated s t) { fresh = t ∷ s.fresh }) s (Valid config app)
+    by_suspended (task s t).state (record (activated_state s t) { fresh = t ∷ s.fresh }) s (Valid config app)
     (λ asleep.
     let a = activated_valid config app s t v booted declared asleep in
     record { count = a.count; each = a.each; sizes = a.sizes; asleep = a.asleep })

@@ -9,13 +9,13 @@ use Rattle.std.proofs.lemmas.List.Elements.{All-head, All-tail}
 use Rattle.std.proofs.Math.Bool.{and-true}
 use Rattle.sloth_base.specs.declared.config.Config.{Config}
 use Rattle.sloth_base.specs.declared.app.App.{App}
-use Rattle.osek_machine.specs.declared.state.TaskState.{TaskState}
-use Rattle.osek_machine.specs.declared.state.TaskState.TheVariants as mode
-use Rattle.osek_machine.specs.State.{System, task}
+use Rattle.osek_scheduler.specs.declared.state.TaskState.{TaskState}
+use Rattle.osek_scheduler.specs.declared.state.TaskState.TheVariants as mode
+use Rattle.osek_scheduler.specs.State.{System, task}
 use Rattle.sloth_base.specs.Named.{declaration, undeclared}
-use Rattle.app_rules.specs.Code.{is_in}
-use Rattle.osek_machine.specs.Priority.{is_active}
-use Rattle.app_rules.specs.WellFormed.{HasEvents}
+use Rattle.code_rules.specs.Code.{is_in}
+use Rattle.osek_scheduler.specs.Priority.{is_active}
+use Rattle.code_rules.specs.WellFormed.{HasEvents}
 use Rattle.osek_valid.proofs.Facts.{Facts}
 use Rattle.osek_valid.specs.Valid.{MayHold, Rests, InState, IsValidTask, Valid}
 use Rattle.osek_valid.specs.Tidy.{IsTidy}

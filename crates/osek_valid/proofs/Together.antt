@@ -9,9 +9,9 @@ use Rattle.sloth_base.specs.declared.places.Bounds.{Bounds}
 use Rattle.sloth_base.specs.Named.{declaration, undeclared}
 use Rattle.stack_bounds.specs.Bounds.{IsBasic, MayBePreempted, AreStacked, AreBounds, total}
 use Rattle.stack_bounds.proofs.Stacked as stacked
-use Rattle.osek_machine.specs.State.{System, task, opening}
-use Rattle.osek_machine.specs.Priority.{highest, greatest, ceiling}
-use Rattle.osek_machine.specs.Runs.{Leads}
+use Rattle.osek_scheduler.specs.State.{System, task, opening}
+use Rattle.osek_scheduler.specs.Priority.{highest_priority, greatest, ceiling}
+use Rattle.osek_scheduler.specs.Runs.{Leads}
 use Rattle.osek_valid.specs.Valid.{Valid, InState}
 use Rattle.osek_valid.specs.Apart.{IsActive, IsOver, Apart, priority_of, static_priority}
 use Rattle.osek_valid.specs.Together.{OwesBySchedule, chosen_bytes}
@@ -38,7 +38,7 @@ module _ (config : Config) (app : App) (s : System) (v : Valid config app s) (ow
       by true e false f =
           let i = subst (InState config t (task s t)) active state in
           let raised : (task s t).raised ≡ true = i.1 ∙ ap (λ b. b && not (task s t).owed) e ∙ ap not f in
-          let high = raised_le (static_priority config t) (greatest (map (ceiling config) (task s t).held)) (highest config) (task s t).raised raised in
+          let high = raised_le (static_priority config t) (greatest (map (ceiling config) (task s t).held)) (highest_priority config) (task s t).raised raised in
           let least = among config.tasks u lu in
           absurd (omega (arith, over, high, least))
 
@@ -60,7 +60,7 @@ module _ (config : Config) (app : App) (s : System) (v : Valid config app s) (ap
       (apart.apart t u (record { first = lt; second = lu; differ = differ }) at au)
 
   abbrev above_all : ℕ
-  above_all = highest config + 1
+  above_all = highest_priority config + 1
 
   are_stacked : (size : ℕ → ℕ) (k low : ℕ) (list : List ℕ) → k ≤ length config.tasks
       → stacked.RiseFrom (length config.tasks) (static_priority config) size Wanted Any above_all k low list → AreStacked config app list

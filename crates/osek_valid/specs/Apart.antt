@@ -2,10 +2,10 @@
 use Rattle.std.specs.Prelude.{ℕ, ◌<◌, ◌≡◌, ◌≢◌, ◌⊎◌, [], true, length}
 use Rattle.sloth_base.specs.declared.config.Config.{Config}
 use Rattle.sloth_base.specs.Named.{declaration}
-use Rattle.app_rules.specs.Code.{is_in}
-use Rattle.osek_machine.specs.declared.state.TaskState.TheVariants as mode
-use Rattle.osek_machine.specs.State.{Task, System, task}
-use Rattle.osek_machine.specs.Priority.{current_priority}
+use Rattle.code_rules.specs.Code.{is_in}
+use Rattle.osek_scheduler.specs.declared.state.TaskState.TheVariants as mode
+use Rattle.osek_scheduler.specs.State.{Task, System, task}
+use Rattle.osek_scheduler.specs.Priority.{current_priority}
 
 -- the current priority of task t as it stands
 abbrev pub priority_of : Config → (t : ℕ) → Task → ℕ

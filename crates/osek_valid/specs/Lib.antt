@@ -2,4 +2,4 @@ pub mod Valid
 pub mod Apart
 pub mod Tidy
 pub mod Together
-pub mod Laws
+pub mod WellFormedRuns

@@ -3,10 +3,10 @@ use Rattle.std.specs.Prelude.{ℕ, ◌<◌, ◌≡◌, [], true, false, length, 
 use Rattle.sloth_base.specs.declared.config.Config.{Config}
 use Rattle.sloth_base.specs.declared.app.App.{App}
 use Rattle.sloth_base.specs.Named.{declaration}
-use Rattle.app_rules.specs.Code.{is_in}
-use Rattle.osek_machine.specs.declared.state.TaskState.TheVariants as mode
-use Rattle.osek_machine.specs.State.{Task}
-use Rattle.osek_machine.specs.Priority.{is_active}
+use Rattle.code_rules.specs.Code.{is_in}
+use Rattle.osek_scheduler.specs.declared.state.TaskState.TheVariants as mode
+use Rattle.osek_scheduler.specs.State.{Task}
+use Rattle.osek_scheduler.specs.Priority.{is_active}
 use Rattle.osek_valid.specs.Valid.{AreCalls, held_by, AreDistinct, Rests}
 
 -- what is true of task t in each state of a run

@@ -5,12 +5,12 @@ use Rattle.sloth_base.specs.declared.app.App.{App}
 use Rattle.sloth_base.specs.declared.event.Event.{Event}
 use Rattle.sloth_base.specs.declared.event.Stamped.{Stamped}
 use Rattle.sloth_base.specs.declared.places.Bounds.{Bounds}
-use Rattle.app_rules.specs.WellFormed.{WellFormed}
+use Rattle.code_rules.specs.WellFormed.{WellFormed}
 use Rattle.stack_bounds.specs.Bounds.{IsBasic, ReachesSchedule, MayBePreempted, AreBounds}
 use Rattle.stack_bounds.specs.Tables.{sum_below}
-use Rattle.osek_machine.specs.State.{System, opening, task}
-use Rattle.osek_machine.specs.Steps.{OsekStep}
-use Rattle.osek_machine.specs.Runs.{Leads}
+use Rattle.osek_scheduler.specs.State.{System, opening, task}
+use Rattle.osek_scheduler.specs.Steps.{OsekStep}
+use Rattle.osek_scheduler.specs.Runs.{Leads}
 use Rattle.osek_valid.specs.Valid.{Valid}
 use Rattle.osek_valid.specs.Apart.{IsActive, IsOver}
 

@@ -5,11 +5,11 @@ use Rattle.sloth_base.specs.declared.app.App.{App}
 use Rattle.sloth_base.specs.declared.app.Op.TheVariants as op
 use Rattle.sloth_base.specs.Named.{function, declaration, body_of}
 use Rattle.sloth_base.specs.ConfigRange.{scheduler_number}
-use Rattle.app_rules.specs.Code.{IsItem, is_in}
-use Rattle.app_rules.specs.WellFormed.{held_before, Lists, HasEvents}
-use Rattle.osek_machine.specs.declared.state.TaskState.{TaskState}
-use Rattle.osek_machine.specs.declared.state.TaskState.TheVariants as mode
-use Rattle.osek_machine.specs.State.{Frame, Task, System, task}
+use Rattle.code_rules.specs.Code.{IsItem, is_in}
+use Rattle.code_rules.specs.WellFormed.{held_before, Lists, HasEvents}
+use Rattle.osek_scheduler.specs.declared.state.TaskState.{TaskState}
+use Rattle.osek_scheduler.specs.declared.state.TaskState.TheVariants as mode
+use Rattle.osek_scheduler.specs.State.{Frame, Task, System, task}
 
 -- ---- calls in progress
 

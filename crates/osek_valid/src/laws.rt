@@ -1,5 +1,5 @@
 //! Laws of systems with well-formed task code.
-ghost use Rattle.osek_valid.specs.Laws.{OpeningIsValid, StepsKeepValid, StepsKeepApart, RunsAreValid, ItemsMean, RunningGoesOn, RunsNeverStick, TasksAreTidy};
+ghost use Rattle.osek_valid.specs.WellFormedRuns.{OpeningIsValid, StepsKeepValid, StepsKeepApart, RunsAreValid, ItemsMean, RunningGoesOn, RunsNeverStick, TasksAreTidy};
 ghost use Rattle.osek_valid.specs.Together.{StepsKeepOwing, LowerMayBePreempted, SharedStackHolds};
 
 /// The system is valid before it has started.

@@ -2,9 +2,9 @@
 use Rattle.std.proofs.Common.{ℕ, ◌+◌, ◌-◌, ◌%◌, ◌^◌, ◌≡◌, ◌<◌, ◌≤◌, Bool, true, false, List, ◌++◌, length, subst, arith}
 use Rattle.sloth_base.specs.Machine.{Core}
 use Rattle.rv32_instr.specs.declared.InstrKind.{InstrKind}
-use Rattle.rv32_routine.specs.Masked.{Masked, WithArrivals}
-use Rattle.rv32_routine.specs.Place.{at}
-use Rattle.rv32_routine.proofs.Masked.{masked_more}
+use Rattle.masked_code.specs.Masked.{Masked, WithArrivals}
+use Rattle.masked_code.specs.Place.{at}
+use Rattle.masked_code.proofs.Masked.{masked_more}
 use Rattle.prologue_gen.specs.Fresh.{vector, Entered}
 use Rattle.prologue_gen.specs.Resumed.{MayStart}
 use Rattle.prologue_gen.specs.Places.{DoesEnter}

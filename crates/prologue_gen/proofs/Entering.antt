@@ -7,18 +7,18 @@ use Rattle.rv32_instr.specs.declared.InstrKind.{InstrKind}
 use Rattle.rv32_instr.specs.declared.InstrKind.TheVariants.{Addi}
 use Rattle.rv32_instr.specs.Ram.{word_at, with_word, with_words}
 use Rattle.sloth_base.specs.Arithmetic.{plus}
-use Rattle.rv32_routine.specs.Owes.{IsWordAt, IsApart, Owes}
-use Rattle.rv32_routine.specs.Pieces.{saves, registers_from}
-use Rattle.rv32_routine.proofs.Words.{word_at-other, word_at-others}
-use Rattle.rv32_routine.proofs.Spread.{spread, spread_from}
-use Rattle.rv32_routine.proofs.Runs.{saves_owes}
-use Rattle.rv32_routine.proofs.Leave.{behind}
+use Rattle.masked_code.specs.Owes.{IsWordAt, IsApart, Owes}
+use Rattle.masked_code.specs.Pieces.{saving_code, registers_from}
+use Rattle.masked_code.proofs.Words.{word_at-other, word_at-others}
+use Rattle.masked_code.proofs.Spread.{spread, spread_from}
+use Rattle.masked_code.proofs.Runs.{saves_owes}
+use Rattle.masked_code.proofs.Leave.{behind}
 use Rattle.prologue_gen.specs.Pieces.{saves_csrs, saves_words, marks_active}
 use Rattle.prologue_gen.specs.Resumed.{with_entry}
 
 -- what stands before this code in each prologue
 abbrev pub enters_first : ℕ → ℕ → List InstrKind → List InstrKind
-enters_first task level rest = Addi 1 2 (neg_ℤ (pos context_bytes)) ∷ (saves 27 5 1 ++ (saves_csrs ++ (saves_words ++ (marks_active task level ++ rest))))
+enters_first task level rest = Addi 1 2 (neg_ℤ (pos context_bytes)) ∷ (saving_code 27 5 1 ++ (saves_csrs ++ (saves_words ++ (marks_active task level ++ rest))))
 
 -- the state behind it, whatever x1, x2 and x3 are
 abbrev pub entered : ℕ → ℕ → ℕ → Core → ℕ → ℕ → ℕ → Core

@@ -9,17 +9,17 @@ use Rattle.sloth_base.specs.Status.{E_OK}
 use Rattle.sloth_region.specs.Layout.{cur, active, resume, below_word, idle_context, context_bytes}
 use Rattle.rv32_instr.specs.declared.InstrKind.{InstrKind}
 use Rattle.rv32_instr.specs.Ram.{word_at, with_word, with_words}
-use Rattle.rv32_routine.specs.Place.{at, InPlace}
-use Rattle.rv32_routine.specs.Kernel.{CanRun}
+use Rattle.masked_code.specs.Place.{at, InPlace}
+use Rattle.masked_code.specs.Kernel.{CanRun}
 use Rattle.rv32_instr.specs.declared.InstrKind.TheVariants.{Jal}
-use Rattle.rv32_routine.specs.Masked.{Masked, WithArrivals}
-use Rattle.rv32_routine.specs.Owes.{Owes}
-use Rattle.rv32_routine.specs.Pieces.{restores, restored, registers_from}
-use Rattle.rv32_routine.proofs.Words.{word_at-other, word_at-others}
-use Rattle.rv32_routine.proofs.Spread.{spread, spread_is, spread_from}
-use Rattle.rv32_routine.proofs.Runs.{restores_owes, length-restored, restored_other, restored_at}
-use Rattle.rv32_routine.proofs.Leave.{behind}
-use Rattle.rv32_routine.proofs.Whole.{jumps_in}
+use Rattle.masked_code.specs.Masked.{Masked, WithArrivals}
+use Rattle.masked_code.specs.Owes.{Owes}
+use Rattle.masked_code.specs.Pieces.{restoring_code, restored_registers, registers_from}
+use Rattle.masked_code.proofs.Words.{word_at-other, word_at-others}
+use Rattle.masked_code.proofs.Spread.{spread, spread_is, spread_from}
+use Rattle.masked_code.proofs.Runs.{restores_owes, length-restored, restored_other, restored_at}
+use Rattle.masked_code.proofs.Leave.{behind}
+use Rattle.masked_code.proofs.Routines.{jumps_in}
 use Rattle.prologue_gen.specs.Pieces.{takes_own, answers_wait, asks_kept}
 use Rattle.prologue_gen.specs.Fresh.{vector, Entered}
 use Rattle.prologue_gen.specs.Resumed.{MayStart, MayResume, Resumed, EntersOrResumes, with_entry}
@@ -28,7 +28,7 @@ use Rattle.prologue_gen.proofs.Starting.{starts, starts_owe, length-starts}
 
 -- what stands behind the entry, before the start
 abbrev pub asks_first : ℕ → List InstrKind → List InstrKind
-asks_first task rest = asks_kept task ++ (takes_own task ++ (restores 27 5 1 ++ (answers_wait ++ rest)))
+asks_first task rest = asks_kept task ++ (takes_own task ++ (restoring_code 27 5 1 ++ (answers_wait ++ rest)))
 
 abbrev pub either : ℕ → ℕ → ℕ → ℕ → List InstrKind
 either task frame words first = asks_first task (starts frame words first)
@@ -143,7 +143,7 @@ module _ (from to task level place own : ℕ) (c : Core) (rest : List InstrKind)
   regs = 0 ∷ at_own ∷ sp ∷ pc ∷ 0x8000_0000 ∷ spread_from 27 5 c.registers
 
   abbrev loaded : List ℕ
-  loaded = restored 27 5 ram own regs
+  loaded = restored_registers 27 5 ram own regs
 
   long : length loaded ≡ 32
   long = length-restored 27 5 ram own regs
@@ -188,13 +188,13 @@ module _ (from to task level place own : ℕ) (c : Core) (rest : List InstrKind)
   own_fits : own + 4 * (5 + 27) ≤ 0x20_0000
   own_fits = omega arith
 
-  restored_owe : (o : ℕ) → Owes from to o (restores 27 5 1 ++ (answers_wait ++ rest)) 0 R begun stored
+  restored_owe : (o : ℕ) → Owes from to o (restoring_code 27 5 1 ++ (answers_wait ++ rest)) 0 R begun stored
   restored_owe o = restores_owes from to R begun (answers_wait ++ rest) own is_kept.aligned 27 5 1 o (o + 108) stored refl (lit< tt) refl own_fits (answered_owe (o + 108))
 
   sp_is : plus at_own (pos context_bytes) ≡ sp
   sp_is = omega arith
 
-  goes_on_owe : (o x2 x3 : ℕ) → Owes from to o (takes_own task ++ (restores 27 5 1 ++ (answers_wait ++ rest))) 0 R begun (entered task level place c at_own x2 x3)
+  goes_on_owe : (o x2 x3 : ℕ) → Owes from to o (takes_own task ++ (restoring_code 27 5 1 ++ (answers_wait ++ rest))) 0 R begun (entered task level place c at_own x2 x3)
   goes_on_owe o x2 x3 = (
     resume task,
     record { is = omega arith; aligned = omega arith; inside = omega arith },

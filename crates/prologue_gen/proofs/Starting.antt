@@ -6,26 +6,26 @@ use Rattle.rv32_instr.specs.declared.InstrKind.{InstrKind}
 use Rattle.rv32_instr.specs.declared.InstrKind.TheVariants.{Mret}
 use Rattle.rv32_instr.specs.Ram.{with_words}
 use Rattle.sloth_base.specs.Arithmetic.{hi}
-use Rattle.rv32_routine.specs.Place.{at}
-use Rattle.rv32_routine.specs.Masked.{Masked, WithArrivals}
-use Rattle.rv32_routine.specs.Owes.{Owes}
-use Rattle.rv32_routine.specs.Pieces.{clears, clears_words, cleared}
-use Rattle.rv32_routine.proofs.Parts.{hi_lo}
-use Rattle.rv32_routine.proofs.Spread.{spread, spread_is, spread_from, others}
-use Rattle.rv32_routine.proofs.Runs.{clears_owes, clears_words_owes, length-clears_words, length-cleared, cleared_at, cleared_other}
-use Rattle.rv32_routine.proofs.Leave.{behind}
-use Rattle.rv32_routine.proofs.Whole.{jumps_in}
-use Rattle.prologue_gen.specs.Pieces.{begins}
+use Rattle.masked_code.specs.Place.{at}
+use Rattle.masked_code.specs.Masked.{Masked, WithArrivals}
+use Rattle.masked_code.specs.Owes.{Owes}
+use Rattle.masked_code.specs.Pieces.{clearing_code, clears_words, cleared_registers}
+use Rattle.masked_code.proofs.Parts.{hi_lo}
+use Rattle.masked_code.proofs.Spread.{spread, spread_is, spread_from, others}
+use Rattle.masked_code.proofs.Runs.{clears_owes, clears_words_owes, length-clears_words, length-cleared, cleared_at, cleared_other}
+use Rattle.masked_code.proofs.Leave.{behind}
+use Rattle.masked_code.proofs.Routines.{jumps_in}
+use Rattle.prologue_gen.specs.Pieces.{beginning_code}
 use Rattle.prologue_gen.specs.Fresh.{vector, MayEnter, Entered, Enters}
 use Rattle.prologue_gen.specs.Resumed.{with_entry}
 use Rattle.prologue_gen.proofs.Entering.{enters_first, entered, enters_owe}
 
 abbrev pub last : ℕ → List InstrKind
-last words = clears_words words 0 2 ++ (clears 25 5 ++ Mret ∷ [])
+last words = clears_words words 0 2 ++ (clearing_code 25 5 ++ Mret ∷ [])
 
 -- the start of the task
 abbrev pub starts : ℕ → ℕ → ℕ → List InstrKind
-starts frame words first = begins frame first ++ last words
+starts frame words first = beginning_code frame first ++ last words
 
 abbrev pub code : ℕ → ℕ → ℕ → ℕ → ℕ → List InstrKind
 code task level frame words first = enters_first task level (starts frame words first)
@@ -62,7 +62,7 @@ module _ (from to task level first place frame words x1 : ℕ) (c : Core) (low_l
   below_ten : (i : ℕ) → 30 ≤ i → 5 ≤ i
   below_ten i h = omega arith
 
-  done : Entered task level first place frame words [] start (record { pc = first - first % 4; core = record stored { registers = cleared 25 5 regs; ram = with_words ram8 (frame + 4 * 0) (replicate words 0); ilevel = level % 256; mie = c.mpie; mpie = true } })
+  done : Entered task level first place frame words [] start (record { pc = first - first % 4; core = record stored { registers = cleared_registers 25 5 regs; ram = with_words ram8 (frame + 4 * 0) (replicate words 0); ilevel = level % 256; mie = c.mpie; mpie = true } })
   done = record {
     touches = refl;
     pc = first_is;
@@ -84,7 +84,7 @@ module _ (from to task level first place frame words x1 : ℕ) (c : Core) (low_l
     };
   }
 
-  cleared_owe : (o : ℕ) → Owes from to o (clears 25 5 ++ Mret ∷ []) 0 (Entered task level first place frame words) start (record stored { ram = with_words ram8 (frame + 4 * 0) (replicate words 0) })
+  cleared_owe : (o : ℕ) → Owes from to o (clearing_code 25 5 ++ Mret ∷ []) 0 (Entered task level first place frame words) start (record stored { ram = with_words ram8 (frame + 4 * 0) (replicate words 0) })
   cleared_owe o = clears_owes from to (Entered task level first place frame words) start (Mret ∷ []) 25 5 o (o + 100) (record stored { ram = with_words ram8 (frame + 4 * 0) (replicate words 0) }) refl (lit≤ tt) refl done
 
   frame_fits : frame + 4 * (0 + words) ≤ 0x20_0000
@@ -94,7 +94,7 @@ module _ (from to task level first place frame words x1 : ℕ) (c : Core) (low_l
   frame_clear = grind (arith, frame_apart)
 
   zeroed_owe : (o : ℕ) → Owes from to o (last words) 0 (Entered task level first place frame words) start stored
-  zeroed_owe o = clears_words_owes from to (Entered task level first place frame words) start (clears 25 5 ++ Mret ∷ []) frame frame_aligned words 0 2 o (o + 4 * words) stored refl refl refl frame_fits frame_clear (cleared_owe (o + 4 * words))
+  zeroed_owe o = clears_words_owes from to (Entered task level first place frame words) start (clearing_code 25 5 ++ Mret ∷ []) frame frame_aligned words 0 2 o (o + 4 * words) stored refl refl refl frame_fits frame_clear (cleared_owe (o + 4 * words))
 
   sp_fits : sp < 2 ^ 32
   sp_fits = omega arith
@@ -126,7 +126,7 @@ module _ (from to task level first place frame words x1 : ℕ) (c : Core) (low_l
 
 pub length-starts : (frame words first : ℕ) → length (starts frame words first) ≡ words + 31
 length-starts frame words first =
-    let e = length-append (clears_words words 0 2) (clears 25 5 ++ Mret ∷ []) in
+    let e = length-append (clears_words words 0 2) (clearing_code 25 5 ++ Mret ∷ []) in
     let f = length-clears_words words 0 2 in
     omega arith
 

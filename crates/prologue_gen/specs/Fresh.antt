@@ -7,10 +7,10 @@ use Rattle.rv32_instr.specs.declared.InstrKind.TheVariants.{Jal}
 use Rattle.rv32_instr.specs.Ram.{word_at, with_word, with_words}
 use Rattle.sloth_base.specs.Arithmetic.{plus}
 use Rattle.sloth_base.specs.MemoryMap.{memory_base}
-use Rattle.rv32_routine.specs.Masked.{Masked, WithArrivals}
-use Rattle.rv32_routine.specs.Place.{at, InPlace}
-use Rattle.rv32_routine.specs.Pieces.{registers_from}
-use Rattle.rv32_routine.specs.Kernel.{CanRun, LeftAs}
+use Rattle.masked_code.specs.Masked.{Masked, WithArrivals}
+use Rattle.masked_code.specs.Place.{at, InPlace}
+use Rattle.masked_code.specs.Pieces.{registers_from}
+use Rattle.masked_code.specs.Kernel.{CanRun, LeftAs}
 
 -- the offset of a line's vector word
 abbrev pub vector : ℕ → ℕ

@@ -6,7 +6,7 @@ use Rattle.rv32_instr.specs.declared.InstrKind.{InstrKind}
 use Rattle.rv32_instr.specs.declared.InstrKind.TheVariants.{Lui, Addi, Lw, Sw, Beq, Csrrs, Csrrw, Csrrwi, Mret}
 use Rattle.sloth_base.specs.Arithmetic.{hi, lo}
 use Rattle.sloth_base.specs.Status.{E_OK}
-use Rattle.rv32_routine.specs.Pieces.{past, saves, restores, clears, clears_words}
+use Rattle.masked_code.specs.Pieces.{past, saving_code, restoring_code, clearing_code, clears_words}
 
 -- what the CSRs say goes into the context at x1; leaves the base of memory in x4
 abbrev pub saves_csrs : List InstrKind
@@ -19,7 +19,7 @@ saves_words =
 
 -- the context stands directly below x2
 abbrev pub saves_context : List InstrKind
-saves_context = Addi 1 2 (neg_ℤ (pos context_bytes)) ∷ (saves 27 5 1 ++ (saves_csrs ++ saves_words))
+saves_context = Addi 1 2 (neg_ℤ (pos context_bytes)) ∷ (saving_code 27 5 1 ++ (saves_csrs ++ saves_words))
 
 -- the task is the running one and Active, and its level is that of the entry
 abbrev pub marks_active : ℕ → ℕ → List InstrKind
@@ -27,12 +27,12 @@ marks_active task level =
     Addi 3 0 (pos (task + 1)) ∷ Sw 4 3 (pos cur) ∷ Addi 3 0 (pos 1) ∷ Sw 4 3 (pos (active task)) ∷ Csrrwi 0 level PLEVEL ∷ []
 
 -- x2 is the task's frame, and its first item is where the entry goes to
-abbrev pub begins : ℕ → ℕ → List InstrKind
-begins frame first = Lui 2 (hi frame) ∷ Addi 2 2 (lo frame) ∷ Lui 3 (hi first) ∷ Addi 3 3 (lo first) ∷ Csrrw 0 3 MEPC ∷ []
+abbrev pub beginning_code : ℕ → ℕ → List InstrKind
+beginning_code frame first = Lui 2 (hi frame) ∷ Addi 2 2 (lo frame) ∷ Lui 3 (hi first) ∷ Addi 3 3 (lo first) ∷ Csrrw 0 3 MEPC ∷ []
 
 -- a start with a frame of zero words and zero registers
 abbrev pub starts_anew : ℕ → ℕ → ℕ → List InstrKind
-starts_anew frame words first = begins frame first ++ (clears_words words 0 2 ++ (clears 25 5 ++ Mret ∷ []))
+starts_anew frame words first = beginning_code frame first ++ (clears_words words 0 2 ++ (clearing_code 25 5 ++ Mret ∷ []))
 
 -- no context is kept for the task any more; its pc and x2 are those of its context at x1
 abbrev pub takes_own : ℕ → List InstrKind
@@ -44,7 +44,7 @@ answers_wait = Addi 10 0 (pos E_OK) ∷ Mret ∷ []
 
 -- the task goes on behind its wait, as its context at x1 says
 abbrev pub goes_on : ℕ → List InstrKind
-goes_on task = takes_own task ++ (restores 27 5 1 ++ answers_wait)
+goes_on task = takes_own task ++ (restoring_code 27 5 1 ++ answers_wait)
 
 -- x1 is the address of the task's context; where there is none, what takes it up is passed
 abbrev pub asks_kept : ℕ → List InstrKind

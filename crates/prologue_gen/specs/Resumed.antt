@@ -8,9 +8,9 @@ use Rattle.rv32_instr.specs.declared.InstrKind.TheVariants.{Jal}
 use Rattle.rv32_instr.specs.Ram.{word_at, with_word}
 use Rattle.sloth_base.specs.Arithmetic.{plus}
 use Rattle.sloth_base.specs.MemoryMap.{memory_base}
-use Rattle.rv32_routine.specs.Masked.{Masked, WithArrivals}
-use Rattle.rv32_routine.specs.Place.{at, InPlace}
-use Rattle.rv32_routine.specs.Kernel.{CanRun, LeftAs}
+use Rattle.masked_code.specs.Masked.{Masked, WithArrivals}
+use Rattle.masked_code.specs.Place.{at, InPlace}
+use Rattle.masked_code.specs.Kernel.{CanRun, LeftAs}
 use Rattle.prologue_gen.specs.Fresh.{vector, IsApartFrom, MayEnter, Entered, with_context}
 
 -- The state in which the line of a task that is to start anew has just been taken: no context is kept for it.

@@ -1,12 +1,12 @@
 //! The parts of a prologue: what was preempted is saved, and the task starts anew.
 ghost use Rattle.std.specs.Prelude.{◌≡◌, ◌+◌, ◌<◌, ◌≤◌, ◌++◌, OnOk};
-ghost use Rattle.prologue_gen.specs.Pieces.{saves_context, saves_csrs, saves_words, marks_active, begins, starts_anew};
+ghost use Rattle.prologue_gen.specs.Pieces.{saves_context, saves_csrs, saves_words, marks_active, beginning_code, starts_anew};
 
+use masked_code::emit::{clear, clear_words, emit, save};
 use rv32_instr::Instr;
 use rv32_instr::asm::{X1, X2, X3, X4, ZERO, addi, csrrs, csrrw, csrrwi, lui, lw, mret, sw};
 use rv32_instr::constant::{hi, lo};
 use rv32_instr::csr::{MEPC, PLEVEL};
-use rv32_routine::emit::{clear, clear_words, emit, save};
 use sloth_region::layout::{
     BELOW_WORD, CONTEXT_BELOW, CONTEXT_BYTES, CONTEXT_CUR, CONTEXT_LEVEL, CONTEXT_PC, CUR,
     WORDS_HIGH, active,
@@ -69,7 +69,7 @@ pub fn mark_active(code: &mut Vec<Instr>, task: u32, level: u8) -> Result<(), Al
 
 /// x2 := the address of the frame, mepc := that of the first item.
 fn begin(code: &mut Vec<Instr>, frame: u32, first: u32) -> Result<(), AllocError>
-    ensures { OnOk result (code.new.items ≡ code.old.items ++ begins frame first) }
+    ensures { OnOk result (code.new.items ≡ code.old.items ++ beginning_code frame first) }
 {
     let begun = [
         lui(X2, hi(frame)),

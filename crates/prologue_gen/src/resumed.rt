@@ -2,10 +2,10 @@
 ghost use Rattle.std.specs.Prelude.{◌≡◌, ◌<◌, ◌++◌, OnOk};
 ghost use Rattle.prologue_gen.specs.Pieces.{takes_own, answers_wait, goes_on, asks_kept, takes_up};
 
+use masked_code::emit::{emit, past, restore};
 use rv32_instr::Instr;
 use rv32_instr::asm::{A0, X1, X2, X3, X4, ZERO, addi, beq, csrrw, lw, mret, sw};
 use rv32_instr::csr::MEPC;
-use rv32_routine::emit::{emit, past, restore};
 use sloth_base::service::E_OK;
 use sloth_region::layout::{CONTEXT_BYTES, CONTEXT_PC, resume};
 use std::alloc::AllocError;

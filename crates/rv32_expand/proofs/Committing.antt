@@ -16,8 +16,8 @@ use Rattle.rv32_instr.specs.Access.{load, store}
 use Rattle.rv32_instr.specs.declared.InstrKind.{InstrKind}
 use Rattle.rv32_instr.specs.declared.InstrKind.TheVariants.{Jal, Jalr}
 use Rattle.data_far.specs.Wide.{far_indexed}
-use Rattle.rv32_expand.specs.Expansion.{register_operation, number_operation, test, number_in, indexed, zeros, mask_of, distance, symbol_address, item_address, label_address, block_address}
-use Rattle.rv32_expand.specs.Laws.{register_of, EndsWith, LastCommits}
+use Rattle.rv32_expand.specs.Expansion.{register_operation, number_operation, test, number_in, index_code, zeros, mask_of, distance, symbol_address, item_address, label_address, block_address}
+use Rattle.rv32_expand.specs.ItemLengths.{register_of, EndsWith, LastCommits}
 
 alu_result : (kind : AluKind) (rd a b : ℕ) → register_of (register_operation kind rd a b) ≡ rd
 alu_result alu.Add rd a b = refl
@@ -94,11 +94,11 @@ last_commits app places func address long (op.Store w rs symbol offset) = longer
 last_commits app places func address long (op.LoadAt w rd symbol index mask) =
     let v = symbol_address places symbol in
     let last = alone rd (load w rd 31 (lo v)) (load_result w rd 31 (lo v)) in
-    either rd (nat_le mask 2047) _ _ (behind rd (indexed index mask v) _ last) (behind rd (far_indexed index mask v) _ last)
+    either rd (nat_le mask 2047) _ _ (behind rd (index_code index mask v) _ last) (behind rd (far_indexed index mask v) _ last)
 last_commits app places func address long (op.StoreAt w rs symbol index mask) =
     let v = symbol_address places symbol in
     let last = alone rs (store w rs 31 (lo v)) (store_result w rs 31 (lo v)) in
-    either rs (nat_le mask 2047) _ _ (behind rs (indexed index mask v) _ last) (behind rs (far_indexed index mask v) _ last)
+    either rs (nat_le mask 2047) _ _ (behind rs (index_code index mask v) _ last) (behind rs (far_indexed index mask v) _ last)
 last_commits app places func address false (op.Branch kind rs1 rs2 label) = alone 0 _ (test_result kind rs1 rs2 (distance address (label_address app places func label)))
 last_commits app places func address true (op.Branch kind rs1 rs2 label) =
     behind 0 (number_in 31 (address + 24)) _ (longer 0 _ _ (behind 0 (number_in 31 (label_address app places func label)) _ (alone 0 (Jalr 0 31 (pos 0)) refl)))

@@ -13,7 +13,7 @@ use Rattle.sloth_base.specs.ServiceCodes.{has_mask}
 use Rattle.sloth_base.specs.declared.service.Service.{Service}
 use Rattle.rv32_instr.specs.declared.InstrKind.{InstrKind}
 use Rattle.rv32_instr.specs.declared.InstrKind.TheVariants.{Auipc, Sw, Jal}
-use Rattle.rv32_expand.specs.Expansion.{number_in, zeros, calls, mask_of, served, distance, item_address, expanded}
+use Rattle.rv32_expand.specs.Expansion.{number_in, zeros, calls, mask_of, service_jump, distance, item_address, operation_code}
 use Rattle.rv32_expand.specs.Long.{size, nowhere}
 
 pub zeros_length : (n k : ℕ) → length (zeros n k) ≡ n
@@ -30,7 +30,7 @@ calls_length address words target =
     let z = zeros_length words 0 in
     omega (arith, l, z)
 
-pub served_length : (places : Places) (call : Call) (address : ℕ) → length (served places call address) ≡ length (mask_of call.service call.mask) + 1
+pub served_length : (places : Places) (call : Call) (address : ℕ) → length (service_jump places call address) ≡ length (mask_of call.service call.mask) + 1
 served_length places call address = length-append (mask_of call.service call.mask) _
 
 -- a mask of either kind
@@ -44,7 +44,7 @@ some_of true near far e f = e
 some_of false near far e f = f
 
 module _ (app : App) (places : Places) (func address : ℕ) where
-  pub size_is : (long : Bool) (o : Op) → length (expanded app places func address long o) ≡ size app long o
+  pub size_is : (long : Bool) (o : Op) → length (operation_code app places func address long o) ≡ size app long o
   unfolding size
   size_is long (op.Alu kind rd rs1 rs2) = refl
   size_is long (op.AluImm kind rd rs1 number) = refl
@@ -66,7 +66,7 @@ module _ (app : App) (places : Places) (func address : ℕ) where
   size_is long (op.Serve call) = served_length places call address ∙ sym (served_length nowhere call 0)
 
 -- each item has an instruction
-pub expanded_some : (app : App) (places : Places) (func address : ℕ) (long : Bool) (o : Op) → 0 < length (expanded app places func address long o)
+pub expanded_some : (app : App) (places : Places) (func address : ℕ) (long : Bool) (o : Op) → 0 < length (operation_code app places func address long o)
 expanded_some app places func address long (op.Alu kind rd rs1 rs2) = omega arith
 expanded_some app places func address long (op.AluImm kind rd rs1 number) = omega arith
 expanded_some app places func address long (op.Lui rd number) = omega arith

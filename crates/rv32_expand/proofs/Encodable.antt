@@ -19,13 +19,13 @@ use Rattle.sloth_base.specs.declared.app.Width.TheVariants as width
 use Rattle.sloth_base.specs.declared.places.Places.{Places}
 use Rattle.sloth_base.specs.ServiceCodes.{has_mask}
 use Rattle.sloth_base.specs.declared.service.Service.{Service}
-use Rattle.app_rules.specs.AppRange.{IsShort, IsAmount, IsNumberOf}
+use Rattle.code_rules.specs.AppRange.{IsShort, IsAmount, IsNumberOf}
 use Rattle.rv32_instr.specs.Access.{load, store}
 use Rattle.rv32_instr.specs.Range.{Signed, Even, InRange, AreInRange}
 use Rattle.rv32_instr.specs.declared.InstrKind.{InstrKind}
 use Rattle.rv32_instr.specs.declared.InstrKind.TheVariants.{Auipc, Jal, Jalr, Sw}
 use Rattle.data_far.specs.Wide.{wide}
-use Rattle.rv32_expand.specs.Expansion.{amount, register_operation, number_operation, test, opposite, number_in, indexed, block_address, zeros, mask_of, symbol_address, item_address, label_address, distance, expanded}
+use Rattle.rv32_expand.specs.Expansion.{amount, register_operation, number_operation, test, opposite, number_in, index_code, block_address, zeros, mask_of, symbol_address, item_address, label_address, distance, operation_code}
 use Rattle.rv32_expand.specs.Fits.{Fits}
 
 -- ---- numbers
@@ -125,7 +125,7 @@ either_fits mask near far n f = cond_both (nat_le mask 2047) near far AreInRange
 twelve : Even 13 (pos 12)
 twelve = ((omega (arith, ints), omega (arith, ints)), refl)
 
-pub are_in_range : (app : App) (places : Places) (func address : ℕ) (long : Bool) (o : Op) → Fits app places func address long o → AreInRange (expanded app places func address long o)
+pub are_in_range : (app : App) (places : Places) (func address : ℕ) (long : Bool) (o : Op) → Fits app places func address long o → AreInRange (operation_code app places func address long o)
 are_in_range app places func address long (op.Alu kind rd rs1 rs2) h = (register_fits kind rd rs1 rs2 h.0 h.1 h.2, tt)
 are_in_range app places func address long (op.AluImm kind rd rs1 number) h = (number_fits kind rd rs1 number h.0 h.1 h.2, tt)
 are_in_range app places func address long (op.Lui rd number) h = (h, tt)
@@ -138,12 +138,12 @@ are_in_range app places func address long (op.Store w rs symbol offset) h =
     let v = symbol_address places symbol + offset in ((omega arith, hi_small v), (store_fits w rs v h.0, tt))
 are_in_range app places func address long (op.LoadAt w rd symbol index mask) h =
     let v = symbol_address places symbol in
-    either_fits mask (indexed index mask v ++ (load w rd 31 (lo v) ∷ [])) (wide (op.LoadAt w rd symbol index mask) v)
+    either_fits mask (index_code index mask v ++ (load w rd 31 (lo v) ∷ [])) (wide (op.LoadAt w rd symbol index mask) v)
     (λ m. ((omega arith, h.1, signed_small mask (omega arith)), ((omega arith, hi_small v), ((omega arith, omega arith, omega arith), (load_fits w rd v h.0, tt)))))
     ((omega arith, hi_small mask), ((omega arith, omega arith, lo_signed mask), ((omega arith, h.1, omega arith), ((omega arith, hi_small v), ((omega arith, omega arith, omega arith), (load_fits w rd v h.0, tt))))))
 are_in_range app places func address long (op.StoreAt w rs symbol index mask) h =
     let v = symbol_address places symbol in
-    either_fits mask (indexed index mask v ++ (store w rs 31 (lo v) ∷ [])) (wide (op.StoreAt w rs symbol index mask) v)
+    either_fits mask (index_code index mask v ++ (store w rs 31 (lo v) ∷ [])) (wide (op.StoreAt w rs symbol index mask) v)
     (λ m. ((omega arith, h.1, signed_small mask (omega arith)), ((omega arith, hi_small v), ((omega arith, omega arith, omega arith), (store_fits w rs v h.0, tt)))))
     ((omega arith, hi_small mask), ((omega arith, omega arith, lo_signed mask), ((omega arith, h.1, omega arith), ((omega arith, hi_small v), ((omega arith, omega arith, omega arith), (store_fits w rs v h.0, tt))))))
 are_in_range app places func address false (op.Branch kind rs1 rs2 label) h = (test_fits kind rs1 rs2 (distance address (label_address app places func label)) h.0 h.1 h.2, tt)

@@ -8,7 +8,7 @@ use Rattle.sloth_base.specs.declared.app.App.{App}
 use Rattle.sloth_base.specs.declared.app.Func.{Func}
 use Rattle.sloth_base.specs.declared.app.Label.{Label}
 use Rattle.sloth_base.specs.Named.{label_of, nowhere}
-use Rattle.app_rules.specs.AppRange.{IsTaskCode}
+use Rattle.code_rules.specs.AppRange.{IsTaskCode}
 use Rattle.rv32_expand.specs.Passes.{IsSmall}
 
 pub frame_of : (app : App) → IsTaskCode app → (func : ℕ) → (function app func).frame_words ≤ 32

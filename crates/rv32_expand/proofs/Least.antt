@@ -6,7 +6,7 @@ use Rattle.std.specs.Cmp.{both_ways}
 use Rattle.sloth_base.specs.Named.{function, missing}
 use Rattle.sloth_base.specs.declared.app.Func.{Func}
 use Rattle.rv32_expand.specs.InPlace.{IsItem}
-use Rattle.rv32_expand.specs.Laws.{LeastIsOne, SizesAreOne}
+use Rattle.rv32_expand.specs.ItemLengths.{LeastIsOne, SizesAreOne}
 use Rattle.rv32_expand.specs.Sizes.{items_before}
 use Rattle.rv32_expand.proofs.Agreeing.{size_same}
 

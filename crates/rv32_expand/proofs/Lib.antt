@@ -2,7 +2,7 @@ pub mod Counts
 pub mod Growth
 pub mod InRangeOf
 pub mod Passing
-pub mod Whole
+pub mod AllBodies
 pub mod Filling
 pub mod Encodable
 pub mod Agreeing

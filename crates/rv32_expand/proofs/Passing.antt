@@ -8,7 +8,7 @@ use Rattle.std.proofs.lemmas.Bool.{or_cases, or_parts, not-true}
 use Rattle.sloth_base.specs.declared.app.App.{App}
 use Rattle.sloth_base.specs.declared.app.Func.{Func}
 use Rattle.rv32_expand.specs.Long.{Set, IsBranchTo, IsNear, Suffices, IsWithin}
-use Rattle.rv32_expand.specs.Passes.{in_list, shorts, AreLengths, TellsFar, IsPassTo, IsPass, AreShortest}
+use Rattle.rv32_expand.specs.Passes.{in_list, short_count, AreLengths, TellsFar, IsPassTo, IsPass, AreShortest}
 use Rattle.rv32_expand.proofs.Growth.{near-stays}
 
 module _ (app : App) (body : Func) (old : List Bool) where
@@ -50,7 +50,7 @@ module _ (app : App) (body : Func) (old : List Bool) where
     fewer =
         let a = sum_by_push (λ (b : Bool). cond {A = ℕ} b 0 1) new (in_list old i || far) in
         let b = sum_by_more (λ (b : Bool). cond {A = ℕ} b 0 1) old i false (omega arith) in
-        let c = counted (in_list old i) far changed (shorts new) (sum_by (λ (b : Bool). cond {A = ℕ} b 0 1) (take i old)) (λ x. (tells.yes x).2) so_far.fewer in
+        let c = counted (in_list old i) far changed (short_count new) (sum_by (λ (b : Bool). cond {A = ℕ} b 0 1) (take i old)) (λ x. (tells.yes x).2) so_far.fewer in
         omega (arith, a, b, c);
   }
     where
@@ -65,7 +65,7 @@ module _ (app : App) (body : Func) (old : List Bool) where
     forced = λ other s w k t p e. so_far.forced other s w k t (let q = so_far.count in let n = p.inside in omega (arith, n)) p e;
     done = λ e i t p o. so_far.near e i p.inside t p o;
     fewer = λ e.
-        let w = ap shorts (take_all (length body.items) old (omega arith)) in
+        let w = ap short_count (take_all (length body.items) old (omega arith)) in
         let c : cond {A = ℕ} changed 1 0 ≡ 1 = ap (λ (b : Bool). cond {A = ℕ} b 1 0) e in
         let f = so_far.fewer in
         omega (arith, w, c, f);

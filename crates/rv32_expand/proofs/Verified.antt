@@ -13,17 +13,17 @@ use Rattle.sloth_base.specs.declared.config.Config.{Config}
 use Rattle.sloth_base.specs.declared.places.Places.{Places}
 use Rattle.sloth_base.specs.declared.refusal.Code.{Code}
 use Rattle.sloth_base.specs.declared.refusal.Code.TheVariants as code
-use Rattle.app_rules.specs.AppRange.{IsRegister, IsOp}
-use Rattle.app_rules.specs.Code.{falls, way}
+use Rattle.code_rules.specs.AppRange.{IsRegister, IsOp}
+use Rattle.code_rules.specs.Code.{is_followed, way}
 use Rattle.sloth_base.specs.Named.{item_of, label_of, no_item}
-use Rattle.app_rules.specs.WellFormed.{AccessesPast, MasksPast, WellFormed, Breaks, BodyFault, at_line}
+use Rattle.code_rules.specs.WellFormed.{AccessesPast, MasksPast, WellFormed, Breaks, BodyFault, at_line}
 use Rattle.rv32_instr.specs.Range.{Even}
-use Rattle.rv32_expand.specs.Expansion.{item_address, symbol_address, block_address, label_address, distance, mask_of, is_long, expanded, expansion}
+use Rattle.rv32_expand.specs.Expansion.{item_address, symbol_address, block_address, label_address, distance, mask_of, is_long, operation_code, expansion}
 use Rattle.sloth_base.specs.Named.{operation}
 use Rattle.rv32_expand.specs.Fits.{HasRoom, Fits}
 use Rattle.rv32_expand.specs.InPlace.{IsItem}
 use Rattle.rv32_expand.specs.Long.{target_of, IsBranchTo, IsLeast, Reaches}
-use Rattle.rv32_expand.specs.Laws.{ShortBranchesReach}
+use Rattle.rv32_expand.specs.ItemLengths.{ShortBranchesReach}
 use Rattle.rv32_expand.specs.Sizes.{AgreeWithSizes, Covers, IsVerified, IsWordAddress}
 use Rattle.rv32_expand.proofs.Agreeing.{told, reaches, least_same}
 use Rattle.rv32_expand.proofs.Counts.{calls_length, served_length, expanded_some}
@@ -36,7 +36,7 @@ record IsBranchOf (body : Func) (o : Op) (target : ℕ) : Type 0 where
   label : ℕ
   is : target ≡ (label_of body label).item
   way_is : way o ≡ Some label
-  goes : falls o ≡ true
+  goes : is_followed o ≡ true
 
 branch_of : (body : Func) (o : Op) (target : ℕ) → target_of body o ≡ Some target → IsBranchOf body o target
 branch_of body (op.Branch kind rs1 rs2 label) target e = record { label = label; is = cc; way_is = refl; goes = refl }
@@ -101,7 +101,7 @@ module _ (config : Config) (app : App) (well : WellFormed config app) (func inde
   }
 
   -- an item that goes on has one behind it
-  pub falls_inside : falls (operation app func index) ≡ true → IsItem app func (index + 1)
+  pub falls_inside : is_followed (operation app func index) ≡ true → IsItem app func (index + 1)
   falls_inside e = record {
     declared = item.declared;
     inside =
@@ -197,7 +197,7 @@ module _ (config : Config) (app : App) (well : WellFormed config app) (places : 
       let g : IsBranchTo (function app func) index target = record { inside = item.inside; goes = ap (target_of (function app func)) is } in (
         own rs1 h.0,
         own rs2 h.1,
-        room target g (goes_inside config app well func index item label (ap way is)) (falls_inside config app well func index item (ap falls is)) (is_long places func index) refl,
+        room target g (goes_inside config app well func index item label (ap way is)) (falls_inside config app well func index item (ap is_followed is)) (is_long places func index) refl,
       )
   fits (op.Jump label) is h a m =
       let e : address + 4 * 0 ≡ address = omega arith in
@@ -206,12 +206,12 @@ module _ (config : Config) (app : App) (well : WellFormed config app) (places : 
       (goes_inside config app well func index item label (ap way is)))
   fits (op.Invoke callee) is h a m =
       let words = (function app callee).frame_words in
-      let l : length (expansion app places func index) ≡ 4 + words = ap (λ o. length (expanded app places func address (is_long places func index) o)) is ∙ calls_length address words (item_address places callee 0) in
+      let l : length (expansion app places func index) ≡ 4 + words = ap (λ o. length (operation_code app places func address (is_long places func index) o)) is ∙ calls_length address words (item_address places callee 0) in
       (frame_of app (config, well.in_range) callee, low_enough, to_item (words + 3) callee 0 (omega (arith, l)) (has_first config app well callee h.0))
   fits op.Return is h a m = frame_of app (config, well.in_range) func
   fits (op.Serve call) is h a m =
       let n = length (mask_of call.service call.mask) in
-      let l : length (expansion app places func index) ≡ n + 1 = ap (λ o. length (expanded app places func address (is_long places func index) o)) is ∙ served_length places call address in
+      let l : length (expansion app places func index) ≡ n + 1 = ap (λ o. length (operation_code app places func address (is_long places func index) o)) is ∙ served_length places call address in
       (low_enough, to_block n call is (omega (arith, l)))
 
 pub items_fit : (app : App) → IsVerified app → (places : Places) → Covers app places → AgreeWithSizes app places → (func index : ℕ) → IsItem app func index

@@ -101,8 +101,8 @@ abbrev pub number_in : ℕ → ℕ → List InstrKind
 number_in rd value = Lui rd (hi value) ∷ Addi rd rd (lo value) ∷ []
 
 -- x31 is the address of a masked index into a symbol, less the low part
-abbrev pub indexed : ℕ → ℕ → ℕ → List InstrKind
-indexed index mask address = Andi 31 index (pos mask) ∷ Lui 30 (hi address) ∷ Add 31 31 30 ∷ []
+abbrev pub index_code : ℕ → ℕ → ℕ → List InstrKind
+index_code index mask address = Andi 31 index (pos mask) ∷ Lui 30 (hi address) ∷ Add 31 31 30 ∷ []
 
 -- a branch at an address: the test itself, or where it is long, a jump to what x31 holds: the next item, or the target where the test holds
 abbrev pub branches : (long : Bool) → BranchKind → (a b address target : ℕ) → List InstrKind
@@ -126,37 +126,37 @@ abbrev pub mask_of : Service → ℕ → List InstrKind
 mask_of s mask = if has_mask s then number_in 30 mask else []
 
 -- the jump to the service's block, from an address
-abbrev pub served : Places → Call → ℕ → List InstrKind
-served places call address =
+abbrev pub service_jump : Places → Call → ℕ → List InstrKind
+service_jump places call address =
     mask_of call.service call.mask
     ++ (Jal 31 (distance (address + 4 * length (mask_of call.service call.mask)) (block_address places call.service call.object)) ∷ [])
 
 -- ---- an item, at its address
 
 -- the instructions of an operation of a function, at its address, where a branch is long or not
-abbrev pub expanded : App → Places → (func address : ℕ) → (long : Bool) → Op → List InstrKind
-expanded app places func address long (op.Alu kind rd rs1 rs2) = register_operation kind rd rs1 rs2 ∷ []
-expanded app places func address long (op.AluImm kind rd rs1 number) = number_operation kind rd rs1 number ∷ []
-expanded app places func address long (op.Lui rd number) = Lui rd number ∷ []
-expanded app places func address long (op.Li rd value) = Lui 31 (hi value) ∷ Addi rd 31 (lo value) ∷ []
-expanded app places func address long (op.FrameLoad rd word) = Lw rd 2 (pos (4 * word)) ∷ []
-expanded app places func address long (op.FrameStore rs word) = Sw 2 rs (pos (4 * word)) ∷ []
-expanded app places func address long (op.Load w rd symbol offset) =
+abbrev pub operation_code : App → Places → (func address : ℕ) → (long : Bool) → Op → List InstrKind
+operation_code app places func address long (op.Alu kind rd rs1 rs2) = register_operation kind rd rs1 rs2 ∷ []
+operation_code app places func address long (op.AluImm kind rd rs1 number) = number_operation kind rd rs1 number ∷ []
+operation_code app places func address long (op.Lui rd number) = Lui rd number ∷ []
+operation_code app places func address long (op.Li rd value) = Lui 31 (hi value) ∷ Addi rd 31 (lo value) ∷ []
+operation_code app places func address long (op.FrameLoad rd word) = Lw rd 2 (pos (4 * word)) ∷ []
+operation_code app places func address long (op.FrameStore rs word) = Sw 2 rs (pos (4 * word)) ∷ []
+operation_code app places func address long (op.Load w rd symbol offset) =
     Lui 31 (hi (symbol_address places symbol + offset)) ∷ load w rd 31 (lo (symbol_address places symbol + offset)) ∷ []
-expanded app places func address long (op.Store w rs symbol offset) =
+operation_code app places func address long (op.Store w rs symbol offset) =
     Lui 31 (hi (symbol_address places symbol + offset)) ∷ store w rs 31 (lo (symbol_address places symbol + offset)) ∷ []
-expanded app places func address long (op.LoadAt w rd symbol index mask) =
-    if nat_le mask 2047 then indexed index mask (symbol_address places symbol) ++ (load w rd 31 (lo (symbol_address places symbol)) ∷ [])
+operation_code app places func address long (op.LoadAt w rd symbol index mask) =
+    if nat_le mask 2047 then index_code index mask (symbol_address places symbol) ++ (load w rd 31 (lo (symbol_address places symbol)) ∷ [])
     else wide (op.LoadAt w rd symbol index mask) (symbol_address places symbol)
-expanded app places func address long (op.StoreAt w rs symbol index mask) =
-    if nat_le mask 2047 then indexed index mask (symbol_address places symbol) ++ (store w rs 31 (lo (symbol_address places symbol)) ∷ [])
+operation_code app places func address long (op.StoreAt w rs symbol index mask) =
+    if nat_le mask 2047 then index_code index mask (symbol_address places symbol) ++ (store w rs 31 (lo (symbol_address places symbol)) ∷ [])
     else wide (op.StoreAt w rs symbol index mask) (symbol_address places symbol)
-expanded app places func address long (op.Branch kind rs1 rs2 label) = branches long kind rs1 rs2 address (label_address app places func label)
-expanded app places func address long (op.Jump label) = Jal 0 (distance address (label_address app places func label)) ∷ []
-expanded app places func address long (op.Invoke callee) = calls address (function app callee).frame_words (item_address places callee 0)
-expanded app places func address long op.Return =
+operation_code app places func address long (op.Branch kind rs1 rs2 label) = branches long kind rs1 rs2 address (label_address app places func label)
+operation_code app places func address long (op.Jump label) = Jal 0 (distance address (label_address app places func label)) ∷ []
+operation_code app places func address long (op.Invoke callee) = calls address (function app callee).frame_words (item_address places callee 0)
+operation_code app places func address long op.Return =
     Lw 31 2 (pos (4 * (function app func).frame_words)) ∷ Addi 2 2 (pos (4 + 4 * (function app func).frame_words)) ∷ Jalr 0 31 (pos 12) ∷ []
-expanded app places func address long (op.Serve call) = served places call address
+operation_code app places func address long (op.Serve call) = service_jump places call address
 
 -- A branch is long where more than one word lies between its address and that of the next item.
 abbrev pub is_long : Places → (func index : ℕ) → Bool
@@ -164,4 +164,4 @@ is_long places func index = nat_lt (item_address places func index + 4) (item_ad
 
 -- the instructions of an item of a function
 abbrev pub expansion : App → Places → (func index : ℕ) → List InstrKind
-expansion app places func index = expanded app places func (item_address places func index) (is_long places func index) (operation app func index)
+expansion app places func index = operation_code app places func (item_address places func index) (is_long places func index) (operation app func index)

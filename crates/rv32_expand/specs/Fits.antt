@@ -5,7 +5,7 @@ use Rattle.sloth_base.specs.declared.app.App.{App}
 use Rattle.sloth_base.specs.declared.app.Op.{Op}
 use Rattle.sloth_base.specs.declared.app.Op.TheVariants as op
 use Rattle.sloth_base.specs.declared.places.Places.{Places}
-use Rattle.app_rules.specs.AppRange.{IsNumberOf}
+use Rattle.code_rules.specs.AppRange.{IsNumberOf}
 use Rattle.rv32_instr.specs.Range.{Even}
 use Rattle.rv32_expand.specs.Expansion.{distance, item_address, symbol_address, block_address, label_address, mask_of}
 

@@ -5,4 +5,4 @@ pub mod Sizes
 pub mod Fits
 pub mod Code
 pub mod Passes
-pub mod Laws
+pub mod ItemLengths

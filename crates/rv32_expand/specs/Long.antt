@@ -6,7 +6,7 @@ use Rattle.sloth_base.specs.declared.app.Op.{Op}
 use Rattle.sloth_base.specs.declared.app.Op.TheVariants as op
 use Rattle.sloth_base.specs.declared.places.Places.{Places}
 use Rattle.sloth_base.specs.Named.{item_of, label_of}
-use Rattle.rv32_expand.specs.Expansion.{expanded}
+use Rattle.rv32_expand.specs.Expansion.{operation_code}
 
 -- no addresses at all
 abbrev pub nowhere : Places
@@ -14,7 +14,7 @@ nowhere = record { items = []; first = []; symbols = []; blocks = [] }
 
 -- how many instructions an operation has, where a branch is long or not; they are as many at every address
 unfoldable pub size : App → (long : Bool) → Op → ℕ
-size app long o = length (expanded app nowhere 0 0 long o)
+size app long o = length (operation_code app nowhere 0 0 long o)
 
 -- A set of branches says of each item of a body by its number whether it is in. Of an item that is no branch it says nothing.
 abbrev pub Set : Type 0

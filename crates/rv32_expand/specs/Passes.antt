@@ -17,8 +17,8 @@ abbrev pub in_list : List Bool → Set
 in_list long index = get_or long index false
 
 -- how many are not in it
-abbrev pub shorts : List Bool → ℕ
-shorts long = sum_by (λ b. cond b 0 1) long
+abbrev pub short_count : List Bool → ℕ
+short_count long = sum_by (λ b. cond b 0 1) long
 
 -- the words before each item and before the end
 pub record ArePlaces (app : App) (body : Func) (long : List Bool) (places : List ℕ) : Type 0 where
@@ -42,14 +42,14 @@ pub record IsPassTo (app : App) (body : Func) (old : List Bool) (index : ℕ) (n
   pub forced : (other : Set) → Suffices app body other → IsWithin body (in_list old) other
       → (k target : ℕ) → k < index → IsBranchTo body k target → in_list new k ≡ true → other k ≡ true
   pub near : changed ≡ false → (k : ℕ) → k < index → (target : ℕ) → IsBranchTo body k target → in_list old k ≡ false → IsNear app body (in_list old) k target
-  pub fewer : shorts new + cond changed 1 0 ≤ sum_by (λ b. cond b 0 1) (take index old)
+  pub fewer : short_count new + cond changed 1 0 ≤ sum_by (λ b. cond b 0 1) (take index old)
 
 -- a whole pass
 pub record IsPass (app : App) (body : Func) (old new : List Bool) (changed : Bool) : Type 0 where
   pub count : length new ≡ length body.items
   pub forced : (other : Set) → Suffices app body other → IsWithin body (in_list old) other → IsWithin body (in_list new) other
   pub done : changed ≡ false → Suffices app body (in_list old)
-  pub fewer : changed ≡ true → shorts new < shorts old
+  pub fewer : changed ≡ true → short_count new < short_count old
 
 -- the lengths of the items of a body, with the least set of long branches
 pub record AreShortest (app : App) (body : Func) (lengths : List ℕ) : Type 0 where

@@ -7,7 +7,7 @@ use Rattle.sloth_base.specs.declared.app.Func.{Func}
 use Rattle.sloth_base.specs.declared.app.Op.TheVariants as op
 use Rattle.sloth_base.specs.declared.config.Config.{Config}
 use Rattle.sloth_base.specs.declared.places.Places.{Places}
-use Rattle.app_rules.specs.WellFormed.{WellFormed}
+use Rattle.code_rules.specs.WellFormed.{WellFormed}
 use Rattle.rv32_expand.specs.Expansion.{item_address, symbol_address, block_address, expansion}
 use Rattle.sloth_base.specs.Named.{operation}
 use Rattle.sloth_base.specs.MemoryMap.{memory_base, memory_end}

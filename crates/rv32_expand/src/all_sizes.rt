@@ -1,6 +1,6 @@
 //! The lengths of the items of all bodies.
 ghost use Rattle.std.specs.Prelude.{IfOk};
-ghost use Rattle.app_rules.specs.AppRange.{IsTaskCode};
+ghost use Rattle.code_rules.specs.AppRange.{IsTaskCode};
 ghost use Rattle.rv32_expand.specs.Sizes.{AreSizes};
 
 use crate::long_branches::shortest;

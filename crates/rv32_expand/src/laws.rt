@@ -1,5 +1,5 @@
 //! Laws on the instructions of items and their lengths.
-ghost use Rattle.rv32_expand.specs.Laws.{LengthsAreSizes, ExpansionsAreFew, LeastIsOne, SizesAreOne, LeastAreLong, ItemsAreAdjacent, ShortBranchesReach, InstructionsAreInRange, LastCommits};
+ghost use Rattle.rv32_expand.specs.ItemLengths.{LengthsAreSizes, ExpansionsAreFew, LeastIsOne, SizesAreOne, LeastAreLong, ItemsAreAdjacent, ShortBranchesReach, InstructionsAreInRange, LastCommits};
 
 /// An operation has as many instructions wherever it stands.
 pub fn lengths_are_sizes()

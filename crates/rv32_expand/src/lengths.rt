@@ -1,7 +1,7 @@
 //! How many instructions an item has.
 ghost use Rattle.std.specs.Prelude.{◌≡◌, ◌≤◌, ℕ, true, length};
 ghost use Rattle.sloth_base.specs.Named.{function};
-ghost use Rattle.app_rules.specs.AppRange.{IsTaskCode};
+ghost use Rattle.code_rules.specs.AppRange.{IsTaskCode};
 ghost use Rattle.rv32_expand.specs.Expansion.{mask_of};
 ghost use Rattle.rv32_expand.specs.Long.{size};
 

@@ -1,6 +1,6 @@
 //! Instructions of one kind of operation.
 ghost use Rattle.std.specs.Prelude.{◌≡◌};
-ghost use Rattle.app_rules.specs.AppRange.{IsNumberOf};
+ghost use Rattle.code_rules.specs.AppRange.{IsNumberOf};
 ghost use Rattle.rv32_expand.specs.Expansion.{register_operation, number_operation, test, opposite};
 
 use rv32_instr::InstrKind;

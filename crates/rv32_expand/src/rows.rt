@@ -4,8 +4,8 @@ ghost use Rattle.sloth_base.specs.Arithmetic.{hi, lo};
 ghost use Rattle.data_far.specs.Wide.{wide, IsWide};
 ghost use Rattle.rv32_instr.specs.Range.{Signed};
 ghost use Rattle.rv32_instr.specs.declared.InstrKind.TheVariants.{Lui, Addi, Lw, Jalr};
-ghost use Rattle.app_rules.specs.AppRange.{IsNumberOf};
-ghost use Rattle.rv32_expand.specs.Expansion.{distance, item_address, symbol_address, block_address, label_address, register_operation, number_operation, test, opposite, number_in, indexed, branches, calls, mask_of, served, expanded};
+ghost use Rattle.code_rules.specs.AppRange.{IsNumberOf};
+ghost use Rattle.rv32_expand.specs.Expansion.{distance, item_address, symbol_address, block_address, label_address, register_operation, number_operation, test, opposite, number_in, index_code, branches, calls, mask_of, service_jump, operation_code};
 ghost use Rattle.rv32_expand.specs.Fits.{HasRoom, Fits};
 
 use crate::addresses::{block_address, distance, item_address, label_address, symbol_address};
@@ -46,7 +46,7 @@ fn direct(address: u32, access: InstrKind) -> Draft
 /// The same behind a masked index.
 fn indexed(index: Reg, mask: u32, address: u32, access: InstrKind) -> Draft
     requires { mask ≤ 2047 }
-    ensures { result ≡ indexed index mask address ++ (access ∷ []) }
+    ensures { result ≡ index_code index mask address ++ (access ∷ []) }
 {
     Draft::of(&[
         andi(X31, index, mask as i32),
@@ -131,7 +131,7 @@ fn mask_of(service: Service, mask: u32) -> Draft
 fn serve(call: Call, at: u32, places: &Places) -> Draft
     requires at_in { at < 2 ^ 31 + 2 ^ 22 }
     requires near { Signed 21 (distance (at + 4 * length (mask_of call.service call.mask)) (block_address places.now call.service call.object)) }
-    ensures { result ≡ served places.now call at }
+    ensures { result ≡ service_jump places.now call at }
 {
     let mut draft = mask_of(call.service, call.mask);
     let from = at + 4 * mask_length(call.service);
@@ -143,7 +143,7 @@ fn serve(call: Call, at: u32, places: &Places) -> Draft
 /// The instructions of an item of a function, at its address, where a branch is long or not.
 pub fn draft(item: &Item, func: u32, at: u32, long: bool, app: &App, places: &Places) -> Draft
     requires { Fits app.now places.now func at long item.now.op }
-    ensures { result ≡ expanded app.now places.now func at long item.now.op }
+    ensures { result ≡ operation_code app.now places.now func at long item.now.op }
 {
     match item.op {
         Op::Alu { kind, rd, rs1, rs2 } => one(register_operation(kind, rd, rs1, rs2)),

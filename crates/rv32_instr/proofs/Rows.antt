@@ -11,7 +11,7 @@ use Rattle.rv32_instr.specs.declared.stop.Stop.TheVariants as stop
 use Rattle.rv32_instr.specs.Words.{word}
 use Rattle.rv32_instr.specs.Table.{Decode, immediate}
 use Rattle.rv32_instr.specs.Ram.{word_at, half_at, with_word}
-use Rattle.rv32_instr.specs.Memory.{refusal, loaded, stored}
+use Rattle.rv32_instr.specs.Memory.{refusal, loaded_number, stored_memory}
 use Rattle.rv32_instr.specs.Execute.{Going, Stopped, perform, execute, step, touched_by}
 
 -- `addi x5, x0, 5` and a byte of 255; x1 is 0x10000020, x2 is 0x80000004, x3 is 9; line 3 and line 4 are at one level
@@ -46,27 +46,27 @@ unfolding step at_start core
 fetch = refl
 
 load_byte : execute (Lb 4 2 (pos 0)) 0x8000_0000 core ≡ Going (goes-to 0x8000_0004 (record core { registers = set core.registers 4 0xffff_ffff }))
-unfolding execute perform word refusal loaded core goes-to
+unfolding execute perform word refusal loaded_number core goes-to
 load_byte = refl
 
 load_pending : execute (Lb 4 1 (negsuc 28)) 0x8000_0000 core ≡ Going (goes-to 0x8000_0004 (record core { registers = set core.registers 4 1 }))
-unfolding execute perform word refusal loaded controller_byte core goes-to
+unfolding execute perform word refusal loaded_number controller_byte core goes-to
 load_pending = refl
 
 store_enable : execute (Sb 1 3 (pos 2)) 0x8000_0000 core ≡ Going (goes-to 0x8000_0004 (record core { enabled = set core.enabled 2 1 }))
-unfolding execute perform word refusal stored with_controller_byte core goes-to
+unfolding execute perform word refusal stored_memory with_controller_byte core goes-to
 store_enable = refl
 
 half_of_controller : execute (Lh 4 1 (pos 0)) 0x8000_0000 core ≡ Stopped (stop.Access 0x1000_0020)
-unfolding execute perform word refusal loaded half_at core
+unfolding execute perform word refusal loaded_number half_at core
 half_of_controller = refl
 
 word_of_controller : execute (Lw 4 1 (pos 1)) 0x8000_0000 core ≡ Stopped (stop.Misaligned 0x1000_0021)
-unfolding execute perform word refusal loaded word_at core
+unfolding execute perform word refusal loaded_number word_at core
 word_of_controller = refl
 
 store_word : execute (Sw 2 3 (pos 0)) 0x8000_0000 core ≡ Going (goes-to 0x8000_0004 (record core { ram = 0x93 ∷ 0x02 ∷ 0x50 ∷ 0x00 ∷ 9 ∷ 0 ∷ 0 ∷ 0 ∷ [] }))
-unfolding execute perform word refusal stored with_word core goes-to
+unfolding execute perform word refusal stored_memory with_word core goes-to
 store_word = refl
 
 misaligned_jump : execute (Jal 5 (pos 6)) 0x8000_0000 core ≡ Stopped (stop.Misaligned 0x8000_0006)

@@ -14,7 +14,7 @@ use Rattle.rv32_instr.specs.declared.InstrKind.{InstrKind}
 use Rattle.rv32_instr.specs.Encode.{Encode}
 use Rattle.rv32_instr.specs.Table.{Decode}
 use Rattle.rv32_instr.specs.Ram.{word_at}
-use Rattle.rv32_instr.specs.Memory.{memory_of, with_memory, in_ram, refusal, loaded, stored}
+use Rattle.rv32_instr.specs.Memory.{memory_of, with_memory, in_ram, refusal, loaded_number, stored_memory}
 use Rattle.rv32_instr.specs.Effect.{effect}
 use Rattle.sloth_base.specs.Arithmetic.{sum32}
 
@@ -57,11 +57,11 @@ with_csr core csr value =
     else core
 
 -- what a change of a CSR with this old value leaves
-abbrev pub changed : Change → ℕ → ℕ → Core → Core
-changed Keep csr old core = core
-changed (Replace value) csr old core = with_csr core csr value
-changed (Set bits) csr old core = with_csr core csr (bit_or old bits)
-changed (Clear bits) csr old core = with_csr core csr (bit_and old (2 ^ 32 - 1 - bits))
+abbrev pub changed_core : Change → ℕ → ℕ → Core → Core
+changed_core Keep csr old core = core
+changed_core (Replace value) csr old core = with_csr core csr value
+changed_core (Set bits) csr old core = with_csr core csr (bit_or old bits)
+changed_core (Clear bits) csr old core = with_csr core csr (bit_and old (2 ^ 32 - 1 - bits))
 
 -- the next instruction is the one behind
 abbrev pub goes_on : ℕ → Core → Next
@@ -81,7 +81,7 @@ unless_refused (Some bad.Access) address next = Stopped (stop.Access address)
 -- the old value goes to the register, whatever the change
 abbrev pub csr_access : Option ℕ → ℕ → Change → ℕ → ℕ → ℕ → Core → Next
 csr_access None rd change csr word pc core = Stopped (stop.Illegal word)
-csr_access (Some old) rd change csr word pc core = goes_on pc (with_register (changed change csr old core) rd old)
+csr_access (Some old) rd change csr word pc core = goes_on pc (with_register (changed_core change csr old core) rd old)
 
 -- an effect, of the instruction with this word at this address
 unfoldable pub perform : Effect → ℕ → ℕ → Core → Next
@@ -91,10 +91,10 @@ perform (Branch taken target) word pc core = if taken then jumps target core els
 perform (Jump rd target) word pc core = jumps target (with_register core rd (sum32 pc 4))
 perform (Load width rd address) word pc core =
     unless_refused (refusal (memory_of core) address width) address
-    (goes_on pc (with_register core rd (loaded (memory_of core) address width)))
+    (goes_on pc (with_register core rd (loaded_number (memory_of core) address width)))
 perform (Store width address value) word pc core =
     unless_refused (refusal (memory_of core) address width) address
-    (goes_on pc (with_memory core (stored (memory_of core) address width value)))
+    (goes_on pc (with_memory core (stored_memory (memory_of core) address width value)))
 perform (Csr rd csr change) word pc core = csr_access (csr_value core csr) rd change csr word pc core
 perform Environment word pc core = Stopped stop.Environment
 perform Return word pc core =
@@ -105,8 +105,8 @@ unfoldable pub execute : InstrKind → ℕ → Core → Next
 execute kind pc core = perform (effect kind pc core.registers) (Encode kind) pc core
 
 -- the word that pc points to
-abbrev pub fetched : State → ℕ
-fetched state = word_at state.core.ram (state.pc - 0x8000_0000)
+abbrev pub word_at_pc : State → ℕ
+word_at_pc state = word_at state.core.ram (state.pc - 0x8000_0000)
 
 -- a word that is an instruction, or that is none
 abbrev pub execute_word : Option InstrKind → ℕ → State → Next
@@ -116,7 +116,7 @@ execute_word (Some kind) word state = execute kind state.pc state.core
 -- fetch, decode and execute
 unfoldable pub step : State → Next
 step state =
-    if in_ram state.pc 4 then execute_word (Decode (fetched state)) (fetched state) state
+    if in_ram state.pc 4 then execute_word (Decode (word_at_pc state)) (word_at_pc state) state
     else Stopped (stop.Fetch state.pc)
 
 -- the line that a controller address is the pending byte of
@@ -137,4 +137,4 @@ touched_on (Some kind) state = touched_by (effect kind state.pc state.core.regis
 
 -- the line that the next instruction touches
 unfoldable pub touched : State → Option ℕ
-touched state = touched_on (Decode (fetched state)) state
+touched state = touched_on (Decode (word_at_pc state)) state

@@ -54,12 +54,12 @@ loaded_byte memory address =
     else controller_byte memory.lines (address - 0x1000_0000)
 
 -- the word that a load of this width gives
-unfoldable pub loaded : Memory → ℕ → Width → ℕ
-loaded memory address width.Byte = sign_extended 8 (loaded_byte memory address)
-loaded memory address width.Half = sign_extended 16 (half_at memory.ram (address - 0x8000_0000))
-loaded memory address width.Word = word_at memory.ram (address - 0x8000_0000)
-loaded memory address width.ByteU = loaded_byte memory address
-loaded memory address width.HalfU = half_at memory.ram (address - 0x8000_0000)
+unfoldable pub loaded_number : Memory → ℕ → Width → ℕ
+loaded_number memory address width.Byte = sign_extended 8 (loaded_byte memory address)
+loaded_number memory address width.Half = sign_extended 16 (half_at memory.ram (address - 0x8000_0000))
+loaded_number memory address width.Word = word_at memory.ram (address - 0x8000_0000)
+loaded_number memory address width.ByteU = loaded_byte memory address
+loaded_number memory address width.HalfU = half_at memory.ram (address - 0x8000_0000)
 
 -- the memory after a store of the value's low bytes
 abbrev pub stored_byte : Memory → ℕ → ℕ → Memory
@@ -68,12 +68,12 @@ stored_byte memory address value =
     else record memory { lines = with_controller_byte memory.lines (address - 0x1000_0000) (value % 256) }
 
 -- the memory after a store of this width
-unfoldable pub stored : Memory → ℕ → Width → ℕ → Memory
-stored memory address width.Byte value = stored_byte memory address value
-stored memory address width.Half value =
+unfoldable pub stored_memory : Memory → ℕ → Width → ℕ → Memory
+stored_memory memory address width.Byte value = stored_byte memory address value
+stored_memory memory address width.Half value =
     record memory { ram = with_half memory.ram (address - 0x8000_0000) value }
-stored memory address width.Word value =
+stored_memory memory address width.Word value =
     record memory { ram = with_word memory.ram (address - 0x8000_0000) value }
-stored memory address width.ByteU value = stored_byte memory address value
-stored memory address width.HalfU value =
+stored_memory memory address width.ByteU value = stored_byte memory address value
+stored_memory memory address width.HalfU value =
     record memory { ram = with_half memory.ram (address - 0x8000_0000) value }

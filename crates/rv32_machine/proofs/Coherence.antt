@@ -5,19 +5,19 @@ use Rattle.sloth_base.specs.declared.step.Step.{Step}
 use Rattle.sloth_base.specs.Machine.{State}
 use Rattle.rv32_instr.specs.Execute.{Next, Going, Stopped, step}
 use Rattle.sloth_base.specs.Take.{entered}
-use Rattle.rv32_machine.specs.Advance.{Outcome, Goes, Halts, advance, outcome, seen}
+use Rattle.rv32_machine.specs.Advance.{Outcome, Goes, Halts, advance, outcome, seen_step}
 use Rattle.rv32_machine.specs.Run.{Moment, arrived, moment, on_goes, moment_of, run_from, steps_of}
 use Rattle.rv32_machine.specs.Coherent.{Coherent}
 
 -- what is seen of a step that goes on
 seen-of
     : (count : ℕ) (before : State) (next : Next) (s : Step) (after : State) → outcome count before next ≡ Goes s after
-    → s ≡ seen count before after
-seen-of count before (Going m) s after h = let e : m ≡ after = cc in let f : seen count before m ≡ s = cc in sym f ∙ ap (seen count before) e
+    → s ≡ seen_step count before after
+seen-of count before (Going m) s after h = let e : m ≡ after = cc in let f : seen_step count before m ≡ s = cc in sym f ∙ ap (seen_step count before) e
 seen-of count before (Stopped e) s after h = cc
 
 pub step_seen
-    : (count : ℕ) (before : State) (s : Step) (after : State) → advance count before ≡ Goes s after → s ≡ seen count before after
+    : (count : ℕ) (before : State) (s : Step) (after : State) → advance count before ≡ Goes s after → s ≡ seen_step count before after
 unfolding advance
 step_seen count before s after h = seen-of count before (step (entered before)) s after h
 

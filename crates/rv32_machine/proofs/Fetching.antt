@@ -9,10 +9,10 @@ use Rattle.rv32_instr.specs.declared.InstrKind.{InstrKind}
 use Rattle.rv32_instr.specs.Encode.{Encode}
 use Rattle.rv32_instr.specs.Table.{Decode}
 use Rattle.rv32_instr.specs.Ram.{word_at}
-use Rattle.rv32_instr.specs.Memory.{Memory, in_ram, refusal, loaded}
+use Rattle.rv32_instr.specs.Memory.{Memory, in_ram, refusal, loaded_number}
 use Rattle.rv32_instr.specs.Effect.{effect}
 use Rattle.rv32_instr.specs.declared.effect.Effect.{Effect}
-use Rattle.rv32_instr.specs.Execute.{Next, Stopped, execute, perform, step, touched, touched_by, fetched}
+use Rattle.rv32_instr.specs.Execute.{Next, Stopped, execute, perform, step, touched, touched_by, word_at_pc}
 
 -- an aligned word may be loaded exactly where it is in RAM
 pub fetch_in_ram : (memory : Memory) (pc : ℕ) → pc % 4 ≡ 0 → refusal memory pc width.Word ≡ None → in_ram pc 4 ≡ true
@@ -24,8 +24,8 @@ pub fetch_refused
 unfolding refusal
 fetch_refused memory pc reason h e = grind (arith, nat_tests)
 
-pub fetched_word : (memory : Memory) (pc : ℕ) → loaded memory pc width.Word ≡ word_at memory.ram (pc - 0x8000_0000)
-unfolding loaded
+pub fetched_word : (memory : Memory) (pc : ℕ) → loaded_number memory pc width.Word ≡ word_at memory.ram (pc - 0x8000_0000)
+unfolding loaded_number
 fetched_word memory pc = refl
 
 -- the step of a fetched word
@@ -34,13 +34,13 @@ unfolding step
 step_fetch state h = rw h refl
 
 pub step_illegal
-    : (state : State) → in_ram state.pc 4 ≡ true → Decode (fetched state) ≡ None
-    → step state ≡ Stopped (stop.Illegal (fetched state))
+    : (state : State) → in_ram state.pc 4 ≡ true → Decode (word_at_pc state) ≡ None
+    → step state ≡ Stopped (stop.Illegal (word_at_pc state))
 unfolding step
 step_illegal state h e = rw (h, e) refl
 
 pub step_performs
-    : (state : State) (kind : InstrKind) (word : ℕ) → in_ram state.pc 4 ≡ true → fetched state ≡ word
+    : (state : State) (kind : InstrKind) (word : ℕ) → in_ram state.pc 4 ≡ true → word_at_pc state ≡ word
     → Decode word ≡ Some kind → Encode kind ≡ word
     → step state ≡ perform (effect kind state.pc state.core.registers) word state.pc state.core
 unfolding step execute
@@ -48,7 +48,7 @@ step_performs state kind word h w e c =
     rw (h, w, e) (ap (λ v. perform (effect kind state.pc state.core.registers) v state.pc state.core) c)
 
 pub touched_is
-    : (state : State) (kind : InstrKind) → Decode (fetched state) ≡ Some kind
+    : (state : State) (kind : InstrKind) → Decode (word_at_pc state) ≡ Some kind
     → touched state ≡ touched_by (effect kind state.pc state.core.registers)
 unfolding touched
 touched_is state kind e = rw e refl
@@ -56,7 +56,7 @@ touched_is state kind e = rw e refl
 -- what the fetch of a word, its decoding and the doing of its effect come to
 pub executed
     : (old new : State) (kind : InstrKind) (word : ℕ) (asked : Effect) (next : Next)
-    → in_ram old.pc 4 ≡ true → word ≡ fetched old → Decode word ≡ Some kind → Encode kind ≡ word → new ≡ old
+    → in_ram old.pc 4 ≡ true → word ≡ word_at_pc old → Decode word ≡ Some kind → Encode kind ≡ word → new ≡ old
     → asked ≡ effect kind new.pc new.core.registers → perform asked word new.pc new.core ≡ next → step old ≡ next
 executed old new kind word asked next h w d c s a p =
     step_performs old kind word h (sym w) d c
@@ -66,7 +66,7 @@ executed old new kind word asked next h w d c s a p =
 
 pub touched_executed
     : (old new : State) (kind : InstrKind) (word : ℕ) (asked : Effect) (line : Option ℕ)
-    → word ≡ fetched old → Decode word ≡ Some kind → new ≡ old → asked ≡ effect kind new.pc new.core.registers
+    → word ≡ word_at_pc old → Decode word ≡ Some kind → new ≡ old → asked ≡ effect kind new.pc new.core.registers
     → line ≡ touched_by asked → line ≡ touched old
 touched_executed old new kind word asked line w d s a t =
     t ∙ ap touched_by a ∙ ap (λ x. touched_by (effect kind x.pc x.core.registers)) s

@@ -5,7 +5,7 @@ use Rattle.sloth_base.specs.Take.{entered, line_to_take}
 use Rattle.rv32_instr.specs.declared.stop.Stop.{Stop}
 use Rattle.rv32_instr.specs.Ram.{word_at}
 use Rattle.rv32_instr.specs.Execute.{Going, Stopped, step, touched}
-use Rattle.rv32_machine.specs.Advance.{Goes, Halts, seen, outcome, advance}
+use Rattle.rv32_machine.specs.Advance.{Goes, Halts, seen_step, outcome, advance}
 
 pub advanced
     : (count : ℕ) (old start ent done after : State) (line touch : Option ℕ) (before_word after_word : ℕ)
@@ -33,11 +33,11 @@ advanced count old start ent done after line touch before_word after_word s e l 
     let touch-is : touch ≡ touched (entered old) = t ∙ ap touched ent-is in
     let word-is : after_word ≡ word_at after.core.ram 0 = w ∙ ap (λ x. word_at x.core.ram 0) (sym a) in
     ap (outcome count old) going
-    ∙ ap (λ p. Goes (record (seen count old after) { pc = p }) after) (ap (λ x. x.pc) (sym ent-is))
-    ∙ ap (λ o. Goes (record (seen count old after) { pc = ent.pc; entered = o }) after) (sym line-is)
-    ∙ ap (λ v. Goes (record (seen count old after) { pc = ent.pc; entered = line; cur_before = v }) after) (sym b)
-    ∙ ap (λ v. Goes (record (seen count old after) { pc = ent.pc; entered = line; cur_before = before_word; cur_after = v }) after) (sym word-is)
-    ∙ ap (λ o. Goes (record (seen count old after) { pc = ent.pc; entered = line; cur_before = before_word; cur_after = after_word; touched = o }) after) (sym touch-is)
+    ∙ ap (λ p. Goes (record (seen_step count old after) { pc = p }) after) (ap (λ x. x.pc) (sym ent-is))
+    ∙ ap (λ o. Goes (record (seen_step count old after) { pc = ent.pc; entered = o }) after) (sym line-is)
+    ∙ ap (λ v. Goes (record (seen_step count old after) { pc = ent.pc; entered = line; cur_before = v }) after) (sym b)
+    ∙ ap (λ v. Goes (record (seen_step count old after) { pc = ent.pc; entered = line; cur_before = before_word; cur_after = v }) after) (sym word-is)
+    ∙ ap (λ o. Goes (record (seen_step count old after) { pc = ent.pc; entered = line; cur_before = before_word; cur_after = after_word; touched = o }) after) (sym touch-is)
 
 pub halted
     : (count : ℕ) (old start ent : State) (stop : Stop) → start ≡ old → ent ≡ entered start → step ent ≡ Stopped stop

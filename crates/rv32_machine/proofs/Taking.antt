@@ -9,7 +9,7 @@ use Rattle.sloth_base.specs.Take.{enter, entered, line_to_take}
 use Rattle.rv32_machine.specs.declared.machine.Hart.{Hart}
 use Rattle.rv32_machine.specs.State.{state_of, pending_again}
 use Rattle.rv32_instr.specs.Ram.{word_at}
-use Rattle.rv32_instr.specs.Memory.{Memory, memory_of, refusal, loaded, stored}
+use Rattle.rv32_instr.specs.Memory.{Memory, memory_of, refusal, loaded_number, stored_memory}
 
 -- a byte that is set and put back
 pub put_back : (bytes : List ℕ) (place : ℕ) → slice_index bytes place ≡ 1 → slice_set (slice_set bytes place 0) place 1 ≡ bytes
@@ -26,8 +26,8 @@ level_loads memory line n e h t = grind (arith, nat_tests)
 
 pub level_loaded
     : (memory : Memory) (line n : ℕ) → n ≡ line → line < 32
-    → loaded memory (0x1000_0040 + n) width.ByteU ≡ slice_index memory.lines.levels line
-unfolding loaded controller_byte
+    → loaded_number memory (0x1000_0040 + n) width.ByteU ≡ slice_index memory.lines.levels line
+unfolding loaded_number controller_byte
 level_loaded memory line n e h =
     let f : 0x1000_0040 + n - 0x1000_0000 - 64 ≡ line = omega arith in
     grind (arith, nat_tests)
@@ -41,8 +41,8 @@ pending_stores memory line n e h t = grind (arith, nat_tests)
 
 pub pending_stored
     : (memory : Memory) (line n : ℕ) → n ≡ line → line < 32
-    → stored memory (0x1000_0000 + n) width.Byte 1 ≡ pending_again (Some line) memory
-unfolding stored with_controller_byte
+    → stored_memory memory (0x1000_0000 + n) width.Byte 1 ≡ pending_again (Some line) memory
+unfolding stored_memory with_controller_byte
 pending_stored memory line n e h =
     let f : 0x1000_0000 + n - 0x1000_0000 ≡ line = omega arith in
     grind (arith, nat_tests)
@@ -72,6 +72,6 @@ pub cur_loads : (memory : Memory) → refusal memory 0x8000_0000 width.Word ≡ 
 unfolding refusal
 cur_loads memory = refl
 
-pub cur_loaded : (memory : Memory) → loaded memory 0x8000_0000 width.Word ≡ word_at memory.ram 0
-unfolding loaded
+pub cur_loaded : (memory : Memory) → loaded_number memory 0x8000_0000 width.Word ≡ word_at memory.ram 0
+unfolding loaded_number
 cur_loaded memory = refl

@@ -13,8 +13,8 @@ pub data Outcome : Type 0 where
   Halts : Stop → Outcome
 
 -- what is seen of the step of a count that leads from a state to another; the word at 0x80000000 tells the running task
-abbrev pub seen : ℕ → State → State → Step
-seen count before after = record {
+abbrev pub seen_step : ℕ → State → State → Step
+seen_step count before after = record {
   count = count;
   pc = (entered before).pc;
   entered = line_to_take before;
@@ -28,7 +28,7 @@ seen count before after = record {
 
 -- that of what an instruction leaves
 abbrev pub outcome : ℕ → State → Next → Outcome
-outcome count before (Going after) = Goes (seen count before after) after
+outcome count before (Going after) = Goes (seen_step count before after) after
 outcome count before (Stopped stop) = Halts stop
 
 -- the step of a count

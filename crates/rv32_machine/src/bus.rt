@@ -3,7 +3,7 @@ ghost use Rattle.std.specs.Prelude.{◌≡◌, ◌<◌, true, false, None, Some,
 ghost use Rattle.std.specs.Option.{ForSome};
 ghost use Rattle.sloth_base.specs.Choose.{IsChosen};
 ghost use Rattle.sloth_base.specs.Take.{without_pending};
-ghost use Rattle.rv32_instr.specs.Memory.{Memory, refusal, loaded, stored};
+ghost use Rattle.rv32_instr.specs.Memory.{Memory, refusal, loaded_number, stored_memory};
 ghost use Rattle.rv32_machine.specs.Choice.{choice};
 ghost use Rattle.sloth_base.specs.declared.app.Width.TheVariants as kind;
 
@@ -17,14 +17,14 @@ pub trait Bus {
 
     /// The bytes of an access; `Byte` and `Half` extend the sign. Nothing changes.
     fn load(&mut self, address: u32, width: Width) -> Result<u32, Bad>
-        ensures ok { IfOk result (λ value. (refusal (memory self.old) address width ≡ None) × (value ≡ loaded (memory self.old) address width)) }
+        ensures ok { IfOk result (λ value. (refusal (memory self.old) address width ≡ None) × (value ≡ loaded_number (memory self.old) address width)) }
         ensures err { IfErr result (λ reason. refusal (memory self.old) address width ≡ Some reason) }
         ensures byte { IfOk result (λ value. width ≡ kind.ByteU → value < 256) }
         ensures same { memory self.new ≡ memory self.old };
 
     /// Writes the low bytes of a value. A pending or enable byte keeps 1 for a value that isn't zero.
     fn store(&mut self, address: u32, width: Width, value: u32) -> Result<(), Bad>
-        ensures ok { OnOk result ((refusal (memory self.old) address width ≡ None) × (memory self.new ≡ stored (memory self.old) address width value)) }
+        ensures ok { OnOk result ((refusal (memory self.old) address width ≡ None) × (memory self.new ≡ stored_memory (memory self.old) address width value)) }
         ensures err { IfErr result (λ reason. refusal (memory self.old) address width ≡ Some reason) }
         ensures same { OnErr result (memory self.new ≡ memory self.old) };
 

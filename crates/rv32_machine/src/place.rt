@@ -1,7 +1,7 @@
 //! Where an access goes.
 ghost use Rattle.std.specs.Prelude.{◌≡◌, ◌<◌, ◌*◌, ◌^◌, None, Some, IfOk, IfErr};
 ghost use Rattle.rv32_instr.specs.Memory.{refusal};
-ghost use Rattle.sloth_base.specs.Arithmetic.{size_of, extended};
+ghost use Rattle.sloth_base.specs.Arithmetic.{size_of, extended_number};
 ghost use Rattle.rv32_machine.specs.Place.{IsPlace, bare};
 
 use rv32_instr::Bad;
@@ -60,7 +60,7 @@ pub fn locate(address: u32, width: Width, controller: bool) -> Result<Place, Bad
 /// The word that a load makes of its bytes.
 pub fn extended(width: Width, value: u32) -> u32
     requires { value < 256 ^ size_of width }
-    ensures { result ≡ extended width value }
+    ensures { result ≡ extended_number width value }
 {
     match width {
         Width::Byte if value >= 0x80 => value + 0xffff_ff00,

@@ -4,7 +4,7 @@ ghost use Rattle.std.specs.Option.{ForSome};
 ghost use Rattle.sloth_base.specs.Take.{take, entered, line_to_take};
 ghost use Rattle.rv32_instr.specs.Memory.{in_ram};
 ghost use Rattle.rv32_instr.specs.Ram.{word_at};
-ghost use Rattle.rv32_instr.specs.Execute.{Going, Stopped, step, touched, touched_by, pending_line, fetched};
+ghost use Rattle.rv32_instr.specs.Execute.{Going, Stopped, step, touched, touched_by, pending_line, word_at_pc};
 ghost use Rattle.rv32_instr.specs.declared.stop.Stop.TheVariants as stop;
 ghost use Rattle.rv32_machine.specs.Advance.{advance, Goes, Halts};
 
@@ -237,7 +237,7 @@ impl<B: Bus> Machine<B> {
 
     /// The word that pc points to.
     fn fetch(&mut self) -> Result<u32, Stop>
-        ensures ok { IfOk result (λ word. (in_ram (state B.memory self.old).pc 4 ≡ true) × (word ≡ fetched (state B.memory self.old))) }
+        ensures ok { IfOk result (λ word. (in_ram (state B.memory self.old).pc 4 ≡ true) × (word ≡ word_at_pc (state B.memory self.old))) }
         ensures err { IfErr result (λ reason. (in_ram (state B.memory self.old).pc 4 ≡ false) × (reason ≡ stop.Fetch (state B.memory self.old).pc)) }
         ensures state { state B.memory self.new ≡ state B.memory self.old }
         ensures hart { self.new.hart ≡ self.old.hart }

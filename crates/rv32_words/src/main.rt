@@ -3,7 +3,7 @@
 #![tactic(auto)]
 
 ghost use Rattle.std.specs.Prelude.{ℕ, ◌≡◌, ◌<◌, ◌≤◌, All, length, slice_index};
-ghost use Rattle.event_gen.specs.Block.{HasBlock as HasEventBlock};
+ghost use Rattle.event_gen.specs.Block.{HasEventBlock as HasEventBlock};
 ghost use Rattle.prologue_gen.specs.Places.{IsTop};
 ghost use Rattle.service_gen.specs.Block.{HasBlock};
 ghost use Rattle.vector_gen.specs.Vectors.{AreInReach};

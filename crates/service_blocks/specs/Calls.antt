@@ -14,8 +14,8 @@ IsCalledWith service object = IsObjectNumber (object_kind service) object
 
 -- the code of a service with its object has the service's effect
 abbrev pub ServesCall : Service → ℕ → Levels → List InstrKind → Type 0
-ServesCall SetEvent object levels code = events.Serves SetEvent object code
-ServesCall ClearEvent object levels code = events.Serves ClearEvent object code
-ServesCall GetEvent object levels code = events.Serves GetEvent object code
-ServesCall WaitEvent object levels code = events.Serves WaitEvent object code
+ServesCall SetEvent object levels code = events.ServesEvent SetEvent object code
+ServesCall ClearEvent object levels code = events.ServesEvent ClearEvent object code
+ServesCall GetEvent object levels code = events.ServesEvent GetEvent object code
+ServesCall WaitEvent object levels code = events.ServesEvent WaitEvent object code
 ServesCall service object levels code = others.Serves service object levels code

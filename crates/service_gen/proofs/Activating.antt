@@ -8,22 +8,22 @@ use Rattle.rv32_instr.specs.declared.InstrKind.{InstrKind}
 use Rattle.rv32_instr.specs.declared.InstrKind.TheVariants.{Lui}
 use Rattle.rv32_instr.specs.Ram.{word_at}
 use Rattle.sloth_base.specs.Arithmetic.{shifted_left}
-use Rattle.rv32_routine.specs.Place.{at}
-use Rattle.rv32_routine.specs.Masked.{FromOpening}
-use Rattle.rv32_routine.specs.Kernel.{masking}
-use Rattle.rv32_routine.specs.Owes.{Owes, Pending, Enabled}
-use Rattle.rv32_routine.proofs.Spread.{spread}
-use Rattle.rv32_routine.proofs.Whole.{masked}
+use Rattle.masked_code.specs.Place.{at}
+use Rattle.masked_code.specs.Masked.{FromOpening}
+use Rattle.masked_code.specs.Kernel.{masking}
+use Rattle.masked_code.specs.Owes.{Owes, Pending, Enabled}
+use Rattle.masked_code.proofs.Spread.{spread}
+use Rattle.masked_code.proofs.Routines.{masked}
 use Rattle.block_parts.proofs.Busy.{bit_arrives, busy_of, busies}
 use Rattle.block_parts.proofs.Returning.{goes_back}
 use Rattle.block_parts.proofs.Serving.{opens}
-use Rattle.service_gen.specs.Pieces.{tells}
-use Rattle.block_parts.specs.Pieces.{busy, raises, back}
+use Rattle.service_gen.specs.Pieces.{status_code}
+use Rattle.block_parts.specs.Pieces.{busy, raising_code, back}
 use Rattle.service_gen.specs.ActivateTask.{MayActivate, Activated, Activates}
 use Rattle.block_parts.specs.Looks.{LooksSuspended}
 
 abbrev pub body : ℕ → List InstrKind
-body task = Lui 4 words_high ∷ (busy task 10 1 ++ (tells ++ (raises task ++ back)))
+body task = Lui 4 words_high ∷ (busy task 10 1 ++ (status_code ++ (raising_code task ++ back)))
 
 -- the status that the code computes of three bits
 abbrev answer : ℕ → ℕ → ℕ → ℕ

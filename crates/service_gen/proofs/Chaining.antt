@@ -9,27 +9,27 @@ use Rattle.sloth_region.specs.Layout.{cur, active, words_high, controller_base}
 use Rattle.rv32_instr.specs.declared.InstrKind.{InstrKind}
 use Rattle.rv32_instr.specs.declared.InstrKind.TheVariants.{Lui, Addi}
 use Rattle.rv32_instr.specs.Ram.{word_at}
-use Rattle.rv32_routine.specs.Place.{at}
-use Rattle.rv32_routine.specs.Masked.{FromOpening}
-use Rattle.rv32_routine.specs.Owes.{AreOf, Owes, Pending}
-use Rattle.rv32_routine.specs.Kernel.{leave, masking}
-use Rattle.rv32_routine.proofs.Arrivals.{other_bytes}
-use Rattle.rv32_routine.proofs.Spread.{spread, spread_from}
-use Rattle.rv32_routine.proofs.Whole.{masked}
-use Rattle.rv32_routine.proofs.Leave.{leave_owes, behind}
+use Rattle.masked_code.specs.Place.{at}
+use Rattle.masked_code.specs.Masked.{FromOpening}
+use Rattle.masked_code.specs.Owes.{AreOf, Owes, Pending}
+use Rattle.masked_code.specs.Kernel.{leaving_code, masking}
+use Rattle.masked_code.proofs.Arrivals.{other_bytes}
+use Rattle.masked_code.proofs.Spread.{spread, spread_from}
+use Rattle.masked_code.proofs.Routines.{masked}
+use Rattle.masked_code.proofs.Leave.{leave_owes, behind}
 use Rattle.block_parts.proofs.Landing.{lands}
 use Rattle.block_parts.proofs.Returning.{goes_back}
 use Rattle.block_parts.proofs.Busy.{Finds, looks_owe}
 use Rattle.service_gen.proofs.Ending.{ends_owe, ended_below, has_ended}
 use Rattle.block_parts.proofs.Serving.{opens_within}
-use Rattle.service_gen.specs.Pieces.{asks, refuses}
-use Rattle.block_parts.specs.Pieces.{ends, busy, raises, back}
+use Rattle.service_gen.specs.Pieces.{own_task_code, refusing_code}
+use Rattle.block_parts.specs.Pieces.{ending_code, busy, raising_code, back}
 use Rattle.block_parts.specs.Looks.{LooksSuspended}
 use Rattle.service_gen.specs.TerminateTask.{ended_ram, Terminated}
 use Rattle.service_gen.specs.ChainTask.{MayChain, Chained, Chains}
 
 abbrev pub body : ℕ → List InstrKind
-body task = Lui 4 words_high ∷ (asks task ++ (busy task 3 1 ++ (refuses ++ (back ++ (ends ++ (raises task ++ leave))))))
+body task = Lui 4 words_high ∷ (own_task_code task ++ (busy task 3 1 ++ (refusing_code ++ (back ++ (ending_code ++ (raising_code task ++ leaving_code))))))
 
 -- a branch at an offset reaches the instruction behind so many more
 module _ (offset task own place : ℕ) (c : Core) (h : MayChain offset task own place (masking ∷ body task) c) where
@@ -55,9 +55,9 @@ module _ (offset task own place : ℕ) (c : Core) (h : MayChain offset task own 
   word = word_at c.ram (active task)
 
   -- the caller's end, the raised line, and the way down
-  go_owe : (o : ℕ) (p : List ℕ) (x1 x3 : ℕ) (E : List ℕ → State → State → Type 0) → ((lines : List ℕ) (middle end : State) → AreOf own lines → Terminated own place (own ∷ []) (st (arrive lines p)) middle → end ≡ state_arrive (task ∷ []) middle → E (own ∷ []) (st (arrive lines p)) end) → Owes offset (offset + 4 + 272) o (ends ++ (raises task ++ leave)) 0 E (st p) (record (masked (spread c)) { registers = 0 ∷ x1 ∷ x2 ∷ x3 ∷ 0x8000_0000 ∷ tail; pending = p })
+  go_owe : (o : ℕ) (p : List ℕ) (x1 x3 : ℕ) (E : List ℕ → State → State → Type 0) → ((lines : List ℕ) (middle end : State) → AreOf own lines → Terminated own place (own ∷ []) (st (arrive lines p)) middle → end ≡ state_arrive (task ∷ []) middle → E (own ∷ []) (st (arrive lines p)) end) → Owes offset (offset + 4 + 272) o (ending_code ++ (raising_code task ++ leaving_code)) 0 E (st p) (record (masked (spread c)) { registers = 0 ∷ x1 ∷ x2 ∷ x3 ∷ 0x8000_0000 ∷ tail; pending = p })
   go_owe o p x1 x3 E k =
-      ends_owe offset (offset + 4 + 272) own E (st p) (raises task ++ leave) (record (masked (spread c)) { pending = p }) x1 x2 x3 tail h.is_own h.runs low o
+      ends_owe offset (offset + 4 + 272) own E (st p) (raising_code task ++ leaving_code) (record (masked (spread c)) { pending = p }) x1 x2 x3 tail h.is_own h.runs low o
       (λ lines only.
       let q = arrive lines p in
       let d = record (masked (spread c)) { pending = set (set q own 0) task 1; ram = ended_ram c.ram own } in (
@@ -82,7 +82,7 @@ module _ (offset task own place : ℕ) (c : Core) (h : MayChain offset task own 
 
   -- the task was not Suspended
   stays_owe : (o : ℕ) (p : List ℕ) (v : ℕ) → task ≢ own → (LooksSuspended task (record c { pending = p }) → ⊥)
-      → Owes offset (offset + 4 + 272) o (Addi 10 0 (pos E_OS_LIMIT) ∷ (back ++ (ends ++ (raises task ++ leave)))) 0 (λ u. Chained task own place (task ∷ u)) (st p)
+      → Owes offset (offset + 4 + 272) o (Addi 10 0 (pos E_OS_LIMIT) ∷ (back ++ (ending_code ++ (raising_code task ++ leaving_code)))) 0 (λ u. Chained task own place (task ∷ u)) (st p)
       (record (masked (spread c)) { registers = 0 ∷ word ∷ x2 ∷ v ∷ 0x8000_0000 ∷ tail; pending = p })
   stays_owe o p v ne busy = (
     E_OS_LIMIT,
@@ -93,7 +93,7 @@ module _ (offset task own place : ℕ) (c : Core) (h : MayChain offset task own 
 
   -- behind the look at the task
   looked_owe : (o : ℕ) (p : List ℕ) (v : ℕ) → o ≤ 0x20_0000 → task ≢ own → Finds task (record c { pending = p }) v
-      → Owes offset (offset + 4 + 272) o (refuses ++ (back ++ (ends ++ (raises task ++ leave)))) 0 (λ u. Chained task own place (task ∷ u)) (st p)
+      → Owes offset (offset + 4 + 272) o (refusing_code ++ (back ++ (ending_code ++ (raising_code task ++ leaving_code)))) 0 (λ u. Chained task own place (task ∷ u)) (st p)
       (record (masked (spread c)) { registers = 0 ∷ word ∷ x2 ∷ v ∷ 0x8000_0000 ∷ tail; pending = p })
   looked_owe o p v small ne found =
       record {
@@ -132,7 +132,7 @@ module _ (offset task own place : ℕ) (c : Core) (h : MayChain offset task own 
                   (cases_eq (own + 1) (task + 1));
               when_not = λ n.
                   let ne : task ≢ own = λ x. n (eq-eqb (own + 1) (task + 1) (ap (λ y. y + 1) (sym x))) in
-                  looks_owe offset (offset + 4 + 272) task (Chained task own place) (refuses ++ (back ++ (ends ++ (raises task ++ leave)))) c h.is_task
+                  looks_owe offset (offset + 4 + 272) task (Chained task own place) (refusing_code ++ (back ++ (ending_code ++ (raising_code task ++ leaving_code)))) c h.is_task
                   h.goes_back.can_run.lines h.active_bit h.pending_bit h.enabled_bit (behind 4 (offset + 4)) (task + 1) (own + 1)
                   (λ lines v only found. looked_owe (behind 11 (offset + 4)) (arrive lines c.pending) v (omega arith) ne found);
             },

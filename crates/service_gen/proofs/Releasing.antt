@@ -2,34 +2,34 @@
 use Rattle.std.proofs.Common.{◌≡◌, ℕ, ◌+◌, List, ◌∷◌, length, get_or, refl, arith}
 use Rattle.sloth_base.specs.Machine.{Core}
 use Rattle.sloth_base.specs.Status.{E_OK}
-use Rattle.sloth_region.specs.Layout.{saved, words_high}
+use Rattle.sloth_region.specs.Layout.{saved_level, words_high}
 use Rattle.rv32_instr.specs.declared.InstrKind.{InstrKind}
 use Rattle.rv32_instr.specs.declared.InstrKind.TheVariants.{Lui}
 use Rattle.rv32_instr.specs.Ram.{word_at}
-use Rattle.rv32_routine.specs.Place.{at}
-use Rattle.rv32_routine.specs.Masked.{FromOpening}
-use Rattle.rv32_routine.specs.Kernel.{masking}
-use Rattle.rv32_routine.specs.Owes.{Owes}
-use Rattle.rv32_routine.proofs.Spread.{spread}
-use Rattle.rv32_routine.proofs.Whole.{masked}
+use Rattle.masked_code.specs.Place.{at}
+use Rattle.masked_code.specs.Masked.{FromOpening}
+use Rattle.masked_code.specs.Kernel.{masking}
+use Rattle.masked_code.specs.Owes.{Owes}
+use Rattle.masked_code.proofs.Spread.{spread}
+use Rattle.masked_code.proofs.Routines.{masked}
 use Rattle.block_parts.proofs.Returning.{goes_back_at}
 use Rattle.block_parts.proofs.Serving.{opens}
 use Rattle.service_gen.specs.Pieces as piece
 use Rattle.service_gen.specs.ReleaseResource.{MayRelease, Released, Releases}
 
 abbrev pub body : ℕ → List InstrKind
-body resource = Lui 4 words_high ∷ piece.releases resource
+body resource = Lui 4 words_high ∷ piece.releasing_code resource
 
 module _ (offset resource : ℕ) (c : Core) (h : MayRelease offset resource (masking ∷ body resource) c) where
   body_owes : Owes offset (offset + 4 + 24) (offset + 4) (body resource) 0 (Released resource) (at offset (spread c)) (masked (spread c))
   body_owes =
       let small = h.is_resource in
       let fits = h.level in
-      let level = word_at c.ram (saved resource) in (
+      let level = word_at c.ram (saved_level resource) in (
         0x8000_0000,
         refl,
         (
-          saved resource,
+          saved_level resource,
           record { is = omega arith; aligned = omega arith; inside = omega arith },
           level,
           refl,

@@ -4,37 +4,37 @@ use Rattle.std.specs.Prelude.{max, not}
 use Rattle.std.proofs.lemmas.Bool.{cases_lt, lt-ltb, le-ltb}
 use Rattle.sloth_base.specs.Machine.{Core}
 use Rattle.sloth_base.specs.Status.{E_OK}
-use Rattle.sloth_region.specs.Layout.{saved, words_high}
+use Rattle.sloth_region.specs.Layout.{saved_level, words_high}
 use Rattle.rv32_instr.specs.declared.InstrKind.{InstrKind}
 use Rattle.rv32_instr.specs.declared.InstrKind.TheVariants.{Lui}
 use Rattle.rv32_instr.specs.Ram.{with_word}
-use Rattle.rv32_routine.specs.Place.{at}
-use Rattle.rv32_routine.specs.Masked.{FromOpening}
-use Rattle.rv32_routine.specs.Kernel.{masking}
-use Rattle.rv32_routine.specs.Owes.{Owes}
-use Rattle.rv32_routine.proofs.Spread.{spread, spread_from}
-use Rattle.rv32_routine.proofs.Whole.{masked}
+use Rattle.masked_code.specs.Place.{at}
+use Rattle.masked_code.specs.Masked.{FromOpening}
+use Rattle.masked_code.specs.Kernel.{masking}
+use Rattle.masked_code.specs.Owes.{Owes}
+use Rattle.masked_code.proofs.Spread.{spread, spread_from}
+use Rattle.masked_code.proofs.Routines.{masked}
 use Rattle.block_parts.proofs.Returning.{goes_back_at}
 use Rattle.block_parts.proofs.Landing.{lands}
 use Rattle.block_parts.proofs.Serving.{opens}
-use Rattle.service_gen.specs.Pieces.{takes}
+use Rattle.service_gen.specs.Pieces.{taking_code}
 use Rattle.block_parts.specs.Pieces.{goes_on_at}
 use Rattle.service_gen.specs.GetResource.{MayTake, Taken, Takes}
 
 abbrev pub body : ℕ → ℕ → List InstrKind
-body resource ceiling = Lui 4 words_high ∷ (takes resource ceiling ++ goes_on_at)
+body resource ceiling = Lui 4 words_high ∷ (taking_code resource ceiling ++ goes_on_at)
 
 module _ (offset resource ceiling : ℕ) (small : ceiling < 256) (c : Core) (h : MayTake offset resource (masking ∷ body resource ceiling) c) where
   abbrev x2 : ℕ
   x2 = get_or c.registers 2 0
 
   -- the level in x3 is to run
-  rest_owe : (o v : ℕ) → v < 256 → v ≡ max c.ilevel ceiling → Owes offset (offset + 4 + 40) o goes_on_at 0 (Taken resource ceiling) (at offset (spread c)) (record (masked (spread c)) { registers = 0 ∷ ceiling ∷ x2 ∷ v ∷ 0x8000_0000 ∷ spread_from 27 5 c.registers; ram = with_word c.ram (saved resource) c.ilevel })
+  rest_owe : (o v : ℕ) → v < 256 → v ≡ max c.ilevel ceiling → Owes offset (offset + 4 + 40) o goes_on_at 0 (Taken resource ceiling) (at offset (spread c)) (record (masked (spread c)) { registers = 0 ∷ ceiling ∷ x2 ∷ v ∷ 0x8000_0000 ∷ spread_from 27 5 c.registers; ram = with_word c.ram (saved_level resource) c.ilevel })
   rest_owe o v below e = (
     E_OK,
     refl,
     goes_back_at offset (masking ∷ body resource ceiling) c h.goes_back (Taken resource ceiling) ceiling v (max c.ilevel ceiling) E_OK c.pending c.pending
-        (with_word c.ram (saved resource) c.ilevel) (let f : v % 256 ≡ v = omega arith in f ∙ e)
+        (with_word c.ram (saved_level resource) c.ilevel) (let f : v % 256 ≡ v = omega arith in f ∙ e)
         (λ last is went. record { touches = refl; status = is; back = went }),
   )
 
@@ -51,7 +51,7 @@ module _ (offset resource ceiling : ℕ) (small : ceiling < 256) (c : Core) (h :
           refl,
           refl,
           (
-            saved resource,
+            saved_level resource,
             record { is = omega arith; aligned = omega arith; inside = omega arith },
             inl (omega arith),
             (

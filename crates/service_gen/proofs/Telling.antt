@@ -5,12 +5,12 @@ use Rattle.sloth_base.specs.Status.{E_OK}
 use Rattle.sloth_region.specs.Layout.{cur, words_high}
 use Rattle.rv32_instr.specs.declared.InstrKind.{InstrKind}
 use Rattle.rv32_instr.specs.declared.InstrKind.TheVariants.{Lui}
-use Rattle.rv32_routine.specs.Place.{at}
-use Rattle.rv32_routine.specs.Masked.{FromOpening}
-use Rattle.rv32_routine.specs.Kernel.{masking}
-use Rattle.rv32_routine.specs.Owes.{Owes}
-use Rattle.rv32_routine.proofs.Spread.{spread}
-use Rattle.rv32_routine.proofs.Whole.{masked}
+use Rattle.masked_code.specs.Place.{at}
+use Rattle.masked_code.specs.Masked.{FromOpening}
+use Rattle.masked_code.specs.Kernel.{masking}
+use Rattle.masked_code.specs.Owes.{Owes}
+use Rattle.masked_code.proofs.Spread.{spread}
+use Rattle.masked_code.proofs.Routines.{masked}
 use Rattle.block_parts.proofs.Returning.{goes_back_with}
 use Rattle.block_parts.proofs.Serving.{opens}
 use Rattle.service_gen.specs.Pieces.{tells_own}

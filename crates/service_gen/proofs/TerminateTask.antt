@@ -6,20 +6,20 @@ use Rattle.sloth_base.specs.Arrive.{arrive, state_arrive}
 use Rattle.sloth_region.specs.Layout.{words_high}
 use Rattle.rv32_instr.specs.declared.InstrKind.{InstrKind}
 use Rattle.rv32_instr.specs.declared.InstrKind.TheVariants.{Lui}
-use Rattle.rv32_routine.specs.Place.{at}
-use Rattle.rv32_routine.specs.Masked.{FromOpening}
-use Rattle.rv32_routine.specs.Owes.{Owes}
-use Rattle.rv32_routine.specs.Kernel.{leave, masking}
-use Rattle.rv32_routine.proofs.Spread.{spread, spread_from}
-use Rattle.rv32_routine.proofs.Whole.{masked}
-use Rattle.rv32_routine.proofs.Leave.{leave_owes, behind}
+use Rattle.masked_code.specs.Place.{at}
+use Rattle.masked_code.specs.Masked.{FromOpening}
+use Rattle.masked_code.specs.Owes.{Owes}
+use Rattle.masked_code.specs.Kernel.{leaving_code, masking}
+use Rattle.masked_code.proofs.Spread.{spread, spread_from}
+use Rattle.masked_code.proofs.Routines.{masked}
+use Rattle.masked_code.proofs.Leave.{leave_owes, behind}
 use Rattle.service_gen.proofs.Ending.{ends_owe, ended_below, has_ended}
 use Rattle.block_parts.proofs.Serving.{opens}
-use Rattle.block_parts.specs.Pieces.{ends}
+use Rattle.block_parts.specs.Pieces.{ending_code}
 use Rattle.service_gen.specs.TerminateTask.{ended_ram, MayTerminate, Terminated, Terminates}
 
 abbrev pub body : List InstrKind
-body = Lui 4 words_high ∷ (ends ++ leave)
+body = Lui 4 words_high ∷ (ending_code ++ leaving_code)
 
 module _ (offset task place : ℕ) (c : Core) (h : MayTerminate offset task place (masking ∷ body) c) where
   body_owes : Owes offset (offset + 4 + 196) (offset + 4) body 0 (Terminated task place) (at offset (spread c)) (masked (spread c))
@@ -30,7 +30,7 @@ module _ (offset task place : ℕ) (c : Core) (h : MayTerminate offset task plac
       let tail = spread_from 27 5 c.registers in (
         0x8000_0000,
         refl,
-        ends_owe offset (offset + 4 + 196) task (Terminated task place) (at offset (spread c)) leave (masked (spread c)) (get_or c.registers 1 0) x2 (get_or c.registers 3 0) tail small h.runs low (offset + 4 + 4)
+        ends_owe offset (offset + 4 + 196) task (Terminated task place) (at offset (spread c)) leaving_code (masked (spread c)) (get_or c.registers 1 0) x2 (get_or c.registers 3 0) tail small h.runs low (offset + 4 + 4)
             (λ lines only.
             let start = state_arrive lines (at offset (spread c)) in
             let d = record (masked (spread c)) { pending = set (arrive lines c.pending) task 0; ram = ended_ram c.ram task } in

@@ -8,20 +8,20 @@ use Rattle.sloth_region.specs.Layout.{cur, words_high, controller_base}
 use Rattle.rv32_instr.specs.declared.InstrKind.{InstrKind}
 use Rattle.rv32_instr.specs.declared.InstrKind.TheVariants.{Lui, Csrrw, Mret}
 use Rattle.rv32_instr.specs.declared.csr.TheConstants.{MEPC, PLEVEL}
-use Rattle.rv32_routine.specs.Place.{at, InPlace}
-use Rattle.rv32_routine.specs.Masked.{FromOpening}
-use Rattle.rv32_routine.specs.Kernel.{CanRun, masking}
-use Rattle.rv32_routine.specs.Owes.{Owes, Level}
-use Rattle.rv32_routine.proofs.Spread.{spread, spread_from, others}
-use Rattle.rv32_routine.proofs.Whole.{masked}
+use Rattle.masked_code.specs.Place.{at, InPlace}
+use Rattle.masked_code.specs.Masked.{FromOpening}
+use Rattle.masked_code.specs.Kernel.{CanRun, masking}
+use Rattle.masked_code.specs.Owes.{Owes, Level}
+use Rattle.masked_code.proofs.Spread.{spread, spread_from, others}
+use Rattle.masked_code.proofs.Routines.{masked}
 use Rattle.block_parts.proofs.Serving.{opens}
-use Rattle.service_gen.specs.Pieces.{lowers, stops_at_back, comes_back}
+use Rattle.service_gen.specs.Pieces.{level_code, stops_at_back, comes_back}
 use Rattle.block_parts.specs.Back.{a0}
 use Rattle.service_gen.specs.Schedule.{start_register, way_back, MayYield, Yielded, MayComeBack, CameBack, Yields}
 
 -- up to the way back
 abbrev pub lowering : List InstrKind
-lowering = Lui 4 words_high ∷ (lowers ++ stops_at_back)
+lowering = Lui 4 words_high ∷ (level_code ++ stops_at_back)
 
 abbrev pub body : List InstrKind
 body = lowering ++ comes_back

@@ -6,9 +6,9 @@ use Rattle.block_parts.specs.Looks.{LooksSuspended}
 use Rattle.sloth_region.specs.Layout.{active}
 use Rattle.rv32_instr.specs.declared.InstrKind.{InstrKind}
 use Rattle.rv32_instr.specs.Ram.{word_at}
-use Rattle.rv32_routine.specs.Masked.{FromOpening}
-use Rattle.rv32_routine.specs.Place.{at}
-use Rattle.rv32_routine.specs.Kernel.{masking}
+use Rattle.masked_code.specs.Masked.{FromOpening}
+use Rattle.masked_code.specs.Place.{at}
+use Rattle.masked_code.specs.Kernel.{masking}
 use Rattle.block_parts.specs.Back.{CanGoBack, WentBack, a0}
 
 -- the code can run, and what tells of the task are bits

@@ -6,9 +6,9 @@ use Rattle.sloth_base.specs.Arrive.{state_arrive}
 use Rattle.sloth_region.specs.Layout.{cur, active}
 use Rattle.rv32_instr.specs.declared.InstrKind.{InstrKind}
 use Rattle.rv32_instr.specs.Ram.{word_at}
-use Rattle.rv32_routine.specs.Masked.{FromOpening}
-use Rattle.rv32_routine.specs.Place.{at}
-use Rattle.rv32_routine.specs.Kernel.{IsBelow, masking}
+use Rattle.masked_code.specs.Masked.{FromOpening}
+use Rattle.masked_code.specs.Place.{at}
+use Rattle.masked_code.specs.Kernel.{IsBelow, masking}
 use Rattle.block_parts.specs.Back.{CanGoBack, WentBack, a0}
 use Rattle.block_parts.specs.Looks.{LooksSuspended}
 use Rattle.service_gen.specs.TerminateTask.{Terminated}

@@ -2,12 +2,12 @@
 use Rattle.std.specs.Prelude.{ℕ, max, ◌≡◌, ◌<◌, ◌≤◌, List, [], ◌∷◌, length, slice_index}
 use Rattle.sloth_base.specs.Machine.{Core, State}
 use Rattle.sloth_base.specs.Status.{E_OK}
-use Rattle.sloth_region.specs.Layout.{saved}
+use Rattle.sloth_region.specs.Layout.{saved_level}
 use Rattle.rv32_instr.specs.declared.InstrKind.{InstrKind}
 use Rattle.rv32_instr.specs.Ram.{with_word}
-use Rattle.rv32_routine.specs.Masked.{FromOpening}
-use Rattle.rv32_routine.specs.Place.{at}
-use Rattle.rv32_routine.specs.Kernel.{masking}
+use Rattle.masked_code.specs.Masked.{FromOpening}
+use Rattle.masked_code.specs.Place.{at}
+use Rattle.masked_code.specs.Kernel.{masking}
 use Rattle.block_parts.specs.Back.{CanGoBack, WentBack, a0}
 
 -- the code can run
@@ -18,7 +18,7 @@ pub record MayTake (offset resource : ℕ) (code : List InstrKind) (core : Core)
 
 -- the core at at least a ceiling, with the level that ran saved for the resource
 abbrev pub raised_to : ℕ → ℕ → Core → Core
-raised_to resource ceiling core = record core { ilevel = max core.ilevel ceiling; ram = with_word core.ram (saved resource) core.ilevel }
+raised_to resource ceiling core = record core { ilevel = max core.ilevel ceiling; ram = with_word core.ram (saved_level resource) core.ilevel }
 
 -- The level that ran is saved, and then at least the resource's ceiling runs; the status is E_OK.
 pub record Taken (resource ceiling : ℕ) (touched : List ℕ) (start end : State) : Type 0 where

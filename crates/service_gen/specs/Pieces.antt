@@ -2,37 +2,37 @@
 use Rattle.std.specs.Prelude.{ℕ, ◌+◌, ℤ, pos, negsuc, List, [], ◌∷◌, ◌++◌}
 use Rattle.sloth_base.specs.Status.{E_OK, E_OS_LIMIT}
 use Rattle.block_parts.specs.Pieces.{busy, back, goes_on_at}
-use Rattle.sloth_region.specs.Layout.{cur, active, saved, controller_high, pending_byte, enabled_byte}
+use Rattle.sloth_region.specs.Layout.{cur, active, saved_level, controller_high, pending_byte, enabled_byte}
 use Rattle.rv32_instr.specs.declared.csr.TheConstants.{MEPC, ILEVEL, PLEVEL}
 use Rattle.rv32_instr.specs.declared.InstrKind.{InstrKind}
 use Rattle.rv32_instr.specs.declared.InstrKind.TheVariants.{Beq, Bgeu, Lui, Auipc, Lw, Lbu, Sw, Add, Addi, Sub, Sltu, Slli, Csrrs, Csrrw, Mret}
-use Rattle.rv32_routine.specs.Kernel.{masking}
-use Rattle.rv32_routine.specs.Pieces.{past}
+use Rattle.masked_code.specs.Kernel.{masking}
+use Rattle.masked_code.specs.Pieces.{past}
 
 -- ActivateTask's status: E_OS_LIMIT, which is 4, where a0 is 1, and E_OK where it is 0
-abbrev pub tells : List InstrKind
-tells = Slli 10 10 2 ∷ []
+abbrev pub status_code : List InstrKind
+status_code = Slli 10 10 2 ∷ []
 
 -- a1 := the running task's number, with the status E_OK
 abbrev pub tells_own : List InstrKind
 tells_own = Lw 11 4 (pos cur) ∷ Addi 11 11 (negsuc 0) ∷ Addi 10 0 (pos E_OK) ∷ []
 
 -- to the level that was saved for a resource, and back to the caller
-abbrev pub releases : ℕ → List InstrKind
-releases resource = Lw 3 4 (pos (saved resource)) ∷ goes_on_at
+abbrev pub releasing_code : ℕ → List InstrKind
+releasing_code resource = Lw 3 4 (pos (saved_level resource)) ∷ goes_on_at
 
 -- it goes on behind the refusal where the task is Suspended; the status is E_OS_LIMIT
-abbrev pub refuses : List InstrKind
-refuses = Beq 3 0 (past (Addi 10 0 (pos E_OS_LIMIT) ∷ back)) ∷ Addi 10 0 (pos E_OS_LIMIT) ∷ []
+abbrev pub refusing_code : List InstrKind
+refusing_code = Beq 3 0 (past (Addi 10 0 (pos E_OS_LIMIT) ∷ back)) ∷ Addi 10 0 (pos E_OS_LIMIT) ∷ []
 
 -- ChainTask asks whether the task is the caller, and goes on behind the refusal where it is
-abbrev pub asks : ℕ → List InstrKind
-asks task = Lw 3 4 (pos cur) ∷ Addi 1 0 (pos (task + 1)) ∷ Beq 3 1 (past (busy task 3 1 ++ (refuses ++ back))) ∷ []
+abbrev pub own_task_code : ℕ → List InstrKind
+own_task_code task = Lw 3 4 (pos cur) ∷ Addi 1 0 (pos (task + 1)) ∷ Beq 3 1 (past (busy task 3 1 ++ (refusing_code ++ back))) ∷ []
 
 -- saves the level that runs for a resource, and leaves the greater of it and the ceiling in x3
-abbrev pub takes : ℕ → ℕ → List InstrKind
-takes resource ceiling =
-    Csrrs 3 0 ILEVEL ∷ Sw 4 3 (pos (saved resource)) ∷ Addi 1 0 (pos ceiling) ∷ Bgeu 3 1 (past (Addi 3 1 (pos 0) ∷ [])) ∷ Addi 3 1 (pos 0)
+abbrev pub taking_code : ℕ → ℕ → List InstrKind
+taking_code resource ceiling =
+    Csrrs 3 0 ILEVEL ∷ Sw 4 3 (pos (saved_level resource)) ∷ Addi 1 0 (pos ceiling) ∷ Bgeu 3 1 (past (Addi 3 1 (pos 0) ∷ [])) ∷ Addi 3 1 (pos 0)
     ∷ []
 
 -- a1 := 0 where the task runs, and 2 where it is preempted; x4 holds the base of memory
@@ -57,8 +57,8 @@ abbrev pub own_level : ℤ
 own_level = pos 63
 
 -- leaves the level that runs in x30, and that of the running task's line for `mret`; x4 holds the base of memory
-abbrev pub lowers : List InstrKind
-lowers =
+abbrev pub level_code : List InstrKind
+level_code =
     Csrrs 30 0 ILEVEL ∷ Lw 3 4 (pos cur) ∷ Lui 1 controller_high ∷ Add 1 1 3 ∷ Lbu 3 1 own_level ∷ Csrrw 0 3 PLEVEL ∷ []
 
 -- with the status E_OK to the way back, which stands behind it

@@ -2,25 +2,25 @@
 use Rattle.std.specs.Prelude.{ℕ, ◌≡◌, ◌<◌, ◌≤◌, List, [], ◌∷◌, length, slice_index}
 use Rattle.sloth_base.specs.Machine.{Core, State}
 use Rattle.sloth_base.specs.Status.{E_OK}
-use Rattle.sloth_region.specs.Layout.{saved}
+use Rattle.sloth_region.specs.Layout.{saved_level}
 use Rattle.rv32_instr.specs.declared.InstrKind.{InstrKind}
 use Rattle.rv32_instr.specs.Ram.{word_at}
-use Rattle.rv32_routine.specs.Masked.{FromOpening}
-use Rattle.rv32_routine.specs.Place.{at}
-use Rattle.rv32_routine.specs.Kernel.{masking}
+use Rattle.masked_code.specs.Masked.{FromOpening}
+use Rattle.masked_code.specs.Place.{at}
+use Rattle.masked_code.specs.Kernel.{masking}
 use Rattle.block_parts.specs.Back.{CanGoBack, WentBack, a0}
 
 -- the code can run, and a level is saved for the resource
 pub record MayRelease (offset resource : ℕ) (code : List InstrKind) (core : Core) : Type 0 where
   pub goes_back : CanGoBack offset code core
   pub is_resource : resource ≤ 32
-  pub level : word_at core.ram (saved resource) < 256
+  pub level : word_at core.ram (saved_level resource) < 256
 
 -- The level is the one at which the resource was taken, the status E_OK.
 pub record Released (resource : ℕ) (touched : List ℕ) (start end : State) : Type 0 where
   pub touches : touched ≡ []
   pub status : slice_index end.core.registers a0 ≡ E_OK
-  pub back : WentBack a0 (record start.core { ilevel = word_at start.core.ram (saved resource) }) start end
+  pub back : WentBack a0 (record start.core { ilevel = word_at start.core.ram (saved_level resource) }) start end
 
 -- Code of ReleaseResource: its first instruction masks, and at most 6 more lead to its effect, whatever lines arrive.
 pub record Releases (resource : ℕ) (code : List InstrKind) : Type 0 where

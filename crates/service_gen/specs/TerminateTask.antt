@@ -5,9 +5,9 @@ use Rattle.sloth_base.specs.MemoryMap.{memory_base}
 use Rattle.sloth_region.specs.Layout.{cur, active, events, below_word, context_bytes, context_level, context_cur, context_below}
 use Rattle.rv32_instr.specs.declared.InstrKind.{InstrKind}
 use Rattle.rv32_instr.specs.Ram.{word_at, with_word}
-use Rattle.rv32_routine.specs.Masked.{FromOpening}
-use Rattle.rv32_routine.specs.Place.{at}
-use Rattle.rv32_routine.specs.Kernel.{CanRun, IsBelow, LeftAs, masking}
+use Rattle.masked_code.specs.Masked.{FromOpening}
+use Rattle.masked_code.specs.Place.{at}
+use Rattle.masked_code.specs.Kernel.{CanRun, IsBelow, LeftAs, masking}
 
 -- the code stands at an offset, this task runs, and the context of what runs below it stands at `place`
 pub record MayTerminate (offset task place : ℕ) (code : List InstrKind) (core : Core) : Type 0 where

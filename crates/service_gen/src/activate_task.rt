@@ -1,12 +1,12 @@
 //! ActivateTask: the task's line is raised, and the status tells whether the task was Suspended.
 ghost use Rattle.std.specs.Prelude.{◌≡◌, ◌<◌, ◌++◌, IfOk, OnOk};
-ghost use Rattle.service_gen.specs.Pieces.{tells};
+ghost use Rattle.service_gen.specs.Pieces.{status_code};
 ghost use Rattle.service_gen.specs.ActivateTask.{Activates};
 
 use block_parts::pieces::{go_back, look_at, open, raise};
+use masked_code::emit::emit;
 use rv32_instr::Instr;
 use rv32_instr::asm::{A0, X1, slli};
-use rv32_routine::emit::emit;
 use std::alloc::{AllocError, Global};
 
 /// The look at the task, the raised line, and the way back.
@@ -25,7 +25,7 @@ pub fn code(alloc: Global, task: u8) -> Result<Vec<Instr>, AllocError>
 
 /// The status: E_OS_LIMIT, which is 4, where a0 is 1, and E_OK where it is 0.
 fn tell(code: &mut Vec<Instr>) -> Result<(), AllocError>
-    ensures { OnOk result (code.new.items ≡ code.old.items ++ tells) }
+    ensures { OnOk result (code.new.items ≡ code.old.items ++ status_code) }
 {
     emit(code, &[slli(A0, A0, 2)])
 }

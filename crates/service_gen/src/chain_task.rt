@@ -1,14 +1,14 @@
 //! ChainTask: the running task ends, and another, or itself, is activated; but where that task isn't Suspended nothing
 //! happens.
 ghost use Rattle.std.specs.Prelude.{◌≡◌, ◌<◌, ◌++◌, IfOk, OnOk};
-ghost use Rattle.service_gen.specs.Pieces.{asks, refuses};
+ghost use Rattle.service_gen.specs.Pieces.{own_task_code, refusing_code};
 ghost use Rattle.service_gen.specs.ChainTask.{Chains};
 
 use block_parts::pieces::{BACK, LOOK, end, go_back, look_at, open, raise};
+use masked_code::emit::{emit, past};
+use masked_code::pieces::leave;
 use rv32_instr::Instr;
 use rv32_instr::asm::{A0, X1, X3, X4, ZERO, addi, beq, lw};
-use rv32_routine::emit::{emit, past};
-use rv32_routine::pieces::leave;
 use sloth_base::service::E_OS_LIMIT;
 use sloth_region::layout::CUR;
 use std::alloc::{AllocError, Global};
@@ -36,7 +36,7 @@ pub fn code(alloc: Global, task: u8) -> Result<Vec<Instr>, AllocError>
 /// Goes on behind the refusal where the task is the caller. x4 holds the base of memory.
 fn ask(code: &mut Vec<Instr>, task: u8) -> Result<(), AllocError>
     requires { task < 30 }
-    ensures { OnOk result (code.new.items ≡ code.old.items ++ asks task) }
+    ensures { OnOk result (code.new.items ≡ code.old.items ++ own_task_code task) }
 {
     let asked = [
         lw(X3, X4, CUR),
@@ -48,7 +48,7 @@ fn ask(code: &mut Vec<Instr>, task: u8) -> Result<(), AllocError>
 
 /// Goes on behind the refusal where x3 is 0; else the status is E_OS_LIMIT.
 fn refuse(code: &mut Vec<Instr>) -> Result<(), AllocError>
-    ensures { OnOk result (code.new.items ≡ code.old.items ++ refuses) }
+    ensures { OnOk result (code.new.items ≡ code.old.items ++ refusing_code) }
 {
     let refused = [
         beq(X3, ZERO, past(1 + BACK)),

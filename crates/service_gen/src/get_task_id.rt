@@ -4,9 +4,9 @@ ghost use Rattle.service_gen.specs.Pieces.{tells_own};
 ghost use Rattle.service_gen.specs.GetTaskID.{TellsTask};
 
 use block_parts::pieces::{go_back, open};
+use masked_code::emit::emit;
 use rv32_instr::Instr;
 use rv32_instr::asm::{A0, A1, X4, ZERO, addi, lw};
-use rv32_routine::emit::emit;
 use sloth_base::service::E_OK;
 use sloth_region::layout::CUR;
 use std::alloc::{AllocError, Global};

@@ -4,9 +4,9 @@ ghost use Rattle.service_gen.specs.Pieces.{asks_active, tells_active, asks_waiti
 ghost use Rattle.service_gen.specs.GetTaskState.{TellsState};
 
 use block_parts::pieces::{BACK, go_back, open};
+use masked_code::emit::{emit, past};
 use rv32_instr::Instr;
 use rv32_instr::asm::{A0, A1, X1, X3, X4, ZERO, addi, beq, lbu, lui, lw, slli, sltu, sub};
-use rv32_routine::emit::{emit, past};
 use sloth_base::service::E_OK;
 use sloth_region::layout::{CONTROLLER_HIGH, CUR, active, enabled_byte, pending_byte};
 use std::alloc::{AllocError, Global};

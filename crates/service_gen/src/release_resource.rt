@@ -1,12 +1,12 @@
 //! ReleaseResource: back to the level at which the resource was taken.
 ghost use Rattle.std.specs.Prelude.{◌≡◌, ◌≤◌, ◌++◌, IfOk, OnOk};
-ghost use Rattle.service_gen.specs.Pieces.{releases};
+ghost use Rattle.service_gen.specs.Pieces.{releasing_code};
 ghost use Rattle.service_gen.specs.ReleaseResource.{Releases};
 
 use block_parts::pieces::{go_on, open};
+use masked_code::emit::emit;
 use rv32_instr::Instr;
 use rv32_instr::asm::{X3, X4, lw};
-use rv32_routine::emit::emit;
 use sloth_region::layout::saved;
 use std::alloc::{AllocError, Global};
 
@@ -24,7 +24,7 @@ pub fn code(alloc: Global, resource: u8) -> Result<Vec<Instr>, AllocError>
 /// To the level that was saved for the resource, with the status E_OK. x4 holds the base of memory.
 fn release(code: &mut Vec<Instr>, resource: u8) -> Result<(), AllocError>
     requires { resource ≤ 32 }
-    ensures { OnOk result (code.new.items ≡ code.old.items ++ releases resource) }
+    ensures { OnOk result (code.new.items ≡ code.old.items ++ releasing_code resource) }
 {
     emit(code, &[lw(X3, X4, saved(resource))])?;
     go_on(code)

@@ -1,15 +1,15 @@
 //! Schedule: the running task gives way to those above its own level, and then comes back.
 ghost use Rattle.std.specs.Prelude.{◌≡◌, ◌++◌, IfOk, OnOk};
-ghost use Rattle.service_gen.specs.Pieces.{lowers, stops_at_back, comes_back};
+ghost use Rattle.service_gen.specs.Pieces.{level_code, stops_at_back, comes_back};
 ghost use Rattle.service_gen.specs.Schedule.{Yields};
 
 use block_parts::pieces::open;
+use masked_code::emit::{emit, past};
 use rv32_instr::Instr;
 use rv32_instr::asm::{
     A0, X1, X3, X4, X30, X31, ZERO, add, addi, auipc, csrrci, csrrs, csrrw, lbu, lui, lw, mret,
 };
 use rv32_instr::csr::{ILEVEL, MEPC, MIE, MSTATUS, PLEVEL};
-use rv32_routine::emit::{emit, past};
 use sloth_base::service::E_OK;
 use sloth_region::layout::{CONTROLLER_HIGH, CUR};
 use std::alloc::{AllocError, Global};
@@ -34,7 +34,7 @@ pub fn code(alloc: Global) -> Result<Vec<Instr>, AllocError>
 
 /// Leaves the level that runs in x30, and that of the running task's line for `mret`. x4 holds the base of memory.
 fn lower(code: &mut Vec<Instr>) -> Result<(), AllocError>
-    ensures { OnOk result (code.new.items ≡ code.old.items ++ lowers) }
+    ensures { OnOk result (code.new.items ≡ code.old.items ++ level_code) }
 {
     let lowered = [
         csrrs(X30, ILEVEL, ZERO),

@@ -3,8 +3,8 @@ ghost use Rattle.std.specs.Prelude.{◌≡◌, IfOk};
 ghost use Rattle.service_gen.specs.TerminateTask.{Terminates};
 
 use block_parts::pieces::{end, open};
+use masked_code::pieces::leave;
 use rv32_instr::Instr;
-use rv32_routine::pieces::leave;
 use std::alloc::{AllocError, Global};
 
 /// The masking instruction, the end of the running task, and the way to what runs below.

@@ -2,7 +2,7 @@
 use Rattle.std.proofs.Common.{◌≡◌, ◌+◌, ℕ, List, [], ◌++◌, refl, ap}
 use Rattle.std.proofs.Math.Numerals.{add-one}
 use Rattle.sloth_base.specs.declared.image.Image.{Image}
-use Rattle.osek_machine.specs.declared.state.TaskState.{TaskState}
+use Rattle.osek_scheduler.specs.declared.state.TaskState.{TaskState}
 use Rattle.sight_text.specs.SightText.{task_line, task_lines}
 
 pub no-lines : (image : Image) (states : List TaskState) → task_lines image states 0 ≡ []

@@ -1,8 +1,8 @@
 -- What is printed of the tasks' states at a count of a run.
 use Rattle.std.specs.Prelude.{ℕ, zero, suc, List, [], ◌++◌, codes, decimal, get_or, length}
 use Rattle.sloth_base.specs.declared.image.Image.{Image}
-use Rattle.osek_machine.specs.declared.state.TaskState.{TaskState}
-use Rattle.osek_machine.specs.declared.state.TaskState.TheVariants as mode
+use Rattle.osek_scheduler.specs.declared.state.TaskState.{TaskState}
+use Rattle.osek_scheduler.specs.declared.state.TaskState.TheVariants as mode
 use Rattle.sloth_runner.specs.declared.sight.Seen.{Seen}
 
 -- the word of a state, and the events that a task waits for

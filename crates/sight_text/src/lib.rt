@@ -5,7 +5,7 @@ ghost use Rattle.std.specs.Prelude.{◌≡◌, ◌<◌, ◌+◌, ◌≤◌, ◌+
 ghost use Rattle.sloth_base.specs.ImageRange.{InFormat};
 ghost use Rattle.sight_text.specs.SightText.{state_text, task_line, count_line, seen_text};
 
-use osek_machine::state::TaskState;
+use osek_scheduler::state::TaskState;
 use sloth_base::image::Image;
 use sloth_base::memory::NoMemory;
 use sloth_inspect::TASKS;

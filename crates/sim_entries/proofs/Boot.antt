@@ -7,12 +7,12 @@ use Rattle.sloth_base.specs.declared.event.Event.TheVariants as event
 use Rattle.sloth_base.specs.declared.image.Image.{Image}
 use Rattle.sloth_base.specs.Machine.{State}
 use Rattle.rv32_machine.specs.Start.{ram_of, start}
-use Rattle.osek_machine.specs.State.{declaration, opening}
-use Rattle.osek_machine.specs.Steps.{OsekStep}
+use Rattle.osek_scheduler.specs.State.{declaration, opening}
+use Rattle.osek_scheduler.specs.Steps.{OsekStep}
 use Rattle.vector_gen.specs.Boot.{Booted}
 use Rattle.sim_relation.specs.Build.{Build, Fits}
 use Rattle.sim_relation.specs.Stands.{Stands, Fixed}
-use Rattle.sim_relation.specs.Start.{Starts, started}
+use Rattle.sim_relation.specs.Start.{Starts, started_system}
 use Rattle.sim_relation.proofs.Starting.{starts_stand}
 use Rattle.sim_entries.specs.Boot.{IsImage, AreLevelsOf}
 use Rattle.sim_entries.proofs.Spot.{zero_at}
@@ -77,5 +77,5 @@ module _ (b : Build) (image : Image) (levels : List ℕ) (end : State) (fits : F
         record { from = d.from; is_data = d.is_data; holds = ram_is _ ∙ d.holds };
   }
 
-  pub boots_law : OsekStep b.config b.app event.Boot (opening b.config b.app) (started b) × Stands b end (started b)
+  pub boots_law : OsekStep b.config b.app event.Boot (opening b.config b.app) (started_system b) × Stands b end (started_system b)
   boots_law = ((refl, refl), starts_stand b end fits starts)

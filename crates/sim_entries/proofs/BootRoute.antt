@@ -7,11 +7,11 @@ use Rattle.sloth_base.specs.Machine.{State}
 use Rattle.sloth_base.specs.Arrive.{state_arrive}
 use Rattle.sloth_base.specs.Owners.{owners_in, IsOwned}
 use Rattle.rv32_machine.specs.Start.{start}
-use Rattle.rv32_routine.specs.Trace.{Trace, touched_lines, early, late}
+use Rattle.masked_code.specs.Trace.{Trace, touched_lines, early, late}
 use Rattle.observe.specs.Observe.{View}
 use Rattle.vector_gen.specs.Boot.{Booted}
 use Rattle.sim_induction.specs.Admits.{IsSetting, lines_at, with_admits}
-use Rattle.sim_induction.specs.Laws.{BootLaw}
+use Rattle.sim_induction.specs.PieceLaws.{BootLaw}
 use Rattle.sim_induction.proofs.Boot.{nothing_before}
 use Rattle.sim_induction.proofs.Routes.{Booting, booting}
 use Rattle.sim_induction.proofs.Schedule.{owned_at}
@@ -19,7 +19,7 @@ use Rattle.sim_induction.proofs.Traces.{lines_before, lines_trace}
 use Rattle.sim_relation.specs.Build.{Build, Fits}
 use Rattle.sim_relation.specs.Placed.{setting_of}
 use Rattle.sim_relation.specs.Stands.{Stands}
-use Rattle.sim_relation.specs.Start.{started}
+use Rattle.sim_relation.specs.Start.{started_system}
 use Rattle.sim_relation.proofs.Arrive.{stands_arrived}
 use Rattle.sim_relation.proofs.Placed.{in_place-agree}
 use Rattle.sim_entries.specs.Boot.{IsImage}
@@ -76,8 +76,8 @@ module _ (b : Build) (view : View) (arrivals : List Arrival) (setting : IsSettin
         steps = route.steps;
         ends = route.ends;
         untouched = untouched;
-        after = started b;
+        after = started_system b;
         step_is = law.0;
-        related = subst (λ x. Stands b x (with_admits (late route.trace) (started b))) (sym route.late_behind)
-            (stands_arrived b (late route.trace) route.last (started b) few in_range.1 law.1);
+        related = subst (λ x. Stands b x (with_admits (late route.trace) (started_system b))) (sym route.late_behind)
+            (stands_arrived b (late route.trace) route.last (started_system b) few in_range.1 law.1);
       }

@@ -9,12 +9,12 @@ use Rattle.sloth_base.specs.declared.event.Event.TheVariants as event
 use Rattle.sloth_base.specs.Machine.{State}
 use Rattle.sloth_base.specs.Choose.{choose}
 use Rattle.sloth_region.specs.Layout.{resume}
-use Rattle.osek_machine.specs.declared.state.TaskState.TheVariants as mode
-use Rattle.osek_machine.specs.State.{Task, System, task, with_task, declaration, body_of, entry_frame, zero_registers}
+use Rattle.osek_scheduler.specs.declared.state.TaskState.TheVariants as mode
+use Rattle.osek_scheduler.specs.State.{Task, System, task, with_task, declaration, body_of, entry_frame, zero_registers}
 use Rattle.sloth_base.specs.Named.{function, missing}
-use Rattle.osek_machine.specs.Priority.{is_active}
-use Rattle.osek_machine.specs.Services.{starts, entered}
-use Rattle.osek_machine.specs.Steps.{OsekStep, settled}
+use Rattle.osek_scheduler.specs.Priority.{is_active}
+use Rattle.osek_scheduler.specs.Services.{started_task, entered_state}
+use Rattle.osek_scheduler.specs.Steps.{OsekStep, settled_state}
 use Rattle.sim_relation.specs.Build.{Build, Fits}
 use Rattle.sim_relation.specs.Position.{AreWords, thread_of}
 use Rattle.sim_relation.specs.Context.{Context}
@@ -31,7 +31,7 @@ use Rattle.sim_entries.specs.Entries.{EntersAnew, StandsAlone, first_words}
 use Rattle.sim_entries.proofs.EntryRam.{IsStored}
 use Rattle.sim_entries.proofs.Saving.{preempted, cleared, cleared_long, saved, is_saved, entry_ram, entry_machine}
 use Rattle.sim_entries.proofs.Spot.{zero_at, stored_apart}
-use Rattle.rv32_routine.specs.Pieces.{registers_from}
+use Rattle.masked_code.specs.Pieces.{registers_from}
 
 -- a function that has items is there
 pub there : (app : App) (f : ℕ) → 0 < length (function app f).items → f < length app.funcs
@@ -59,8 +59,8 @@ module _ (b : Build) (state end : State) (s : System) (t place : ℕ) (fits : Fi
   abbrev own : Task
   own = record (task s t) { state = mode.Active; registers = zero_registers; frames = entry_frame b.app (body_of b.app.funcs t) ∷ []; raised = (declaration b.config t).non }
 
-  is_next : settled (with_task s t own) ≡ settled (entered b.config b.app t s)
-  is_next = sym (ap (λ fs. settled (with_task s t (record (starts b.app t fs (task s t)) { state = mode.Active; raised = (declaration b.config t).non }))) fresh)
+  is_next : settled_state (with_task s t own) ≡ settled_state (entered_state b.config b.app t s)
+  is_next = sym (ap (λ fs. settled_state (with_task s t (record (started_task b.app t fs (task s t)) { state = mode.Active; raised = (declaration b.config t).non }))) fresh)
 
   frame_room : (b.low t + 128 ≤ frame) × (frame + 4 * words ≡ b.top t) × (frame % 4 ≡ 0)
   frame_room = let g = first_room b fits t declared in let z = fits.to t declared in (omega arith, omega arith, omega arith)
@@ -124,9 +124,9 @@ module _ (b : Build) (state end : State) (s : System) (t place : ℕ) (fits : Fi
     context = context;
   }
 
-  stands : Stands b end (settled (with_task s t own))
+  stands : Stands b end (settled_state (with_task s t own))
   stands = entry_stands b state end s k fits t declared e own place entry
 
   -- The entry is a step of the abstract machine, and the states stand.
-  pub enter_law : OsekStep b.config b.app (event.Enter t) s (settled (entered b.config b.app t s)) × Stands b end (settled (entered b.config b.app t s))
+  pub enter_law : OsekStep b.config b.app (event.Enter t) s (settled_state (entered_state b.config b.app t s)) × Stands b end (settled_state (entered_state b.config b.app t s))
   enter_law = ((k.tidy.booted, taken_top b state s k few t declared e, ready, there b.app (body_of b.app.funcs t) has_item, refl), subst (λ x. Stands b end x) is_next stands)

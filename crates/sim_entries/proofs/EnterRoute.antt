@@ -15,23 +15,23 @@ use Rattle.sloth_base.specs.declared.lines.Owners.{Owners}
 use Rattle.sloth_base.proofs.Stretches.{task_limit}
 use Rattle.rv32_instr.specs.Execute.{touched}
 use Rattle.rv32_machine.specs.Run.{arrived}
-use Rattle.rv32_routine.specs.Kernel.{CanRun}
-use Rattle.rv32_routine.specs.Place.{at}
-use Rattle.rv32_routine.specs.Masked.{Masked, WithArrivals}
-use Rattle.rv32_routine.specs.Trace.{Trace, lines_of, touched_lines, early, late}
+use Rattle.masked_code.specs.Kernel.{CanRun}
+use Rattle.masked_code.specs.Place.{at}
+use Rattle.masked_code.specs.Masked.{Masked, WithArrivals}
+use Rattle.masked_code.specs.Trace.{Trace, lines_of, touched_lines, early, late}
 use Rattle.rv32_expand.specs.Expansion.{item_address}
 use Rattle.observe.specs.Observe.{View}
-use Rattle.osek_machine.specs.State.{Frame, System, task, declaration, body_of}
-use Rattle.osek_machine.specs.Priority.{is_active}
-use Rattle.osek_machine.specs.Services as services
-use Rattle.osek_machine.specs.Steps.{OsekStep, settled}
+use Rattle.osek_scheduler.specs.State.{Frame, System, task, declaration, body_of}
+use Rattle.osek_scheduler.specs.Priority.{is_active}
+use Rattle.osek_scheduler.specs.Services as services
+use Rattle.osek_scheduler.specs.Steps.{OsekStep, settled_state}
 use Rattle.prologue_gen.specs.Fresh.{vector, MayEnter, Entered}
 use Rattle.prologue_gen.specs.Resumed.{MayResume, Resumed}
 use Rattle.prologue_gen.specs.Places.{DoesEnter}
 use Rattle.prologue_gen.proofs.BothKinds as kinds
 use Rattle.sim_induction.specs.Admits.{IsSetting, lines_at, with_admits}
 use Rattle.sim_induction.specs.Advances.{Advances}
-use Rattle.sim_induction.specs.Laws.{StretchLaw}
+use Rattle.sim_induction.specs.PieceLaws.{StretchLaw}
 use Rattle.std.specs.List.{AllByRecursion}
 use Rattle.sim_induction.proofs.Follow.{booted_admits}
 use Rattle.sim_induction.proofs.Routes.{Opens, Entering, entering, touches_parted, begins_entered, entered_event}
@@ -86,7 +86,7 @@ module _ (b : Build) (view : View) (arrivals : List Arrival) (setting : IsSettin
     core = (take t now).core
 
     abbrev after : System
-    after = settled (services.entered b.config b.app t found)
+    after = settled_state (services.entered_state b.config b.app t found)
 
     -- ---- code with this effect, which has such a law
 

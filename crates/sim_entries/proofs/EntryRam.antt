@@ -3,7 +3,7 @@ use Rattle.std.proofs.Common.{◌≡◌, ℕ, suc, ◌+◌, ◌*◌, ◌%◌, �
 use Rattle.std.specs.Prelude.{◌⊎◌, ◌≢◌, slice_index}
 use Rattle.sloth_region.specs.Layout.{cur, below_word, active, idle_context, context_bytes}
 use Rattle.rv32_instr.specs.Ram.{word_at, with_word, with_words}
-use Rattle.rv32_routine.proofs.Words.{word_at-same, word_at-others, get_or-with_word, get_or-with_words, word_at-with_words, length-with_word, length-with_words, word_at-agree}
+use Rattle.masked_code.proofs.Words.{word_at-same, word_at-others, get_or-with_word, get_or-with_words, word_at-with_words, length-with_word, length-with_words, word_at-agree}
 use Rattle.sim_relation.specs.Position.{AreWords}
 use Rattle.sim_relation.proofs.Parts.{word_other}
 

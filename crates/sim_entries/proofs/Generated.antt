@@ -11,9 +11,9 @@ use Rattle.sloth_base.specs.declared.places.Levels.{Levels}
 use Rattle.sloth_region.specs.declared.map.Map.{Map}
 use Rattle.rv32_instr.specs.declared.InstrKind.{InstrKind}
 use Rattle.rv32_expand.specs.Expansion.{item_address}
-use Rattle.osek_machine.specs.State.{declaration, undeclared, body_of}
+use Rattle.osek_scheduler.specs.State.{declaration, undeclared, body_of}
 use Rattle.sloth_base.specs.Named.{function, missing}
-use Rattle.osek_machine.specs.Priority.{greatest, highest}
+use Rattle.osek_scheduler.specs.Priority.{greatest, highest_priority}
 use Rattle.prologue_gen.specs.Places.{EntersTask, DoesEnter, frame_at, first_item}
 use Rattle.prologue_gen.specs.Places as generator
 use Rattle.sloth_base.specs.PriorityLevels.{level_of}
@@ -32,8 +32,8 @@ all_counted (d ∷ ds) p h =
     let rest = all_counted ds p (omega arith) in
     omega arith
 
-pub highest_level : (config : Config) → level_of config (highest config) ≡ length config.tasks
-highest_level config = all_counted config.tasks (highest config) (omega arith)
+pub highest_level : (config : Config) → level_of config (highest_priority config) ≡ length config.tasks
+highest_level config = all_counted config.tasks (highest_priority config) (omega arith)
 
 module _ (b : Build) (levels : Levels) (map_of : Map) (t : ℕ) (code : List InstrKind) (fits : Fits b) (built : IsBuiltFrom b levels map_of) (declared : t < length b.config.tasks)
     (one : HasOneBody b t) (enters : EntersTask t b.config b.app levels map_of code) where
@@ -56,7 +56,7 @@ module _ (b : Build) (levels : Levels) (map_of : Map) (t : ℕ) (code : List Ins
   level : generator.start_level enters.decl t levels ≡ start_level b t
   level =
       ap (λ (d : TaskDecl). generator.start_level d t levels) (sym decl)
-      ∙ by_scheduling (declaration b.config t).non levels.top (slice_index levels.task t) (highest b.config) (declaration b.config t).priority
+      ∙ by_scheduling (declaration b.config t).non levels.top (slice_index levels.task t) (highest_priority b.config) (declaration b.config t).priority
       (built.highest ∙ sym (highest_level b.config)) (built.ranks t declared)
 
   first : first_item map_of.places enters.body ≡ item_address b.places (body_of b.app.funcs t) 0

@@ -9,13 +9,13 @@ use Rattle.sloth_base.specs.Choose.{choose}
 use Rattle.sloth_base.specs.Status.{E_OK}
 use Rattle.sloth_region.specs.Layout.{resume, idle_context}
 use Rattle.rv32_instr.specs.Ram.{word_at, with_word}
-use Rattle.rv32_routine.specs.Pieces.{registers_from}
-use Rattle.rv32_routine.proofs.Words.{word_at-same, get_or-with_word, length-with_word}
-use Rattle.osek_machine.specs.declared.state.TaskState.TheVariants as mode
-use Rattle.osek_machine.specs.State.{Frame, Task, System, HasBody, task, with_task, declaration}
-use Rattle.osek_machine.specs.Priority.{is_active}
-use Rattle.osek_machine.specs.Services.{starts, entered}
-use Rattle.osek_machine.specs.Steps.{OsekStep, settled}
+use Rattle.masked_code.specs.Pieces.{registers_from}
+use Rattle.masked_code.proofs.Words.{word_at-same, get_or-with_word, length-with_word}
+use Rattle.osek_scheduler.specs.declared.state.TaskState.TheVariants as mode
+use Rattle.osek_scheduler.specs.State.{Frame, Task, System, HasBody, task, with_task, declaration}
+use Rattle.osek_scheduler.specs.Priority.{is_active}
+use Rattle.osek_scheduler.specs.Services.{started_task, entered_state}
+use Rattle.osek_scheduler.specs.Steps.{OsekStep, settled_state}
 use Rattle.sim_relation.specs.Build.{Build, Fits}
 use Rattle.sim_relation.specs.Framing.{Agree}
 use Rattle.sim_relation.specs.Position.{thread_of}
@@ -53,10 +53,10 @@ module _ (b : Build) (state end : State) (s : System) (t place own : ℕ) (fits 
   abbrev after : Task
   after = record (task s t) { state = mode.Active; registers = set (task s t).registers 5 E_OK; raised = (declaration b.config t).non }
 
-  is_next : settled (with_task s t after) ≡ settled (entered b.config b.app t s)
-  is_next = ap (λ u. settled (with_task s t (record u { state = mode.Active; raised = (declaration b.config t).non }))) (again (task s t).frames some)
+  is_next : settled_state (with_task s t after) ≡ settled_state (entered_state b.config b.app t s)
+  is_next = ap (λ u. settled_state (with_task s t (record u { state = mode.Active; raised = (declaration b.config t).non }))) (again (task s t).frames some)
     where
-      again : (frames : List Frame) → frames ≢ [] → record (task s t) { registers = set (task s t).registers 5 E_OK } ≡ starts b.app t frames (task s t)
+      again : (frames : List Frame) → frames ≢ [] → record (task s t) { registers = set (task s t).registers 5 E_OK } ≡ started_task b.app t frames (task s t)
       again [] n = absurd (n refl)
       again (frame ∷ outer) n = refl
 
@@ -146,6 +146,6 @@ module _ (b : Build) (state end : State) (s : System) (t place own : ℕ) (fits 
   }
 
   -- The entry is a step of the abstract machine, and the states stand.
-  pub resume_law : OsekStep b.config b.app (event.Enter t) s (settled (entered b.config b.app t s)) × Stands b end (settled (entered b.config b.app t s))
+  pub resume_law : OsekStep b.config b.app (event.Enter t) s (settled_state (entered_state b.config b.app t s)) × Stands b end (settled_state (entered_state b.config b.app t s))
   resume_law =
       ((k.tidy.booted, taken_top b state s k few t declared e, ready, has_body, refl), subst (λ x. Stands b end x) is_next (entry_stands b state end s k fits t declared e after place entry))

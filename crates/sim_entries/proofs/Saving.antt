@@ -7,10 +7,10 @@ use Rattle.sloth_base.specs.Choose.{choose}
 use Rattle.sloth_base.specs.Take.{take}
 use Rattle.sloth_region.specs.Layout.{cur, below_word, active, resume, idle_context}
 use Rattle.rv32_instr.specs.Ram.{word_at}
-use Rattle.rv32_routine.specs.Kernel.{LeftAs}
-use Rattle.rv32_routine.specs.Pieces.{registers_from}
-use Rattle.rv32_routine.proofs.Words.{word_below}
-use Rattle.osek_machine.specs.State.{System}
+use Rattle.masked_code.specs.Kernel.{LeftAs}
+use Rattle.masked_code.specs.Pieces.{registers_from}
+use Rattle.masked_code.proofs.Words.{word_below}
+use Rattle.osek_scheduler.specs.State.{System}
 use Rattle.sim_relation.specs.Build.{Build, Fits, start_level}
 use Rattle.sim_relation.specs.Stands.{Stands}
 use Rattle.sim_relation.specs.Entry.{EntryRam, EntryMachine}

@@ -3,4 +3,4 @@ pub mod Entries
 pub mod Boot
 pub mod Codes
 pub mod Generated
-pub mod Laws
+pub mod EntrySteps

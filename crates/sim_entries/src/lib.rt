@@ -3,7 +3,7 @@
 #![tactic(auto)]
 
 ghost use Rattle.sim_entries.specs.Generated.{GeneratedEnters};
-ghost use Rattle.sim_entries.specs.Laws.{BootsLaw, BootStretch, EnterLaw, EnterStretch, ResumeLaw, ResumeStretch};
+ghost use Rattle.sim_entries.specs.EntrySteps.{BootsLaw, BootStretch, EnterLaw, EnterStretch, ResumeLaw, ResumeStretch};
 
 /// Where a task's line is the one taken and the task is to start anew, its prologue is the event Enter of the abstract
 /// scheduler, whatever ran.

@@ -5,15 +5,15 @@ use Rattle.sloth_base.specs.Machine.{State}
 use Rattle.sloth_base.specs.declared.service.Service.{Service}
 use Rattle.sloth_region.specs.Layout.{cur, events, wait}
 use Rattle.rv32_instr.specs.Ram.{word_at, with_word}
-use Rattle.rv32_routine.specs.Kernel.{LeftAs}
-use Rattle.rv32_routine.proofs.Words.{word_at-same, get_or-with_word, length-with_word}
+use Rattle.masked_code.specs.Kernel.{LeftAs}
+use Rattle.masked_code.proofs.Words.{word_at-same, get_or-with_word, length-with_word}
 use Rattle.block_parts.specs.Back.{WentBack, a0}
-use Rattle.osek_machine.specs.declared.state.TaskState.{TaskState}
-use Rattle.osek_machine.specs.declared.state.TaskState.TheVariants as mode
-use Rattle.osek_machine.specs.State.{Task, System, task}
-use Rattle.osek_machine.specs.Priority.{is_active}
-use Rattle.osek_machine.specs.Services.{answers, answered}
-use Rattle.osek_machine.specs.Steps.{settled}
+use Rattle.osek_scheduler.specs.declared.state.TaskState.{TaskState}
+use Rattle.osek_scheduler.specs.declared.state.TaskState.TheVariants as mode
+use Rattle.osek_scheduler.specs.State.{Task, System, task}
+use Rattle.osek_scheduler.specs.Priority.{is_active}
+use Rattle.osek_scheduler.specs.Services.{answers, answered_state}
+use Rattle.osek_scheduler.specs.Steps.{settled_state}
 use Rattle.sim_relation.specs.Build.{Build, Fits}
 use Rattle.sim_relation.specs.Changes.{changed_to, TaskChange}
 use Rattle.sim_relation.specs.ServiceWords.{IsWaitWord}
@@ -65,7 +65,7 @@ module _ (b : Build) (state : State) (s : System) (t : ℕ) (called : Task) (ser
       }
 
   abbrev answer : System
-  answer = settled (answered status t s)
+  answer = settled_state (answered_state status t s)
 
   before : Stands b middle answer
   before =

@@ -10,16 +10,16 @@ use Rattle.sloth_base.specs.declared.service.Service.TheVariants as service
 use Rattle.sloth_region.specs.Layout.{events}
 use Rattle.rv32_instr.specs.Ram.{word_at}
 use Rattle.rv32_expand.specs.Expansion.{mask_of}
-use Rattle.rv32_routine.proofs.Words.{word_below}
+use Rattle.masked_code.proofs.Words.{word_below}
 use Rattle.event_gen.specs.ClearEvent.{EventsCleared, mask_register}
-use Rattle.osek_machine.specs.State.{Task, System, task, with_task}
-use Rattle.osek_machine.specs.Services.{answers, answered, is_there}
-use Rattle.osek_machine.specs.Steps.{settled}
+use Rattle.osek_scheduler.specs.State.{Task, System, task, with_task}
+use Rattle.osek_scheduler.specs.Services.{answers, answered_state, is_there}
+use Rattle.osek_scheduler.specs.Steps.{settled_state}
 use Rattle.sim_relation.specs.Build.{Build, Fits}
 use Rattle.sim_relation.specs.Changes.{changed_to}
 use Rattle.sim_relation.specs.Stands.{Stands, IsActive}
 use Rattle.sim_relation.proofs.Parts.{this_task}
-use Rattle.sim_services.specs.Laws.{MayGoOn}
+use Rattle.sim_services.specs.ServiceSteps.{MayGoOn}
 use Rattle.sim_services.specs.Served.{IsServed, Answers}
 use Rattle.sim_services.proofs.GoesOn.{active, answers_so}
 use Rattle.sim_events.proofs.Changed.{Changes, among, current, stands_changed}
@@ -77,20 +77,20 @@ module _ (b : Build) (state : State) (s : System) (t : ℕ) (own : Task) (object
   abbrev after : System
   after = with_task s t (record (answers E_OK (task s t)) { events = now })
 
-  stood : Stands b end (changed_to (settled (answered E_OK t s)) t (task s t).state now)
+  stood : Stands b end (changed_to (settled_state (answered_state E_OK t s)) t (task s t).state now)
   stood =
       stands_changed b state s t own service.ClearEvent is fits may.followed end t word state.core.pending state.core.enabled effect.back E_OK effect.status
       (task s t).state now change
 
-  this : task (answered E_OK t s) t ≡ answers E_OK (task s t)
+  this : task (answered_state E_OK t s) t ≡ answers E_OK (task s t)
   this =
       this_task s t (answers E_OK (task s t))
       (among b state s t own service.ClearEvent is fits may.followed end t word state.core.pending state.core.enabled effect.back E_OK effect.status)
 
-  next_is : changed_to (settled (answered E_OK t s)) t (task s t).state now ≡ settled after
+  next_is : changed_to (settled_state (answered_state E_OK t s)) t (task s t).state now ≡ settled_state after
   next_is =
-      ap (λ (x : Task). settled (with_task (answered E_OK t s) t (record x { state = (task s t).state; events = now }))) this
-      ∙ ap (λ l. settled (record s { tasks = l })) (set-set s.tasks t (answers E_OK (task s t)) (record (answers E_OK (task s t)) { events = now }))
+      ap (λ (x : Task). settled_state (with_task (answered_state E_OK t s) t (record x { state = (task s t).state; events = now }))) this
+      ∙ ap (λ l. settled_state (record s { tasks = l })) (set-set s.tasks t (answers E_OK (task s t)) (record (answers E_OK (task s t)) { events = now }))
 
   pub clears : Answers b s t service.ClearEvent touched end
   clears =

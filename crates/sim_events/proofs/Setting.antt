@@ -11,27 +11,27 @@ use Rattle.sloth_base.specs.declared.service.Service.TheVariants as service
 use Rattle.sloth_region.specs.Layout.{events, wait}
 use Rattle.rv32_instr.specs.Ram.{word_at, with_word}
 use Rattle.rv32_expand.specs.Expansion.{mask_of}
-use Rattle.rv32_routine.proofs.Words.{word_below}
+use Rattle.masked_code.proofs.Words.{word_below}
 use Rattle.block_parts.specs.Looks.{LooksSuspended}
 use Rattle.block_parts.specs.Back.{WentBack, a0}
 use Rattle.event_gen.specs.ClearEvent.{mask_register}
 use Rattle.event_gen.specs.SetEvent.{with_mask, HasNotSet, HasSet, HasWoken, EventsSet}
-use Rattle.osek_machine.specs.declared.state.TaskState.{TaskState}
-use Rattle.osek_machine.specs.declared.state.TaskState.TheVariants as mode
-use Rattle.osek_machine.specs.State.{Task, System, task}
-use Rattle.osek_machine.specs.Services.{answers, answered, is_there, GoesOn, set_events, with_events, woken}
-use Rattle.osek_machine.specs.Outcomes.{outcome}
-use Rattle.osek_machine.specs.Steps.{settled}
+use Rattle.osek_scheduler.specs.declared.state.TaskState.{TaskState}
+use Rattle.osek_scheduler.specs.declared.state.TaskState.TheVariants as mode
+use Rattle.osek_scheduler.specs.State.{Task, System, task}
+use Rattle.osek_scheduler.specs.Services.{answers, answered_state, is_there, GoesOn, set_events, with_events, woken_state}
+use Rattle.osek_scheduler.specs.Outcomes.{outcome}
+use Rattle.osek_scheduler.specs.Steps.{settled_state}
 use Rattle.sim_relation.specs.Build.{Build, Fits}
 use Rattle.sim_relation.specs.Changes.{changed_to}
 use Rattle.sim_relation.specs.ServiceWords.{IsWaitWord}
 use Rattle.sim_relation.specs.Stands.{Stands, IsLineOf}
 use Rattle.sim_relation.proofs.Parts.{by_task}
-use Rattle.sim_services.specs.Laws.{MayGoOn}
+use Rattle.sim_services.specs.ServiceSteps.{MayGoOn}
 use Rattle.sim_services.specs.Served.{IsServed, Answers}
 use Rattle.sim_services.proofs.GoesOn.{answers_so, answers_status}
 use Rattle.sim_services.proofs.Raising.{looks, is_so, first_outcome, second_outcome}
-use Rattle.sim_events.specs.Laws.{MayHaveEvents}
+use Rattle.sim_events.specs.EventServiceSteps.{MayHaveEvents}
 use Rattle.sim_events.proofs.Changed.{Changes, among, current, stands_changed}
 use Rattle.sim_events.proofs.TaskAfter.{state_after, after_active, after_awake, after_none, some_line, some_word, woken_is}
 
@@ -79,10 +79,10 @@ module _ (b : Build) (state : State) (s : System) (t : ℕ) (own : Task) (object
       (subst (λ x. x < 2 ^ 32) (sym mask_is) may.is_word)
 
   abbrev refused : System
-  refused = answered E_OS_STATE t s
+  refused = answered_state E_OS_STATE t s
 
   abbrev done : System
-  done = set_events object mask (answered E_OK t s)
+  done = set_events object mask (answered_state E_OK t s)
 
   outcome_at : outcome b.config service.SetEvent is.opening.block.call.object is.opening.block.call.mask t s ≡ outcome b.config service.SetEvent object mask t s
   outcome_at =
@@ -102,23 +102,23 @@ module _ (b : Build) (state : State) (s : System) (t : ℕ) (own : Task) (object
   module _ (busy : LooksSuspended object state.core → ⊥) (status : slice_index end.core.registers a0 ≡ E_OK) (pending enabled : List ℕ)
       (back : WentBack a0 (record state.core { ram = with_word state.core.ram (events object) word; pending = pending; enabled = enabled }) state end)
       (change : Changes b state s object after now word pending enabled) where
-    stood : Stands b end (changed_to (settled (answered E_OK t s)) object after now)
+    stood : Stands b end (changed_to (settled_state (answered_state E_OK t s)) object after now)
     stood = stands_changed b state s t own service.SetEvent is fits goes_on.followed end object word pending enabled back E_OK status after now change
 
     here : t < length s.tasks
     here = among b state s t own service.SetEvent is fits goes_on.followed end object word pending enabled back E_OK status
 
-    same : (v : ℕ) → ((task (answered E_OK t s) v).state ≡ (task s v).state) × ((task (answered E_OK t s) v).events ≡ (task s v).events)
+    same : (v : ℕ) → ((task (answered_state E_OK t s) v).state ≡ (task s v).state) × ((task (answered_state E_OK t s) v).events ≡ (task s v).events)
     same = by_task (λ v x. (x.state ≡ (task s v).state) × (x.events ≡ (task s v).events)) s t (answers E_OK (task s t)) here (refl, refl) (λ v n. (refl, refl))
 
-    inside : object < length (answered E_OK t s).tasks
+    inside : object < length (answered_state E_OK t s).tasks
     inside = let v = k.tidy.tasks in let h = declared in let l = length-set s.tasks t (answers E_OK (task s t)) in omega arith
 
-    next_is : settled done ≡ changed_to (answered E_OK t s) object after now
+    next_is : settled_state done ≡ changed_to (answered_state E_OK t s) object after now
     next_is =
-        let middle = answered E_OK t s in
-        ap (λ x. settled (woken x (bit_or (task middle object).events mask) object (with_events middle object (bit_or (task middle object).events mask)))) (same object).0
-        ∙ ap (λ e. settled (woken (task s object).state (bit_or e mask) object (with_events middle object (bit_or e mask)))) (same object).1
+        let middle = answered_state E_OK t s in
+        ap (λ x. settled_state (woken_state x (bit_or (task middle object).events mask) object (with_events middle object (bit_or (task middle object).events mask)))) (same object).0
+        ∙ ap (λ e. settled_state (woken_state (task s object).state (bit_or e mask) object (with_events middle object (bit_or e mask)))) (same object).1
         ∙ woken_is middle object now (task s object).state inside (same object).0
 
     has_done : Answers b s t service.SetEvent touched end

@@ -14,7 +14,7 @@ use Rattle.observe.specs.Observe.{View}
 use Rattle.event_gen.specs.ClearEvent.{ClearsEvents, EventsCleared, mask_register}
 use Rattle.event_gen.specs.GetEvent.{TellsEvents, EventsTold}
 use Rattle.event_gen.specs.SetEvent.{SetsEvents, EventsSet}
-use Rattle.osek_machine.specs.State.{System, task}
+use Rattle.osek_scheduler.specs.State.{System, task}
 use Rattle.sim_induction.specs.Admits.{IsSetting, lines_at, with_admits}
 use Rattle.sim_relation.specs.Build.{Build, Fits}
 use Rattle.sim_relation.specs.Placed.{setting_of}

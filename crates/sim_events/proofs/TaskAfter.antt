@@ -3,12 +3,12 @@ use Rattle.std.proofs.Common.{◌≡◌, ℕ, ◌<◌, length, refl, sym, ap, �
 use Rattle.std.specs.Prelude.{◌≢◌, ◌==◌, bit_and}
 use Rattle.std.proofs.lemmas.Bool.{ne_eqb, eq-eqb}
 use Rattle.std.proofs.lemmas.List.{set-set}
-use Rattle.osek_machine.specs.declared.state.TaskState.{TaskState}
-use Rattle.osek_machine.specs.declared.state.TaskState.TheVariants as mode
-use Rattle.osek_machine.specs.State.{System, task, with_task}
-use Rattle.osek_machine.specs.Priority.{is_active}
-use Rattle.osek_machine.specs.Services.{woken, with_events}
-use Rattle.osek_machine.specs.Steps.{settled}
+use Rattle.osek_scheduler.specs.declared.state.TaskState.{TaskState}
+use Rattle.osek_scheduler.specs.declared.state.TaskState.TheVariants as mode
+use Rattle.osek_scheduler.specs.State.{System, task, with_task}
+use Rattle.osek_scheduler.specs.Priority.{is_active}
+use Rattle.osek_scheduler.specs.Services.{woken_state, with_events}
+use Rattle.osek_scheduler.specs.Steps.{settled_state}
 use Rattle.sim_relation.specs.Changes.{changed_to}
 use Rattle.sim_relation.specs.ServiceWords.{IsWaitWord}
 use Rattle.sim_relation.specs.Stands.{IsLineOf}
@@ -69,16 +69,16 @@ some_word mode.Active now word z h = tt
 -- ---- the abstract state
 
 by_woken : (s : System) (u now w : ℕ) (c : Bool) → u < length s.tasks → (task s u).state ≡ mode.Waiting w
-    → settled (cond c (with_events s u now) (with_task (with_events s u now) u (record (task (with_events s u now) u) { state = mode.Ready })))
-    ≡ settled (with_task s u (record (task s u) { state = cond c (mode.Waiting w) mode.Ready; events = now }))
-by_woken s u now w true l e = ap (λ m. settled (with_task s u (record (task s u) { state = m; events = now }))) e
+    → settled_state (cond c (with_events s u now) (with_task (with_events s u now) u (record (task (with_events s u now) u) { state = mode.Ready })))
+    ≡ settled_state (with_task s u (record (task s u) { state = cond c (mode.Waiting w) mode.Ready; events = now }))
+by_woken s u now w true l e = ap (λ m. settled_state (with_task s u (record (task s u) { state = m; events = now }))) e
 by_woken s u now w false l e =
-    ap (λ x. settled (with_task (with_events s u now) u (record x { state = mode.Ready }))) (this_task s u (record (task s u) { events = now }) l)
-    ∙ ap (λ l. settled (record s { tasks = l })) (set-set s.tasks u (record (task s u) { events = now }) (record (task s u) { state = mode.Ready; events = now }))
+    ap (λ x. settled_state (with_task (with_events s u now) u (record x { state = mode.Ready }))) (this_task s u (record (task s u) { events = now }) l)
+    ∙ ap (λ l. settled_state (record s { tasks = l })) (set-set s.tasks u (record (task s u) { events = now }) (record (task s u) { state = mode.Ready; events = now }))
 
 pub woken_is : (s : System) (u now : ℕ) (m : TaskState) → u < length s.tasks → (task s u).state ≡ m
-    → settled (woken m now u (with_events s u now)) ≡ changed_to s u (state_after m now) now
+    → settled_state (woken_state m now u (with_events s u now)) ≡ changed_to s u (state_after m now) now
 woken_is s u now (mode.Waiting w) l e = by_woken s u now w (bit_and now w == 0) l e
-woken_is s u now mode.Suspended l e = ap (λ m. settled (with_task s u (record (task s u) { state = m; events = now }))) e
-woken_is s u now mode.Ready l e = ap (λ m. settled (with_task s u (record (task s u) { state = m; events = now }))) e
-woken_is s u now mode.Active l e = ap (λ m. settled (with_task s u (record (task s u) { state = m; events = now }))) e
+woken_is s u now mode.Suspended l e = ap (λ m. settled_state (with_task s u (record (task s u) { state = m; events = now }))) e
+woken_is s u now mode.Ready l e = ap (λ m. settled_state (with_task s u (record (task s u) { state = m; events = now }))) e
+woken_is s u now mode.Active l e = ap (λ m. settled_state (with_task s u (record (task s u) { state = m; events = now }))) e

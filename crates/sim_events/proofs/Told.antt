@@ -7,12 +7,12 @@ use Rattle.sloth_base.specs.Machine.{State}
 use Rattle.sloth_base.specs.Status.{E_OK, E_OS_STATE}
 use Rattle.sloth_base.specs.declared.service.Service.TheVariants as service
 use Rattle.event_gen.specs.GetEvent.{HasNotTold, HasTold, EventsTold}
-use Rattle.osek_machine.specs.State.{Task, System, task}
-use Rattle.osek_machine.specs.Services.{answered, answered_with, is_there, GoesOn}
-use Rattle.osek_machine.specs.Outcomes.{outcome}
+use Rattle.osek_scheduler.specs.State.{Task, System, task}
+use Rattle.osek_scheduler.specs.Services.{answered_state, answered_with, is_there, GoesOn}
+use Rattle.osek_scheduler.specs.Outcomes.{outcome}
 use Rattle.sim_relation.specs.Build.{Build, Fits}
 use Rattle.sim_relation.specs.Stands.{Stands}
-use Rattle.sim_services.specs.Laws.{MayGoOn}
+use Rattle.sim_services.specs.ServiceSteps.{MayGoOn}
 use Rattle.sim_services.specs.Served.{IsServed, Answers}
 use Rattle.sim_services.proofs.Raising.{looks, is_so, first_outcome, second_outcome}
 use Rattle.sim_services.proofs.GoesOn.{answers_status, answers_number}
@@ -35,7 +35,7 @@ module _ (b : Build) (state : State) (s : System) (t : ℕ) (own : Task) (object
   names = subst (λ o. is_there b.config own.held service.GetEvent o ≡ true) (sym may.object_is) may.names
 
   abbrev refused : System
-  refused = answered E_OS_STATE t s
+  refused = answered_state E_OS_STATE t s
 
   abbrev value : ℕ
   value = (task s object).events

@@ -3,7 +3,7 @@ use Rattle.std.proofs.Common.{◌≡◌, ℕ, ◌+◌, ◌*◌, ◌%◌, ◌<◌
 use Rattle.std.specs.Prelude.{◌≢◌, ◌⊎◌, slice_index}
 use Rattle.sloth_region.specs.Layout.{cur, below_word, active, wait, resume, idle_context, context_bytes}
 use Rattle.rv32_instr.specs.Ram.{word_at, with_word, with_words}
-use Rattle.rv32_routine.proofs.Words.{word_at-same, word_at-other, word_at-others, word_at-with_words, word_at-agree, get_or-with_word, get_or-with_words, length-with_word, length-with_words}
+use Rattle.masked_code.proofs.Words.{word_at-same, word_at-other, word_at-others, word_at-with_words, word_at-agree, get_or-with_word, get_or-with_words, length-with_word, length-with_words}
 use Rattle.sim_relation.proofs.Parts.{word_other}
 
 pub record WaitRam (old new registers : List ℕ) (t own mask pc current link : ℕ) : Type 0 where

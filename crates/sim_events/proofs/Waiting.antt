@@ -12,15 +12,15 @@ use Rattle.sloth_base.specs.declared.app.Op.TheVariants as op
 use Rattle.sloth_region.specs.Layout.{cur, events, context_bytes}
 use Rattle.rv32_instr.specs.Ram.{word_at}
 use Rattle.rv32_expand.specs.Expansion.{mask_of}
-use Rattle.rv32_routine.specs.Pieces.{registers_from}
-use Rattle.rv32_routine.proofs.Words.{word_below}
+use Rattle.masked_code.specs.Pieces.{registers_from}
+use Rattle.masked_code.proofs.Words.{word_below}
 use Rattle.event_gen.specs.ClearEvent.{mask_register}
 use Rattle.event_gen.specs.WaitEvent.{set_of, HasNotWaited, HasWaited, Waited}
-use Rattle.osek_machine.specs.declared.state.TaskState.TheVariants as mode
-use Rattle.osek_machine.specs.State.{Frame, Task, System, task, with_task}
-use Rattle.osek_machine.specs.Meaning.{going_on}
-use Rattle.osek_machine.specs.Services.{GoesOn, Leaves, waits, moved, answered, is_there}
-use Rattle.osek_machine.specs.Steps.{settled}
+use Rattle.osek_scheduler.specs.declared.state.TaskState.TheVariants as mode
+use Rattle.osek_scheduler.specs.State.{Frame, Task, System, task, with_task}
+use Rattle.osek_scheduler.specs.Meaning.{going_on}
+use Rattle.osek_scheduler.specs.Services.{GoesOn, Leaves, waiting_task, moved_frames, answered_state, is_there}
+use Rattle.osek_scheduler.specs.Steps.{settled_state}
 use Rattle.sim_relation.specs.Build.{Build, Fits}
 use Rattle.sim_relation.specs.Position.{FramesAt, thread_of}
 use Rattle.sim_relation.specs.Context.{RunsTask, Running, Rested, Resumes}
@@ -34,11 +34,11 @@ use Rattle.sim_relation.proofs.Machines.{left_whole}
 use Rattle.sim_relation.proofs.Parts.{this_task}
 use Rattle.sim_relation.proofs.Placed.{first_by_word, active_by_word}
 use Rattle.sim_relation.proofs.SavedRegisters.{registers_at, registers_small}
-use Rattle.sim_services.specs.Laws.{MayGoOn}
+use Rattle.sim_services.specs.ServiceSteps.{MayGoOn}
 use Rattle.sim_services.specs.Opening.{AtOpening}
 use Rattle.sim_services.specs.Served.{IsServed, Answers}
 use Rattle.sim_services.proofs.GoesOn.{active, free, frames_are, stood, answers_status, leaves_so}
-use Rattle.sim_events.specs.Laws.{MayWaitAt}
+use Rattle.sim_events.specs.EventServiceSteps.{MayWaitAt}
 use Rattle.sim_events.proofs.WaitRam.{WaitRam, wait_ram}
 
 module _ (b : Build) (state : State) (s : System) (t : ℕ) (own : Task) (object place kept : ℕ) (touched : List ℕ) (end : State) (fits : Fits b)
@@ -79,14 +79,14 @@ module _ (b : Build) (state : State) (s : System) (t : ℕ) (own : Task) (object
   names = refl
 
   abbrev waiting : System
-  waiting = with_task s t (waits mask (task s t))
+  waiting = with_task s t (waiting_task mask (task s t))
 
   -- ---- one of the events is set
 
   stays : HasNotWaited t state end → Answers b s t service.WaitEvent touched end
   stays h =
       answers_status b state s t own service.WaitEvent is fits touched end t t touches names goes_on.followed h.back E_OK h.status
-      (ap (λ (c : Bool). cond c (Leaves waiting) (GoesOn E_OK (answered E_OK t s))) (ne_eqb (bit_and (task s t).events mask) 0 (λ e. h.one_set (set_is ∙ e))))
+      (ap (λ (c : Bool). cond c (Leaves waiting) (GoesOn E_OK (answered_state E_OK t s))) (ne_eqb (bit_and (task s t).events mask) 0 (λ e. h.one_set (set_is ∙ e))))
 
   -- ---- none is
 
@@ -98,7 +98,7 @@ module _ (b : Build) (state : State) (s : System) (t : ℕ) (own : Task) (object
     new = end.core.ram
 
     abbrev after : Task
-    after = waits mask (task s t)
+    after = waiting_task mask (task s t)
 
     abbrev rest : List ℕ
     rest = registers_from 27 5 state.core.registers
@@ -170,7 +170,7 @@ module _ (b : Build) (state : State) (s : System) (t : ℕ) (own : Task) (object
             event_mask = mem.named (events t) (omega arith) (omega arith) (λ a. omega arith) (λ a. omega arith) (λ a. omega arith) (λ a. omega arith) (λ a. omega arith)
                 ∙ (k.words t here.declared).event_mask;
             wait_mask = mem.wait_word;
-            resumption = resumes after.frames (ap moved (frames_are b state s t own service.WaitEvent is fits));
+            resumption = resumes after.frames (ap moved_frames (frames_are b state s t own service.WaitEvent is fits));
             held = subst (λ (l : List ℕ). HeldWords b new (base_priority b t after) l) (sym held_none) tt;
           }
 
@@ -209,10 +209,10 @@ module _ (b : Build) (state : State) (s : System) (t : ℕ) (own : Task) (object
             };
           }
 
-      stands_behind : Stands b end (settled waiting)
+      stands_behind : Stands b end (settled_state waiting)
       stands_behind = leave_stands b state end s k fits t below stack_is after place leave
 
-    stands_waiting : Stands b end (settled waiting)
+    stands_waiting : Stands b end (settled_state waiting)
     stands_waiting = let f = first_by_word b state s t k.stack k.running opening.current in stands_behind f.0 f.1
 
     inside : t < length s.tasks
@@ -221,14 +221,14 @@ module _ (b : Build) (state : State) (s : System) (t : ℕ) (own : Task) (object
     -- the task does not run any more
     gone : word_at end.core.ram cur ≡ t + 1 → ⊥
     gone now =
-        let a = (active_by_word b end (settled waiting) t stands_waiting now).active in
-        let c : (task (settled waiting) t).state ≡ mode.Waiting mask = ap (λ (o : Task). o.state) (this_task s t after inside) in
+        let a = (active_by_word b end (settled_state waiting) t stands_waiting now).active in
+        let c : (task (settled_state waiting) t).state ≡ mode.Waiting mask = ap (λ (o : Task). o.state) (this_task s t after inside) in
         cc
 
     leaves : Answers b s t service.WaitEvent touched end
     leaves =
         leaves_so b state s t own service.WaitEvent is fits touched end t t touches names waiting
-        (ap (λ (c : Bool). cond c (Leaves waiting) (GoesOn E_OK (answered E_OK t s))) (eq-eqb (bit_and (task s t).events mask) 0 (sym set_is ∙ h.none_set)))
+        (ap (λ (c : Bool). cond c (Leaves waiting) (GoesOn E_OK (answered_state E_OK t s))) (eq-eqb (bit_and (task s t).events mask) 0 (sym set_is ∙ h.none_set)))
         stands_waiting gone
 
   pub wait_answers : Answers b s t service.WaitEvent touched end

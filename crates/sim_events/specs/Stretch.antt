@@ -11,7 +11,7 @@ use Rattle.event_gen.specs.ClearEvent.{ClearsEvents}
 use Rattle.event_gen.specs.GetEvent.{TellsEvents}
 use Rattle.event_gen.specs.SetEvent.{SetsEvents}
 use Rattle.event_gen.specs.WaitEvent.{Waits}
-use Rattle.osek_machine.specs.State.{System, task}
+use Rattle.osek_scheduler.specs.State.{System, task}
 use Rattle.sim_induction.specs.Admits.{IsSetting, lines_at, with_admits}
 use Rattle.sim_relation.specs.Bounds.{AreBelow}
 use Rattle.sim_relation.specs.Build.{Build, Fits}

@@ -2,7 +2,7 @@
 //! the effect of its block in `event_gen`.
 #![tactic(auto)]
 
-ghost use Rattle.sim_events.specs.Laws.{ClearEventGoesOn, GetEventGoesOn, SetEventGoesOn, WaitEventAnswers};
+ghost use Rattle.sim_events.specs.EventServiceSteps.{ClearEventGoesOn, GetEventGoesOn, SetEventGoesOn, WaitEventAnswers};
 ghost use Rattle.sim_events.specs.Stretch.{ClearEventStretches, GetEventStretches, SetEventStretches, WaitEventStretches};
 
 /// ClearEvent takes events out of the running task's, and the task goes on.

@@ -10,7 +10,7 @@ use Rattle.sloth_region.specs.Region.{FollowWithin}
 use Rattle.sloth_region.proofs.Placed.{apart_within}
 use Rattle.rv32_instr.specs.declared.block.Block.{Block}
 use Rattle.rv32_instr.specs.Range.{InRange}
-use Rattle.rv32_routine.proofs.Whole.{in_place}
+use Rattle.masked_code.proofs.Routines.{in_place}
 use Rattle.sim_relation.specs.Build.{Build, Fits, IsElsewhere}
 use Rattle.sim_relation.specs.Placed.{IsPlaced}
 use Rattle.sim_relation.specs.Stands.{AreApart}

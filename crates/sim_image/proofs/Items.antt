@@ -6,7 +6,7 @@ use Rattle.std.proofs.lemmas.List.Sorted.{All-permutation, Contains-permutation}
 use Rattle.sloth_base.specs.declared.image.Mark.{Mark}
 use Rattle.rv32_instr.specs.declared.InstrKind.{InstrKind}
 use Rattle.rv32_instr.specs.declared.block.Block.{Block}
-use Rattle.rv32_routine.specs.Place.{AreWritten}
+use Rattle.masked_code.specs.Place.{AreWritten}
 use Rattle.rv32_instr.specs.Ram.{word_at}
 use Rattle.rv32_expand.specs.Expansion.{expansion, item_address}
 use Rattle.rv32_expand.specs.InPlace.{CodeAt, item_mark}

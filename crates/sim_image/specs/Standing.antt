@@ -10,7 +10,7 @@ use Rattle.sloth_base.specs.declared.image.Mark.{Mark}
 use Rattle.sloth_base.specs.declared.places.Places.{Places}
 use Rattle.sloth_base.specs.MemoryMap.{memory_base}
 use Rattle.sloth_region.specs.declared.map.Map.{Map}
-use Rattle.app_rules.specs.WellFormed.{WellFormed}
+use Rattle.code_rules.specs.WellFormed.{WellFormed}
 use Rattle.rv32_instr.specs.declared.block.Block.{Block}
 use Rattle.rv32_instr.specs.Range.{InRange}
 use Rattle.rv32_expand.specs.Expansion.{expansion, item_address}

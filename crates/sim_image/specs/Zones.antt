@@ -9,8 +9,8 @@ use Rattle.sloth_region.specs.declared.map.Map.{Map}
 use Rattle.sloth_region.specs.Layout.{context_bytes}
 use Rattle.rv32_instr.specs.declared.block.Block.{Block}
 use Rattle.rv32_instr.specs.Range.{InRange}
-use Rattle.rv32_routine.specs.Kernel.{CanRun}
-use Rattle.app_rules.specs.Code.{IsCalledBy}
+use Rattle.masked_code.specs.Kernel.{CanRun}
+use Rattle.code_rules.specs.Code.{IsCalledBy}
 use Rattle.stack_bounds.specs.declared.stacks.Stacks.{Stacks}
 use Rattle.stack_bounds.specs.Bounds.{MayMeet, bytes_of}
 use Rattle.sim_relation.specs.Build.{Build, Fits, frame_bytes}

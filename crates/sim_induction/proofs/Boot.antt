@@ -15,23 +15,23 @@ use Rattle.sloth_base.specs.Arrive.{state_arrive}
 use Rattle.rv32_instr.specs.Execute.{touched}
 use Rattle.rv32_machine.specs.Advance.{Goes}
 use Rattle.rv32_machine.specs.Run.{after_from, moment, run_from, arrived}
-use Rattle.rv32_routine.specs.Trace.{Trace, touches, touched_of, touched_lines, lines_of, early, late}
+use Rattle.masked_code.specs.Trace.{Trace, is_touched_line, touched_of, touched_lines, lines_of, early, late}
 use Rattle.sloth_base.specs.Options.{is_number}
 use Rattle.sloth_base.specs.Owners.{owners_in, IsOwned, AreOwned}
 use Rattle.sloth_base.specs.Stretches.{Boots, stretch_limit}
 use Rattle.observe.specs.Pieces.{Stretch, pieces, cut_off}
-use Rattle.observe.specs.Observe.{observe, piece_events, found_admits, admit, stamp, is_early, last_of}
+use Rattle.observe.specs.Observe.{observe, piece_events, found_admits, admission, stamp, is_early, last_of}
 use Rattle.observe.proofs.Cutting.{pieces-append, cut_off-append}
 use Rattle.observe.proofs.Moments.{moments-none, moments-later}
-use Rattle.osek_machine.specs.State.{System, opening}
-use Rattle.osek_machine.specs.Runs.{Leads, Follows}
-use Rattle.osek_machine.specs.InTime.{is_admit, admits_at, arrivals_at, IsOrdered, KeepsOrder, longest}
+use Rattle.osek_scheduler.specs.State.{System, opening}
+use Rattle.osek_scheduler.specs.Runs.{Leads, Follows}
+use Rattle.osek_scheduler.specs.InTime.{is_admit, admits_at, arrivals_at, IsOrdered, KeepsOrder, longest_cut_off}
 use Rattle.sim_induction.specs.Short.{IsShort, IsShortPiece, TouchesOnly, HasShortGaps}
 use Rattle.sim_induction.specs.Sound.{stands_before}
 use Rattle.sim_induction.specs.Admits.{Setting, IsSetting, lines_at, with_admits, admit_event, before_event, behind_event, at_moment}
 use Rattle.sim_induction.specs.Observed.{trace_of, IsTraced}
 use Rattle.sim_induction.specs.Advances.{RunTo, EachPair, IsWithin}
-use Rattle.sim_induction.specs.Laws.{BootLaw, seen_at}
+use Rattle.sim_induction.specs.PieceLaws.{BootLaw, seen_at}
 use Rattle.sim_induction.specs.Related.{IsSimulation}
 use Rattle.sim_induction.proofs.Follow.{leads-append, follows-append, follows_leads, follows_admits, booted_admits}
 use Rattle.sim_induction.proofs.Events.{IsFrom, filter_all, each_map, each-append, each_arrival, admit_pairs, behind_within, before}
@@ -56,9 +56,9 @@ no_line : (o : Option ℕ) (rest : List ℕ) (line : ℕ) → lines_of o rest �
 no_line None rest line h = (refl, h)
 no_line (Some l) rest line h = absurd (nil_cons h)
 
-no_touch : (t : Trace) (line : ℕ) → touched_lines t ≡ [] → touches t line ≡ false
+no_touch : (t : Trace) (line : ℕ) → touched_lines t ≡ [] → is_touched_line t line ≡ false
 no_touch [] line h = refl
-no_touch (e ∷ t) line h = let q = no_line e.1 (touched_lines t) line h in ap (λ b. b || touches t line) q.0 ∙ no_touch t line q.1
+no_touch (e ∷ t) line h = let q = no_line e.1 (touched_lines t) line h in ap (λ b. b || is_touched_line t line) q.0 ∙ no_touch t line q.1
 
 none_touched : (t : Trace) (a : List ℕ) → touched_lines t ≡ [] → touched_of t a ≡ []
 none_touched t [] h = refl
@@ -153,13 +153,13 @@ module _ (given : Setting) (setting : IsSetting given) (R : State → System →
       let q = last_is in
       let a : (last_of f r.steps).count ≡ law.more = omega arith in
       let e = stamp 0 (last_of f r.steps).count event.Boot in
-      let shape : List Arrival → List Arrival → List Arrival → Stamped → List Stamped = λ u v w e. map (admit given.view) u ++ (map (admit given.view) v ++ (e ∷ map (admit given.view) w)) in
+      let shape : List Arrival → List Arrival → List Arrival → Stamped → List Stamped = λ u v w e. map (admission given.view) u ++ (map (admission given.view) v ++ (e ∷ map (admission given.view) w)) in
       ap (λ b. shape (moments 0 (cond b 1 0) A) (filter p (moments (cond b 1 0) ((last_of f r.steps).count + 1) A)) (filter (λ a. not (p a)) (moments (cond b 1 0) ((last_of f r.steps).count + 1) A)) e) law.steps.0
       ∙ ap (λ u. shape u (filter p (moments 0 ((last_of f r.steps).count + 1) A)) (filter (λ a. not (p a)) (moments 0 ((last_of f r.steps).count + 1) A)) e) (moments-none 0 A)
       ∙ ap (λ n. shape [] (filter p (moments 0 n A)) (filter (λ a. not (p a)) (moments 0 n A)) e) last_is
       ∙ ap (λ v. shape [] v (filter (λ a. not (p a)) inside) e) none_early
       ∙ ap (λ v. shape [] [] v e) all_late
-      ∙ ap (λ v. stamp 0 v event.Boot ∷ map (admit given.view) (behind_event 0 law.trace)) a
+      ∙ ap (λ v. stamp 0 v event.Boot ∷ map (admission given.view) (behind_event 0 law.trace)) a
       ∙ ap (λ v. boot ∷ v) (admits_are given setting (behind_event 0 law.trace) owned_behind)
 
   abbrev z : System
@@ -249,8 +249,8 @@ module _ (given : Setting) (setting : IsSetting given) (R : State → System →
       let obs : events_from given (suc n) 0 m ≡ [] =
       ap (λ v. flat_map (piece_events given.view A) v ++ found_admits given.view A (cut_off [] (steps_from (suc n) A 0 m))) no_pieces
       ∙ ap (found_admits given.view A) open_is
-      ∙ ap (λ b. map (admit given.view) (moments 0 (cond b 1 0) A)) law.steps.0
-      ∙ ap (map (admit given.view)) (moments-none 0 A) in
+      ∙ ap (λ b. map (admission given.view) (moments 0 (cond b 1 0) A)) law.steps.0
+      ∙ ap (map (admission given.view)) (moments-none 0 A) in
       let through = goes_through J (suc n) 0 A m (f ∷ r.steps) law.end runs (omega arith) in
       record {
         end = through.0;
@@ -260,7 +260,7 @@ module _ (given : Setting) (setting : IsSetting given) (R : State → System →
         within = subst (AllByRecursion (IsWithin 0 (suc n))) (sym obs) tt;
         placed = subst (EachPair IsOrdered) (sym obs) tt;
         to = 0;
-        to_in = (omega arith, subst (λ E. suc n < 0 + longest given.config E) (sym obs) (omega arith));
+        to_in = (omega arith, subst (λ E. suc n < 0 + longest_cut_off given.config E) (sym obs) (omega arith));
         ends = subst (AllByRecursion (λ e. is_admit e ≡ false → e.stamp.at < 0)) (sym obs) tt;
         counted = λ i t. ap (admits_at i t) obs ∙ sym (ap (arrivals_at i t) (moments-none 0 A));
         keeps = subst (KeepsOrder (moments 0 0 A)) (sym obs) (subst (λ v. KeepsOrder v []) (sym (moments-none 0 A)) (admits_order []));
@@ -300,7 +300,7 @@ module _ (given : Setting) (setting : IsSetting given) (R : State → System →
             (each-append (IsWithin 0 (J + n)) E0 E (within_wider 0 J 0 (J + n) E0 (omega arith) (omega arith) within0) (within_wider J (J + n) 0 (J + n) E (omega arith) (omega arith) g.within));
         placed = subst (EachPair IsOrdered) (sym obs) (pairs_apart 0 J (J + n) E0 E within0 g.within placed0 g.placed);
         to = g.to;
-        to_in = (let w = g.to_in in (omega arith, subst (λ E. J + n < g.to + longest given.config E) (sym obs) w.2));
+        to_in = (let w = g.to_in in (omega arith, subst (λ E. J + n < g.to + longest_cut_off given.config E) (sym obs) w.2));
         ends = subst (AllByRecursion (λ e. is_admit e ≡ false → e.stamp.at < g.to)) (sym obs)
             (each-append (λ e. is_admit e ≡ false → e.stamp.at < g.to) E0 E
             (each_map (IsWithin 0 J) (λ e. is_admit e ≡ false → e.stamp.at < g.to) (λ e w o. let u = w.ends in let v = g.to_in.0 in omega arith) E0 within0) g.ends);

@@ -11,31 +11,31 @@ use Rattle.sloth_base.specs.Arrivals.{moments, NeverFalls}
 use Rattle.observe.specs.Observe.{is_early}
 use Rattle.observe.specs.Observe as observer
 use Rattle.observe.proofs.Moments.{moments-none}
-use Rattle.rv32_routine.specs.Trace.{touches, touched_of, untouched_of}
+use Rattle.masked_code.specs.Trace.{is_touched_line, touched_of, untouched_of}
 use Rattle.sloth_base.specs.Options.{is_number}
 use Rattle.sim_induction.specs.Admits.{lines_at, at_moment, before_event, behind_event}
 use Rattle.sim_induction.specs.Observed.{trace_of, AreFrom, AreBefore}
 use Rattle.sim_induction.proofs.Schedule.{moments-split, moment_is}
 
 -- steps before the moment do not touch it
-none_before : (k line : ℕ) (steps : List Step) → AreBefore k steps → list_any (observer.touches k line) steps ≡ false
+none_before : (k line : ℕ) (steps : List Step) → AreBefore k steps → list_any (observer.is_touch k line) steps ≡ false
 none_before k line [] h = refl
 none_before k line (s ∷ steps) h =
-    ap (λ b. (b && is_number line s.touched) || list_any (observer.touches k line) steps) (lt-leb k s.count h.0) ∙ none_before k line steps h.1
+    ap (λ b. (b && is_number line s.touched) || list_any (observer.is_touch k line) steps) (lt-leb k s.count h.0) ∙ none_before k line steps h.1
 
 -- those from the moment on do where the trace does
-as_traced : (arrivals : List Arrival) (k from line : ℕ) (steps : List Step) → k ≤ from → AreFrom from steps → list_any (observer.touches k line) steps ≡ touches (trace_of arrivals steps) line
+as_traced : (arrivals : List Arrival) (k from line : ℕ) (steps : List Step) → k ≤ from → AreFrom from steps → list_any (observer.is_touch k line) steps ≡ is_touched_line (trace_of arrivals steps) line
 as_traced arrivals k from line [] l h = refl
 as_traced arrivals k from line (s ∷ steps) l h =
     let c : s.count ≡ from = h.0 in
-    ap (λ b. (b && is_number line s.touched) || list_any (observer.touches k line) steps) (le-leb k s.count (omega arith))
+    ap (λ b. (b && is_number line s.touched) || list_any (observer.is_touch k line) steps) (le-leb k s.count (omega arith))
     ∙ ap (λ b. is_number line s.touched || b) (as_traced arrivals k (from + 1) line steps (omega arith) h.1)
 
 is_touched : (arrivals : List Arrival) (k line : ℕ) (done steps : List Step) → AreBefore k done → AreFrom k steps
-    → is_early (done ++ steps) (record { at = k; line = line }) ≡ touches (trace_of arrivals steps) line
+    → is_early (done ++ steps) (record { at = k; line = line }) ≡ is_touched_line (trace_of arrivals steps) line
 is_touched arrivals k line done steps b f =
-    list_any-append (observer.touches k line) done steps
-    ∙ ap (λ x. x || list_any (observer.touches k line) steps) (none_before k line done b)
+    list_any-append (observer.is_touch k line) done steps
+    ∙ ap (λ x. x || list_any (observer.is_touch k line) steps) (none_before k line done b)
     ∙ as_traced arrivals k k line steps (omega arith) f
 
 moment_early : (arrivals : List Arrival) (k : ℕ) (done steps : List Step) → AreBefore k done → AreFrom k steps → (lines : List ℕ)
@@ -44,8 +44,8 @@ moment_early arrivals k done steps b f [] = refl
 moment_early arrivals k done steps b f (l ∷ lines) =
     let a : Arrival = record { at = k; line = l } in
     ap (λ x. cond x (a ∷ filter (is_early (done ++ steps)) (at_moment k lines)) (filter (is_early (done ++ steps)) (at_moment k lines))) (is_touched arrivals k l done steps b f)
-    ∙ ap (λ u. cond (touches (trace_of arrivals steps) l) (a ∷ u) u) (moment_early arrivals k done steps b f lines)
-    ∙ out (touches (trace_of arrivals steps) l) k l (touched_of (trace_of arrivals steps) lines)
+    ∙ ap (λ u. cond (is_touched_line (trace_of arrivals steps) l) (a ∷ u) u) (moment_early arrivals k done steps b f lines)
+    ∙ out (is_touched_line (trace_of arrivals steps) l) k l (touched_of (trace_of arrivals steps) lines)
   where
     out : (x : Bool) (k l : ℕ) (u : List ℕ) → cond x (record { at = k; line = l } ∷ at_moment k u) (at_moment k u) ≡ at_moment k (cond x (l ∷ u) u)
     out true k l u = refl
@@ -58,8 +58,8 @@ moment_late arrivals k done steps b f (l ∷ lines) =
     let a : Arrival = record { at = k; line = l } in
     let rest = filter (λ a. not (is_early (done ++ steps) a)) (at_moment k lines) in
     ap (λ x. cond (not x) (a ∷ rest) rest) (is_touched arrivals k l done steps b f)
-    ∙ ap (λ u. cond (not (touches (trace_of arrivals steps) l)) (a ∷ u) u) (moment_late arrivals k done steps b f lines)
-    ∙ out (touches (trace_of arrivals steps) l) k l (untouched_of (trace_of arrivals steps) lines)
+    ∙ ap (λ u. cond (not (is_touched_line (trace_of arrivals steps) l)) (a ∷ u) u) (moment_late arrivals k done steps b f lines)
+    ∙ out (is_touched_line (trace_of arrivals steps) l) k l (untouched_of (trace_of arrivals steps) lines)
   where
     out : (x : Bool) (k l : ℕ) (u : List ℕ) → cond (not x) (record { at = k; line = l } ∷ at_moment k u) (at_moment k u) ≡ at_moment k (cond x u (l ∷ u))
     out true k l u = refl

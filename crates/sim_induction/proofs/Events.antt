@@ -5,8 +5,8 @@ use Rattle.std.proofs.lemmas.Bool.{le-leb, lt-leb, lt-ltb, le-ltb}
 use Rattle.sloth_base.specs.declared.event.Arrival.{Arrival}
 use Rattle.sloth_base.specs.declared.event.Stamped.{Stamped}
 use Rattle.sloth_base.specs.Arrivals.{moments}
-use Rattle.osek_machine.specs.InTime.{IsOrdered}
-use Rattle.rv32_routine.specs.Trace.{Trace, touched_of, untouched_of}
+use Rattle.osek_scheduler.specs.InTime.{IsOrdered}
+use Rattle.masked_code.specs.Trace.{Trace, touched_of, untouched_of}
 use Rattle.sim_induction.specs.Admits.{admit_event, at_moment, lines_at, before_event, behind_event}
 use Rattle.sim_induction.proofs.Schedule.{moment_is}
 use Rattle.sim_induction.specs.Advances.{EachPair}

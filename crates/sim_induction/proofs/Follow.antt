@@ -7,13 +7,13 @@ use Rattle.sloth_base.specs.declared.event.Arrival.{Arrival}
 use Rattle.sloth_base.specs.declared.event.Stamped.{Stamped}
 use Rattle.sloth_base.specs.Owners.{owners_in, AreOwned}
 use Rattle.sloth_base.proofs.Owners.{owned_task}
-use Rattle.osek_machine.specs.declared.state.TaskState.{TaskState}
-use Rattle.osek_machine.specs.declared.state.TaskState.TheVariants as mode
-use Rattle.osek_machine.specs.State.{System, task}
-use Rattle.osek_machine.specs.Services.{if_suspended, activated}
-use Rattle.osek_machine.specs.Steps.{admitted}
-use Rattle.osek_machine.specs.Runs.{Leads, Follows}
-pub use Rattle.osek_machine.proofs.Leading.{leads-append, follows_leads}
+use Rattle.osek_scheduler.specs.declared.state.TaskState.{TaskState}
+use Rattle.osek_scheduler.specs.declared.state.TaskState.TheVariants as mode
+use Rattle.osek_scheduler.specs.State.{System, task}
+use Rattle.osek_scheduler.specs.Services.{if_suspended, activated_state}
+use Rattle.osek_scheduler.specs.Steps.{admitted_state}
+use Rattle.osek_scheduler.specs.Runs.{Leads, Follows}
+pub use Rattle.osek_scheduler.proofs.Leading.{leads-append, follows_leads}
 use Rattle.sim_induction.specs.Admits.{with_admits, admit_event}
 
 pub follows-append : (c : Config) (app : App) (past : List Stamped) (s x z : System) (a b : List Stamped) → Follows c app past s a x → Follows c app (past ++ a) x b z → Follows c app past s (a ++ b) z
@@ -30,18 +30,18 @@ booted_if mode.Ready x s h = refl
 booted_if mode.Active x s h = refl
 booted_if (mode.Waiting m) x s h = refl
 
-pub booted_admitted : (t : ℕ) (s : System) → (admitted t s).booted ≡ s.booted
-booted_admitted t s = booted_if (task s t).state (record (activated s t) { fresh = t ∷ s.fresh }) s refl
+pub booted_admitted : (t : ℕ) (s : System) → (admitted_state t s).booted ≡ s.booted
+booted_admitted t s = booted_if (task s t).state (record (activated_state s t) { fresh = t ∷ s.fresh }) s refl
 
 pub booted_admits : (lines : List ℕ) (s : System) → (with_admits lines s).booted ≡ s.booted
 booted_admits [] s = refl
-booted_admits (t ∷ lines) s = booted_admits lines (admitted t s) ∙ booted_admitted t s
+booted_admits (t ∷ lines) s = booted_admits lines (admitted_state t s) ∙ booted_admitted t s
 
 pub follows_admits : (c : Config) (app : App) (past : List Stamped) (a : List Arrival) (s : System) → s.booted ≡ true → AreOwned (owners_in c) (map (λ x. x.line) a)
     → Follows c app past s (map admit_event a) (with_admits (map (λ x. x.line) a) s)
 follows_admits c app past [] s b h = refl
 follows_admits c app past (x ∷ a) s b h =
-    (admitted x.line s, (b, owned_task (owners_in c) x.line h.0, refl), tt, follows_admits c app (past ++ admit_event x ∷ []) a (admitted x.line s) (booted_admitted x.line s ∙ b) h.1)
+    (admitted_state x.line s, (b, owned_task (owners_in c) x.line h.0, refl), tt, follows_admits c app (past ++ admit_event x ∷ []) a (admitted_state x.line s) (booted_admitted x.line s ∙ b) h.1)
 
 pub leads_admits : (c : Config) (app : App) (a : List Arrival) (s : System) → s.booted ≡ true → AreOwned (owners_in c) (map (λ x. x.line) a) → Leads c app (map admit_event a) s (with_admits (map (λ x. x.line) a) s)
 leads_admits c app a s b h = follows_leads c app [] s (map admit_event a) (with_admits (map (λ x. x.line) a) s) (follows_admits c app [] a s b h)

@@ -12,13 +12,13 @@ use Rattle.sloth_base.specs.Arrivals.{moments}
 use Rattle.sloth_base.specs.Owners.{owners_in, AreOwned}
 use Rattle.rv32_machine.specs.Run.{after_from, arrived, run_from}
 use Rattle.observe.specs.Pieces.{Piece, pieces, cut_off}
-use Rattle.observe.specs.Observe.{observe, piece_events, found_admits, admit}
+use Rattle.observe.specs.Observe.{observe, piece_events, found_admits, admission}
 use Rattle.observe.proofs.Cutting.{pieces-append, cut_off-append}
 use Rattle.observe.proofs.Moments.{moments-none}
-use Rattle.osek_machine.specs.State.{System, opening}
-use Rattle.osek_machine.specs.Runs.{Leads, Follows}
-use Rattle.osek_machine.specs.InTime.{is_admit, admits_at, arrivals_at, IsOrdered, StandsBefore, KeepsOrder}
-use Rattle.sim_induction.specs.Short.{IsShort, IsShortPiece, HasShortGaps, passed}
+use Rattle.osek_scheduler.specs.State.{System, opening}
+use Rattle.osek_scheduler.specs.Runs.{Leads, Follows}
+use Rattle.osek_scheduler.specs.InTime.{is_admit, admits_at, arrivals_at, IsOrdered, StandsBefore, KeepsOrder}
+use Rattle.sim_induction.specs.Short.{IsShort, IsShortPiece, HasShortGaps, passed_length}
 use Rattle.sim_induction.specs.Sound.{stands_before}
 use Rattle.sim_induction.specs.Admits.{Setting, IsSetting, lines_at, with_admits, admit_event}
 use Rattle.sim_induction.specs.Advances.{EachPair, IsWithin, found_by, Advances}
@@ -133,8 +133,8 @@ module _ (given : Setting) (setting : IsSetting given) (R : State → System →
         let f : a.first.enabled_before ≡ true = ⊎_elim (λ (z : length a.rest ≡ 0). absurd (omega arith)) (λ (z : a.first.enabled_before ≡ true). z) a.finds.1 in
         ap (λ p. flat_map (piece_events given.view A) p ++ found_admits given.view A (cut_off [] (steps_from (suc n) A k m))) cut_pieces
         ∙ ap (found_admits given.view A) cut_open
-        ∙ ap (λ b. map (admit given.view) (moments a.first.count (cond b (a.first.count + 1) a.first.count) A)) f
-        ∙ ap (λ v. map (admit given.view) (here v)) a.finds.0
+        ∙ ap (λ b. map (admission given.view) (moments a.first.count (cond b (a.first.count + 1) a.first.count) A)) f
+        ∙ ap (λ v. map (admission given.view) (here v)) a.finds.0
         ∙ admits_are given setting (here k) (owned_here k)
 
     cut_sound : SoundFrom given R progress (suc n) k m s past
@@ -259,7 +259,7 @@ module _ (given : Setting) (setting : IsSetting given) (R : State → System →
           short_cut = subst (IsShort given.config) (sym long_open) g.short_cut;
           gaps = λ b h. subst (HasShortGaps given.view b) (sym long_pieces) (
             (let p = a.progresses b h in let q = simulation.bounded a.next a.after a.related in omega arith),
-            g.gaps (passed given.view a.piece b) (a.progresses b h),
+            g.gaps (passed_length given.view a.piece b) (a.progresses b h),
           );
           mirrors = λ i h x f o. ⊎_elim (λ (z : i < j). first_count i z x f o) (λ (z : j ≤ i). later_count i z h x f o) (cases_lt i j);
         }

@@ -13,13 +13,13 @@ use Rattle.sloth_base.specs.Arrivals.{moments}
 use Rattle.sloth_base.specs.Owners.{owners_in, IsOwned, AreOwned}
 use Rattle.rv32_machine.specs.Advance.{Goes}
 use Rattle.rv32_machine.specs.Run.{moment, arrived}
-use Rattle.osek_machine.specs.State.{System, opening}
-use Rattle.osek_machine.specs.Steps.{OsekStep}
-use Rattle.osek_machine.specs.Runs.{Leads}
+use Rattle.osek_scheduler.specs.State.{System, opening}
+use Rattle.osek_scheduler.specs.Steps.{OsekStep}
+use Rattle.osek_scheduler.specs.Runs.{Leads}
 use Rattle.sim_induction.specs.Mirror.{Mirror}
 use Rattle.sim_induction.specs.Admits.{Setting, IsSetting, lines_at, with_admits, admit_event, behind_event}
 use Rattle.sim_induction.specs.Advances.{RunTo, Advances}
-use Rattle.sim_induction.specs.Laws.{BootLaw}
+use Rattle.sim_induction.specs.PieceLaws.{BootLaw}
 use Rattle.sim_induction.specs.Related.{IsSimulation}
 use Rattle.sim_induction.proofs.Follow.{leads_admits}
 use Rattle.sim_induction.proofs.Schedule.{owned_at}

@@ -10,14 +10,14 @@ use Rattle.sloth_base.specs.Machine.{State}
 use Rattle.sloth_base.specs.Arrivals.{moments}
 use Rattle.observe.specs.Pieces.{Outside, Stretch, is_outside, begins}
 use Rattle.observe.specs.Observe.{stamp, mark_at, outside_events}
-use Rattle.osek_machine.specs.State.{System}
-use Rattle.osek_machine.specs.Runs.{Leads, Follows, PassesOverArrivals}
-use Rattle.osek_machine.specs.InTime.{is_admit, admits_at, SpansFor, IsOrdered, KeepsOrder}
+use Rattle.osek_scheduler.specs.State.{System}
+use Rattle.osek_scheduler.specs.Runs.{Leads, Follows, PassesOverArrivals}
+use Rattle.osek_scheduler.specs.InTime.{is_admit, admits_at, SpansFor, IsOrdered, KeepsOrder}
 use Rattle.sim_induction.specs.Short.{passed_by}
 use Rattle.sim_induction.specs.Admits.{Setting, IsSetting, lines_at, with_admits}
 use Rattle.sim_induction.specs.Advances.{EachPair, IsWithin, found_by, Advances}
 use Rattle.std.specs.List.{AllByRecursion}
-use Rattle.sim_induction.specs.Laws.{OutsideLaw, Shows, seen_at}
+use Rattle.sim_induction.specs.PieceLaws.{OutsideLaw, Shows, seen_at}
 use Rattle.sim_induction.proofs.Schedule.{owned_at, admits_are}
 use Rattle.sim_induction.proofs.Counts.{admits-append, admits_of, others_count}
 use Rattle.sim_induction.proofs.Order.{orders-append, admits_order, others_order}

@@ -8,14 +8,14 @@ use Rattle.sloth_base.specs.declared.event.Arrival.{Arrival}
 use Rattle.sloth_base.specs.declared.event.Event.TheVariants as event
 use Rattle.sloth_base.specs.declared.event.Stamped.{Stamped}
 use Rattle.sloth_base.specs.Owners.{owners_in, AreTasks}
-use Rattle.osek_machine.specs.declared.state.TaskState.{TaskState}
-use Rattle.osek_machine.specs.declared.state.TaskState.TheVariants as mode
-use Rattle.osek_machine.specs.State.{Task, System, task, with_task, sleeping, declaration, opening}
-use Rattle.osek_machine.specs.Priority.{IsTop, IsDue, rank, is_in, is_active, current_priority}
-use Rattle.osek_machine.specs.Services.{if_suspended, activated}
-use Rattle.osek_machine.specs.Steps.{OsekStep, admitted}
-use Rattle.osek_machine.specs.Runs.{Leads, ReadySince, PassesOver}
-use Rattle.rv32_routine.specs.Trace.{Trace, early}
+use Rattle.osek_scheduler.specs.declared.state.TaskState.{TaskState}
+use Rattle.osek_scheduler.specs.declared.state.TaskState.TheVariants as mode
+use Rattle.osek_scheduler.specs.State.{Task, System, task, with_task, sleeping_task, declaration, opening}
+use Rattle.osek_scheduler.specs.Priority.{IsTop, IsDue, rank, is_in, is_active, current_priority}
+use Rattle.osek_scheduler.specs.Services.{if_suspended, activated_state}
+use Rattle.osek_scheduler.specs.Steps.{OsekStep, admitted_state}
+use Rattle.osek_scheduler.specs.Runs.{Leads, ReadySince, PassesOver}
+use Rattle.masked_code.specs.Trace.{Trace, early}
 use Rattle.sim_induction.specs.Admits.{with_admits, admit_event, before_event}
 use Rattle.sim_induction.proofs.Follow.{leads-append, booted_admitted}
 use Rattle.sim_induction.proofs.Events.{IsFrom, before_within}
@@ -41,18 +41,18 @@ second mode.Active a b n = refl
 second (mode.Waiting m) a b n = refl
 
 -- the two cases of an admit
-pub admit_cases : (P : System → Type 0) (t : ℕ) (s : System) → ((task s t).state ≡ mode.Suspended → P (record (activated s t) { fresh = t ∷ s.fresh })) → (((task s t).state ≡ mode.Suspended → ⊥) → P s) → P (admitted t s)
+pub admit_cases : (P : System → Type 0) (t : ℕ) (s : System) → ((task s t).state ≡ mode.Suspended → P (record (activated_state s t) { fresh = t ∷ s.fresh })) → (((task s t).state ≡ mode.Suspended → ⊥) → P s) → P (admitted_state t s)
 admit_cases P t s a b =
     ⊎_elim
-    (λ (e : (task s t).state ≡ mode.Suspended). subst P (sym (ap (λ x. if_suspended x (record (activated s t) { fresh = t ∷ s.fresh }) s) e)) (a e))
-    (λ (n : (task s t).state ≡ mode.Suspended → ⊥). subst P (sym (second (task s t).state (record (activated s t) { fresh = t ∷ s.fresh }) s n)) (b n))
+    (λ (e : (task s t).state ≡ mode.Suspended). subst P (sym (ap (λ x. if_suspended x (record (activated_state s t) { fresh = t ∷ s.fresh }) s) e)) (a e))
+    (λ (n : (task s t).state ≡ mode.Suspended → ⊥). subst P (sym (second (task s t).state (record (activated_state s t) { fresh = t ∷ s.fresh }) s n)) (b n))
     (is_suspended (task s t).state)
 
 other_task : (s : System) (t u : ℕ) (new : Task) → (u ≡ t → ⊥) → task (with_task s t new) u ≡ task s u
-other_task s t u new h = get_or-set_other s.tasks t u new sleeping h
+other_task s t u new h = get_or-set_other s.tasks t u new sleeping_task h
 
 -- a task that is not Suspended stays as it is
-pub kept_admitted : (t u : ℕ) (s : System) → ((task s u).state ≡ mode.Suspended → ⊥) → task (admitted t s) u ≡ task s u
+pub kept_admitted : (t u : ℕ) (s : System) → ((task s u).state ≡ mode.Suspended → ⊥) → task (admitted_state t s) u ≡ task s u
 kept_admitted t u s n =
     admit_cases (λ z. task z u ≡ task s u) t s
     (λ e. other_task s t u (record (task s t) { state = mode.Ready }) (λ h. n (subst (λ x. (task s x).state ≡ mode.Suspended) (sym h) e)))
@@ -62,9 +62,9 @@ pub kept_admits : (lines : List ℕ) (u : ℕ) (s : System) → ((task s u).stat
 kept_admits [] u s n = refl
 kept_admits (t ∷ lines) u s n =
     let e = kept_admitted t u s n in
-    kept_admits lines u (admitted t s) (λ h. n (subst (λ v. v.state ≡ mode.Suspended) e h)) ∙ e
+    kept_admits lines u (admitted_state t s) (λ h. n (subst (λ v. v.state ≡ mode.Suspended) e h)) ∙ e
 
-kept_one : (t : ℕ) (s : System) (u : ℕ) → is_in u (admitted t s).fresh ≡ false → (task (admitted t s) u ≡ task s u) × (is_in u s.fresh ≡ false)
+kept_one : (t : ℕ) (s : System) (u : ℕ) → is_in u (admitted_state t s).fresh ≡ false → (task (admitted_state t s) u ≡ task s u) × (is_in u s.fresh ≡ false)
 kept_one t s u =
     admit_cases (λ z. is_in u z.fresh ≡ false → (task z u ≡ task s u) × (is_in u s.fresh ≡ false)) t s
     (λ e f.
@@ -74,10 +74,10 @@ kept_one t s u =
 
 kept_all : (lines : List ℕ) (s : System) (u : ℕ) → is_in u (with_admits lines s).fresh ≡ false → (task (with_admits lines s) u ≡ task s u) × (is_in u s.fresh ≡ false)
 kept_all [] s u f = (refl, f)
-kept_all (t ∷ lines) s u f = let r = kept_all lines (admitted t s) u f in let q = kept_one t s u r.1 in (r.0 ∙ q.0, q.1)
+kept_all (t ∷ lines) s u f = let r = kept_all lines (admitted_state t s) u f in let q = kept_one t s u r.1 in (r.0 ∙ q.0, q.1)
 
 -- an Active task does not become fresh
-active_one : (t u : ℕ) (s : System) → (task s u).state ≡ mode.Active → is_in u s.fresh ≡ false → is_in u (admitted t s).fresh ≡ false
+active_one : (t u : ℕ) (s : System) → (task s u).state ≡ mode.Active → is_in u s.fresh ≡ false → is_in u (admitted_state t s).fresh ≡ false
 active_one t u s a f =
     admit_cases (λ z. is_in u z.fresh ≡ false) t s
     (λ e. ap (λ b. b || is_in u s.fresh) (ne_eqb t u (λ x. differs s t u x a e)) ∙ f)
@@ -95,7 +95,7 @@ ready_not_suspended x a e = cc
 pub active_fresh : (lines : List ℕ) (u : ℕ) (s : System) → (task s u).state ≡ mode.Active → is_in u s.fresh ≡ false → is_in u (with_admits lines s).fresh ≡ false
 active_fresh [] u s a f = f
 active_fresh (t ∷ lines) u s a f =
-    active_fresh lines u (admitted t s) (ap (λ v. v.state) (kept_admitted t u s (not_suspended (task s u).state a)) ∙ a) (active_one t u s a f)
+    active_fresh lines u (admitted_state t s) (ap (λ v. v.state) (kept_admitted t u s (not_suspended (task s u).state a)) ∙ a) (active_one t u s a f)
 
 -- ---- a task that arrivals made Ready
 
@@ -107,11 +107,11 @@ leads_ready c app (y ∷ a) (f ∷ front) rest u s x e h r =
     let e0 : f ≡ admit_event y = cc in
     let e1 : map admit_event a ≡ front ++ rest = cc in
     let o : OsekStep c app (event.Admit y.line) s h.0 = subst (λ (v : Stamped). OsekStep c app v.event s h.0) e0 h.1 in
-    let w : task (admitted y.line s) u ≡ task s u = kept_admitted y.line u s (ready_not_suspended (task s u).state r) in
+    let w : task (admitted_state y.line s) u ≡ task s u = kept_admitted y.line u s (ready_not_suspended (task s u).state r) in
     let v : (task h.0 u).state ≡ mode.Ready = subst (λ q. (task q u).state ≡ mode.Ready) (sym o.2) (ap (λ t. t.state) w ∙ r) in
     leads_ready c app a front rest u h.0 x e1 h.2 v
 
-made : (t u : ℕ) (s : System) → ((task s u).state ≡ mode.Ready → ⊥) → (task (admitted t s) u).state ≡ mode.Ready → (u ≡ t) × ((task s u).state ≡ mode.Suspended)
+made : (t u : ℕ) (s : System) → ((task s u).state ≡ mode.Ready → ⊥) → (task (admitted_state t s) u).state ≡ mode.Ready → (u ≡ t) × ((task s u).state ≡ mode.Suspended)
 made t u s n =
     admit_cases (λ z. (task z u).state ≡ mode.Ready → (u ≡ t) × ((task s u).state ≡ mode.Suspended)) t s
     (λ e r.
@@ -125,7 +125,7 @@ pub made_ready : (c : Config) (app : App) (past : List Stamped) (k to u : ℕ) (
 made_ready c app past k to u [] s h b l m n r = absurd (n r)
 made_ready c app past k to u (x ∷ a) s h b l m n r =
     ⊎_elim
-    (λ (t : (task (admitted x.line s) u).state ≡ mode.Ready).
+    (λ (t : (task (admitted_state x.line s) u).state ≡ mode.Ready).
     let on : (u ≡ x.line) × ((task s u).state ≡ mode.Suspended) = made x.line u s n t in
     record {
       before = past;
@@ -137,14 +137,14 @@ made_ready c app past k to u (x ∷ a) s h b l m n r =
       found = s;
       leads = h;
       suspended = on.1;
-      since = λ front rest y e g. leads_ready c app a front rest u (admitted u s) y e g (subst (λ v. (task (admitted v s) u).state ≡ mode.Ready) (sym on.0) t);
+      since = λ front rest y e g. leads_ready c app a front rest u (admitted_state u s) y e g (subst (λ v. (task (admitted_state v s) u).state ≡ mode.Ready) (sym on.0) t);
     })
-    (λ (t : (task (admitted x.line s) u).state ≡ mode.Ready → ⊥).
+    (λ (t : (task (admitted_state x.line s) u).state ≡ mode.Ready → ⊥).
     subst (λ p. ReadySince c app p u k) (append_assoc past (admit_event x ∷ []) (map admit_event a))
-    (made_ready c app (past ++ admit_event x ∷ []) k to u a (admitted x.line s)
-    (leads-append c app past (admit_event x ∷ []) (opening c app) s (admitted x.line s) h (admitted x.line s, (b, l.0, refl), refl))
+    (made_ready c app (past ++ admit_event x ∷ []) k to u a (admitted_state x.line s)
+    (leads-append c app past (admit_event x ∷ []) (opening c app) s (admitted_state x.line s) h (admitted_state x.line s, (b, l.0, refl), refl))
     (booted_admitted x.line s ∙ b) l.1 m.1 t r))
-    (is_ready (task (admitted x.line s) u).state)
+    (is_ready (task (admitted_state x.line s) u).state)
 
 -- ---- the top task of a stretch
 

@@ -8,9 +8,9 @@ use Rattle.rv32_machine.specs.Run.{after_from, arrived}
 use Rattle.observe.specs.Pieces.{pieces, cut_off}
 use Rattle.std.specs.List.{AllByRecursion}
 use Rattle.observe.specs.Observe.{observe}
-use Rattle.osek_machine.specs.State.{System}
-use Rattle.osek_machine.specs.Runs.{Leads, Follows}
-use Rattle.osek_machine.specs.InTime.{is_admit, admits_at, arrivals_at, IsOrdered, KeepsOrder}
+use Rattle.osek_scheduler.specs.State.{System}
+use Rattle.osek_scheduler.specs.Runs.{Leads, Follows}
+use Rattle.osek_scheduler.specs.InTime.{is_admit, admits_at, arrivals_at, IsOrdered, KeepsOrder}
 use Rattle.sim_induction.specs.Short.{IsShort, IsShortPiece, HasShortGaps}
 use Rattle.sim_induction.specs.Sound.{stands_before}
 use Rattle.sim_induction.specs.Admits.{Setting}

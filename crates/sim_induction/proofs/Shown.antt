@@ -10,12 +10,12 @@ use Rattle.sloth_base.specs.declared.event.Event.{Event}
 use Rattle.sloth_base.specs.declared.event.Event.TheVariants as event
 use Rattle.sloth_base.specs.declared.event.Stamped.{Stamped}
 use Rattle.sloth_base.specs.declared.step.Step.{Step}
-use Rattle.observe.specs.Observe.{View, stretch_event, later_event, unentered_event, marked_event, service_event, task_of, mark_at, outside_events, events_of_kind, stamp, entry_event}
+use Rattle.observe.specs.Observe.{View, stretch_event, later_event, unentered_event, marked_event, service_event, running_task, mark_at, outside_events, events_of_kind, stamp, entry_event}
 use Rattle.sloth_base.specs.ServiceCodes.{service_of}
 use Rattle.sloth_base.specs.Owners.{line_kind}
 use Rattle.sloth_base.specs.declared.lines.LineKind.{LineKind}
 use Rattle.sloth_base.specs.declared.lines.LineKind.TheVariants as line_of
-use Rattle.osek_machine.specs.InTime.{is_admit, SpansFor}
+use Rattle.osek_scheduler.specs.InTime.{is_admit, SpansFor}
 
 -- an event that is no admit, and may have more than one instruction
 abbrev pub IsLong : Event → Type 0
@@ -28,8 +28,8 @@ pick P false x y h k = k
 service_long : (s : Option Service) (view : View) (first last : Step) → IsLong (service_event s view first last)
 service_long (Some s) view first last =
     pick IsLong (first.cur_before == last.cur_after)
-    (event.Call (task_of view.owners.tasks first.cur_before) s (slice_index last.regs 10))
-    (event.Left (task_of view.owners.tasks first.cur_before) s)
+    (event.Call (running_task view.owners.tasks first.cur_before) s (slice_index last.regs 10))
+    (event.Left (running_task view.owners.tasks first.cur_before) s)
     (refl, λ e. tt)
     (refl, λ e. tt)
 service_long None view first last = (refl, λ e. tt)

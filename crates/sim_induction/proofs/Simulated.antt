@@ -8,10 +8,10 @@ use Rattle.sloth_base.specs.Machine.{State}
 use Rattle.sloth_base.specs.Arrivals.{AreArrivals}
 use Rattle.sloth_base.specs.Owners.{owners_in}
 use Rattle.rv32_machine.specs.Start.{start}
-use Rattle.osek_machine.specs.State.{System}
+use Rattle.osek_scheduler.specs.State.{System}
 use Rattle.sim_induction.specs.Sound.{SoundRun, Sound}
 use Rattle.sim_induction.specs.Admits.{IsSetting}
-use Rattle.sim_induction.specs.Laws.{BootLaw}
+use Rattle.sim_induction.specs.PieceLaws.{BootLaw}
 use Rattle.sim_induction.specs.Related.{IsSimulation}
 use Rattle.sim_induction.proofs.Boot.{whole_run}
 use Rattle.sim_induction.proofs.WholeRun.{setting_of, sound_of}

@@ -12,18 +12,18 @@ use Rattle.sloth_base.specs.Owners.{owners_in, IsOwned, AreOwned}
 use Rattle.sloth_base.specs.Take.{line_to_take}
 use Rattle.sloth_base.proofs.Stretches.{begins_later, within_longest}
 use Rattle.rv32_machine.specs.Run.{after_from, arrived}
-use Rattle.rv32_routine.specs.Trace.{Trace, touched_lines, early, late}
+use Rattle.masked_code.specs.Trace.{Trace, touched_lines, early, late}
 use Rattle.observe.specs.Pieces.{Stretch, is_outside, begins}
-use Rattle.observe.specs.Observe.{admit, stamp, is_early, last_of, stretch_event, piece_events}
-use Rattle.osek_machine.specs.State.{System, opening}
-use Rattle.osek_machine.specs.Runs.{Leads, Follows}
-use Rattle.osek_machine.specs.InTime.{is_admit, admits_at, arrivals_at, IsOrdered, StandsBefore, SpansFor, KeepsOrder}
+use Rattle.observe.specs.Observe.{admission, stamp, is_early, last_of, stretch_event, piece_events}
+use Rattle.osek_scheduler.specs.State.{System, opening}
+use Rattle.osek_scheduler.specs.Runs.{Leads, Follows}
+use Rattle.osek_scheduler.specs.InTime.{is_admit, admits_at, arrivals_at, IsOrdered, StandsBefore, SpansFor, KeepsOrder}
 use Rattle.sim_induction.specs.Short.{IsShort, IsShortAt, TouchesOnly}
 use Rattle.sim_induction.specs.Admits.{Setting, IsSetting, lines_at, with_admits, admit_event, before_event, behind_event}
 use Rattle.sim_induction.specs.Observed.{IsTraced}
 use Rattle.sim_induction.specs.Advances.{RunTo, EachPair, IsWithin, found_by, Advances}
 use Rattle.std.specs.List.{AllByRecursion}
-use Rattle.sim_induction.specs.Laws.{StretchLaw, seen_at}
+use Rattle.sim_induction.specs.PieceLaws.{StretchLaw, seen_at}
 use Rattle.sim_induction.proofs.Follow.{leads-append, follows-append, booted_admits, follows_admits, leads_admits}
 use Rattle.sim_induction.proofs.Events.{IsFrom, each-append, each_arrival, admit_pairs, pairs-append, before_within, behind_within}
 use Rattle.sim_induction.proofs.Runs.{one_after}
@@ -151,7 +151,7 @@ module _ (given : Setting) (setting : IsSetting given) (R : State → System →
   in_range : AreOwned (owners_in given.config) (early t) × AreOwned (owners_in given.config) (late t)
   in_range = lines_trace (IsOwned (owners_in given.config)) law.more (k + 1) (lines_at A) x1 t x (owned_at given setting) law.steps
 
-  lines_in : (a : List Arrival) → AreOwned (owners_in given.config) (map (λ y. y.line) a) → map (admit given.view) a ≡ map admit_event a
+  lines_in : (a : List Arrival) → AreOwned (owners_in given.config) (map (λ y. y.line) a) → map (admission given.view) a ≡ map admit_event a
   lines_in = admits_are given setting
 
   owned_before : AreOwned (owners_in given.config) (map (λ a. a.line) (before_event (k + 1) t))
@@ -162,7 +162,7 @@ module _ (given : Setting) (setting : IsSetting given) (R : State → System →
 
   -- as the observer lists them
   abbrev listed : List Arrival → List Arrival → List Arrival → Stamped → List Stamped
-  listed found before behind e = map (admit given.view) found ++ (map (admit given.view) before ++ (e ∷ map (admit given.view) behind))
+  listed found before behind e = map (admission given.view) found ++ (map (admission given.view) before ++ (e ∷ map (admission given.view) behind))
 
   events_are : piece_events given.view A (Stretch (first ∷ r.steps)) ≡ found_by given k ++ others
   events_are =
@@ -177,8 +177,8 @@ module _ (given : Setting) (setting : IsSetting given) (R : State → System →
       ∙ ap (λ v. listed found v (filter (λ a. not (p a)) (moments (k + 1) (k + 1 + length r.steps) A)) e) inside_before
       ∙ ap (λ v. listed found (before_event (k + 1) t) v e) inside_behind
       ∙ ap (λ v. listed found (before_event (k + 1) t) (behind_event (k + 1) t) v) event_is
-      ∙ ap (λ v. v ++ (map (admit given.view) (before_event (k + 1) t) ++ (event ∷ map (admit given.view) (behind_event (k + 1) t)))) (lines_in found (owned_at given setting k))
-      ∙ ap (λ v. found_by given k ++ (v ++ (event ∷ map (admit given.view) (behind_event (k + 1) t)))) (lines_in (before_event (k + 1) t) owned_before)
+      ∙ ap (λ v. v ++ (map (admission given.view) (before_event (k + 1) t) ++ (event ∷ map (admission given.view) (behind_event (k + 1) t)))) (lines_in found (owned_at given setting k))
+      ∙ ap (λ v. found_by given k ++ (v ++ (event ∷ map (admission given.view) (behind_event (k + 1) t)))) (lines_in (before_event (k + 1) t) owned_before)
       ∙ ap (λ v. found_by given k ++ (map admit_event (before_event (k + 1) t) ++ (event ∷ v))) (lines_in (behind_event (k + 1) t) owned_behind)
 
   abbrev s1 : System

@@ -13,18 +13,18 @@ use Rattle.sloth_base.specs.Take.{line_to_take, entered}
 use Rattle.rv32_instr.specs.Ram.{word_at}
 use Rattle.rv32_instr.specs.Execute.{touched}
 use Rattle.rv32_machine.specs.Run.{arrived}
-use Rattle.rv32_routine.specs.Trace.{Trace, touched_lines, early, late}
-use Rattle.observe.specs.Observe.{mark_at, marked_event, service_event, task_of}
+use Rattle.masked_code.specs.Trace.{Trace, touched_lines, early, late}
+use Rattle.observe.specs.Observe.{mark_at, marked_event, service_event, running_task}
 use Rattle.sloth_base.specs.ServiceCodes.{service_of}
 use Rattle.sloth_base.specs.Owners.{owners_in, AreTasks}
 use Rattle.sloth_base.specs.Stretches.{Masks, later_beginning, stretch_limit, touch_limit}
-use Rattle.osek_machine.specs.declared.state.TaskState.TheVariants as mode
-use Rattle.osek_machine.specs.State.{System, task}
-use Rattle.osek_machine.specs.Priority.{IsTop}
-use Rattle.osek_machine.specs.Steps.{OsekStep}
-use Rattle.osek_machine.specs.Runs.{PassesOver, PassesOverArrivals}
+use Rattle.osek_scheduler.specs.declared.state.TaskState.TheVariants as mode
+use Rattle.osek_scheduler.specs.State.{System, task}
+use Rattle.osek_scheduler.specs.Priority.{IsTop}
+use Rattle.osek_scheduler.specs.Steps.{OsekStep}
+use Rattle.osek_scheduler.specs.Runs.{PassesOver, PassesOverArrivals}
 use Rattle.sim_induction.specs.Admits.{Setting, lines_at, with_admits, admit_event, before_event}
-use Rattle.sim_induction.specs.Laws.{StretchLaw, seen_at, served_event}
+use Rattle.sim_induction.specs.PieceLaws.{StretchLaw, seen_at, served_event}
 use Rattle.std.specs.List.{AllByRecursion}
 use Rattle.sim_induction.proofs.Follow.{booted_admits}
 use Rattle.sim_induction.proofs.Traces.{lines_before}
@@ -39,7 +39,7 @@ early_none t h = sym (lines_before 0 t) ∙ ap (map (λ a. a.line)) (nothing_bef
 -- ---- a service
 
 -- the number of the task that has this word in the current-task word
-pub task_is : (tasks t : ℕ) → t < tasks → task_of tasks (t + 1) ≡ t
+pub task_is : (tasks t : ℕ) → t < tasks → running_task tasks (t + 1) ≡ t
 task_is tasks t l =
     let one : t + 1 - 1 ≡ t = omega arith in
     ap (λ b. cond (b && nat_le (t + 1) tasks) (t + 1 - 1) 4294967295) (lt-ltb 0 (t + 1) (omega arith))
@@ -108,7 +108,7 @@ service_law given R k m s t called most Effect e h =
           opened_event given.view k n e.next last h.mark h.after_boot h.none h.at_mark
           ∙ ap (λ v. marked_event v given.view h.mark first last) h.opens
           ∙ ap (λ v. service_event v given.view first last) h.is_called
-          ∙ ap (λ v. cond (v == last.cur_after) (event.Call (task_of given.view.owners.tasks v) called (slice_index last.regs 10)) (event.Left (task_of given.view.owners.tasks v) called)) h.runs
+          ∙ ap (λ v. cond (v == last.cur_after) (event.Call (running_task given.view.owners.tasks v) called (slice_index last.regs 10)) (event.Left (running_task given.view.owners.tasks v) called)) h.runs
           ∙ ap (λ v. cond (t + 1 == last.cur_after) (event.Call v called (slice_index last.regs 10)) (event.Left v called)) (task_is given.view.owners.tasks t h.is_task)
           ∙ ap (λ v. cond (t + 1 == v) (event.Call t called (slice_index last.regs 10)) (event.Left t called)) cur
           ∙ ap (λ v. cond (t + 1 == word_at e.end.core.ram 0) (event.Call t called (slice_index v 10)) (event.Left t called)) regs;

@@ -10,8 +10,8 @@ use Rattle.sloth_base.specs.Arrive.{state_arrive}
 use Rattle.sloth_base.specs.Options.{is_number}
 use Rattle.std.proofs.lemmas.Bool.{eqb-true}
 use Rattle.rv32_instr.specs.Execute.{touched}
-use Rattle.rv32_routine.specs.Masked.{Steps}
-use Rattle.rv32_routine.specs.Trace.{Entry, Trace, touches, touched_of, untouched_of, touched_lines, lines_of, early, late}
+use Rattle.masked_code.specs.Masked.{Steps}
+use Rattle.masked_code.specs.Trace.{Entry, Trace, is_touched_line, touched_of, untouched_of, touched_lines, lines_of, early, late}
 use Rattle.sim_induction.specs.Short.{TouchesOnly}
 use Rattle.sim_induction.specs.Admits.{at_moment, before_event, behind_event}
 use Rattle.sim_induction.specs.Observed.{trace_of, AreFrom, AreBefore, IsTraced}
@@ -52,7 +52,7 @@ module _ (P : ℕ → Type 0) where
 
   lines_parted : (t : Trace) (a : List ℕ) → AllByRecursion P a → AllByRecursion P (touched_of t a) × AllByRecursion P (untouched_of t a)
   lines_parted t [] h = (tt, tt)
-  lines_parted t (x ∷ a) h = let r = lines_parted t a h.1 in pick (touches t x) x (touched_of t a) (untouched_of t a) h.0 r.0 r.1
+  lines_parted t (x ∷ a) h = let r = lines_parted t a h.1 in pick (is_touched_line t x) x (touched_of t a) (untouched_of t a) h.0 r.0 r.1
 
   pub lines_trace : (j k : ℕ) (A : ℕ → List ℕ) (m : State) (t : Trace) (x : State) → ((i : ℕ) → AllByRecursion P (A i)) → Steps j k A m t x → AllByRecursion P (early t) × AllByRecursion P (late t)
   lines_trace zero k A m t x b h = subst (λ u. AllByRecursion P (early u) × AllByRecursion P (late u)) (sym h.0) (tt, tt)
@@ -75,9 +75,9 @@ module _ (P : ℕ → Type 0) where
       at true same = subst P (eqb-true l line same) h.0
       at false other = later h.1 (sym (ap (λ c. c || b) other) ∙ is)
 
-  of_touched : (t : Trace) (line : ℕ) → AllByRecursion P (touched_lines t) → touches t line ≡ true → P line
+  of_touched : (t : Trace) (line : ℕ) → AllByRecursion P (touched_lines t) → is_touched_line t line ≡ true → P line
   of_touched [] line h is = absurd cc
-  of_touched (e ∷ t) line h is = by_line e.1 line (touched_lines t) (touches t line) (of_touched t line) h is
+  of_touched (e ∷ t) line h is = by_line e.1 line (touched_lines t) (is_touched_line t line) (of_touched t line) h is
 
   kept : (b : Bool) (line : ℕ) (u : List ℕ) → (b ≡ true → P line) → AllByRecursion P u → AllByRecursion P (cond b (line ∷ u) u)
   kept true line u p h = (p refl, h)
@@ -85,7 +85,7 @@ module _ (P : ℕ → Type 0) where
 
   part_touched : (t : Trace) (a : List ℕ) → AllByRecursion P (touched_lines t) → AllByRecursion P (touched_of t a)
   part_touched t [] h = tt
-  part_touched t (line ∷ a) h = kept (touches t line) line (touched_of t a) (of_touched t line h) (part_touched t a h)
+  part_touched t (line ∷ a) h = kept (is_touched_line t line) line (touched_of t a) (of_touched t line h) (part_touched t a h)
 
   rest_touched : (o : Option ℕ) (rest : List ℕ) → AllByRecursion P (lines_of o rest) → AllByRecursion P rest
   rest_touched None rest h = h

@@ -14,9 +14,9 @@ use Rattle.rv32_machine.proofs.Runs.{stop_none}
 use Rattle.observe.specs.Pieces.{Piece, pieces, cut_off}
 use Rattle.std.specs.List.{AllByRecursion}
 use Rattle.observe.specs.Observe.{view_of_image}
-use Rattle.osek_machine.specs.State.{System, opening}
-use Rattle.osek_machine.specs.Runs.{Follows}
-use Rattle.osek_machine.specs.InTime.{InTime, IsStamped, is_admit, admits_at, arrivals_at, IsOrdered, KeepsOrder, longest}
+use Rattle.osek_scheduler.specs.State.{System, opening}
+use Rattle.osek_scheduler.specs.Runs.{Follows}
+use Rattle.osek_scheduler.specs.InTime.{InTime, IsStamped, is_admit, admits_at, arrivals_at, IsOrdered, KeepsOrder, longest_cut_off}
 use Rattle.sim_induction.specs.Short.{Short, IsShort, IsShortPiece, HasShortGaps}
 use Rattle.sim_induction.specs.Sound.{SoundRun}
 use Rattle.sim_induction.specs.Admits.{Setting, IsSetting}
@@ -38,7 +38,7 @@ pub record WholeRun (given : Setting) (R : State → System → Type 0) (n : ℕ
   pub within : AllByRecursion (IsWithin 0 n) (events_from given n 0 m)
   pub placed : EachPair IsOrdered (events_from given n 0 m)
   pub to : ℕ
-  pub to_in : (to ≤ n) × (n < to + longest given.config (events_from given n 0 m))
+  pub to_in : (to ≤ n) × (n < to + longest_cut_off given.config (events_from given n 0 m))
   pub ends : AllByRecursion (λ e. is_admit e ≡ false → e.stamp.at < to) (events_from given n 0 m)
   pub counted : (i t : ℕ) → admits_at i t (events_from given n 0 m) ≡ arrivals_at i t (moments 0 to given.arrivals)
   pub keeps : KeepsOrder (moments 0 to given.arrivals) (events_from given n 0 m)

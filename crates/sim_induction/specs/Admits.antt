@@ -8,9 +8,9 @@ use Rattle.sloth_base.specs.declared.event.Stamped.{Stamped}
 use Rattle.sloth_base.specs.Arrivals.{moments, NeverFalls}
 use Rattle.sloth_base.specs.Owners.{owners_in, IsOwned}
 use Rattle.observe.specs.Observe.{View, stamp}
-use Rattle.osek_machine.specs.State.{System}
-use Rattle.osek_machine.specs.Steps.{admitted}
-use Rattle.rv32_routine.specs.Trace.{Trace, touched_of, untouched_of}
+use Rattle.osek_scheduler.specs.State.{System}
+use Rattle.osek_scheduler.specs.Steps.{admitted_state}
+use Rattle.masked_code.specs.Trace.{Trace, touched_of, untouched_of}
 
 -- what is fixed in a run: the system, what the run is observed by, and what arrives
 pub record Setting : Type 0 where
@@ -32,7 +32,7 @@ lines_at arrivals count = map (λ a. a.line) (moments count (count + 1) arrivals
 -- the system after these lines, in order, have activated their tasks
 abbrev pub with_admits : List ℕ → System → System
 with_admits [] s = s
-with_admits (t ∷ lines) s = with_admits lines (admitted t s)
+with_admits (t ∷ lines) s = with_admits lines (admitted_state t s)
 
 -- the event of an arrival of a line that has an owner
 abbrev pub admit_event : Arrival → Stamped

@@ -11,10 +11,10 @@ use Rattle.rv32_machine.specs.Advance.{Goes}
 use Rattle.rv32_machine.specs.Run.{moment, after_from}
 use Rattle.observe.specs.Pieces.{Piece, pieces, cut_off}
 use Rattle.observe.specs.Observe.{piece_events}
-use Rattle.osek_machine.specs.State.{System, opening}
-use Rattle.osek_machine.specs.Runs.{Leads, Follows}
-use Rattle.osek_machine.specs.InTime.{is_admit, admits_at, arrivals_at, SpansFor, IsOrdered, KeepsOrder}
-use Rattle.sim_induction.specs.Short.{IsShort, IsShortPiece, passed}
+use Rattle.osek_scheduler.specs.State.{System, opening}
+use Rattle.osek_scheduler.specs.Runs.{Leads, Follows}
+use Rattle.osek_scheduler.specs.InTime.{is_admit, admits_at, arrivals_at, SpansFor, IsOrdered, KeepsOrder}
+use Rattle.sim_induction.specs.Short.{IsShort, IsShortPiece, passed_length}
 use Rattle.sim_induction.specs.Admits.{Setting, lines_at, with_admits, admit_event}
 
 -- the instructions of the counts from this one on lead by these steps from the first state to the last
@@ -67,5 +67,5 @@ pub record Advances (given : Setting) (R : State → System → Type 0) (progres
   pub leads : Leads given.config given.app others (with_admits (lines_at given.arrivals count) s) after
   pub follows : (past : List Stamped) → Leads given.config given.app past (opening given.config given.app) (with_admits (lines_at given.arrivals count) s)
       → Follows given.config given.app past (with_admits (lines_at given.arrivals count) s) others after
-  pub progresses : (before : ℕ) → before ≤ progress state s → passed given.view piece before ≤ progress next after
+  pub progresses : (before : ℕ) → before ≤ progress state s → passed_length given.view piece before ≤ progress next after
   pub related : R next after

@@ -5,9 +5,9 @@ use Rattle.sloth_base.specs.declared.config.Config.{Config}
 use Rattle.sloth_base.specs.Machine.{Core}
 use Rattle.sloth_base.specs.PriorityLevels.{level_of}
 use Rattle.rv32_instr.specs.Ram.{word_at}
-use Rattle.osek_machine.specs.declared.state.TaskState.TheVariants as mode
-use Rattle.osek_machine.specs.State.{System, task, declaration}
-use Rattle.osek_machine.specs.Priority.{current_priority}
+use Rattle.osek_scheduler.specs.declared.state.TaskState.TheVariants as mode
+use Rattle.osek_scheduler.specs.State.{System, task, declaration}
+use Rattle.osek_scheduler.specs.Priority.{current_priority}
 
 -- the current priority of a task
 abbrev pub priority_of : Config → System → ℕ → ℕ

@@ -4,11 +4,11 @@ use Rattle.sloth_base.specs.declared.config.Config.{Config}
 use Rattle.sloth_base.specs.declared.app.App.{App}
 use Rattle.sloth_base.specs.declared.event.Stamped.{Stamped}
 use Rattle.sloth_base.specs.Owners.{owners_in, AreTasks}
-use Rattle.osek_machine.specs.declared.state.TaskState.TheVariants as mode
-use Rattle.osek_machine.specs.State.{System, task, opening}
-use Rattle.osek_machine.specs.Priority.{IsTop, is_in}
-use Rattle.osek_machine.specs.Runs.{Leads, PassesOver}
-use Rattle.rv32_routine.specs.Trace.{Trace, early}
+use Rattle.osek_scheduler.specs.declared.state.TaskState.TheVariants as mode
+use Rattle.osek_scheduler.specs.State.{System, task, opening}
+use Rattle.osek_scheduler.specs.Priority.{IsTop, is_in}
+use Rattle.osek_scheduler.specs.Runs.{Leads, PassesOver}
+use Rattle.masked_code.specs.Trace.{Trace, early}
 use Rattle.sim_induction.specs.Admits.{with_admits, admit_event, before_event}
 
 -- it is the top one, those left out that were admitted since the last event of another kind

@@ -32,14 +32,14 @@ passed_by [] before = before + 1
 passed_by (event ∷ events) before = 0
 
 -- the same behind a piece of a run
-abbrev pub passed : View → Piece → ℕ → ℕ
-passed view (Outside step) before = passed_by (outside_events (mark_at view step.pc) view step) before
-passed view (Stretch steps) before = 0
+abbrev pub passed_length : View → Piece → ℕ → ℕ
+passed_length view (Outside step) before = passed_by (outside_events (mark_at view step.pc) view step) before
+passed_length view (Stretch steps) before = 0
 
 -- they are at most 40
 abbrev pub HasShortGaps : View → ℕ → List Piece → Type 0
 HasShortGaps view before [] = Unit {0}
-HasShortGaps view before (piece ∷ rest) = (passed view piece before ≤ 40) × HasShortGaps view (passed view piece before) rest
+HasShortGaps view before (piece ∷ rest) = (passed_length view piece before ≤ 40) × HasShortGaps view (passed_length view piece before) rest
 
 -- each stretch of a run is short, and so are the gaps between its events
 pub record Short (config : Config) (view : View) (steps : List Step) : Type 0 where

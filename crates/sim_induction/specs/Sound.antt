@@ -11,9 +11,9 @@ use Rattle.sloth_base.specs.Owners.{owners_in}
 use Rattle.rv32_machine.specs.Start.{start}
 use Rattle.rv32_machine.specs.Run.{run, steps_of, state_after, stop_of, arrived}
 use Rattle.observe.specs.Observe.{view_of_image, observe}
-use Rattle.osek_machine.specs.State.{System, opening}
-use Rattle.osek_machine.specs.Runs.{OsekRun, Leads}
-use Rattle.osek_machine.specs.InTime.{InTime, is_admit}
+use Rattle.osek_scheduler.specs.State.{System, opening}
+use Rattle.osek_scheduler.specs.Runs.{OsekRun, Leads}
+use Rattle.osek_scheduler.specs.InTime.{InTime, is_admit}
 use Rattle.sim_induction.specs.Mirror.{Mirror}
 use Rattle.sim_induction.specs.Short.{Short}
 

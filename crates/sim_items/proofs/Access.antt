@@ -2,18 +2,18 @@
 use Rattle.std.proofs.Common.{◌≡◌, ℕ, ◌+◌, ◌-◌, ◌%◌, ◌≤◌, ℤ, List, get_or, set, refl, ap, ◌∙◌, arith, cond, Option, None}
 use Rattle.std.specs.Prelude.{true, false, Bool, eqb, slice_index}
 use Rattle.std.proofs.lemmas.Bool.{eq-eqb}
-use Rattle.sloth_base.specs.Arithmetic.{size_of, extended, plus, sign_extended}
+use Rattle.sloth_base.specs.Arithmetic.{size_of, extended_number, plus, sign_extended}
 use Rattle.sloth_base.specs.declared.app.Width.{Width}
 use Rattle.sloth_base.specs.declared.app.Width.TheVariants as width
 use Rattle.sloth_base.specs.Machine.{Core}
 use Rattle.rv32_instr.specs.declared.effect.Effect.TheVariants.{Load, Store}
 use Rattle.rv32_instr.specs.Access.{load, store}
 use Rattle.rv32_instr.specs.Ram.{half_at, word_at, with_half, with_word}
-use Rattle.rv32_instr.specs.Memory.{memory_of, with_memory, refusal, loaded, stored}
+use Rattle.rv32_instr.specs.Memory.{memory_of, with_memory, refusal, loaded_number, stored_memory}
 use Rattle.rv32_instr.specs.Effect.{effect}
 use Rattle.rv32_instr.specs.Execute.{perform, touched_by, goes_on, unless_refused, with_register}
-use Rattle.rv32_routine.proofs.Machine.{in_ram_at}
-use Rattle.rv32_routine.proofs.Perform.{no_line}
+use Rattle.masked_code.proofs.Machine.{in_ram_at}
+use Rattle.masked_code.proofs.Perform.{no_line}
 use Rattle.sim_items.proofs.Bytes.{with_bytes, number_at, low_bytes}
 
 -- the place of an access of this width in RAM
@@ -54,8 +54,8 @@ word_number ram o =
 byte_number : (ram : List ℕ) (o : ℕ) → get_or ram o 0 ≡ number_at ram o 1
 byte_number ram o = omega arith
 
-gives : (c : Core) (w : Width) (o : ℕ) → o + size_of w ≤ 0x20_0000 → loaded (memory_of c) (0x8000_0000 + o) w ≡ extended w (number_at c.ram o (size_of w))
-unfolding loaded
+gives : (c : Core) (w : Width) (o : ℕ) → o + size_of w ≤ 0x20_0000 → loaded_number (memory_of c) (0x8000_0000 + o) w ≡ extended_number w (number_at c.ram o (size_of w))
+unfolding loaded_number
 gives c width.Byte o l = rw (in_ram_at (0x8000_0000 + o) 1 (omega arith) (omega arith), base o) (ap (sign_extended 8) (byte_number c.ram o))
 gives c width.Half o l = rw (base o) (ap (sign_extended 16) (half_number c.ram o))
 gives c width.Word o l = rw (base o) (word_number c.ram o)
@@ -70,10 +70,10 @@ load_effect width.ByteU rd base offset pc x = refl
 load_effect width.HalfU rd base offset pc x = refl
 
 pub load_performs : (c : Core) (w : Width) (rd address o word pc : ℕ) → IsPlaceOf w address o
-    → perform (Load w rd address) word pc c ≡ goes_on pc (with_register c rd (extended w (number_at c.ram o (size_of w))))
+    → perform (Load w rd address) word pc c ≡ goes_on pc (with_register c rd (extended_number w (number_at c.ram o (size_of w))))
 unfolding perform
 load_performs c w rd address o word pc i =
-    ap (λ a. unless_refused (refusal (memory_of c) a w) a (goes_on pc (with_register c rd (loaded (memory_of c) a w)))) i.is
+    ap (λ a. unless_refused (refusal (memory_of c) a w) a (goes_on pc (with_register c rd (loaded_number (memory_of c) a w)))) i.is
     ∙ rw (allowed c w o i.aligned i.inside) (ap (λ v. goes_on pc (with_register c rd v)) (gives c w o i.inside))
 
 pub load_quiet : (w : Width) (rd address o : ℕ) → IsPlaceOf w address o → touched_by (Load w rd address) ≡ None
@@ -81,7 +81,7 @@ unfolding touched_by
 load_quiet w rd address o i = let e = i.is in no_line address (omega arith)
 
 pub load_at : (c : Core) (w : Width) (rd base : ℕ) (offset : ℤ) (o word pc : ℕ) → IsPlaceOf w (plus (slice_index c.registers base) offset) o
-    → perform (effect (load w rd base offset) pc c.registers) word pc c ≡ goes_on pc (with_register c rd (extended w (number_at c.ram o (size_of w))))
+    → perform (effect (load w rd base offset) pc c.registers) word pc c ≡ goes_on pc (with_register c rd (extended_number w (number_at c.ram o (size_of w))))
 load_at c w rd base offset o word pc i =
     ap (λ e. perform e word pc c) (load_effect w rd base offset pc c.registers) ∙ load_performs c w rd (plus (slice_index c.registers base) offset) o word pc i
 
@@ -111,8 +111,8 @@ byte_bytes : (ram : List ℕ) (o value : ℕ) → set ram o (value % 256) ≡ wi
 byte_bytes ram o value = ap (λ v. set ram o v) (omega arith)
 
 leaves : (c : Core) (w : Width) (o value : ℕ) → o + size_of w ≤ 0x20_0000
-    → with_memory c (stored (memory_of c) (0x8000_0000 + o) w value) ≡ record c { ram = with_bytes c.ram o (low_bytes w value) }
-unfolding stored
+    → with_memory c (stored_memory (memory_of c) (0x8000_0000 + o) w value) ≡ record c { ram = with_bytes c.ram o (low_bytes w value) }
+unfolding stored_memory
 leaves c width.Byte o value l = rw (in_ram_at (0x8000_0000 + o) 1 (omega arith) (omega arith), base o) (ap (λ r. record c { ram = r }) (byte_bytes c.ram o value))
 leaves c width.Half o value l = rw (base o) (ap (λ r. record c { ram = r }) (half_bytes c.ram o value))
 leaves c width.Word o value l = rw (base o) (ap (λ r. record c { ram = r }) (word_bytes c.ram o value))
@@ -123,7 +123,7 @@ store_performs : (c : Core) (w : Width) (address value o word pc : ℕ) → IsPl
     → perform (Store w address value) word pc c ≡ goes_on pc (record c { ram = with_bytes c.ram o (low_bytes w value) })
 unfolding perform
 store_performs c w address value o word pc i =
-    ap (λ a. unless_refused (refusal (memory_of c) a w) a (goes_on pc (with_memory c (stored (memory_of c) a w value)))) i.is
+    ap (λ a. unless_refused (refusal (memory_of c) a w) a (goes_on pc (with_memory c (stored_memory (memory_of c) a w value)))) i.is
     ∙ rw (allowed c w o i.aligned i.inside) (ap (goes_on pc) (leaves c w o value i.inside))
 
 both_none : (b : Bool) → ◌≡◌ {A = Option ℕ} (cond b None None) None

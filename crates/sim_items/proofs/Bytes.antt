@@ -4,7 +4,7 @@ use Rattle.std.proofs.lemmas.Bool.{cases_eq}
 use Rattle.std.proofs.lemmas.List.{get_or-set_same, get_or-set_other, length-set, drop_more}
 use Rattle.sloth_base.specs.Arithmetic.{size_of}
 use Rattle.sloth_base.specs.declared.app.Width.{Width}
-use Rattle.osek_machine.specs.Meaning.{number_of, bytes_of, stored}
+use Rattle.osek_scheduler.specs.Meaning.{number_of, bytes_of, bytes_after_store}
 
 -- these bytes stand from an offset on
 abbrev pub with_bytes : List ℕ → ℕ → List ℕ → List ℕ
@@ -80,7 +80,7 @@ low_bytes w value = bytes_of (size_of w) (value % 2 ^ (8 * size_of w))
 pub length-low_bytes : (w : Width) (value : ℕ) → length (low_bytes w value) ≡ size_of w
 length-low_bytes w value = length-bytes_of (size_of w) (value % 2 ^ (8 * size_of w))
 
-pub stored_bytes : (w : Width) (bytes : List ℕ) (offset value : ℕ) → offset + size_of w ≤ length bytes → stored w bytes offset value ≡ with_bytes bytes offset (low_bytes w value)
+pub stored_bytes : (w : Width) (bytes : List ℕ) (offset value : ℕ) → offset + size_of w ≤ length bytes → bytes_after_store w bytes offset value ≡ with_bytes bytes offset (low_bytes w value)
 stored_bytes w bytes offset value l =
     let e = length-low_bytes w value in
     ap (λ n. take offset bytes ++ (low_bytes w value ++ drop (offset + n) bytes)) (sym e) ∙ replaced (low_bytes w value) bytes offset (omega arith)

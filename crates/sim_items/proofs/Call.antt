@@ -18,16 +18,16 @@ use Rattle.rv32_instr.specs.Encode.{Encode}
 use Rattle.rv32_instr.specs.Effect.{effect}
 use Rattle.rv32_instr.specs.Execute.{Going, perform, touched_by, jumps, goes_on}
 use Rattle.rv32_instr.specs.Ram.{word_at, with_word}
-use Rattle.rv32_routine.specs.Place.{at}
-use Rattle.rv32_routine.proofs.Machine.{next_at}
-use Rattle.rv32_routine.proofs.Words.{word_at-other, word_at-same, get_or-with_word}
+use Rattle.masked_code.specs.Place.{at}
+use Rattle.masked_code.proofs.Machine.{next_at}
+use Rattle.masked_code.proofs.Words.{word_at-other, word_at-same, get_or-with_word}
 use Rattle.rv32_expand.specs.Expansion.{item_address, distance, zeros, calls, expansion}
 use Rattle.rv32_expand.specs.InPlace.{result_register, mark_of}
 use Rattle.observe.specs.Observe.{View}
-use Rattle.osek_machine.specs.State.{Frame, System, task, entry_frame}
-use Rattle.osek_machine.specs.Meaning.{Meant, meaning, if_true}
+use Rattle.osek_scheduler.specs.State.{Frame, System, task, entry_frame}
+use Rattle.osek_scheduler.specs.Meaning.{Meant, meaning, if_true}
 use Rattle.osek_valid.specs.Valid.{AreCalls, IsCalledFrom}
-use Rattle.app_rules.specs.Code.{IsCalledBy}
+use Rattle.code_rules.specs.Code.{IsCalledBy}
 use Rattle.sim_relation.specs.Build.{Build}
 use Rattle.sim_relation.specs.Position.{Position, Calling, AreWords, OuterAt, FramesAt, HasScratch, return_address, called_words, thread_of}
 use Rattle.sim_relation.specs.Stands.{Stands, IsActive}

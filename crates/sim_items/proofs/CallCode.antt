@@ -6,7 +6,7 @@ use Rattle.sloth_base.specs.Named.{operation, function}
 use Rattle.sloth_base.specs.declared.app.Op.TheVariants as op
 use Rattle.rv32_instr.specs.declared.InstrKind.{InstrKind}
 use Rattle.rv32_instr.specs.declared.InstrKind.TheVariants.{Auipc, Sw, Jal, Addi}
-use Rattle.rv32_expand.specs.Expansion.{item_address, distance, zeros, calls, is_long, expanded, expansion}
+use Rattle.rv32_expand.specs.Expansion.{item_address, distance, zeros, calls, is_long, operation_code, expansion}
 use Rattle.rv32_expand.proofs.Counts.{zeros_length, calls_length}
 use Rattle.sim_relation.specs.Build.{Build}
 
@@ -32,7 +32,7 @@ last_three address words target = links ∷ stores_link words ∷ jumps_away add
 
 pub call_expands : (b : Build) (func item callee : ℕ) → operation b.app func item ≡ op.Invoke callee
     → expansion b.app b.places func item ≡ calls (item_address b.places func item) (function b.app callee).frame_words (item_address b.places callee 0)
-call_expands b func item callee is = ap (λ o. expanded b.app b.places func (item_address b.places func item) (is_long b.places func item) o) is
+call_expands b func item callee is = ap (λ o. operation_code b.app b.places func (item_address b.places func item) (is_long b.places func item) o) is
 
 zeros_split : (d m n k : ℕ) → n ≡ d + m + 1 → zeros n k ≡ zeros d k ++ (clears (k + d) ∷ zeros m (k + d + 1))
 zeros_split d m zero k e = absurd (omega arith)

@@ -2,7 +2,7 @@
 use Rattle.std.proofs.Common.{◌≡◌, ℕ, zero, suc, ◌+◌, ◌-◌, ◌*◌, ◌<◌, ◌≤◌, ℤ, pos, List, [], ◌∷◌, ◌++◌, length, get_or, set, refl, sym, ap, ◌∙◌, arith, ⊎_elim, inl, Bool, Some, None, bit_and}
 use Rattle.std.specs.Prelude.{slice_index}
 use Rattle.std.proofs.lemmas.Bool.{lt-ltb, cases_lt}
-use Rattle.sloth_base.specs.Arithmetic.{register_result, number_result, complement, plus, sum32, extended, hi, lo}
+use Rattle.sloth_base.specs.Arithmetic.{register_result, number_result, complement, plus, sum32, extended_number, hi, lo}
 use Rattle.sloth_base.specs.Machine.{State}
 use Rattle.sloth_base.specs.Named.{function}
 use Rattle.sloth_base.specs.declared.app.AluKind.{AluKind}
@@ -18,13 +18,13 @@ use Rattle.rv32_instr.specs.Access.{load, store}
 use Rattle.rv32_instr.specs.Effect.{effect}
 use Rattle.rv32_instr.specs.Execute.{perform, touched_by, goes_on, with_register}
 use Rattle.rv32_instr.specs.Ram.{with_word}
-use Rattle.rv32_routine.proofs.Parts.{hi_lo}
-use Rattle.rv32_expand.specs.Expansion.{item_address, symbol_address, register_operation, number_operation, indexed, expanded}
+use Rattle.masked_code.proofs.Parts.{hi_lo}
+use Rattle.rv32_expand.specs.Expansion.{item_address, symbol_address, register_operation, number_operation, index_code, operation_code}
 use Rattle.data_far.specs.Wide.{far_indexed}
 use Rattle.rv32_expand.specs.InPlace.{result_register}
-use Rattle.osek_machine.specs.State.{Frame, Task, System, task}
-use Rattle.osek_machine.specs.Meaning.{Meant, meaning, execution, registers_of, register, seen_in, going_on, writes, loads, stores, loaded, stored, on_some, if_true}
-use Rattle.osek_machine.specs.Meaning as meaning
+use Rattle.osek_scheduler.specs.State.{Frame, Task, System, task}
+use Rattle.osek_scheduler.specs.Meaning.{Meant, meaning, execution, registers_of, register, seen_in, going_on, write_meaning, load_meaning, store_meaning, loaded_word, bytes_after_store, on_some, if_true}
+use Rattle.osek_scheduler.specs.Meaning as meaning
 use Rattle.sim_relation.specs.Build.{Build, Fits}
 use Rattle.sim_relation.specs.Position.{HasAddress, HasScratch, FramesAt, thread_of}
 use Rattle.sim_relation.specs.DataStands.{DataStands}
@@ -45,7 +45,7 @@ use Rattle.sim_items.proofs.Values.{register_value, number_value, AreOwn, own_me
 pub record Does (b : Build) (state : State) (s : System) (t : ℕ) (at : AtItem b state s t) (long : Bool) (operation : Op) : Type 0 where
   pub before : List InstrKind
   pub kind : InstrKind
-  pub expands : expanded b.app b.places at.frame.func (item_address b.places at.frame.func at.frame.item) long operation ≡ before ++ (kind ∷ [])
+  pub expands : operation_code b.app b.places at.frame.func (item_address b.places at.frame.func at.frame.item) long operation ≡ before ++ (kind ∷ [])
   pub last : length before ≡ at.here.done
   pub rd : ℕ
   pub is_own : IsOwn rd
@@ -81,7 +81,7 @@ module _ (b : Build) (state : State) (s : System) (t : ℕ) (fits : Fits b) (k :
   Here o = Does b state s t at long o
 
   abbrev expansion_of : Op → List InstrKind
-  expansion_of o = expanded b.app b.places frame.func (item_address b.places frame.func frame.item) long o
+  expansion_of o = operation_code b.app b.places frame.func (item_address b.places frame.func frame.item) long o
 
   active : IsActive b s t
   active = active_by_word b state s t k at.current
@@ -98,7 +98,7 @@ module _ (b : Build) (state : State) (s : System) (t : ℕ) (fits : Fits b) (k :
   module _ (o : Op) (before : List InstrKind) (kind : InstrKind) (rd value : ℕ) (is_own : IsOwn rd) (expands : expansion_of o ≡ before ++ (kind ∷ [])) (last : length before ≡ at.here.done)
       (performs : (word pc : ℕ) → perform (effect kind pc x) word pc state.core ≡ goes_on pc (with_register state.core rd value))
       (quiet : (pc : ℕ) → touched_by (effect kind pc x) ≡ None) (named : AreOwn (registers_of o))
-      (means : execution b.app o own.registers frame at.outer s.symbols ≡ writes rd value own.registers frame at.outer s.symbols) (shown : result_register o ≡ rd) where
+      (means : execution b.app o own.registers frame at.outer s.symbols ≡ write_meaning rd value own.registers frame at.outer s.symbols) (shown : result_register o ≡ rd) where
     w : Wrote x own.registers rd value (with_register state.core rd value).registers (meaning.with_register own.registers rd value)
     w = wrote state.core own.registers rd value k.fixed.registers k.fixed.zero (k.tidy.each t active.declared).registers at.context.registers is_own
 
@@ -135,7 +135,7 @@ module _ (b : Build) (state : State) (s : System) (t : ℕ) (fits : Fits b) (k :
 
   computes : (o : Op) (before : List InstrKind) (kind : InstrKind) (rd value : ℕ) → IsOwn rd → expansion_of o ≡ before ++ (kind ∷ []) → length before ≡ at.here.done
       → ((pc : ℕ) → effect kind pc x ≡ Write rd value) → AreOwn (registers_of o)
-      → execution b.app o own.registers frame at.outer s.symbols ≡ writes rd value own.registers frame at.outer s.symbols → result_register o ≡ rd → Here o
+      → execution b.app o own.registers frame at.outer s.symbols ≡ write_meaning rd value own.registers frame at.outer s.symbols → result_register o ≡ rd → Here o
   computes o before kind rd value is_own expands last e named means shown =
       writes_register o before kind rd value is_own expands last (performs_write kind rd value e) (quiet_write kind rd value e) named means shown
 
@@ -146,15 +146,15 @@ module _ (b : Build) (state : State) (s : System) (t : ℕ) (fits : Fits b) (k :
   of_registers kind rd rs1 rs2 h scratch last =
       computes (op.Alu kind rd rs1 rs2) [] (register_operation kind rd rs1 rs2) rd (register_result kind (slice_index x rs1) (slice_index x rs2)) h.0 refl (omega arith)
       (λ pc. register_value kind rd rs1 rs2 pc x) (h.0, (h.1, (h.2, tt)))
-      (ap (λ v. writes rd (register_result kind v (register own.registers rs2)) own.registers frame at.outer s.symbols) (sym (agree rs1 h.1))
-      ∙ ap (λ v. writes rd (register_result kind (slice_index x rs1) v) own.registers frame at.outer s.symbols) (sym (agree rs2 h.2)))
+      (ap (λ v. write_meaning rd (register_result kind v (register own.registers rs2)) own.registers frame at.outer s.symbols) (sym (agree rs1 h.1))
+      ∙ ap (λ v. write_meaning rd (register_result kind (slice_index x rs1) v) own.registers frame at.outer s.symbols) (sym (agree rs2 h.2)))
       refl
 
   of_number : (kind : ImmKind) (rd rs1 : ℕ) (number : ℤ) → IsStraight b.app frame.func (op.AluImm kind rd rs1 number) → P (op.AluImm kind rd rs1 number)
   of_number kind rd rs1 number h scratch last =
       computes (op.AluImm kind rd rs1 number) [] (number_operation kind rd rs1 number) rd (number_result kind (slice_index x rs1) (complement number)) h.0 refl (omega arith)
       (λ pc. number_value kind rd rs1 number pc x h.2) (h.0, (h.1, tt))
-      (ap (λ v. writes rd (number_result kind v (complement number)) own.registers frame at.outer s.symbols) (sym (agree rs1 h.1)))
+      (ap (λ v. write_meaning rd (number_result kind v (complement number)) own.registers frame at.outer s.symbols) (sym (agree rs1 h.1)))
       refl
 
   of_upper : (rd number : ℕ) → IsStraight b.app frame.func (op.Lui rd number) → P (op.Lui rd number)
@@ -183,12 +183,12 @@ module _ (b : Build) (state : State) (s : System) (t : ℕ) (fits : Fits b) (k :
   of_frame_load rd word h scratch last =
       let l = in_frame word h.1 in
       let spot = frame_place word l in
-      let value : extended width.Word (number_at state.core.ram (at.place + 4 * word) 4) ≡ get_or frame.words word 0 =
+      let value : extended_number width.Word (number_at state.core.ram (at.place + 4 * word) 4) ≡ get_or frame.words word 0 =
       sym (word_number state.core.ram (at.place + 4 * word)) ∙ words_at state.core.ram frame.words at.place word l at.stood.1 in
       writes_register (op.FrameLoad rd word) [] (Lw rd 2 (pos (4 * word))) rd (get_or frame.words word 0) h.0 refl (omega arith)
       (λ w pc. load_at state.core width.Word rd 2 (pos (4 * word)) (at.place + 4 * word) w pc spot ∙ ap (λ v. goes_on pc (with_register state.core rd v)) value)
       (λ pc. load_at_quiet state.core width.Word rd 2 (pos (4 * word)) (at.place + 4 * word) pc spot) (h.0, tt)
-      (ap (λ y. if_true y (writes rd (get_or frame.words word 0) own.registers frame at.outer s.symbols)) (lt-ltb word (length frame.words) l))
+      (ap (λ y. if_true y (write_meaning rd (get_or frame.words word 0) own.registers frame at.outer s.symbols)) (lt-ltb word (length frame.words) l))
       refl
 
   of_frame_store : (rs word : ℕ) → IsStraight b.app frame.func (op.FrameStore rs word) → P (op.FrameStore rs word)
@@ -242,21 +242,21 @@ module _ (b : Build) (state : State) (s : System) (t : ℕ) (fits : Fits b) (k :
 
   loads_into : (o : Op) (before : List InstrKind) (w : Width) (rd y offset : ℕ) (number : ℤ) → IsOwn rd → access w y offset → expansion_of o ≡ before ++ (load w rd 31 number ∷ [])
       → length before ≡ at.here.done → Reaches number y offset → AreOwn (registers_of o)
-      → execution b.app o own.registers frame at.outer s.symbols ≡ loads w rd y offset own.registers frame at.outer s.symbols → result_register o ≡ rd → Here o
+      → execution b.app o own.registers frame at.outer s.symbols ≡ load_meaning w rd y offset own.registers frame at.outer s.symbols → result_register o ≡ rd → Here o
   loads_into o before w rd y offset number is_own inside expands last reaches named means shown =
       let place = symbol_address b.places y - 0x8000_0000 + offset in
       let spot = symbol.spot b fits state.core.ram s.symbols k.data_stands numbers.sizes w y offset inside (plus (slice_index x 31) number) reaches in
       let value = symbol.load_means b fits state.core.ram s.symbols k.data_stands numbers.sizes w y offset inside in
-      writes_register o before (load w rd 31 number) rd (loaded w (get_or s.symbols y []) offset) is_own expands last
+      writes_register o before (load w rd 31 number) rd (loaded_word w (get_or s.symbols y []) offset) is_own expands last
       (λ word pc. load_at state.core w rd 31 number place word pc spot ∙ ap (λ v. goes_on pc (with_register state.core rd v)) value)
       (λ pc. load_at_quiet state.core w rd 31 number place pc spot) named
-      (means ∙ ap (λ found. on_some found (λ found_bytes. writes rd (loaded w found_bytes offset) own.registers frame at.outer s.symbols))
+      (means ∙ ap (λ found. on_some found (λ found_bytes. write_meaning rd (loaded_word w found_bytes offset) own.registers frame at.outer s.symbols))
       (symbol.accessed_is b fits state.core.ram s.symbols k.data_stands numbers.sizes w y offset inside))
       shown
 
   stores_from : (o : Op) (before : List InstrKind) (w : Width) (rs y offset : ℕ) (number : ℤ) → IsOwn rs → access w y offset → expansion_of o ≡ before ++ (store w rs 31 number ∷ [])
       → length before ≡ at.here.done → Reaches number y offset → AreOwn (registers_of o)
-      → execution b.app o own.registers frame at.outer s.symbols ≡ stores w rs y offset own.registers frame at.outer s.symbols → result_register o ≡ rs → Here o
+      → execution b.app o own.registers frame at.outer s.symbols ≡ store_meaning w rs y offset own.registers frame at.outer s.symbols → result_register o ≡ rs → Here o
   stores_from o before w rs y offset number is_own inside expands last reaches named means shown =
       let place = symbol_address b.places y - 0x8000_0000 + offset in
       let spot = symbol.spot b fits state.core.ram s.symbols k.data_stands numbers.sizes w y offset inside (plus (slice_index x 31) number) reaches in
@@ -276,7 +276,7 @@ module _ (b : Build) (state : State) (s : System) (t : ℕ) (fits : Fits b) (k :
         performs = λ word pc. store_at state.core w rs 31 number place word pc spot;
         quiet = λ pc. store_at_quiet state.core w rs 31 number place pc spot;
         words = frame.words;
-        symbols = set s.symbols y (stored w bytes offset value);
+        symbols = set s.symbols y (bytes_after_store w bytes offset value);
         result = value;
         means = own_meaning b.app o own.registers frame at.outer s.symbols named
             ∙ means ∙ ap (λ found. on_some found (λ found_bytes. Some (stores_as found_bytes (register own.registers rs))))
@@ -293,7 +293,7 @@ module _ (b : Build) (state : State) (s : System) (t : ℕ) (fits : Fits b) (k :
       stores_as found v = record {
         registers = own.registers;
         frames = going_on frame ∷ at.outer;
-        symbols = set s.symbols y (stored w found offset v);
+        symbols = set s.symbols y (bytes_after_store w found offset v);
         result = v;
       }
 
@@ -328,7 +328,7 @@ module _ (b : Build) (state : State) (s : System) (t : ℕ) (fits : Fits b) (k :
       (before : List InstrKind) × (expansion_of o ≡ before ++ (last ∷ [])) × (length before ≡ at.here.done) × (slice_index x 31 ≡ sum32 masked (hi (symbol_address b.places y) * 4096))
 
   summed : (o : Op) (y index mask : ℕ) (last : InstrKind)
-      → (mask ≤ 2047 → expansion_of o ≡ indexed index mask (symbol_address b.places y) ++ (last ∷ [])) → (2048 ≤ mask → expansion_of o ≡ far_indexed index mask (symbol_address b.places y) ++ (last ∷ []))
+      → (mask ≤ 2047 → expansion_of o ≡ index_code index mask (symbol_address b.places y) ++ (last ∷ [])) → (2048 ≤ mask → expansion_of o ≡ far_indexed index mask (symbol_address b.places y) ++ (last ∷ []))
       → HasAddress mask (symbol_address b.places y) (bit_and (register own.registers index) mask) at.here.done (thread_of state) → at.here.done + 1 ≡ length (expansion_of o)
       → IsSummed y (bit_and (register own.registers index) mask) mask last o
   summed o y index mask last near far scratch all =
@@ -336,7 +336,7 @@ module _ (b : Build) (state : State) (s : System) (t : ℕ) (fits : Fits b) (k :
       (λ (m : mask < 2048).
       let e = near (omega arith) in
       let four : length (expansion_of o) ≡ 4 = ap (λ (c : List InstrKind). length c) e in
-      (indexed index mask (symbol_address b.places y), e, omega arith, (scratch.0 (omega arith)).sum (omega arith)))
+      (index_code index mask (symbol_address b.places y), e, omega arith, (scratch.0 (omega arith)).sum (omega arith)))
       (λ (m : 2048 ≤ mask).
       let e = far m in
       let six : length (expansion_of o) ≡ 6 = ap (λ (c : List InstrKind). length c) e in

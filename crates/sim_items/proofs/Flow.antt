@@ -16,14 +16,14 @@ use Rattle.rv32_instr.specs.declared.InstrKind.TheVariants.{Lui, Addi, Jal, Jalr
 use Rattle.rv32_instr.specs.declared.effect.Effect.TheVariants.{Branch, Write}
 use Rattle.rv32_instr.specs.Effect.{effect}
 use Rattle.rv32_instr.specs.Execute.{Going, perform, touched_by, jumps}
-use Rattle.rv32_routine.specs.Place.{at}
-use Rattle.rv32_routine.proofs.Machine.{next_at, jump_at}
-use Rattle.rv32_routine.proofs.Parts.{hi_lo}
-use Rattle.rv32_expand.specs.Expansion.{item_address, label_address, distance, test, opposite, expanded}
+use Rattle.masked_code.specs.Place.{at}
+use Rattle.masked_code.proofs.Machine.{next_at, jump_at}
+use Rattle.masked_code.proofs.Parts.{hi_lo}
+use Rattle.rv32_expand.specs.Expansion.{item_address, label_address, distance, test, opposite, operation_code}
 use Rattle.rv32_expand.specs.InPlace.{result_register, mark_of}
 use Rattle.observe.specs.Observe.{View}
-use Rattle.osek_machine.specs.State.{Frame}
-use Rattle.osek_machine.specs.Meaning.{meaning, register, target, goes_to, on_some}
+use Rattle.osek_scheduler.specs.State.{Frame}
+use Rattle.osek_scheduler.specs.Meaning.{meaning, register, target, goes_to, on_some}
 use Rattle.sim_relation.specs.Build.{Build, Fits}
 use Rattle.sim_relation.specs.Position.{Thread, HasTarget, HasScratch, thread_of}
 use Rattle.sim_items.specs.Place.{FunctionStands, IsOwn, IsTarget, IsFlow}
@@ -65,7 +65,7 @@ no_result app func item = flow_cases app func item (λ o. result_register o ≡ 
 pub record Turns (b : Build) (state : State) (own : List ℕ) (symbols : List (List ℕ)) (frame : Frame) (outer : List Frame) (long : Bool) (operation : Op) (done : ℕ) : Type 0 where
   pub before : List InstrKind
   pub kind : InstrKind
-  pub expands : expanded b.app b.places frame.func (item_address b.places frame.func frame.item) long operation ≡ before ++ (kind ∷ [])
+  pub expands : operation_code b.app b.places frame.func (item_address b.places frame.func frame.item) long operation ≡ before ++ (kind ∷ [])
   pub reached : length before ≡ done
   pub item : ℕ
   pub exists : item < length (function b.app frame.func).items
@@ -85,7 +85,7 @@ module _ (b : Build) (view : View) (fits : Fits b) (state : State) (own : List �
   address = item_address b.places frame.func frame.item
 
   abbrev expansion_of : Bool → Op → List InstrKind
-  expansion_of long o = expanded b.app b.places frame.func address long o
+  expansion_of long o = operation_code b.app b.places frame.func address long o
 
   -- the next item stands behind this one
   abbrev IsAdjacent : Bool → Op → Type 0

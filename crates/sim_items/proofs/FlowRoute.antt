@@ -9,8 +9,8 @@ use Rattle.sloth_base.specs.declared.event.Arrival.{Arrival}
 use Rattle.rv32_instr.specs.Encode.{Encode}
 use Rattle.rv32_expand.specs.Expansion.{item_address, is_long, expansion}
 use Rattle.observe.specs.Observe.{View}
-use Rattle.osek_machine.specs.State.{Frame, System, task}
-use Rattle.osek_machine.specs.Meaning.{register}
+use Rattle.osek_scheduler.specs.State.{Frame, System, task}
+use Rattle.osek_scheduler.specs.Meaning.{register}
 use Rattle.sim_relation.specs.Build.{Build}
 use Rattle.sim_relation.specs.Stands.{Stands}
 use Rattle.sim_items.specs.Place.{AtItem, FunctionStands, IsOwn, IsFlow}

@@ -7,12 +7,12 @@ use Rattle.rv32_instr.specs.Effect.{effect}
 use Rattle.rv32_instr.specs.Execute.{Going, step, touched, touched_by, perform}
 use Rattle.rv32_instr.specs.Table.{Decode}
 use Rattle.rv32_instr.proofs.Table.{decode_encode}
-use Rattle.rv32_routine.specs.Place.{at}
-use Rattle.rv32_routine.proofs.Words.{word_at-agree}
-use Rattle.rv32_routine.proofs.Machine.{Here, step_at, touched_at}
+use Rattle.masked_code.specs.Place.{at}
+use Rattle.masked_code.proofs.Words.{word_at-agree}
+use Rattle.masked_code.proofs.Machine.{Here, step_at, touched_at}
 use Rattle.rv32_expand.specs.Expansion.{item_address, expansion}
 use Rattle.observe.specs.Observe.{View}
-use Rattle.osek_machine.specs.State.{System}
+use Rattle.osek_scheduler.specs.State.{System}
 use Rattle.sim_relation.specs.Build.{Build, Fits}
 use Rattle.sim_relation.specs.Stands.{Stands}
 use Rattle.sim_items.specs.Place.{HasInstruction, HasInstructions, ItemStands}

@@ -6,7 +6,7 @@ use Rattle.sloth_base.specs.declared.app.Op.{Op}
 use Rattle.sloth_base.specs.declared.event.Arrival.{Arrival}
 use Rattle.rv32_expand.specs.Expansion.{is_long, expansion}
 use Rattle.observe.specs.Observe.{View}
-use Rattle.osek_machine.specs.State.{System, task}
+use Rattle.osek_scheduler.specs.State.{System, task}
 use Rattle.sim_relation.specs.Build.{Build}
 use Rattle.sim_relation.specs.Stands.{Stands}
 use Rattle.sim_items.specs.Place.{AtItem, ItemStands, IsStraight}

@@ -6,17 +6,17 @@ use Rattle.sloth_base.specs.Machine.{State}
 use Rattle.rv32_instr.specs.declared.InstrKind.TheVariants.{Jal}
 use Rattle.sloth_base.specs.Arithmetic.{plus}
 use Rattle.rv32_instr.specs.Execute.{Going, step, touched, touched_by, perform, jumps}
-use Rattle.rv32_routine.specs.Place.{at}
-use Rattle.rv32_routine.proofs.Machine.{Here, step_at, touched_at, jump_at}
-use Rattle.rv32_expand.specs.Expansion.{item_address, block_address, mask_of, distance, is_long, expanded, expansion}
+use Rattle.masked_code.specs.Place.{at}
+use Rattle.masked_code.proofs.Machine.{Here, step_at, touched_at, jump_at}
+use Rattle.rv32_expand.specs.Expansion.{item_address, block_address, mask_of, distance, is_long, operation_code, expansion}
 use Rattle.sloth_base.specs.Named.{operation}
 use Rattle.rv32_expand.specs.InPlace.{item_mark, last_address, mark_kind}
 use Rattle.sloth_base.specs.declared.image.Mark.{Mark}
 use Rattle.sloth_base.specs.declared.app.Call.{Call}
 use Rattle.sloth_base.specs.declared.app.Op.TheVariants as op
 use Rattle.observe.specs.Observe.{View, mark_at, events_of_kind}
-use Rattle.osek_machine.specs.State.{System}
-use Rattle.sim_induction.specs.Laws.{seen_at}
+use Rattle.osek_scheduler.specs.State.{System}
+use Rattle.sim_induction.specs.PieceLaws.{seen_at}
 use Rattle.sim_relation.specs.Build.{Build}
 use Rattle.sim_relation.specs.Stands.{Stands}
 use Rattle.sim_items.specs.Place.{AtItem, HasInstruction, HasInstructions, ItemStands}
@@ -35,7 +35,7 @@ call_expands b func item call is plain =
     let address = item_address b.places func item in
     let target = block_address b.places call.service call.object in
     let zero : address + 4 * 0 ≡ address = omega arith in
-    ap (λ o. expanded b.app b.places func address (is_long b.places func item) o) is
+    ap (λ o. operation_code b.app b.places func address (is_long b.places func item) o) is
     ∙ ap (λ m. m ++ (Jal 31 (distance (address + 4 * length m) target) ∷ [])) plain
     ∙ ap (λ a. Jal 31 (distance a target) ∷ []) zero
 

@@ -4,8 +4,8 @@ use Rattle.std.specs.Prelude.{◌⊎◌, slice_index}
 use Rattle.std.proofs.lemmas.Bool.{cases_eq, cases_lt, false_from_ne_true}
 use Rattle.std.proofs.lemmas.List.{get_or-set_same, get_or-set_other, length-set}
 use Rattle.rv32_instr.specs.Ram.{word_at, with_word}
-use Rattle.rv32_routine.proofs.Words.{length-with_word, get_or-with_word, word_at-other, word_at-same}
-use Rattle.osek_machine.specs.State.{Frame, System, task}
+use Rattle.masked_code.proofs.Words.{length-with_word, get_or-with_word, word_at-other, word_at-same}
+use Rattle.osek_scheduler.specs.State.{Frame, System, task}
 use Rattle.sim_relation.specs.Build.{Build, Fits}
 use Rattle.sim_relation.specs.Position.{AreWords, FramesAt, OuterAt}
 use Rattle.sim_relation.specs.DataStands.{DataStands}

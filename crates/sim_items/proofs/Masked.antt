@@ -10,9 +10,9 @@ use Rattle.sloth_base.specs.declared.app.Width.{Width}
 use Rattle.sloth_base.specs.declared.app.Width.TheVariants as width
 use Rattle.sloth_base.specs.declared.places.Places.{Places}
 use Rattle.rv32_instr.specs.Access.{load, store}
-use Rattle.rv32_routine.proofs.Parts.{hi_lo}
+use Rattle.masked_code.proofs.Parts.{hi_lo}
 use Rattle.data_far.specs.Wide.{far_indexed, wide}
-use Rattle.rv32_expand.specs.Expansion.{symbol_address, indexed, expanded}
+use Rattle.rv32_expand.specs.Expansion.{symbol_address, index_code, operation_code}
 use Rattle.sim_items.specs.Place.{IsAccess, IsMasked}
 
 masked_even : (v mask k : ℕ) → mask % 2 ^ k ≡ 0 → bit_and v mask % 2 ^ k ≡ 0
@@ -47,14 +47,14 @@ module _ (app : App) (places : Places) (func address : ℕ) (long : Bool) (w : W
   abbrev base : ℕ
   base = symbol_address places y
 
-  pub load_near : mask ≤ 2047 → expanded app places func address long (op.LoadAt w r y index mask) ≡ indexed index mask base ++ (load w r 31 (lo base) ∷ [])
-  load_near l = ap (λ c. cond c (indexed index mask base ++ (load w r 31 (lo base) ∷ [])) (wide (op.LoadAt w r y index mask) base)) (le-leb mask 2047 l)
+  pub load_near : mask ≤ 2047 → operation_code app places func address long (op.LoadAt w r y index mask) ≡ index_code index mask base ++ (load w r 31 (lo base) ∷ [])
+  load_near l = ap (λ c. cond c (index_code index mask base ++ (load w r 31 (lo base) ∷ [])) (wide (op.LoadAt w r y index mask) base)) (le-leb mask 2047 l)
 
-  pub load_far : 2048 ≤ mask → expanded app places func address long (op.LoadAt w r y index mask) ≡ far_indexed index mask base ++ (load w r 31 (lo base) ∷ [])
-  load_far l = ap (λ c. cond c (indexed index mask base ++ (load w r 31 (lo base) ∷ [])) (wide (op.LoadAt w r y index mask) base)) (lt-leb mask 2047 l)
+  pub load_far : 2048 ≤ mask → operation_code app places func address long (op.LoadAt w r y index mask) ≡ far_indexed index mask base ++ (load w r 31 (lo base) ∷ [])
+  load_far l = ap (λ c. cond c (index_code index mask base ++ (load w r 31 (lo base) ∷ [])) (wide (op.LoadAt w r y index mask) base)) (lt-leb mask 2047 l)
 
-  pub store_near : mask ≤ 2047 → expanded app places func address long (op.StoreAt w r y index mask) ≡ indexed index mask base ++ (store w r 31 (lo base) ∷ [])
-  store_near l = ap (λ c. cond c (indexed index mask base ++ (store w r 31 (lo base) ∷ [])) (wide (op.StoreAt w r y index mask) base)) (le-leb mask 2047 l)
+  pub store_near : mask ≤ 2047 → operation_code app places func address long (op.StoreAt w r y index mask) ≡ index_code index mask base ++ (store w r 31 (lo base) ∷ [])
+  store_near l = ap (λ c. cond c (index_code index mask base ++ (store w r 31 (lo base) ∷ [])) (wide (op.StoreAt w r y index mask) base)) (le-leb mask 2047 l)
 
-  pub store_far : 2048 ≤ mask → expanded app places func address long (op.StoreAt w r y index mask) ≡ far_indexed index mask base ++ (store w r 31 (lo base) ∷ [])
-  store_far l = ap (λ c. cond c (indexed index mask base ++ (store w r 31 (lo base) ∷ [])) (wide (op.StoreAt w r y index mask) base)) (lt-leb mask 2047 l)
+  pub store_far : 2048 ≤ mask → operation_code app places func address long (op.StoreAt w r y index mask) ≡ far_indexed index mask base ++ (store w r 31 (lo base) ∷ [])
+  store_far l = ap (λ c. cond c (index_code index mask base ++ (store w r 31 (lo base) ∷ [])) (wide (op.StoreAt w r y index mask) base)) (lt-leb mask 2047 l)

@@ -15,15 +15,15 @@ use Rattle.rv32_instr.specs.Execute.{Going, step, touched, touched_by, perform, 
 use Rattle.rv32_instr.specs.declared.InstrKind.{InstrKind}
 use Rattle.rv32_instr.specs.declared.InstrKind.TheVariants.{Lui, Addi, Jal}
 use Rattle.rv32_instr.specs.declared.effect.Effect.TheVariants.{Write}
-use Rattle.rv32_routine.specs.Place.{at}
-use Rattle.rv32_routine.proofs.Machine.{jump_at}
-use Rattle.rv32_routine.proofs.Parts.{hi_lo}
-use Rattle.rv32_expand.specs.Expansion.{item_address, block_address, distance, is_long, expanded, expansion}
+use Rattle.masked_code.specs.Place.{at}
+use Rattle.masked_code.proofs.Machine.{jump_at}
+use Rattle.masked_code.proofs.Parts.{hi_lo}
+use Rattle.rv32_expand.specs.Expansion.{item_address, block_address, distance, is_long, operation_code, expansion}
 use Rattle.rv32_expand.specs.InPlace.{item_mark, last_address, mark_kind}
 use Rattle.observe.specs.Observe.{View, mark_at, events_of_kind}
-use Rattle.osek_machine.specs.State.{System, task}
-use Rattle.osek_machine.specs.Meaning.{register}
-use Rattle.sim_induction.specs.Laws.{seen_at}
+use Rattle.osek_scheduler.specs.State.{System, task}
+use Rattle.osek_scheduler.specs.Meaning.{register}
+use Rattle.sim_induction.specs.PieceLaws.{seen_at}
 use Rattle.sim_relation.specs.Build.{Build}
 use Rattle.sim_relation.specs.Position.{HasMask, HasScratch, thread_of}
 use Rattle.sim_relation.specs.Stands.{Stands}
@@ -73,7 +73,7 @@ module _ (b : Build) (view : View) (arrivals : List Arrival) (count : ℕ) (stat
   target = block_address b.places jump.call.service jump.call.object
 
   abbrev expansion_of : Op → List InstrKind
-  expansion_of o = expanded b.app b.places item.frame.func address long o
+  expansion_of o = operation_code b.app b.places item.frame.func address long o
 
   abbrev first : InstrKind
   first = Lui 30 (hi mask)

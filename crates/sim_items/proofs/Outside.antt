@@ -13,17 +13,17 @@ use Rattle.sloth_region.specs.Layout.{cur}
 use Rattle.rv32_instr.specs.Ram.{word_at}
 use Rattle.rv32_instr.specs.Execute.{Going, step, touched}
 use Rattle.rv32_machine.specs.Run.{arrived}
-use Rattle.rv32_routine.specs.Place.{at, InPlace}
+use Rattle.masked_code.specs.Place.{at, InPlace}
 use Rattle.rv32_expand.specs.Expansion.{item_address, expansion}
 use Rattle.sloth_base.specs.Named.{operation, function}
 use Rattle.sloth_base.specs.declared.lines.Owners.{Owners}
 use Rattle.rv32_expand.specs.InPlace.{result_register, item_mark, mark_of, last_address}
-use Rattle.observe.specs.Observe.{View, mark_at, task_of, outside_events, events_of_kind}
-use Rattle.osek_machine.specs.State.{System}
-use Rattle.osek_machine.specs.Priority.{IsTop}
-use Rattle.osek_machine.specs.Steps.{settled}
+use Rattle.observe.specs.Observe.{View, mark_at, running_task, outside_events, events_of_kind}
+use Rattle.osek_scheduler.specs.State.{System}
+use Rattle.osek_scheduler.specs.Priority.{IsTop}
+use Rattle.osek_scheduler.specs.Steps.{settled_state}
 use Rattle.sim_induction.specs.Admits.{Setting, lines_at, with_admits}
-use Rattle.sim_induction.specs.Laws.{OutsideLaw, Shows, seen_at}
+use Rattle.sim_induction.specs.PieceLaws.{OutsideLaw, Shows, seen_at}
 use Rattle.sim_induction.proofs.Routes.{begins_none}
 use Rattle.sim_induction.proofs.Schedule.{owned_at}
 use Rattle.sim_induction.proofs.Stretched.{task_is}
@@ -35,7 +35,7 @@ use Rattle.sim_relation.proofs.Placed.{placed_in, first_by_word}
 use Rattle.sim_relation.proofs.Choice.{running_top, none_due}
 use Rattle.sim_items.proofs.Cases.{mark_shows}
 use Rattle.sim_items.specs.Place.{AtItem, ItemStands, IsStraight, HasNumbers}
-use Rattle.sim_items.specs.Laws.{RunsItem}
+use Rattle.sim_items.specs.ItemSteps.{RunsItem}
 use Rattle.sim_relation.specs.Placed.{setting_of}
 use Rattle.sim_items.specs.Outside.{At, GoesOutside, HasIdle}
 use Rattle.sim_items.proofs.Straight.{straight_run}
@@ -99,7 +99,7 @@ module _ (b : Build) (view : View) (arrivals : List Arrival) (progress : State �
     shown =
         let l : t < view.owners.tasks = let v = ap (λ (o : Owners). o.tasks) here.setting.owners in let h = (top_here t current).declared in omega arith in
         ap (λ m. events_of_kind m.kind view m (seen_at given count state runs.next)) (is_item (last_address b.app b.places func item))
-        ∙ ap (λ u. event.Run u func item result ∷ []) (ap (task_of view.owners.tasks) current ∙ task_is view.owners.tasks t l)
+        ∙ ap (λ u. event.Run u func item result ∷ []) (ap (running_task view.owners.tasks) current ∙ task_is view.owners.tasks t l)
 
     pub committed_outside : GoesOutside b view arrivals progress count state s
     committed_outside = (
@@ -153,7 +153,7 @@ module _ (b : Build) (view : View) (arrivals : List Arrival) (progress : State �
     pub idle_outside : GoesOutside b view arrivals progress count state s
     idle_outside = (
       n,
-      one_instruction n (event.Idle ∷ []) (settled s1) stays (ap touched n_is ∙ idle.idles.untouched idle.offset n.core placed)
+      one_instruction n (event.Idle ∷ []) (settled_state s1) stays (ap touched n_is ∙ idle.idles.untouched idle.offset n.core placed)
           (marked_shows n idle.mark (event.Idle ∷ []) (ap (mark_at view) runs_idle.pc ∙ idle.marked)
           (ap (λ k. events_of_kind k view idle.mark (seen_at given count state n)) idle.shows))
           (now.tidy.booted, none_due b n s1 now few here.none empty, refl) (λ e. cc) (stands_fresh b n s1 [] now),

@@ -10,9 +10,9 @@ use Rattle.rv32_instr.specs.Execute.{Going, step, touched, touched_by, perform}
 use Rattle.rv32_instr.specs.Ram.{word_at}
 use Rattle.rv32_expand.specs.Expansion.{item_address, expansion}
 use Rattle.observe.specs.Observe.{View, mark_at, outside_events}
-use Rattle.osek_machine.specs.State.{Frame, Task, System, task, sleeping}
+use Rattle.osek_scheduler.specs.State.{Frame, Task, System, task, sleeping_task}
 use Rattle.sim_induction.specs.Admits.{lines_at}
-use Rattle.sim_induction.specs.Laws.{seen_at}
+use Rattle.sim_induction.specs.PieceLaws.{seen_at}
 use Rattle.sim_induction.proofs.Passing.{not_suspended, kept_admits}
 use Rattle.sim_relation.specs.Build.{Build}
 use Rattle.sim_relation.specs.Position.{Position, thread_of}
@@ -30,7 +30,7 @@ use Rattle.sim_items.specs.Progress.{passed_at, passed_in, progress_in}
 use Rattle.rv32_instr.specs.declared.InstrKind.{InstrKind}
 use Rattle.rv32_instr.specs.Encode.{Encode}
 use Rattle.rv32_instr.specs.Effect.{effect}
-use Rattle.rv32_routine.specs.Place.{at}
+use Rattle.masked_code.specs.Place.{at}
 use Rattle.sim_items.proofs.InRam as code
 use Rattle.sim_items.proofs.Keeping.{Keeps}
 use Rattle.sim_items.proofs.Outside as outside
@@ -116,7 +116,7 @@ module _ (b : Build) (view : View) (arrivals : List Arrival) (count : ℕ) (stat
     -- the system stays, and the relation stands
     pub passes_stand : Stands b next s1
     passes_stand =
-        subst (Stands b next) (ap (λ (v : List Task). record s1 { tasks = v }) (set-get_or s1.tasks t sleeping))
+        subst (Stands b next) (ap (λ (v : List Task). record s1 { tasks = v }) (set-get_or s1.tasks t sleeping_task))
         (stands_fresh b next (moved_to s1 t (task s1 t) s1.symbols) s1.fresh
         (task_steps b n next s1 now here.fits t found.0 found.1 (task s1 t) s1.symbols task_step))
 

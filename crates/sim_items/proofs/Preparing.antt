@@ -14,13 +14,13 @@ use Rattle.rv32_instr.specs.declared.InstrKind.TheVariants.{Lui, Addi, Andi, Add
 use Rattle.rv32_instr.specs.declared.effect.Effect.TheVariants.{Write}
 use Rattle.rv32_instr.specs.Effect.{effect}
 use Rattle.rv32_instr.specs.Execute.{Going, perform, touched_by, goes_on}
-use Rattle.rv32_routine.specs.Place.{at}
-use Rattle.rv32_routine.proofs.Machine.{next_at}
-use Rattle.rv32_routine.proofs.Parts.{hi_lo}
+use Rattle.masked_code.specs.Place.{at}
+use Rattle.masked_code.proofs.Machine.{next_at}
+use Rattle.masked_code.proofs.Parts.{hi_lo}
 use Rattle.data_far.specs.Wide.{far_indexed}
-use Rattle.rv32_expand.specs.Expansion.{item_address, symbol_address, indexed, expanded}
-use Rattle.osek_machine.specs.State.{Frame}
-use Rattle.osek_machine.specs.Meaning.{register}
+use Rattle.rv32_expand.specs.Expansion.{item_address, symbol_address, index_code, operation_code}
+use Rattle.osek_scheduler.specs.State.{Frame}
+use Rattle.osek_scheduler.specs.Meaning.{register}
 use Rattle.sim_relation.specs.Build.{Build}
 use Rattle.sim_relation.specs.Position.{Thread, HasIndexed, HasFarIndexed, HasScratch, thread_of}
 use Rattle.sim_items.specs.Place.{IsOwn, IsStraight}
@@ -35,11 +35,11 @@ pub record Prepares (b : Build) (state : State) (own : List ℕ) (frame : Frame)
   pub before : List InstrKind
   pub kind : InstrKind
   pub rest : List InstrKind
-  pub expands : expanded b.app b.places frame.func (item_address b.places frame.func frame.item) long operation ≡ before ++ (kind ∷ rest)
+  pub expands : operation_code b.app b.places frame.func (item_address b.places frame.func frame.item) long operation ≡ before ++ (kind ∷ rest)
   pub reached : length before ≡ done
   pub steps : ℕ
   pub some : 0 < steps
-  pub within : done + steps < length (expanded b.app b.places frame.func (item_address b.places frame.func frame.item) long operation)
+  pub within : done + steps < length (operation_code b.app b.places frame.func (item_address b.places frame.func frame.item) long operation)
   pub registers : List ℕ
   pub same : SameRegisters state.core.registers registers
   pub performs : (offset word : ℕ) → offset + 4 ≤ 0x20_0000 → offset % 4 ≡ 0
@@ -58,7 +58,7 @@ module _ (b : Build) (state : State) (own : List ℕ) (frame : Frame) (long : Bo
   x = state.core.registers
 
   abbrev expansion_of : Op → List InstrKind
-  expansion_of o = expanded b.app b.places frame.func (item_address b.places frame.func frame.item) long o
+  expansion_of o = operation_code b.app b.places frame.func (item_address b.places frame.func frame.item) long o
 
   abbrev Before : Op → ℕ → Type 0
   Before o done = Prepares b state own frame long o done
@@ -113,7 +113,7 @@ module _ (b : Build) (state : State) (own : List ℕ) (frame : Frame) (long : Bo
     abbrev masked : ℕ
     masked = bit_and (register own index) mask
 
-    near : expansion_of o ≡ indexed index mask address ++ (last ∷ []) → ((d : ℕ) (th : Thread) → HasIndexed address masked d th → HasScratch b own frame o d th)
+    near : expansion_of o ≡ index_code index mask address ++ (last ∷ []) → ((d : ℕ) (th : Thread) → HasIndexed address masked d th → HasScratch b own frame o d th)
         → (done : ℕ) → HasIndexed address masked done (thread_of state) → done + 1 < length (expansion_of o) → Before o done
     near expands into zero h l =
         prepares o 0 [] (Andi 31 index (pos mask)) _ expands refl l 31 masked (omega arith) (omega arith)

@@ -5,8 +5,8 @@ use Rattle.std.proofs.lemmas.Bool.{cases_eq}
 use Rattle.std.proofs.lemmas.List.{get_or-set_same, get_or-set_other, length-set}
 use Rattle.sloth_base.specs.Machine.{Core}
 use Rattle.rv32_instr.specs.Execute.{with_register}
-use Rattle.osek_machine.specs.Meaning.{register, seen_in}
-use Rattle.osek_machine.specs.Meaning as meaning
+use Rattle.osek_scheduler.specs.Meaning.{register, seen_in}
+use Rattle.osek_scheduler.specs.Meaning as meaning
 use Rattle.sim_items.specs.Place.{IsOwn}
 
 pub written : (core : Core) (rd value : ℕ) → 0 < rd → with_register core rd value ≡ record core { registers = set core.registers rd value }

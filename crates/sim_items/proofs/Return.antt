@@ -15,13 +15,13 @@ use Rattle.rv32_instr.specs.declared.InstrKind.TheVariants.{Lw, Addi, Jalr}
 use Rattle.rv32_instr.specs.Encode.{Encode}
 use Rattle.rv32_instr.specs.Effect.{effect}
 use Rattle.rv32_instr.specs.Execute.{Going, perform, touched_by, jumps, goes_on}
-use Rattle.rv32_routine.specs.Place.{at}
-use Rattle.rv32_routine.proofs.Machine.{next_at}
-use Rattle.rv32_expand.specs.Expansion.{item_address, is_long, expanded, expansion}
+use Rattle.masked_code.specs.Place.{at}
+use Rattle.masked_code.proofs.Machine.{next_at}
+use Rattle.rv32_expand.specs.Expansion.{item_address, is_long, operation_code, expansion}
 use Rattle.rv32_expand.specs.InPlace.{result_register, mark_of}
 use Rattle.observe.specs.Observe.{View}
-use Rattle.osek_machine.specs.State.{Frame, System, task}
-use Rattle.osek_machine.specs.Meaning.{meaning, going_on}
+use Rattle.osek_scheduler.specs.State.{Frame, System, task}
+use Rattle.osek_scheduler.specs.Meaning.{meaning, going_on}
 use Rattle.sim_relation.specs.Build.{Build}
 use Rattle.sim_relation.specs.Position.{Returning, HasScratch, OuterAt, FramesAt, return_address, called_words, thread_of}
 use Rattle.sim_relation.specs.Stands.{Stands, IsActive}
@@ -50,7 +50,7 @@ goes_back = Jalr 0 31 (pos 12)
 
 return_expands : (b : Build) (func item : ℕ) → operation b.app func item ≡ op.Return
     → expansion b.app b.places func item ≡ loads_link (function b.app func).frame_words ∷ raises (function b.app func).frame_words ∷ goes_back ∷ []
-return_expands b func item is = ap (λ o. expanded b.app b.places func (item_address b.places func item) (is_long b.places func item) o) is
+return_expands b func item is = ap (λ o. operation_code b.app b.places func (item_address b.places func item) (is_long b.places func item) o) is
 
 return_mark : (b : Build) (func item address : ℕ) (o : Op) → o ≡ op.Return
     → mark_of o address func item ≡ record { address = address; kind = mark_kind.Item; a = result_register o; b = func; c = item }

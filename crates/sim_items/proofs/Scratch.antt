@@ -3,8 +3,8 @@ use Rattle.std.proofs.Common.{◌≡◌, ℕ, ◌+◌, ◌%◌, ◌<◌, ◌≤�
 use Rattle.std.specs.Prelude.{◌⊎◌, ◌≢◌, slice_index}
 use Rattle.sloth_base.specs.Machine.{State}
 use Rattle.sloth_region.specs.Layout.{context_bytes}
-use Rattle.rv32_routine.specs.Place.{at}
-use Rattle.osek_machine.specs.State.{System, task}
+use Rattle.masked_code.specs.Place.{at}
+use Rattle.osek_scheduler.specs.State.{System, task}
 use Rattle.sim_relation.specs.Build.{Build}
 use Rattle.sim_relation.specs.Position.{Position, InExpansion, AtBlock, thread_of}
 use Rattle.sim_relation.specs.Stands.{Stands}

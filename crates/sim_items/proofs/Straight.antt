@@ -5,18 +5,18 @@ use Rattle.sloth_base.specs.declared.app.Op.{Op}
 use Rattle.sloth_base.specs.Machine.{Core, State}
 use Rattle.rv32_instr.specs.Encode.{Encode}
 use Rattle.rv32_instr.specs.Execute.{Going, step, touched, with_register}
-use Rattle.rv32_routine.specs.Place.{at}
-use Rattle.rv32_routine.proofs.Machine.{Here, step_at, touched_at, next_at}
+use Rattle.masked_code.specs.Place.{at}
+use Rattle.masked_code.proofs.Machine.{Here, step_at, touched_at, next_at}
 use Rattle.rv32_expand.specs.Expansion.{item_address, is_long, expansion}
 use Rattle.sloth_base.specs.Named.{operation, function}
 use Rattle.rv32_expand.specs.InPlace.{result_register}
-use Rattle.osek_machine.specs.declared.state.TaskState.TheVariants as mode
-use Rattle.osek_machine.specs.State.{Frame, Task, System, task}
+use Rattle.osek_scheduler.specs.declared.state.TaskState.TheVariants as mode
+use Rattle.osek_scheduler.specs.State.{Frame, Task, System, task}
 use Rattle.observe.specs.Observe.{View}
-use Rattle.osek_machine.specs.Priority.{IsTop}
-use Rattle.osek_machine.specs.Meaning.{Meant}
-use Rattle.osek_machine.specs.Meaning as meaning
-use Rattle.osek_machine.specs.Steps.{IsAt, Executes}
+use Rattle.osek_scheduler.specs.Priority.{IsTop}
+use Rattle.osek_scheduler.specs.Meaning.{Meant}
+use Rattle.osek_scheduler.specs.Meaning as meaning
+use Rattle.osek_scheduler.specs.Steps.{IsAt, Executes}
 use Rattle.sim_relation.specs.Build.{Build, Fits}
 use Rattle.sim_relation.specs.Position.{thread_of}
 use Rattle.sim_relation.specs.Context.{Context}
@@ -26,7 +26,7 @@ use Rattle.sim_relation.proofs.AtItem.{position_first}
 use Rattle.sim_relation.proofs.Placed.{first_by_word, active_by_word}
 use Rattle.sim_relation.proofs.TaskSteps.{task_steps}
 use Rattle.sim_items.specs.Place.{AtItem, HasInstruction, HasInstructions, HasNumbers, ItemStands, IsStraight}
-use Rattle.sim_items.specs.Laws.{RunsItem}
+use Rattle.sim_items.specs.ItemSteps.{RunsItem}
 use Rattle.sim_items.proofs.InRam.{code_here, behind}
 use Rattle.sim_items.proofs.Doing.{Does, does}
 use Rattle.sim_items.proofs.Registers.{Wrote, wrote}

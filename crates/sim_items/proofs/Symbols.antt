@@ -3,11 +3,11 @@ use Rattle.std.proofs.Common.{◌≡◌, ℕ, ◌+◌, ◌-◌, ◌%◌, ◌<◌
 use Rattle.std.specs.Prelude.{◌≢◌, slice_index}
 use Rattle.std.proofs.lemmas.Bool.{cases_eq, cases_lt, and_from, lt-ltb, le-leb, true≢false}
 use Rattle.std.proofs.lemmas.List.{get_or-set_same, get_or-set_other, get_or_past}
-use Rattle.sloth_base.specs.Arithmetic.{size_of, extended}
+use Rattle.sloth_base.specs.Arithmetic.{size_of, extended_number}
 use Rattle.sloth_base.specs.declared.app.Width.{Width}
 use Rattle.sloth_base.specs.declared.app.Width.TheVariants as width
 use Rattle.rv32_expand.specs.Expansion.{symbol_address}
-use Rattle.osek_machine.specs.Meaning.{loaded, stored, accessed}
+use Rattle.osek_scheduler.specs.Meaning.{loaded_word, bytes_after_store, accessed_bytes}
 use Rattle.sim_relation.specs.Build.{Build, Fits}
 use Rattle.sim_relation.specs.DataStands.{DataStands, ByteStands}
 use Rattle.sim_items.specs.Place.{IsAccess, HasSizes}
@@ -85,15 +85,15 @@ module _ (b : Build) (fits : Fits b) (ram : List ℕ) (symbols : List (List ℕ)
       (λ (l : length symbols ≤ y). let e = ap (λ (x : List ℕ). length x) (get_or_past symbols y [] l) in let z = some in absurd (omega arith))
       (cases_lt y (length symbols))
 
-  pub accessed_is : accessed symbols y w offset ≡ Some bytes
+  pub accessed_is : accessed_bytes symbols y w offset ≡ Some bytes
   accessed_is =
       ap (λ x. cond x (Some bytes) None)
       (and_from (ltb y (length symbols)) (leb (offset + size_of w) (length bytes)) (lt-ltb y (length symbols) declared) (le-leb (offset + size_of w) (length bytes) inside))
 
   -- a load gives what it means
-  pub load_means : extended w (number_at ram (place + offset) (size_of w)) ≡ loaded w bytes offset
+  pub load_means : extended_number w (number_at ram (place + offset) (size_of w)) ≡ loaded_word w bytes offset
   load_means =
-      ap (extended w) (number_agrees ram bytes place holds (size_of w) offset inside ∙ sym (number_of_part bytes offset (size_of w) inside))
+      ap (extended_number w) (number_agrees ram bytes place holds (size_of w) offset inside ∙ sym (number_of_part bytes offset (size_of w) inside))
 
   -- ---- a store
 
@@ -128,7 +128,7 @@ module _ (b : Build) (fits : Fits b) (ram : List ℕ) (symbols : List (List ℕ)
     only_data i h = kept_outside i (λ k l e. true≢false (sym (is_data k l) ∙ sym (ap b.is_data e) ∙ h))
 
     abbrev pub symbols_now : List (List ℕ)
-    symbols_now = set symbols y (stored w bytes offset value)
+    symbols_now = set symbols y (bytes_after_store w bytes offset value)
 
     same_symbol : (k : ℕ) → k < length (with_bytes bytes offset written) → ByteStands b new (address + k) (slice_index (with_bytes bytes offset written) k)
     same_symbol k l =
@@ -164,8 +164,8 @@ module _ (b : Build) (fits : Fits b) (ram : List ℕ) (symbols : List (List ℕ)
         (λ (e : z ≡ y).
         subst (λ v. k < length (get_or symbols_now v []) → ByteStands b new (symbol_address b.places v + k) (slice_index (get_or symbols_now v []) k)) (sym e)
         (subst (λ x. k < length x → ByteStands b new (address + k) (slice_index x k))
-        (sym (get_or-set_same symbols y (stored w bytes offset value) [] declared ∙ stored_bytes w bytes offset value inside)) (same_symbol k)) l)
+        (sym (get_or-set_same symbols y (bytes_after_store w bytes offset value) [] declared ∙ stored_bytes w bytes offset value inside)) (same_symbol k)) l)
         (λ (n : z ≡ y → ⊥).
         subst (λ x. k < length x → ByteStands b new (symbol_address b.places z + k) (slice_index x k))
-        (sym (get_or-set_other symbols y z (stored w bytes offset value) [] n)) (other_symbol z n k) l)
+        (sym (get_or-set_other symbols y z (bytes_after_store w bytes offset value) [] n)) (other_symbol z n k) l)
         (cases_eq z y)

@@ -9,10 +9,10 @@ use Rattle.rv32_instr.specs.Execute.{Going, step, touched}
 use Rattle.rv32_instr.specs.Ram.{word_at}
 use Rattle.rv32_expand.specs.Expansion.{item_address}
 use Rattle.rv32_expand.specs.InPlace.{result_register}
-use Rattle.osek_machine.specs.State.{Frame, Task, System, task}
-use Rattle.osek_machine.specs.Meaning.{Meant, meaning}
-use Rattle.osek_machine.specs.Priority.{IsTop}
-use Rattle.osek_machine.specs.Steps.{IsAt, Executes}
+use Rattle.osek_scheduler.specs.State.{Frame, Task, System, task}
+use Rattle.osek_scheduler.specs.Meaning.{Meant, meaning}
+use Rattle.osek_scheduler.specs.Priority.{IsTop}
+use Rattle.osek_scheduler.specs.Steps.{IsAt, Executes}
 use Rattle.sim_relation.specs.Build.{Build, Fits}
 use Rattle.sim_relation.specs.Context.{Context}
 use Rattle.sim_relation.specs.Moves.{moved_to, TaskStep}
@@ -22,7 +22,7 @@ use Rattle.sim_relation.proofs.AtItem.{position_first}
 use Rattle.sim_relation.proofs.Machines.{kept_machine}
 use Rattle.sim_relation.proofs.Placed.{first_by_word, active_by_word}
 use Rattle.sim_relation.proofs.TaskSteps.{task_steps}
-use Rattle.sim_items.specs.Laws.{RunsItem}
+use Rattle.sim_items.specs.ItemSteps.{RunsItem}
 
 module _ (b : Build) (state : State) (s : System) (t : ℕ) (fits : Fits b) (k : Stands b state s) (current : word_at state.core.ram cur ≡ t + 1) (top : IsTop b.config s [] t)
     (free : (task s t).owed ≡ false) (frame : Frame) (outer : List Frame) (frames : (task s t).frames ≡ frame ∷ outer) (inside : frame.item < length (function b.app frame.func).items)

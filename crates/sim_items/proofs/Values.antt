@@ -17,8 +17,8 @@ use Rattle.rv32_instr.specs.Range.{Signed}
 use Rattle.rv32_instr.specs.Effect.{effect}
 use Rattle.rv32_instr.proofs.Words.{signed_pos, signed_neg}
 use Rattle.rv32_expand.specs.Expansion.{register_operation, number_operation}
-use Rattle.osek_machine.specs.State.{Frame}
-use Rattle.osek_machine.specs.Meaning.{is_own, if_true, execution, registers_of, meaning}
+use Rattle.osek_scheduler.specs.State.{Frame}
+use Rattle.osek_scheduler.specs.Meaning.{is_own, if_true, execution, registers_of, meaning}
 use Rattle.sim_items.specs.Place.{IsOwn, IsNumber}
 
 -- a signed number and its word

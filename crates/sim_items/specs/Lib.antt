@@ -1,4 +1,4 @@
 pub mod Place
-pub mod Laws
+pub mod ItemSteps
 pub mod Progress
 pub mod Outside

@@ -16,10 +16,10 @@ use Rattle.sloth_base.specs.Named.{operation, function}
 use Rattle.sloth_base.specs.MemoryMap.{memory_base}
 use Rattle.observe.specs.Observe.{View, mark_at}
 use Rattle.vector_gen.specs.Idle.{Idles}
-use Rattle.osek_machine.specs.State.{Frame, System}
+use Rattle.osek_scheduler.specs.State.{Frame, System}
 use Rattle.osek_valid.specs.Valid.{AreCalls}
 use Rattle.sim_induction.specs.Admits.{IsSetting, lines_at, with_admits}
-use Rattle.sim_induction.specs.Laws.{OutsideLaw}
+use Rattle.sim_induction.specs.PieceLaws.{OutsideLaw}
 use Rattle.sim_relation.specs.Build.{Build, Fits}
 use Rattle.sim_relation.specs.Stands.{Stands}
 pub use Rattle.sim_relation.specs.Placed.{setting_of}

@@ -16,7 +16,7 @@ use Rattle.rv32_instr.specs.Ram.{word_at}
 use Rattle.rv32_expand.specs.Expansion.{item_address, expansion}
 use Rattle.rv32_expand.specs.InPlace.{item_mark, last_address}
 use Rattle.observe.specs.Observe.{View, mark_at}
-use Rattle.osek_machine.specs.State.{Frame, System, task}
+use Rattle.osek_scheduler.specs.State.{Frame, System, task}
 use Rattle.sloth_base.specs.Named.{function, operation, label_of, symbol_size}
 use Rattle.sloth_base.specs.MemoryMap.{memory_base}
 use Rattle.sim_relation.specs.Bounds.{AreBelow}

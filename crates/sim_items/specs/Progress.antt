@@ -4,7 +4,7 @@ use Rattle.sloth_base.specs.Machine.{State}
 use Rattle.sloth_region.specs.Layout.{cur}
 use Rattle.rv32_instr.specs.Ram.{word_at}
 use Rattle.rv32_expand.specs.Expansion.{item_address, expansion}
-use Rattle.osek_machine.specs.State.{Frame, System, task}
+use Rattle.osek_scheduler.specs.State.{Frame, System, task}
 use Rattle.sim_relation.specs.Build.{Build}
 
 -- of `count` instructions at an address, how many stand before pc; and 40 where pc is none of them

@@ -1,8 +1,8 @@
 //! Items of task code and the idle loop as events of the abstract scheduler. The instructions of an item stand in
-//! `rv32_expand`, what it means in `osek_machine` (`specs/Meaning`).
+//! `rv32_expand`, what it means in `osek_scheduler` (`specs/Meaning`).
 #![tactic(auto)]
 
-ghost use Rattle.sim_items.specs.Laws.{StraightItemsRun};
+ghost use Rattle.sim_items.specs.ItemSteps.{StraightItemsRun};
 ghost use Rattle.sim_items.specs.Outside.{StraightItemsGoOn, ExpansionsGoOn, FlowingItemsGoOn, CallsBegin, CallsGoOn, ReturnsBegin, ReturnsGoOn, MaskedJumpsGoOn, ServiceJumpsGoOn, IdleGoesOn};
 
 /// The last instruction of an item behind which the next one follows is the item's Run event, with its result.

@@ -23,10 +23,10 @@ use Rattle.rv32_instr.specs.Encode.{Encode}
 use Rattle.rv32_instr.specs.Table.{Decode}
 use Rattle.rv32_instr.specs.Effect.{effect}
 use Rattle.rv32_instr.specs.Ram.{half_at, with_byte, with_half, with_word}
-use Rattle.rv32_instr.specs.Memory.{Memory, memory_of, with_memory, in_ram, refusal, loaded_byte, loaded, stored_byte, stored}
-use Rattle.rv32_instr.specs.Execute.{Next, Going, Stopped, with_register, mstatus_of, csr_value, with_csr, changed, goes_on, jumps, unless_refused, csr_access, perform, execute, execute_word, step, fetched}
+use Rattle.rv32_instr.specs.Memory.{Memory, memory_of, with_memory, in_ram, refusal, loaded_byte, loaded_number, stored_byte, stored_memory}
+use Rattle.rv32_instr.specs.Execute.{Next, Going, Stopped, with_register, mstatus_of, csr_value, with_csr, changed_core, goes_on, jumps, unless_refused, csr_access, perform, execute, execute_word, step, word_at_pc}
 use Rattle.rv32_instr.proofs.Table.{decode_is}
-use Rattle.rv32_routine.proofs.Words.{word_below}
+use Rattle.masked_code.proofs.Words.{word_below}
 use Rattle.rv32_machine.specs.Advance.{Goes, advance, outcome}
 use Rattle.rv32_machine.specs.Run.{moment, arrived}
 use Rattle.sim_induction.specs.Admits.{lines_at}
@@ -71,8 +71,8 @@ half_fits : (ram : List ℕ) (offset : ℕ) → AreBelow 256 ram → half_at ram
 unfolding half_at
 half_fits ram offset h = let a = h offset in let b = h (offset + 1) in omega arith
 
-loaded_fits : (m : Memory) (address : ℕ) (w : Width) → MemoryBounded m → loaded m address w < 4294967296
-unfolding loaded
+loaded_fits : (m : Memory) (address : ℕ) (w : Width) → MemoryBounded m → loaded_number m address w < 4294967296
+unfolding loaded_number
 loaded_fits m address width.Byte h = let a = byte_fits m address h in signed_fits 8 (loaded_byte m address) a (omega arith)
 loaded_fits m address width.Half h = let a = half_fits m.ram (address - 0x8000_0000) h.bytes in signed_fits 16 (half_at m.ram (address - 0x8000_0000)) a (omega arith)
 loaded_fits m address width.Word h = word_below m.ram (address - 0x8000_0000) h.bytes
@@ -117,8 +117,8 @@ stored_byte_fits : (m : Memory) (address value : ℕ) → MemoryBounded m → Me
 stored_byte_fits m address value h =
     pick_memory _ _ _ (ram_fits m _ h (written_below m.ram (address - 0x8000_0000) value h.bytes)) (line_fits m (address - 0x1000_0000) (value % 256) h (omega arith))
 
-stored_fits : (m : Memory) (address : ℕ) (w : Width) (value : ℕ) → MemoryBounded m → MemoryBounded (stored m address w value)
-unfolding stored
+stored_fits : (m : Memory) (address : ℕ) (w : Width) (value : ℕ) → MemoryBounded m → MemoryBounded (stored_memory m address w value)
+unfolding stored_memory
 stored_fits m address width.Byte value h = stored_byte_fits m address value h
 stored_fits m address width.Half value h = ram_fits m _ h (half_below m.ram (address - 0x8000_0000) value h.bytes)
 stored_fits m address width.Word value h = ram_fits m _ h (whole_below m.ram (address - 0x8000_0000) value h.bytes)
@@ -189,7 +189,7 @@ with_csr_fits core csr value h l = by (csr == MSTATUS) (csr == MSCRATCH) (csr ==
     by false false false false true = record { registers = h.registers; scratch = h.scratch; return_address = h.return_address; level = h.level; previous_level = low_fits value; bytes = h.bytes; pending = h.pending; enabled = h.enabled; levels = h.levels }
     by false false false false false = h
 
-changed_fits : (change : Change) (csr old : ℕ) (core : Core) → ChangeFits change → old < 4294967296 → CoreBounded core → CoreBounded (changed change csr old core)
+changed_fits : (change : Change) (csr old : ℕ) (core : Core) → ChangeFits change → old < 4294967296 → CoreBounded core → CoreBounded (changed_core change csr old core)
 changed_fits Keep csr old core c l h = h
 changed_fits (Replace value) csr old core c l h = with_csr_fits core csr value h c
 changed_fits (Set bits) csr old core c l h = with_csr_fits core csr (bit_or old bits) h (or_lt 32 old bits l c)
@@ -261,7 +261,7 @@ step_fits : (state : State) → CoreBounded state.core → NextBounded (step sta
 unfolding step
 step_fits state h =
     pick_next (in_ram state.pc 4) _ _
-    (executed_fits (Decode (fetched state)) (fetched state) state (word_below state.core.ram (state.pc - 0x8000_0000) h.bytes) refl h) tt
+    (executed_fits (Decode (word_at_pc state)) (word_at_pc state) state (word_below state.core.ram (state.pc - 0x8000_0000) h.bytes) refl h) tt
 
 -- ---- arrivals, and lines that are taken
 

@@ -10,12 +10,12 @@ use Rattle.sloth_base.specs.declared.config.TaskDecl.{TaskDecl}
 use Rattle.sloth_base.specs.declared.places.Levels.{Levels}
 use Rattle.sloth_base.specs.declared.service.Service.TheVariants as service
 use Rattle.sloth_base.specs.PriorityLevels.{level_among, level_of}
-use Rattle.app_rules.specs.Code.{serve, is_in}
-use Rattle.app_rules.specs.WellFormed.{held_before}
+use Rattle.code_rules.specs.Code.{serve, is_in}
+use Rattle.code_rules.specs.WellFormed.{held_before}
 use Rattle.prio_levels.specs.Levels.{AreLevels, lists}
-use Rattle.osek_machine.specs.Priority.{greatest, highest, ceiling}
-use Rattle.osek_machine.specs.State.{System, task}
-use Rattle.osek_machine.specs.Steps.{IsAt}
+use Rattle.osek_scheduler.specs.Priority.{greatest, highest_priority, ceiling}
+use Rattle.osek_scheduler.specs.State.{System, task}
+use Rattle.osek_scheduler.specs.Steps.{IsAt}
 use Rattle.osek_valid.specs.Valid.{Valid, held_by}
 use Rattle.osek_valid.proofs.Excluding.{below_ceiling}
 use Rattle.osek_valid.proofs.Facts.{Facts}
@@ -24,7 +24,7 @@ use Rattle.osek_valid.proofs.Stacks.{is_in-append, outer_new, task_reaches}
 use Rattle.sim_relation.specs.Build.{Build}
 use Rattle.sim_relation.proofs.Levels.{level_of-mono}
 use Rattle.sim_entries.proofs.Generated.{highest_level}
-use Rattle.sim_services.specs.Laws.{IsCeilingLevel, MayHaveResource}
+use Rattle.sim_services.specs.ServiceSteps.{IsCeilingLevel, MayHaveResource}
 
 -- ---- levels of the greatest of priorities
 
@@ -77,17 +77,17 @@ ceiling_level b levels are r small p =
     ⊎_elim
     (λ (e : r ≡ 32).
     let top : slice_index levels.ceiling r ≡ length b.config.tasks = ap (λ x. slice_index levels.ceiling x) e ∙ are.ceilings.scheduler in
-    let most : ceiling b.config r ≡ highest b.config = ap (ceiling b.config) e in
+    let most : ceiling b.config r ≡ highest_priority b.config = ap (ceiling b.config) e in
     let all = highest_level b.config in
-    let two = level_max b.config p (highest b.config) in
-    (let g : max (level_of b.config p) (slice_index levels.ceiling r) ≡ level_of b.config (max p (highest b.config)) = omega arith in g)
+    let two = level_max b.config p (highest_priority b.config) in
+    (let g : max (level_of b.config p) (slice_index levels.ceiling r) ≡ level_of b.config (max p (highest_priority b.config)) = omega arith in g)
     ∙ ap (λ c. level_of b.config (max p c)) (sym most))
     (λ (n : r ≡ 32 → ⊥).
     let users : List TaskDecl = filter (λ d. is_in r d.resources) b.config.tasks in
     let listed : slice_index levels.ceiling r ≡ fold max 0 (map (λ d. level_among b.config.tasks d.priority) users) =
     are.ceilings.listed r (omega arith) ∙ ap (λ (l : List TaskDecl). fold max 0 (map (λ d. level_among b.config.tasks d.priority) l)) (same_filter r b.config.tasks) in
     let other : ceiling b.config r ≡ greatest (map (λ d. d.priority) users) =
-    ap (λ (x : Bool). cond x (highest b.config) (greatest (map (λ d. d.priority) users))) (ne_eqb r 32 n) in
+    ap (λ (x : Bool). cond x (highest_priority b.config) (greatest (map (λ d. d.priority) users))) (ne_eqb r 32 n) in
     ap (λ c. max (level_of b.config p) c) listed ∙ level_greatest b.config p users ∙ ap (λ c. level_of b.config (max p c)) (sym other))
     (cases_eq r 32)
 

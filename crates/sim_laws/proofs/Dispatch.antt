@@ -8,16 +8,16 @@ use Rattle.sloth_base.specs.declared.app.Op.TheVariants as op
 use Rattle.sloth_base.specs.Choose.{choose}
 use Rattle.sloth_base.specs.Machine.{State}
 use Rattle.rv32_machine.specs.Run.{arrived}
-use Rattle.rv32_routine.specs.Trace.{Trace, late}
+use Rattle.masked_code.specs.Trace.{Trace, late}
 use Rattle.rv32_expand.specs.Expansion.{expansion}
 use Rattle.sloth_base.specs.Named.{operation, function}
 use Rattle.observe.specs.Observe.{View, view_of_image}
-use Rattle.osek_machine.specs.declared.state.TaskState.TheVariants as mode
-use Rattle.osek_machine.specs.State.{Frame, System, task}
-use Rattle.osek_machine.specs.Priority.{is_in}
+use Rattle.osek_scheduler.specs.declared.state.TaskState.TheVariants as mode
+use Rattle.osek_scheduler.specs.State.{Frame, System, task}
+use Rattle.osek_scheduler.specs.Priority.{is_in}
 use Rattle.sim_induction.specs.Admits.{IsSetting, lines_at, with_admits}
 use Rattle.sim_induction.specs.Advances.{Advances}
-use Rattle.sim_induction.specs.Laws.{StretchLaw}
+use Rattle.sim_induction.specs.PieceLaws.{StretchLaw}
 use Rattle.sim_induction.proofs.Follow.{booted_admits}
 use Rattle.sim_induction.proofs.OutsidePiece.{outside_advances}
 use Rattle.sim_induction.proofs.Schedule.{owned_at}
@@ -42,7 +42,7 @@ use Rattle.sim_items.proofs.Outside.{item_outside, idle_outside}
 use Rattle.sim_items.proofs.Inner.{inner_outside}
 use Rattle.sim_items.proofs.Jump.{jump_outside}
 use Rattle.sim_items.proofs.MaskedJump.{masked_outside}
-use Rattle.sim_services.specs.Opening.{HasBlock, IsFollowed, OpensService}
+use Rattle.sim_services.specs.Opening.{StandsAtBlock, IsFollowed, OpensService}
 use Rattle.sim_services.specs.Stretch.{OpensGoingOn}
 use Rattle.sim_services.proofs.GoingOnStretch.{activates_stretches, chain_stretches, releases_stretches, states_stretches, takes_stretches, tells_stretches}
 use Rattle.sim_services.proofs.ScheduleStretch.{back_stretches, yields_stretches}
@@ -62,9 +62,9 @@ use Rattle.osek_valid.proofs.Held.{falls_inside}
 use Rattle.osek_valid.proofs.Going.{running}
 use Rattle.osek_valid.proofs.Meaning.{there}
 use Rattle.osek_valid.proofs.Stacks.{has_body}
-use Rattle.app_rules.specs.Code.{Pauses, ends_for_good, Ends as EndsTask}
-use Rattle.osek_machine.specs.Services.{is_there}
-use Rattle.osek_machine.specs.Steps.{IsAt}
+use Rattle.code_rules.specs.Code.{Pauses, ends_for_good, Ends as EndsTask}
+use Rattle.osek_scheduler.specs.Services.{is_there}
+use Rattle.osek_scheduler.specs.Steps.{IsAt}
 use Rattle.prio_levels.specs.Levels.{AreLevels}
 use Rattle.rv32_instr.specs.declared.InstrKind.{InstrKind}
 use Rattle.service_blocks.specs.Calls.{ServesCall}
@@ -264,7 +264,7 @@ module _ (b : Build) (image : Image) (kernel : Kernel b image) where
             abbrev object : ℕ
             object = a.call.object
 
-            abbrev opens : (served : Service) (Contract : ℕ → List InstrKind → Type 0) → a.call.service ≡ served → HasBlock b view served object (Contract object)
+            abbrev opens : (served : Service) (Contract : ℕ → List InstrKind → Type 0) → a.call.service ≡ served → StandsAtBlock b view served object (Contract object)
                 → OpensService b view n s1 t served Contract
             opens served Contract is block = record {
               none = none;
@@ -313,7 +313,7 @@ module _ (b : Build) (image : Image) (kernel : Kernel b image) where
                 record { more = more; adjacent = (kernel.items p.frame.func p.frame.item p.inside).adjacent more }
 
             abbrev opens_on : (served : Service) (Contract : ℕ → List InstrKind → Type 0) → a.call.service ≡ served → ends_for_good served ≡ false
-                → HasBlock b view served object (Contract object) → OpensGoingOn b view n s1 t served Contract
+                → StandsAtBlock b view served object (Contract object) → OpensGoingOn b view n s1 t served Contract
             opens_on served Contract is goes block = record {
               opens = opens served Contract is block;
               followed = followed (ap ends_for_good is ∙ goes);
@@ -321,7 +321,7 @@ module _ (b : Build) (image : Image) (kernel : Kernel b image) where
             }
 
             served : (levels : Levels) → AreLevels b.config levels → (called : Service) → a.call.service ≡ called
-                → HasBlock b view called object (ServesCall called object levels) → Goes
+                → StandsAtBlock b view called object (ServesCall called object levels) → Goes
             served levels are service.TerminateTask is block =
                 stretch (terminate_stretches b view arrivals count state s t kernel.fits setting after_boot stands (record {
                   opens = opens service.TerminateTask (λ o. Terminates) is block;
@@ -387,7 +387,7 @@ module _ (b : Build) (image : Image) (kernel : Kernel b image) where
               let same : op.Serve h.call ≡ op.Serve a.call = sym h.is ∙ a.is in
               let call : h.call ≡ a.call = cc in
               served a h.levels h.are_levels a.call.service refl
-              (subst (λ (c : Call). HasBlock b view c.service c.object (ServesCall c.service c.object h.levels)) call h.block)
+              (subst (λ (c : Call). StandsAtBlock b view c.service c.object (ServesCall c.service c.object h.levels)) call h.block)
 
           standing : Goes
           standing = ⊎_elim (λ (e : InExpansion b (task s1 t) p.frame (thread_of n)). in_item e known) (λ (a : AtBlock b p.frame (thread_of n)). at_block a known) q.here

@@ -9,8 +9,8 @@ use Rattle.rv32_instr.specs.declared.InstrKind.TheVariants.{Jal, Mret}
 use Rattle.sloth_base.specs.Arithmetic.{plus}
 use Rattle.rv32_instr.specs.Ram.{word_at}
 use Rattle.rv32_instr.specs.Table.{Decode}
-use Rattle.rv32_routine.specs.Place.{InPlace}
-use Rattle.osek_machine.specs.State.{undeclared}
+use Rattle.masked_code.specs.Place.{InPlace}
+use Rattle.osek_scheduler.specs.State.{undeclared}
 use Rattle.vector_gen.specs.Boot.{Boots}
 use Rattle.vector_gen.specs.Vectors.{AreJumps}
 use Rattle.prologue_gen.specs.Fresh.{vector}

@@ -12,10 +12,10 @@ use Rattle.sloth_base.specs.declared.app.Op.{Op}
 use Rattle.sloth_base.specs.declared.app.Op.TheVariants as op
 use Rattle.sloth_base.specs.declared.app.Width.{Width}
 use Rattle.sloth_base.specs.declared.refusal.Code.TheVariants as code
-use Rattle.app_rules.specs.AppRange.{IsRegister, IsShort, IsNumberOf, IsOp}
-use Rattle.app_rules.specs.Code.{IsItem, falls}
-use Rattle.app_rules.specs.WellFormed as rule
-use Rattle.app_rules.specs.WellFormed.{WellFormed, at_item}
+use Rattle.code_rules.specs.AppRange.{IsRegister, IsShort, IsNumberOf, IsOp}
+use Rattle.code_rules.specs.Code.{IsItem, is_followed}
+use Rattle.code_rules.specs.WellFormed as rule
+use Rattle.code_rules.specs.WellFormed.{WellFormed, at_item}
 use Rattle.rv32_instr.specs.Range.{Signed}
 use Rattle.observe.specs.Observe.{View}
 use Rattle.osek_valid.proofs.Facts.{Facts, facts}
@@ -68,10 +68,10 @@ module _ (b : Build) (view : View) (func item : ℕ) (w : WellFormed b.config b.
     masked : ¬ (rule.MasksPast b.app o)
     masked h = w.no_fault _ (func, known, at_item item code.V4 inside (rule.masks_past (subst (rule.MasksPast b.app) (sym is) h)))
 
-    more : falls o ≡ true → item + 1 < length (function b.app func).items
+    more : is_followed o ≡ true → item + 1 < length (function b.app func).items
     more = falls_inside b.config b.app rules func item o at
 
-    straight : IsStraight b.app func o → falls o ≡ true → IsKnown b view func item
+    straight : IsStraight b.app func o → is_followed o ≡ true → IsKnown b view func item
     straight h e = computes (record { straight = subst (IsStraight b.app func) (sym is) h; more = more e })
 
     flow : IsFlow b.app func item o → IsKnown b view func item

@@ -5,7 +5,7 @@ pub mod Masks
 pub mod Meeting
 pub mod Nesting
 pub mod Dispatch
-pub mod Whole
+pub mod KernelRuns
 pub mod Generated
 pub mod Items
 pub mod Known

@@ -10,11 +10,11 @@ use Rattle.sloth_base.specs.declared.app.Op.TheVariants as op
 use Rattle.sloth_base.specs.declared.config.Config.{Config}
 use Rattle.sloth_base.specs.declared.service.Service.{Service}
 use Rattle.sloth_base.specs.ServiceCodes.{has_mask}
-use Rattle.app_rules.specs.AppRange.{AreOperands, AreEvents, IsMask, no_event}
-use Rattle.app_rules.specs.AppRange as ranges
-use Rattle.app_rules.specs.Code.{IsItem}
+use Rattle.code_rules.specs.AppRange.{AreOperands, AreEvents, IsMask, no_event}
+use Rattle.code_rules.specs.AppRange as ranges
+use Rattle.code_rules.specs.Code.{IsItem}
 use Rattle.rv32_instr.specs.declared.InstrKind.{InstrKind}
-use Rattle.rv32_expand.specs.Expansion.{item_address, mask_of, number_in, is_long, expanded, expansion}
+use Rattle.rv32_expand.specs.Expansion.{item_address, mask_of, number_in, is_long, operation_code, expansion}
 use Rattle.rv32_expand.proofs.Counts.{served_length}
 use Rattle.observe.specs.Observe.{View}
 use Rattle.osek_valid.proofs.Facts.{Facts}
@@ -61,7 +61,7 @@ module _ (b : Build) (view : View) (func item : ℕ) (h : CallsService b view fu
 
   size_is : (mask : List InstrKind) → mask_of h.call.service h.call.mask ≡ mask → size ≡ length mask + 1
   size_is mask e =
-      ap (λ o. length (expanded b.app b.places func address (is_long b.places func item) o)) h.is
+      ap (λ o. length (operation_code b.app b.places func address (is_long b.places func item) o)) h.is
       ∙ served_length b.places h.call address ∙ ap (λ (m : List InstrKind). length m + 1) e
 
   apart : (n : ℕ) → size ≡ n → (0x8000_0000 + h.block.offset < address) ⊎ (address + 4 * n ≤ 0x8000_0000 + h.block.offset)

@@ -4,9 +4,9 @@ use Rattle.sloth_base.specs.Choose.{choose}
 use Rattle.sloth_base.specs.Machine.{State}
 use Rattle.stack_bounds.specs.Bounds.{MayMeet}
 use Rattle.stack_bounds.specs.Bounds.MayMeet.{meets_waiting, is_over}
-use Rattle.osek_machine.specs.declared.state.TaskState.{TaskState}
-use Rattle.osek_machine.specs.declared.state.TaskState.TheVariants as mode
-use Rattle.osek_machine.specs.State.{System, task, declaration}
+use Rattle.osek_scheduler.specs.declared.state.TaskState.{TaskState}
+use Rattle.osek_scheduler.specs.declared.state.TaskState.TheVariants as mode
+use Rattle.osek_scheduler.specs.State.{System, task, declaration}
 use Rattle.osek_valid.specs.Valid.{Valid, InState}
 use Rattle.osek_valid.specs.Together.{OwesBySchedule}
 use Rattle.osek_valid.proofs.Apart.{at_least_static}

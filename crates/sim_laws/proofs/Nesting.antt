@@ -1,6 +1,6 @@
 -- The parts of the Active basic tasks lie one below the other, as the tasks were entered.
 use Rattle.std.proofs.Common.{ℕ, ◌<◌, List, [], ◌∷◌, arith}
-use Rattle.osek_machine.specs.State.{System, task}
+use Rattle.osek_scheduler.specs.State.{System, task}
 use Rattle.osek_valid.specs.Valid.{Valid}
 use Rattle.osek_valid.specs.Together.{OwesBySchedule}
 use Rattle.osek_valid.proofs.Apart.{at_least_static}

@@ -11,7 +11,7 @@ use Rattle.rv32_instr.specs.declared.effect.Effect.{Effect}
 use Rattle.rv32_instr.specs.declared.effect.Effect.TheVariants.{Nothing, Write, Branch, Jump, Load, Store, Csr, Environment, Return}
 use Rattle.rv32_instr.specs.declared.InstrKind.{InstrKind}
 use Rattle.rv32_instr.specs.declared.InstrKind.TheVariants.{Lui, Auipc, Jal, Jalr, Beq, Bne, Blt, Bge, Bltu, Bgeu, Lb, Lh, Lw, Lbu, Lhu, Sb, Sh, Sw, Addi, Slti, Sltiu, Xori, Ori, Andi, Slli, Srli, Srai, Add, Sub, Sll, Slt, Sltu, Xor, Srl, Sra, Or, And, Fence, Csrrw, Csrrs, Csrrc, Csrrwi, Csrrsi, Csrrci, Ecall, Ebreak, Mret}
-use Rattle.sloth_base.specs.Arithmetic.{signed, complement, one_if, halved}
+use Rattle.sloth_base.specs.Arithmetic.{signed, complement, one_if, halved_number}
 use Rattle.rv32_instr.specs.Range.{Signed, InRange}
 use Rattle.rv32_instr.specs.Effect.{effect}
 use Rattle.rv32_instr.proofs.Words.{signed_pos, signed_neg}
@@ -52,7 +52,7 @@ div_fits a d h = let g = div-le_self a d in omega arith
 pub and_fits : (a b : ℕ) → a < 4294967296 → bit_and a b < 4294967296
 and_fits a b h = let g = and_le_l a b in omega arith
 
-halved_fits : (z : ℤ) (count : ℕ) → complement z < 4294967296 → complement (halved z count) < 4294967296
+halved_fits : (z : ℤ) (count : ℕ) → complement z < 4294967296 → complement (halved_number z count) < 4294967296
 halved_fits (pos a) count h = div_fits a (2 ^ count) h
 halved_fits (negsuc a) count h = negative_fits (a / 2 ^ count)
 

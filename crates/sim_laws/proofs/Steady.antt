@@ -1,7 +1,7 @@
 -- With well-formed task code each event keeps a system valid; what follows from that for the routines.
 use Rattle.std.proofs.Common.{◌≡◌, ℕ, ◌<◌, List, [], ◌++◌, length, refl, sym, ap, ◌∙◌, subst, true, false, inl, inr}
 use Rattle.std.specs.Prelude.{Bool, ◌-◌, ◌⊎◌, get_or, not, ◌&&◌}
-use Rattle.app_rules.specs.Code.{Ends, Pauses}
+use Rattle.code_rules.specs.Code.{Ends, Pauses}
 use Rattle.std.proofs.Math.ListN.{get_or-map}
 use Rattle.std.proofs.Math.Bool.{and-true}
 use Rattle.sloth_base.specs.declared.config.Config.{Config}
@@ -11,11 +11,11 @@ use Rattle.sloth_base.specs.declared.app.Op.TheVariants as op
 use Rattle.sloth_base.specs.declared.app.Symbol.{Symbol}
 use Rattle.sloth_base.specs.declared.event.Event.{Event}
 use Rattle.sloth_base.specs.Named.{no_symbol}
-use Rattle.app_rules.specs.WellFormed.{WellFormed, held_before}
-use Rattle.osek_machine.specs.declared.state.TaskState.TheVariants as mode
-use Rattle.osek_machine.specs.State.{Frame, System, task, declaration, opening}
-use Rattle.osek_machine.specs.Services.{starts}
-use Rattle.osek_machine.specs.Steps.{IsAt, OsekStep}
+use Rattle.code_rules.specs.WellFormed.{WellFormed, held_before}
+use Rattle.osek_scheduler.specs.declared.state.TaskState.TheVariants as mode
+use Rattle.osek_scheduler.specs.State.{Frame, System, task, declaration, opening}
+use Rattle.osek_scheduler.specs.Services.{started_task}
+use Rattle.osek_scheduler.specs.Steps.{IsAt, OsekStep}
 use Rattle.osek_valid.specs.Valid.{Valid, InState, held_by}
 use Rattle.osek_valid.proofs.Apart.{step_apart, opening_apart}
 use Rattle.osek_valid.proofs.Facts.{Facts, facts}

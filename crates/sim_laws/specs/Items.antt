@@ -8,7 +8,7 @@ use Rattle.rv32_instr.specs.Range.{InRange}
 use Rattle.rv32_expand.specs.Expansion.{item_address, expansion}
 use Rattle.sloth_base.specs.Named.{operation}
 use Rattle.rv32_expand.specs.InPlace.{IsItem, ItemsInPlace}
-use Rattle.app_rules.specs.WellFormed.{WellFormed}
+use Rattle.code_rules.specs.WellFormed.{WellFormed}
 use Rattle.observe.specs.Observe.{View, mark_at, view_of_image}
 use Rattle.sloth_base.specs.ImageRange.{AreAscending}
 use Rattle.sloth_base.specs.MemoryMap.{memory_base}

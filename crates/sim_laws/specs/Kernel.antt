@@ -7,7 +7,7 @@ use Rattle.sloth_base.specs.declared.service.Service.TheVariants as service
 use Rattle.sloth_base.specs.declared.places.Levels.{Levels}
 use Rattle.sloth_base.specs.Named.{operation, function}
 use Rattle.sloth_base.specs.MemoryMap.{memory_base}
-use Rattle.app_rules.specs.WellFormed.{WellFormed}
+use Rattle.code_rules.specs.WellFormed.{WellFormed}
 use Rattle.stack_bounds.specs.Bounds.{MayMeet}
 use Rattle.sim_laws.specs.Nested.{HasNestedParts}
 use Rattle.prio_levels.specs.Levels.{AreLevels}
@@ -22,7 +22,7 @@ use Rattle.sim_entries.specs.Boot.{IsImage}
 use Rattle.sim_entries.specs.Codes.{BootStands, PrologueStands}
 use Rattle.sim_items.specs.Place.{ItemStands, IsStraight, IsFlow}
 use Rattle.sim_items.specs.Outside.{HasIdle}
-use Rattle.sim_services.specs.Opening.{HasBlock}
+use Rattle.sim_services.specs.Opening.{StandsAtBlock}
 pub use Rattle.sim_services.specs.Stretch.{HasWayBack}
 
 -- an item computes on registers, frame words and data, and isn't the last one of its function
@@ -49,7 +49,7 @@ pub record CallsService (b : Build) (view : View) (func item : ℕ) : Type 0 whe
   pub is : operation b.app func item ≡ op.Serve call
   pub levels : Levels
   pub are_levels : AreLevels b.config levels
-  pub block : HasBlock b view call.service call.object (ServesCall call.service call.object levels)
+  pub block : StandsAtBlock b view call.service call.object (ServesCall call.service call.object levels)
   pub in_ram : block.offset < 0x20_0000
   pub apart : (memory_base + block.offset < item_address b.places func item)
       ⊎ (item_address b.places func item + 4 * length (expansion b.app b.places func item) ≤ memory_base + block.offset)

@@ -7,8 +7,8 @@ use Rattle.sloth_base.specs.Arrivals.{AreArrivals}
 use Rattle.sloth_base.specs.Machine.{State}
 use Rattle.rv32_machine.specs.Start.{start}
 use Rattle.rv32_machine.specs.Run.{state_after, arrived}
-use Rattle.osek_machine.specs.State.{System, opening}
-use Rattle.osek_machine.specs.Runs.{Leads}
+use Rattle.osek_scheduler.specs.State.{System, opening}
+use Rattle.osek_scheduler.specs.Runs.{Leads}
 use Rattle.sim_induction.specs.Sound.{events_of, stands_before}
 use Rattle.sim_relation.specs.Build.{Build}
 use Rattle.sim_relation.specs.Stands.{Stands}

@@ -2,9 +2,9 @@
 use Rattle.sloth_base.specs.declared.config.Config.{Config}
 use Rattle.sloth_base.specs.declared.app.App.{App}
 use Rattle.sloth_base.specs.declared.event.Event.{Event}
-use Rattle.app_rules.specs.WellFormed.{WellFormed}
-use Rattle.osek_machine.specs.State.{System}
-use Rattle.osek_machine.specs.Steps.{OsekStep}
+use Rattle.code_rules.specs.WellFormed.{WellFormed}
+use Rattle.osek_scheduler.specs.State.{System}
+use Rattle.osek_scheduler.specs.Steps.{OsekStep}
 use Rattle.osek_valid.specs.Valid.{Valid}
 use Rattle.osek_valid.specs.Apart.{Apart}
 use Rattle.osek_valid.specs.Together.{OwesBySchedule}

@@ -6,18 +6,18 @@ use Rattle.sloth_base.specs.Machine.{State}
 use Rattle.sloth_base.specs.Arrive.{state_arrive}
 use Rattle.sloth_base.specs.Owners.{owners_in, AreOwned}
 use Rattle.sloth_base.proofs.Owners.{owned_task}
-use Rattle.osek_machine.specs.declared.state.TaskState.{TaskState}
-use Rattle.osek_machine.specs.declared.state.TaskState.TheVariants as mode
-use Rattle.osek_machine.specs.State.{Task, System, sleeping, task, with_task}
-use Rattle.osek_machine.specs.Priority.{is_in, is_active}
-use Rattle.osek_machine.specs.Services.{if_suspended, activated}
-use Rattle.osek_machine.specs.Steps.{admitted}
+use Rattle.osek_scheduler.specs.declared.state.TaskState.{TaskState}
+use Rattle.osek_scheduler.specs.declared.state.TaskState.TheVariants as mode
+use Rattle.osek_scheduler.specs.State.{Task, System, sleeping_task, task, with_task}
+use Rattle.osek_scheduler.specs.Priority.{is_in, is_active}
+use Rattle.osek_scheduler.specs.Services.{if_suspended, activated_state}
+use Rattle.osek_scheduler.specs.Steps.{admitted_state}
 use Rattle.sim_induction.specs.Admits.{with_admits}
 use Rattle.sim_relation.specs.Build.{Build}
 use Rattle.sim_relation.specs.ServiceWords.{ServiceWords, active_word}
 use Rattle.sim_relation.specs.Stands.{Stands, IsLineOf, IsAlive, TidyTask}
 use Rattle.sim_relation.proofs.Tops.{falling_active}
-use Rattle.sim_relation.specs.Moves.{changed, WholeMachine}
+use Rattle.sim_relation.specs.Moves.{changed_system, WholeMachine}
 use Rattle.sim_relation.proofs.Parts.{other_task, by_task, falling_kept, running_tasks, rests, anew}
 use Rattle.sim_relation.proofs.Rebuilt.{among, rebuilt}
 
@@ -74,7 +74,7 @@ module _ (b : Build) (state : State) (s : System) (l : ℕ) (k : Stands b state 
       (in_stack : (u : ℕ) → is_in u k.stack ≡ true → task (with_task s l own) u ≡ task s u)
       (was_active : own.state ≡ mode.Active → (task s l).state ≡ mode.Active) (was_alive : IsAlive own → IsAlive (task s l)) where
     abbrev next : System
-    next = changed s l own s.symbols fresh
+    next = changed_system s l own s.symbols fresh
 
     raised : Stands b now next
     raised = rebuilt b state now s k l own s.symbols fresh k.stack
@@ -102,10 +102,10 @@ module _ (b : Build) (state : State) (s : System) (l : ℕ) (k : Stands b state 
   -- a task that is not Suspended: nothing but its pending byte
   lost : ((task s l).state ≡ mode.Suspended → ⊥) → Stands b now s
   lost n =
-      let same : set s.tasks l (task s l) ≡ s.tasks = set-get_or s.tasks l sleeping in
+      let same : set s.tasks l (task s l) ≡ s.tasks = set-get_or s.tasks l sleeping_task in
       subst (λ (ts : List Task). Stands b now (record s { tasks = ts })) same
       (raised (task s l) s.fresh (more_pending (task s l).state (slice_index state.core.pending l) (slice_index state.core.enabled l) n (k.lines.each l inside))
-      (k.words l inside) (k.tidy.each l inside) (λ u h. ap (λ (ts : List Task). get_or ts u sleeping) same) (λ a. a) (λ a. a))
+      (k.words l inside) (k.tidy.each l inside) (λ u h. ap (λ (ts : List Task). get_or ts u sleeping_task) same) (λ a. a) (λ a. a))
 
   -- a Suspended task becomes Ready
   module _ (e : (task s l).state ≡ mode.Suspended) where
@@ -138,18 +138,18 @@ module _ (b : Build) (state : State) (s : System) (l : ℕ) (k : Stands b state 
         let y = k.tidy.each l inside in
         record { registers = y.registers; at_rest = λ _. y.at_rest (ap is_active e); asleep = λ a. cc; few = y.few }
 
-    woken : Stands b now (admitted l s)
-    woken = subst (λ z. Stands b now z) (sym (ap (λ x. if_suspended x (record (activated s l) { fresh = l ∷ s.fresh }) s) e))
+    woken : Stands b now (admitted_state l s)
+    woken = subst (λ z. Stands b now z) (sym (ap (λ x. if_suspended x (record (activated_state s l) { fresh = l ∷ s.fresh }) s) e))
         (raised as_ready (l ∷ s.fresh) (line_ready (task s l).state (slice_index state.core.pending l) (slice_index state.core.enabled l) e (k.lines.each l inside))
         ready_words ready_tidy in_stack (λ a. absurd cc)
         (λ a. ⊎_elim (λ (x : mode.Ready ≡ mode.Active). absurd cc) (λ (x : (task s l).frames ≢ []). inr x) a))
 
-  pub arrived_one : Stands b now (admitted l s)
+  pub arrived_one : Stands b now (admitted_state l s)
   arrived_one =
       ⊎_elim
       woken
       (λ (n : (task s l).state ≡ mode.Suspended → ⊥).
-      subst (λ z. Stands b now z) (sym (not_suspended (task s l).state (record (activated s l) { fresh = l ∷ s.fresh }) s n)) (lost n))
+      subst (λ z. Stands b now z) (sym (not_suspended (task s l).state (record (activated_state s l) { fresh = l ∷ s.fresh }) s n)) (lost n))
       (is_suspended (task s l).state)
 
 -- Arrivals at a count that finds MIE 1 are the admits of their tasks.
@@ -157,7 +157,7 @@ pub stands_arrived : (b : Build) (lines : List ℕ) (state : State) (s : System)
     → Stands b state s → Stands b (state_arrive lines state) (with_admits lines s)
 stands_arrived b [] state s few h k = k
 stands_arrived b (l ∷ lines) state s few h k =
-    stands_arrived b lines (state_arrive (l ∷ []) state) (admitted l s) few h.1 (arrived_one b state s l k (owned_task (owners_in b.config) l h.0) few)
+    stands_arrived b lines (state_arrive (l ∷ []) state) (admitted_state l s) few h.1 (arrived_one b state s l k (owned_task (owners_in b.config) l h.0) few)
 
 -- nothing here speaks of `fresh`
 pub stands_fresh : (b : Build) (state : State) (s : System) (fresh : List ℕ) → Stands b state s → Stands b state (record s { fresh = fresh })

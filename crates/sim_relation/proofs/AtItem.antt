@@ -5,7 +5,7 @@ use Rattle.rv32_instr.specs.Ram.{word_at}
 use Rattle.rv32_expand.specs.Expansion.{item_address, is_long}
 use Rattle.rv32_expand.proofs.Counts.{expanded_some}
 use Rattle.sloth_base.specs.Named.{operation, function}
-use Rattle.osek_machine.specs.State.{Frame, Task}
+use Rattle.osek_scheduler.specs.State.{Frame, Task}
 use Rattle.sim_relation.specs.Build.{Build}
 use Rattle.sim_relation.specs.Position.{Thread, FramesAt, InExpansion, Position}
 use Rattle.sim_relation.specs.Context.{Context, Rested}

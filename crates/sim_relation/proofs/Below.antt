@@ -4,8 +4,8 @@ use Rattle.sloth_base.specs.Machine.{State}
 use Rattle.sloth_region.specs.Layout.{idle_context, context_bytes}
 use Rattle.rv32_instr.specs.Ram.{word_at}
 use Rattle.rv32_expand.specs.Expansion.{item_address}
-use Rattle.rv32_routine.specs.Kernel.{IsBelow}
-use Rattle.osek_machine.specs.State.{Task, System, task}
+use Rattle.masked_code.specs.Kernel.{IsBelow}
+use Rattle.osek_scheduler.specs.State.{Task, System, task}
 use Rattle.sim_induction.specs.Mirror.{priority_of}
 use Rattle.sim_relation.specs.Build.{Build, Fits}
 use Rattle.sim_relation.specs.Position.{Thread, thread_at, FramesAt, InExpansion, AtBlock, Position}

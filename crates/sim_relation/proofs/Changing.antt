@@ -5,12 +5,12 @@ use Rattle.sloth_base.specs.Machine.{State}
 use Rattle.sloth_base.specs.declared.config.Config.{Config}
 use Rattle.sloth_base.specs.declared.config.TaskDecl.{TaskDecl}
 use Rattle.sloth_base.specs.PriorityLevels.{level_of}
-use Rattle.sloth_region.specs.Layout.{cur, below_word, active, events, wait, resume, saved, idle_context, context_bytes}
+use Rattle.sloth_region.specs.Layout.{cur, below_word, active, events, wait, resume, saved_level, idle_context, context_bytes}
 use Rattle.rv32_instr.specs.Ram.{word_at}
-use Rattle.osek_machine.specs.declared.state.TaskState.{TaskState}
-use Rattle.osek_machine.specs.declared.state.TaskState.TheVariants as mode
-use Rattle.osek_machine.specs.State.{Frame, Task, System, task, declaration}
-use Rattle.osek_machine.specs.Priority.{is_in, is_active, current_priority}
+use Rattle.osek_scheduler.specs.declared.state.TaskState.{TaskState}
+use Rattle.osek_scheduler.specs.declared.state.TaskState.TheVariants as mode
+use Rattle.osek_scheduler.specs.State.{Frame, Task, System, task, declaration}
+use Rattle.osek_scheduler.specs.Priority.{is_in, is_active, current_priority}
 use Rattle.sim_relation.specs.Build.{Build, Fits}
 use Rattle.sim_relation.specs.Position.{Thread, thread_of, thread_at}
 use Rattle.sim_relation.specs.Context.{Context, Saved, Chain, Running, Resumes}
@@ -155,11 +155,11 @@ module _ (b : Build) (old now : State) (s : System) (k : Stands b old s) (fits :
   in_stack : (u : ℕ) → is_in u k.stack ≡ true → u < length b.config.tasks
   in_stack u h = (falling_active b s k.stack k.active.falling u h).declared
 
-  held_word : (u : ℕ) → u < length b.config.tasks → (r : ℕ) → is_in r (task s u).held ≡ true → word_at now.core.ram (saved r) ≡ word_at old.core.ram (saved r)
+  held_word : (u : ℕ) → u < length b.config.tasks → (r : ℕ) → is_in r (task s u).held ≡ true → word_at now.core.ram (saved_level r) ≡ word_at old.core.ram (saved_level r)
   held_word u h r a =
       let g = few in
       let l = (k.tidy.each u h).few r a in
-      change.named (saved r) (omega arith) (omega arith) (λ c. omega arith)
+      change.named (saved_level r) (omega arith) (omega arith) (λ c. omega arith)
 
   part : (u : ℕ) → u < length b.config.tasks → Agree old.core.ram now.core.ram (b.low u) (b.top u)
   part u h i x y = change.high i (let f = fits.from u h in omega arith)

@@ -6,10 +6,10 @@ use Rattle.sloth_base.specs.Machine.{Core, State}
 use Rattle.sloth_base.specs.Lines.{lines_of}
 use Rattle.sloth_base.specs.Choose.{MayTake, IsChosen, choose_line, choose}
 use Rattle.sloth_base.proofs.Choosing.{choose_line-is}
-use Rattle.osek_machine.specs.declared.state.TaskState.{TaskState}
-use Rattle.osek_machine.specs.declared.state.TaskState.TheVariants as mode
-use Rattle.osek_machine.specs.State.{System, task, declaration}
-use Rattle.osek_machine.specs.Priority.{is_in, IsDue, IsTop}
+use Rattle.osek_scheduler.specs.declared.state.TaskState.{TaskState}
+use Rattle.osek_scheduler.specs.declared.state.TaskState.TheVariants as mode
+use Rattle.osek_scheduler.specs.State.{System, task, declaration}
+use Rattle.osek_scheduler.specs.Priority.{is_in, IsDue, IsTop}
 use Rattle.sim_induction.specs.Mirror.{priority_of}
 use Rattle.sloth_base.specs.PriorityLevels.{level_of}
 use Rattle.sloth_base.specs.Owners.{owners_in, IsOwned}

@@ -7,11 +7,11 @@ use Rattle.sloth_base.specs.Machine.{State}
 use Rattle.sloth_base.specs.Choose.{choose}
 use Rattle.sloth_region.specs.Layout.{events, wait, idle_context}
 use Rattle.rv32_instr.specs.Ram.{word_at}
-use Rattle.osek_machine.specs.declared.state.TaskState.{TaskState}
-use Rattle.osek_machine.specs.declared.state.TaskState.TheVariants as mode
-use Rattle.osek_machine.specs.State.{Task, System, task, with_task, declaration}
-use Rattle.osek_machine.specs.Priority.{is_in, is_active, highest, current_priority}
-use Rattle.osek_machine.specs.Steps.{settled}
+use Rattle.osek_scheduler.specs.declared.state.TaskState.{TaskState}
+use Rattle.osek_scheduler.specs.declared.state.TaskState.TheVariants as mode
+use Rattle.osek_scheduler.specs.State.{Task, System, task, with_task, declaration}
+use Rattle.osek_scheduler.specs.Priority.{is_in, is_active, highest_priority, current_priority}
+use Rattle.osek_scheduler.specs.Steps.{settled_state}
 use Rattle.sloth_base.specs.PriorityLevels.{level_of}
 use Rattle.sim_relation.specs.Build.{Build, Fits, IsElsewhere}
 use Rattle.sim_relation.specs.Position.{thread_of, thread_at}
@@ -51,7 +51,7 @@ module _ (b : Build) (old now : State) (s : System) (k : Stands b old s) (fits :
   few30 = let g = fits.few_tasks in let l = declared in omega arith
 
   abbrev next : System
-  next = settled (with_task s t own)
+  next = settled_state (with_task s t own)
 
   here_now : t < length s.tasks
   here_now = among b old s t k declared
@@ -197,7 +197,7 @@ module _ (b : Build) (old now : State) (s : System) (k : Stands b old s) (fits :
         event_mask = entry.ram.named (events t) (omega arith) (omega arith) (omega arith) (λ a. omega arith) (λ a. omega arith) (λ a. omega arith) ∙ v.event_mask ∙ sym entry.events;
         wait_mask = subst (λ a. IsWaitWord a (word_at new_ram (wait t))) (sym entry.state) tt;
         resumption = resumes_active b new_ram t own (is_active own.state) own.frames (ap is_active entry.state) entry.ram.resumption;
-        held = subst (λ x. HeldWords b new_ram (max (declaration b.config t).priority (cond own.raised (highest b.config) 0)) x) (sym (entry.held ∙ held_nil)) tt;
+        held = subst (λ x. HeldWords b new_ram (max (declaration b.config t).priority (cond own.raised (highest_priority b.config) 0)) x) (sym (entry.held ∙ held_nil)) tt;
       }
 
   tidy : TidyTask own

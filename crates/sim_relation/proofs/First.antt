@@ -2,9 +2,9 @@
 use Rattle.std.proofs.Common.{◌≡◌, ℕ, List, [], ◌∷◌, refl, ap, ◌∙◌, subst}
 use Rattle.std.proofs.lemmas.Bool.{false≢true}
 use Rattle.sloth_base.specs.Machine.{State}
-use Rattle.rv32_routine.specs.Kernel.{IsBelow}
-use Rattle.osek_machine.specs.State.{Task, System, with_task}
-use Rattle.osek_machine.specs.Steps.{settled}
+use Rattle.masked_code.specs.Kernel.{IsBelow}
+use Rattle.osek_scheduler.specs.State.{Task, System, with_task}
+use Rattle.osek_scheduler.specs.Steps.{settled_state}
 use Rattle.sim_induction.specs.Mirror.{Runs}
 use Rattle.sim_relation.specs.Build.{Build, Fits}
 use Rattle.sim_relation.specs.Context.{Running, RunsTask}
@@ -32,7 +32,7 @@ module _ (b : Build) (state : State) (s : System) (t : ℕ) (fits : Fits b) (k :
   pub moves_keep : (now : State) (own : Task) (symbols : List (List ℕ)) → TaskMove b state now s t own symbols → Stands b now (moved_to s t own symbols)
   moves_keep now own symbols step = task_moves b state now s k t first_of.0 first_of.1 own symbols step
 
-  pub leaves_keep : (now : State) (own : Task) (place : ℕ) → TaskLeave b state now s t own place → Stands b now (settled (with_task s t own))
+  pub leaves_keep : (now : State) (own : Task) (place : ℕ) → TaskLeave b state now s t own place → Stands b now (settled_state (with_task s t own))
   leaves_keep now own place leave = leave_stands b state now s k fits t first_of.0 first_of.1 own place leave
 
   pub runs_task : RunsTask b state s t first_of.0

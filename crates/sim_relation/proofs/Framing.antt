@@ -4,10 +4,10 @@ use Rattle.std.specs.Prelude.{◌⊎◌}
 use Rattle.sloth_base.specs.declared.app.Op.{Op}
 use Rattle.sloth_base.specs.declared.app.Op.TheVariants as op
 use Rattle.rv32_instr.specs.Ram.{word_at}
-use Rattle.rv32_routine.proofs.Words.{word_at-agree}
+use Rattle.masked_code.proofs.Words.{word_at-agree}
 use Rattle.rv32_expand.specs.Expansion.{item_address}
 use Rattle.sloth_base.specs.Named.{operation, function}
-use Rattle.osek_machine.specs.State.{Frame, Task}
+use Rattle.osek_scheduler.specs.State.{Frame, Task}
 use Rattle.sim_relation.specs.Build.{Build}
 use Rattle.sim_relation.specs.Position.{Thread, AreWords, OuterAt, FramesAt, HasIndexed, HasFarIndexed, HasAddress, HasTarget, HasScratch, InExpansion, AtBlock, Standing, Owing, Calling, Returning, Position}
 use Rattle.sim_relation.specs.Framing.{Agree, SamePlace}

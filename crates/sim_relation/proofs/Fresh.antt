@@ -3,8 +3,8 @@ use Rattle.std.proofs.Common.{◌≡◌, ℕ, zero, suc, ◌<◌, ◌≤◌, Lis
 use Rattle.std.specs.Prelude.{map}
 use Rattle.sloth_base.specs.declared.config.Config.{Config}
 use Rattle.sloth_base.specs.declared.config.TaskDecl.{TaskDecl}
-use Rattle.osek_machine.specs.State.{Task, System, declaration, undeclared}
-use Rattle.osek_machine.specs.Priority.{is_in, greatest, highest, ceiling, current_priority}
+use Rattle.osek_scheduler.specs.State.{Task, System, declaration, undeclared}
+use Rattle.osek_scheduler.specs.Priority.{is_in, greatest, highest_priority, ceiling, current_priority}
 use Rattle.sim_induction.specs.Mirror.{priority_of}
 use Rattle.sim_relation.specs.Build.{Build}
 use Rattle.sim_relation.specs.Stands.{IsActive, Falling}
@@ -21,12 +21,12 @@ by_scheduling p h l false = omega arith
 
 -- a task that holds nothing, with its internal resource where its scheduling is NON
 pub start_priority : (config : Config) (t : ℕ) (own : Task) → own.held ≡ [] → own.raised ≡ (declaration config t).non
-    → current_priority config (declaration config t) own ≡ cond (declaration config t).non (highest config) (declaration config t).priority
+    → current_priority config (declaration config t) own ≡ cond (declaration config t).non (highest_priority config) (declaration config t).priority
 start_priority config t own h r =
     let p = (declaration config t).priority in
-    ap (λ (x : List ℕ). max p (max (greatest (map (ceiling config) x)) (cond own.raised (highest config) 0))) h
-    ∙ ap (λ (x : Bool). max p (max 0 (cond x (highest config) 0))) r
-    ∙ by_scheduling p (highest config) (greatest_holds config.tasks t) (declaration config t).non
+    ap (λ (x : List ℕ). max p (max (greatest (map (ceiling config) x)) (cond own.raised (highest_priority config) 0))) h
+    ∙ ap (λ (x : Bool). max p (max 0 (cond x (highest_priority config) 0))) r
+    ∙ by_scheduling p (highest_priority config) (greatest_holds config.tasks t) (declaration config t).non
 
 pub falling_cons : (b : Build) (s : System) (t : ℕ) (stack : List ℕ) → IsActive b s t
     → ((u : ℕ) → is_in u stack ≡ true → priority_of b.config s u < (declaration b.config t).priority) → Falling b s stack → Falling b s (t ∷ stack)

@@ -2,10 +2,10 @@
 use Rattle.std.proofs.Common.{◌≡◌, ℕ, List, [], ◌∷◌, sym, ap, subst, arith, inl, inr, true}
 use Rattle.std.specs.Prelude.{◌≢◌}
 use Rattle.sloth_base.specs.Machine.{State}
-use Rattle.osek_machine.specs.declared.state.TaskState.TheVariants as mode
-use Rattle.osek_machine.specs.State.{Task, System, task, with_task}
-use Rattle.osek_machine.specs.Priority.{is_in, is_active}
-use Rattle.osek_machine.specs.Steps.{settled}
+use Rattle.osek_scheduler.specs.declared.state.TaskState.TheVariants as mode
+use Rattle.osek_scheduler.specs.State.{Task, System, task, with_task}
+use Rattle.osek_scheduler.specs.Priority.{is_in, is_active}
+use Rattle.osek_scheduler.specs.Steps.{settled_state}
 use Rattle.sim_relation.specs.Build.{Build, Fits}
 use Rattle.sim_relation.specs.Context.{Chain, Running, RunsTask}
 use Rattle.sim_relation.specs.Stands.{Stands, IsActive, AreActive}
@@ -20,7 +20,7 @@ use Rattle.sim_relation.proofs.Tops.{falling_head}
 module _ (b : Build) (old now : State) (s : System) (k : Stands b old s) (fits : Fits b) (t : ℕ) (below : List ℕ) (stack_is : k.stack ≡ t ∷ below)
     (own : Task) (place : ℕ) (leave : TaskLeave b old now s t own place) where
   abbrev next : System
-  next = settled (with_task s t own)
+  next = settled_state (with_task s t own)
 
   stack : AreActive b s (t ∷ below)
   stack = subst (AreActive b s) stack_is k.active

@@ -2,7 +2,7 @@
 use Rattle.std.proofs.Common.{◌≡◌, ℕ, List, length, refl, sym, ap, ◌∙◌}
 use Rattle.std.specs.Prelude.{slice_index}
 use Rattle.sloth_base.specs.Machine.{Core, State}
-use Rattle.rv32_routine.specs.Kernel.{LeftAs}
+use Rattle.masked_code.specs.Kernel.{LeftAs}
 use Rattle.sim_relation.specs.Build.{Build}
 use Rattle.sim_relation.specs.Stands.{Fixed}
 use Rattle.sim_relation.specs.Moves.{SameMachine, WholeMachine}

@@ -4,13 +4,13 @@ use Rattle.std.specs.Prelude.{◌⊎◌, ◌≢◌, slice_index}
 use Rattle.std.proofs.lemmas.Bool.{cases_eq, cases_order}
 use Rattle.std.proofs.lemmas.List.{get_or-set_same, get_or-set_other}
 use Rattle.sloth_base.specs.Machine.{State}
-use Rattle.sloth_region.specs.Layout.{cur, below_word, active, events, wait, resume, saved}
+use Rattle.sloth_region.specs.Layout.{cur, below_word, active, events, wait, resume, saved_level}
 use Rattle.rv32_instr.specs.Ram.{word_at, with_word}
-use Rattle.rv32_routine.proofs.Words.{word_at-other}
-use Rattle.osek_machine.specs.declared.state.TaskState.{TaskState}
-use Rattle.osek_machine.specs.declared.state.TaskState.TheVariants as mode
-use Rattle.osek_machine.specs.State.{Frame, Task, System, sleeping, task, with_task, declaration}
-use Rattle.osek_machine.specs.Priority.{is_in, is_active, ceiling, current_priority}
+use Rattle.masked_code.proofs.Words.{word_at-other}
+use Rattle.osek_scheduler.specs.declared.state.TaskState.{TaskState}
+use Rattle.osek_scheduler.specs.declared.state.TaskState.TheVariants as mode
+use Rattle.osek_scheduler.specs.State.{Frame, Task, System, sleeping_task, task, with_task, declaration}
+use Rattle.osek_scheduler.specs.Priority.{is_in, is_active, ceiling, current_priority}
 use Rattle.sloth_base.specs.PriorityLevels.{level_of}
 use Rattle.sim_relation.specs.Build.{Build}
 use Rattle.sim_relation.specs.Position.{thread_of}
@@ -26,10 +26,10 @@ use Rattle.sim_relation.proofs.Tops.{is_in-head, is_in-tail}
 -- ---- one task's record
 
 pub other_task : (s : System) (t u : ℕ) (new : Task) → u ≢ t → task (with_task s t new) u ≡ task s u
-other_task s t u new h = get_or-set_other s.tasks t u new sleeping h
+other_task s t u new h = get_or-set_other s.tasks t u new sleeping_task h
 
 pub this_task : (s : System) (t : ℕ) (new : Task) → t < length s.tasks → task (with_task s t new) t ≡ new
-this_task s t new h = get_or-set_same s.tasks t new sleeping h
+this_task s t new h = get_or-set_same s.tasks t new sleeping_task h
 
 -- a fact on each task, where one task changed
 pub by_task : (P : ℕ → Task → Type 0) (s : System) (t : ℕ) (new : Task) → t < length s.tasks → P t new → ((u : ℕ) → u ≢ t → P u (task s u))
@@ -100,7 +100,7 @@ running_tasks b state now s next (t ∷ below) p x r l e k =
 -- ---- service words
 
 pub held_kept : (b : Build) (old new : List ℕ) (priority : ℕ) (held : List ℕ)
-    → ((r : ℕ) → is_in r held ≡ true → word_at new (saved r) ≡ word_at old (saved r)) → HeldWords b old priority held → HeldWords b new priority held
+    → ((r : ℕ) → is_in r held ≡ true → word_at new (saved_level r) ≡ word_at old (saved_level r)) → HeldWords b old priority held → HeldWords b new priority held
 held_kept b old new priority [] e h = tt
 held_kept b old new priority (r ∷ held) e h = (
   e r (is_in-head r held) ∙ h.0,
@@ -132,7 +132,7 @@ resumes_kept b old new t own false (frame ∷ outer) e g h = (h.0, rested_kept b
 pub service_kept : (b : Build) (old new : List ℕ) (t : ℕ) (own : Task)
     → word_at new (active t) ≡ word_at old (active t) → word_at new (events t) ≡ word_at old (events t) → word_at new (wait t) ≡ word_at old (wait t)
     → word_at new (resume t) ≡ word_at old (resume t)
-    → ((r : ℕ) → is_in r own.held ≡ true → word_at new (saved r) ≡ word_at old (saved r))
+    → ((r : ℕ) → is_in r own.held ≡ true → word_at new (saved_level r) ≡ word_at old (saved_level r))
     → (is_active own.state ≡ false → own.frames ≢ [] → Agree old new (b.low t) (b.top t)) → ServiceWords b old t own → ServiceWords b new t own
 service_kept b old new t own ea ee ew er eh g k = record {
   activity = ea ∙ k.activity;

@@ -6,9 +6,9 @@ use Rattle.sloth_region.specs.Layout.{cur}
 use Rattle.rv32_instr.specs.declared.InstrKind.{InstrKind}
 use Rattle.rv32_instr.specs.Table.{Decode}
 use Rattle.rv32_instr.specs.Ram.{word_at}
-use Rattle.rv32_routine.specs.Place.{InPlace}
-use Rattle.rv32_routine.proofs.Words.{word_at-agree}
-use Rattle.osek_machine.specs.State.{System}
+use Rattle.masked_code.specs.Place.{InPlace}
+use Rattle.masked_code.proofs.Words.{word_at-agree}
+use Rattle.osek_scheduler.specs.State.{System}
 use Rattle.sim_relation.specs.Build.{Build, Fits}
 use Rattle.sim_relation.specs.Context.{Running}
 use Rattle.sim_relation.specs.Placed.{IsPlaced}

@@ -6,16 +6,16 @@ use Rattle.std.proofs.lemmas.List.{length-set}
 use Rattle.sloth_base.specs.Machine.{State}
 use Rattle.sloth_base.specs.Owners.{owners_in}
 use Rattle.sloth_base.proofs.Owners.{unused_behind}
-use Rattle.sloth_region.specs.Layout.{active, events, wait, resume, saved}
-use Rattle.osek_machine.specs.State.{Task, System, task}
-use Rattle.osek_machine.specs.Priority.{is_in, is_active}
+use Rattle.sloth_region.specs.Layout.{active, events, wait, resume, saved_level}
+use Rattle.osek_scheduler.specs.State.{Task, System, task}
+use Rattle.osek_scheduler.specs.Priority.{is_in, is_active}
 use Rattle.sim_relation.specs.Build.{Build, Fits}
 use Rattle.sim_relation.specs.Context.{Running}
 use Rattle.sim_relation.specs.ServiceWords.{ServiceWords}
 use Rattle.sim_relation.specs.DataStands.{DataStands}
 use Rattle.sim_relation.specs.Stands.{Stands, Falling, AreActive, IsLineOf, IsAlive, AreApart, TidyTask, Fixed}
 use Rattle.sim_relation.specs.Framing.{Agree, NamedKept, SamePart}
-use Rattle.sim_relation.specs.Moves.{changed, moved_to, WholeMachine, OthersKept}
+use Rattle.sim_relation.specs.Moves.{changed_system, moved_to, WholeMachine, OthersKept}
 use Rattle.sim_relation.proofs.Parts.{other_task, by_task, line_same, service_kept}
 use Rattle.sim_relation.proofs.Tops.{falling_active, below_other, is_in-tail}
 
@@ -42,7 +42,7 @@ other_kept b old new s t u fits declared h n tidy named stack k =
     (named (resume u) (omega arith) (omega arith) (omega arith) (λ a. omega arith) (λ a. omega arith) (λ a. omega arith) (λ a. omega arith) (λ a. n (omega arith)))
     (λ r i.
     let l = tidy.few r i in
-    named (saved r) (omega arith) (omega arith) (omega arith) (λ a. omega arith) (λ a. omega arith) (λ a. omega arith) (λ a. omega arith) (λ a. omega arith))
+    named (saved_level r) (omega arith) (omega arith) (omega arith) (λ a. omega arith) (λ a. omega arith) (λ a. omega arith) (λ a. omega arith) (λ a. omega arith))
     stack k
 
 -- ---- the relation
@@ -56,8 +56,8 @@ pub record Rebuilds (b : Build) (old now : State) (s : System) (t : ℕ) (own : 
   pub machine : WholeMachine old now
   pub code : (i : ℕ) → b.is_code i ≡ true → slice_index now.core.ram i ≡ slice_index old.core.ram i
   -- the Active tasks
-  pub active : AreActive b (changed s t own symbols fresh) stack
-  pub running : Running b now (changed s t own symbols fresh) stack
+  pub active : AreActive b (changed_system s t own symbols fresh) stack
+  pub running : Running b now (changed_system s t own symbols fresh) stack
   -- the lines
   pub own_line : IsLineOf own.state (slice_index now.core.pending t) (slice_index now.core.enabled t)
   pub own_bit : slice_index now.core.pending t < 2
@@ -92,7 +92,7 @@ swapped b t u h = ⊎_elim (λ (y : b.top t ≤ b.low u). inr y) (λ (y : b.top 
 module _ (b : Build) (old now : State) (s : System) (k : Stands b old s) (t : ℕ) (own : Task) (symbols : List (List ℕ)) (fresh stack : List ℕ)
     (r : Rebuilds b old now s t own symbols fresh stack) where
   abbrev next : System
-  next = changed s t own symbols fresh
+  next = changed_system s t own symbols fresh
 
   here : t < length s.tasks
   here = among b old s t k r.declared

@@ -1,7 +1,7 @@
 -- The registers that a context holds, as they are stored.
 use Rattle.std.proofs.Common.{◌≡◌, ℕ, zero, suc, ◌+◌, ◌<◌, List, ap, ◌∙◌, arith}
 use Rattle.std.specs.Prelude.{slice_index}
-use Rattle.rv32_routine.specs.Pieces.{registers_from}
+use Rattle.masked_code.specs.Pieces.{registers_from}
 
 pub registers_at : (n first j : ℕ) (registers : List ℕ) → j < n → slice_index (registers_from n first registers) j ≡ slice_index registers (first + j)
 registers_at zero first j registers h = absurd (omega arith)

@@ -7,25 +7,25 @@ use Rattle.sloth_base.specs.Owners.{owners_in}
 use Rattle.sloth_base.proofs.Owners.{unused_behind}
 use Rattle.sloth_region.specs.Layout.{active, events, resume, idle_context}
 use Rattle.rv32_instr.specs.Ram.{word_at}
-use Rattle.osek_machine.specs.declared.state.TaskState.TheVariants as mode
-use Rattle.osek_machine.specs.State.{Task, System, sleeping, task, declaration, undeclared}
-use Rattle.osek_machine.specs.Steps.{autostarted}
+use Rattle.osek_scheduler.specs.declared.state.TaskState.TheVariants as mode
+use Rattle.osek_scheduler.specs.State.{Task, System, sleeping_task, task, declaration, undeclared}
+use Rattle.osek_scheduler.specs.Steps.{autostarted_tasks}
 use Rattle.sim_relation.specs.Build.{Build, Fits}
 use Rattle.sim_relation.specs.ServiceWords.{ServiceWords}
 use Rattle.sim_relation.specs.Stands.{Stands, IsLineOf, IsAlive, TidyTask}
-use Rattle.sim_relation.specs.Start.{Starts, started}
+use Rattle.sim_relation.specs.Start.{Starts, started_system}
 
 -- a task as the start leaves it
 abbrev pub awake : Bool → Task
-awake autostart = cond autostart (record sleeping { state = mode.Ready }) sleeping
+awake autostart = cond autostart (record sleeping_task { state = mode.Ready }) sleeping_task
 
 autostarted_at : (ds : List TaskDecl) (t : ℕ) → t < length ds
-    → get_or (autostarted ds (map (λ (_ : TaskDecl). sleeping) ds)) t sleeping ≡ awake (get_or ds t undeclared).autostart
+    → get_or (autostarted_tasks ds (map (λ (_ : TaskDecl). sleeping_task) ds)) t sleeping_task ≡ awake (get_or ds t undeclared).autostart
 autostarted_at [] t l = absurd (omega arith)
 autostarted_at (d ∷ ds) zero l = refl
 autostarted_at (d ∷ ds) (suc t) l = autostarted_at ds t (omega arith)
 
-length-autostarted : (ds : List TaskDecl) → length (autostarted ds (map (λ (_ : TaskDecl). sleeping) ds)) ≡ length ds
+length-autostarted : (ds : List TaskDecl) → length (autostarted_tasks ds (map (λ (_ : TaskDecl). sleeping_task) ds)) ≡ length ds
 length-autostarted [] = refl
 length-autostarted (d ∷ ds) = ap suc (length-autostarted ds)
 
@@ -61,7 +61,7 @@ words_of b ram t false a e r = record { activity = a; event_mask = e; wait_mask 
 
 module _ (b : Build) (state : State) (fits : Fits b) (start : Starts b state) where
   abbrev s : System
-  s = started b
+  s = started_system b
 
   task_is : (t : ℕ) → t < length b.config.tasks → task s t ≡ awake (declaration b.config t).autostart
   task_is t h = autostarted_at b.config.tasks t h

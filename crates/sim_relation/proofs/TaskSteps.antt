@@ -4,10 +4,10 @@ use Rattle.std.specs.Prelude.{◌≢◌, map}
 use Rattle.sloth_base.specs.Machine.{State}
 use Rattle.sloth_base.specs.declared.config.Config.{Config}
 use Rattle.sloth_base.specs.declared.config.TaskDecl.{TaskDecl}
-use Rattle.sloth_region.specs.Layout.{cur, below_word, active, events, wait, resume, saved}
+use Rattle.sloth_region.specs.Layout.{cur, below_word, active, events, wait, resume, saved_level}
 use Rattle.rv32_instr.specs.Ram.{word_at}
-use Rattle.osek_machine.specs.State.{Frame, Task, System, task, declaration}
-use Rattle.osek_machine.specs.Priority.{is_in, is_active, highest, ceiling, greatest, current_priority}
+use Rattle.osek_scheduler.specs.State.{Frame, Task, System, task, declaration}
+use Rattle.osek_scheduler.specs.Priority.{is_in, is_active, highest_priority, ceiling, greatest, current_priority}
 use Rattle.sloth_base.specs.PriorityLevels.{level_of}
 use Rattle.sim_relation.specs.Build.{Build, Fits}
 use Rattle.sim_relation.specs.Context.{Running, RunsTask, Resumes}
@@ -22,8 +22,8 @@ use Rattle.sim_relation.proofs.Tops.{falling_head}
 -- the priority depends on what is held and raised
 pub same_current : (config : Config) (d : TaskDecl) (own new : Task) → new.held ≡ own.held → new.raised ≡ own.raised → current_priority config d new ≡ current_priority config d own
 same_current config d own new h r =
-    ap (λ (x : List ℕ). max d.priority (max (greatest (map (ceiling config) x)) (cond new.raised (highest config) 0))) h
-    ∙ ap (λ (x : Bool). max d.priority (max (greatest (map (ceiling config) own.held)) (cond x (highest config) 0))) r
+    ap (λ (x : List ℕ). max d.priority (max (greatest (map (ceiling config) x)) (cond new.raised (highest_priority config) 0))) h
+    ∙ ap (λ (x : Bool). max d.priority (max (greatest (map (ceiling config) own.held)) (cond x (highest_priority config) 0))) r
 
 pub active_resumes : (b : Build) (ram : List ℕ) (t : ℕ) (own : Task) (a : Bool) (frames : List Frame) → a ≡ true → Resumes b ram t own a frames → word_at ram (resume t) ≡ 0
 active_resumes b ram t own true frames e h = h
@@ -47,8 +47,8 @@ module _ (b : Build) (old now : State) (s : System) (k : Stands b old s) (fits :
   low_word : (place : ℕ) → place + 4 ≤ 1024 → word_at now.core.ram place ≡ word_at old.core.ram place
   low_word place h = word_kept old.core.ram now.core.ram 0 1024 place step.low (omega arith) (omega arith)
 
-  held_word : (u : ℕ) → u < length b.config.tasks → (r : ℕ) → is_in r (task s u).held ≡ true → word_at now.core.ram (saved r) ≡ word_at old.core.ram (saved r)
-  held_word u h r a = let l = (k.tidy.each u h).few r a in low_word (saved r) (omega arith)
+  held_word : (u : ℕ) → u < length b.config.tasks → (r : ℕ) → is_in r (task s u).held ≡ true → word_at now.core.ram (saved_level r) ≡ word_at old.core.ram (saved_level r)
+  held_word u h r a = let l = (k.tidy.each u h).few r a in low_word (saved_level r) (omega arith)
 
   own_words : ServiceWords b now.core.ram t own
   own_words =
@@ -63,8 +63,8 @@ module _ (b : Build) (old now : State) (s : System) (k : Stands b old s) (fits :
         resumption = resumes_active b now.core.ram t own (is_active own.state) own.frames a
             (low_word (resume t) (omega arith)
             ∙ active_resumes b old.core.ram t (task s t) (is_active (task s t).state) (task s t).frames (ap is_active here.active) w.resumption);
-        held = subst (λ (v : List ℕ). HeldWords b now.core.ram (max (declaration b.config t).priority (cond own.raised (highest b.config) 0)) v) (sym step.held)
-            (subst (λ (v : Bool). HeldWords b now.core.ram (max (declaration b.config t).priority (cond v (highest b.config) 0)) (task s t).held) (sym step.raised)
+        held = subst (λ (v : List ℕ). HeldWords b now.core.ram (max (declaration b.config t).priority (cond own.raised (highest_priority b.config) 0)) v) (sym step.held)
+            (subst (λ (v : Bool). HeldWords b now.core.ram (max (declaration b.config t).priority (cond v (highest_priority b.config) 0)) (task s t).held) (sym step.raised)
             (held_kept b old.core.ram now.core.ram _ (task s t).held (held_word t h) w.held));
       }
 

@@ -2,9 +2,9 @@
 use Rattle.std.proofs.Common.{◌≡◌, ◌≢◌, ℕ, ◌+◌, ◌*◌, ◌<◌, ◌≤◌, List, [], ◌∷◌, length, refl, ap, subst, arith, ⊎_elim, inr, true, false, cond, eqb}
 use Rattle.std.proofs.lemmas.Bool.{cases_Bool, eqb-true, eq-eqb, or_cases, or_left, or_right}
 use Rattle.sloth_base.specs.declared.config.Config.{Config}
-use Rattle.osek_machine.specs.declared.state.TaskState.TheVariants as mode
-use Rattle.osek_machine.specs.State.{System, task, declaration}
-use Rattle.osek_machine.specs.Priority.{rank, is_in, is_active, IsTop}
+use Rattle.osek_scheduler.specs.declared.state.TaskState.TheVariants as mode
+use Rattle.osek_scheduler.specs.State.{System, task, declaration}
+use Rattle.osek_scheduler.specs.Priority.{rank, is_in, is_active, IsTop}
 use Rattle.sim_induction.specs.Mirror.{priority_of}
 use Rattle.sim_relation.specs.Build.{Build}
 use Rattle.sim_relation.specs.Stands.{IsActive, Falling, AreActive}

@@ -2,13 +2,13 @@
 use Rattle.std.proofs.Common.{◌≡◌, ℕ, ◌<◌, ◌≤◌, List, [], ◌∷◌, length, refl, subst, None}
 use Rattle.sloth_base.specs.Machine.{State}
 use Rattle.sloth_base.specs.Choose.{choose}
-use Rattle.osek_machine.specs.declared.state.TaskState.TheVariants as mode
-use Rattle.osek_machine.specs.State.{System, task}
-use Rattle.osek_machine.specs.Priority.{IsTop, IsDue}
+use Rattle.osek_scheduler.specs.declared.state.TaskState.TheVariants as mode
+use Rattle.osek_scheduler.specs.State.{System, task}
+use Rattle.osek_scheduler.specs.Priority.{IsTop, IsDue}
 use Rattle.sim_induction.specs.Mirror.{Runs}
 use Rattle.sim_relation.specs.Build.{Build}
 use Rattle.sim_relation.specs.Stands.{Stands, AreActive}
-use Rattle.sim_relation.specs.Laws.{IsUndisturbed}
+use Rattle.sim_relation.specs.RelationKept.{IsUndisturbed}
 use Rattle.sim_relation.proofs.Choice.{running_top, none_due}
 use Rattle.sim_relation.proofs.MirrorOf.{first_is}
 use Rattle.sim_relation.proofs.Tops.{falling_head}

@@ -6,11 +6,11 @@ use Rattle.sloth_base.specs.declared.places.Places.{Places}
 use Rattle.sloth_base.specs.declared.app.Call.{Call}
 use Rattle.sloth_base.specs.declared.app.Op.TheVariants as op
 use Rattle.sloth_region.specs.Layout.{context_bytes}
-use Rattle.app_rules.specs.Code.{IsCalledBy}
+use Rattle.code_rules.specs.Code.{IsCalledBy}
 use Rattle.rv32_expand.specs.Expansion.{item_address, symbol_address, block_address}
 use Rattle.sloth_base.specs.Named.{operation, function, symbol_size}
-use Rattle.osek_machine.specs.State.{declaration}
-use Rattle.osek_machine.specs.Priority.{highest}
+use Rattle.osek_scheduler.specs.State.{declaration}
+use Rattle.osek_scheduler.specs.Priority.{highest_priority}
 use Rattle.sloth_base.specs.PriorityLevels.{level_of}
 
 -- the configuration, the task code, and where all of it stands in the image
@@ -33,7 +33,7 @@ pub record Build : Type 0 where
 
 -- the level at which a task runs that holds nothing: that of its priority, and where its scheduling is NON the highest
 abbrev pub start_level : Build → ℕ → ℕ
-start_level b t = level_of b.config (cond (declaration b.config t).non (highest b.config) (declaration b.config t).priority)
+start_level b t = level_of b.config (cond (declaration b.config t).non (highest_priority b.config) (declaration b.config t).priority)
 
 -- a byte of code or data
 abbrev pub IsElsewhere : Build → ℕ → Type 0

@@ -3,10 +3,10 @@ use Rattle.std.specs.Prelude.{ℕ, ◌+◌, ◌%◌, ◌<◌, ◌≤◌, ◌≡�
 use Rattle.sloth_base.specs.Machine.{State}
 use Rattle.sloth_region.specs.Layout.{events, wait, idle_context}
 use Rattle.rv32_instr.specs.Ram.{word_at}
-use Rattle.osek_machine.specs.declared.state.TaskState.{TaskState}
-use Rattle.osek_machine.specs.declared.state.TaskState.TheVariants as mode
-use Rattle.osek_machine.specs.State.{Task, System, task}
-use Rattle.osek_machine.specs.Priority.{is_active}
+use Rattle.osek_scheduler.specs.declared.state.TaskState.{TaskState}
+use Rattle.osek_scheduler.specs.declared.state.TaskState.TheVariants as mode
+use Rattle.osek_scheduler.specs.State.{Task, System, task}
+use Rattle.osek_scheduler.specs.Priority.{is_active}
 use Rattle.sim_relation.specs.Build.{Build}
 use Rattle.sim_relation.specs.Moves.{moved_to, WholeMachine}
 use Rattle.sim_relation.specs.ServiceWords.{IsWaitWord}

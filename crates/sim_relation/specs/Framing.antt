@@ -4,7 +4,7 @@ use Rattle.sloth_base.specs.Machine.{State}
 use Rattle.sloth_base.specs.MemoryMap.{memory_base}
 use Rattle.sloth_region.specs.Layout.{cur, below_word, active, events, wait, resume, idle_context, context_bytes}
 use Rattle.rv32_instr.specs.Ram.{word_at}
-use Rattle.osek_machine.specs.State.{System, task}
+use Rattle.osek_scheduler.specs.State.{System, task}
 use Rattle.sim_relation.specs.Build.{Build}
 use Rattle.sim_relation.specs.Position.{Thread}
 

@@ -9,6 +9,6 @@ pub mod Moves
 pub mod Entry
 pub mod Start
 pub mod Changes
-pub mod Laws
+pub mod RelationKept
 pub mod Placed
 pub mod Bounds

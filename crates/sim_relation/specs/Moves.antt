@@ -3,9 +3,9 @@ use Rattle.std.specs.Prelude.{ℕ, ◌+◌, ◌<◌, ◌≡◌, ◌≢◌, List,
 use Rattle.sloth_base.specs.Machine.{State}
 use Rattle.sloth_region.specs.Layout.{cur, below_word}
 use Rattle.rv32_instr.specs.Ram.{word_at}
-use Rattle.osek_machine.specs.declared.state.TaskState.TheVariants as mode
-use Rattle.osek_machine.specs.State.{Task, System, task, with_task, declaration}
-use Rattle.osek_machine.specs.Priority.{is_active, current_priority}
+use Rattle.osek_scheduler.specs.declared.state.TaskState.TheVariants as mode
+use Rattle.osek_scheduler.specs.State.{Task, System, task, with_task, declaration}
+use Rattle.osek_scheduler.specs.Priority.{is_active, current_priority}
 use Rattle.sloth_base.specs.PriorityLevels.{level_of}
 use Rattle.sloth_base.specs.MemoryMap.{memory_base}
 use Rattle.sim_relation.specs.Build.{Build, IsElsewhere}
@@ -17,12 +17,12 @@ use Rattle.sim_relation.specs.Stands.{IsAlive, IsLineOf, TidyTask}
 use Rattle.sim_relation.specs.Framing.{Agree, IdleKept, NamedKept, HasLeftFor}
 
 -- the abstract state where a task's record, the data and the tasks that arrived since the last event are these now
-abbrev pub changed : System → ℕ → Task → List (List ℕ) → List ℕ → System
-changed s t own symbols fresh = record (with_task s t own) { symbols = symbols; fresh = fresh }
+abbrev pub changed_system : System → ℕ → Task → List (List ℕ) → List ℕ → System
+changed_system s t own symbols fresh = record (with_task s t own) { symbols = symbols; fresh = fresh }
 
 -- the same behind an event
 abbrev pub moved_to : System → ℕ → Task → List (List ℕ) → System
-moved_to s t own symbols = changed s t own symbols []
+moved_to s t own symbols = changed_system s t own symbols []
 
 -- what each change that keeps the relation leaves of the machine: sizes, x0, the lines' levels and the controller; interrupts are open
 pub record WholeMachine (old now : State) : Type 0 where

@@ -2,7 +2,7 @@
 use Rattle.std.specs.Prelude.{ℕ, ◌+◌, ◌*◌, ◌%◌, ◌<◌, ◌≤◌, ◌≡◌, true, List, length}
 use Rattle.sloth_base.specs.declared.event.Arrival.{Arrival}
 use Rattle.rv32_instr.specs.declared.InstrKind.{InstrKind}
-use Rattle.rv32_routine.specs.Place.{InPlace}
+use Rattle.masked_code.specs.Place.{InPlace}
 use Rattle.observe.specs.Observe.{View}
 use Rattle.sim_induction.specs.Admits.{Setting}
 use Rattle.sim_relation.specs.Build.{Build}

@@ -11,8 +11,8 @@ use Rattle.rv32_instr.specs.Ram.{word_at}
 use Rattle.rv32_expand.specs.Expansion.{item_address, symbol_address, block_address, label_address, mask_of, expansion}
 use Rattle.sloth_base.specs.Named.{operation, function}
 use Rattle.sloth_base.specs.MemoryMap.{memory_base}
-use Rattle.osek_machine.specs.State.{Frame, Task}
-use Rattle.osek_machine.specs.Meaning.{register}
+use Rattle.osek_scheduler.specs.State.{Frame, Task}
+use Rattle.osek_scheduler.specs.Meaning.{register}
 use Rattle.sim_relation.specs.Build.{Build, start_level}
 
 -- what runs, or what a context holds: both look alike

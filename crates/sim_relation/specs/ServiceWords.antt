@@ -1,11 +1,11 @@
 -- A task's words among the service words.
 use Rattle.std.specs.Prelude.{ℕ, ◌≡◌, List, [], ◌∷◌, cond, max}
-use Rattle.sloth_region.specs.Layout.{active, events, wait, saved}
+use Rattle.sloth_region.specs.Layout.{active, events, wait, saved_level}
 use Rattle.rv32_instr.specs.Ram.{word_at}
-use Rattle.osek_machine.specs.declared.state.TaskState.{TaskState}
-use Rattle.osek_machine.specs.declared.state.TaskState.TheVariants as mode
-use Rattle.osek_machine.specs.State.{Task, declaration}
-use Rattle.osek_machine.specs.Priority.{highest, ceiling, is_active}
+use Rattle.osek_scheduler.specs.declared.state.TaskState.{TaskState}
+use Rattle.osek_scheduler.specs.declared.state.TaskState.TheVariants as mode
+use Rattle.osek_scheduler.specs.State.{Task, declaration}
+use Rattle.osek_scheduler.specs.Priority.{highest_priority, ceiling, is_active}
 use Rattle.sloth_base.specs.PriorityLevels.{level_of}
 use Rattle.sim_relation.specs.Build.{Build}
 use Rattle.sim_relation.specs.Context.{Resumes}
@@ -25,11 +25,11 @@ IsWaitWord mode.Active word = Unit {0}
 abbrev pub HeldWords : Build → List ℕ → ℕ → List ℕ → Type 0
 HeldWords b ram priority [] = Unit {0}
 HeldWords b ram priority (r ∷ held) =
-    (word_at ram (saved r) ≡ level_of b.config priority) × HeldWords b ram (max priority (ceiling b.config r)) held
+    (word_at ram (saved_level r) ≡ level_of b.config priority) × HeldWords b ram (max priority (ceiling b.config r)) held
 
 -- the priority of a task less the ceilings of what it holds
 abbrev pub base_priority : Build → ℕ → Task → ℕ
-base_priority b t own = max (declaration b.config t).priority (cond own.raised (highest b.config) 0)
+base_priority b t own = max (declaration b.config t).priority (cond own.raised (highest_priority b.config) 0)
 
 -- the service words of a task say what its record does
 pub record ServiceWords (b : Build) (ram : List ℕ) (t : ℕ) (own : Task) : Type 0 where

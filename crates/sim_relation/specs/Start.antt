@@ -2,8 +2,8 @@
 use Rattle.std.specs.Prelude.{ℕ, ◌+◌, ◌<◌, ◌≤◌, ◌≡◌, length, slice_index, true, cond}
 use Rattle.sloth_base.specs.Machine.{State}
 use Rattle.sloth_region.specs.Layout.{idle_context, context_bytes}
-use Rattle.osek_machine.specs.State.{System, declaration, opening}
-use Rattle.osek_machine.specs.Steps.{settled, autostarted}
+use Rattle.osek_scheduler.specs.State.{System, declaration, opening}
+use Rattle.osek_scheduler.specs.Steps.{settled_state, autostarted_tasks}
 use Rattle.sloth_base.specs.PriorityLevels.{level_of}
 use Rattle.sloth_base.specs.MemoryMap.{memory_base}
 use Rattle.sim_relation.specs.Build.{Build}
@@ -11,8 +11,8 @@ use Rattle.sim_relation.specs.DataStands.{DataStands}
 use Rattle.sim_relation.specs.Stands.{Fixed}
 
 -- the abstract state after the system has started
-abbrev pub started : Build → System
-started b = settled (record (opening b.config b.app) { tasks = autostarted b.config.tasks (opening b.config b.app).tasks; booted = true })
+abbrev pub started_system : Build → System
+started_system b = settled_state (record (opening b.config b.app) { tasks = autostarted_tasks b.config.tasks (opening b.config b.app).tasks; booted = true })
 
 -- The idle loop is next, the service words are zero, and the lines of autostarted tasks are pending. The bytes of code and data
 -- are the image's.

@@ -2,7 +2,7 @@
 //! keeps it. It stands on the offsets of `sloth_region` (`specs/Layout`) and on no generator.
 #![tactic(auto)]
 
-ghost use Rattle.sim_relation.specs.Laws.{MirrorOfStands, ArrivalsAreAdmits, TakenIsOwned, TakenIsTop, NoneTaken, StepsKeep, MovesKeep, LeavesKeep, ChangesKeep, EntriesKeep, BelowIsFound, StartsStand};
+ghost use Rattle.sim_relation.specs.RelationKept.{MirrorOfStands, ArrivalsAreAdmits, TakenIsOwned, TakenIsTop, NoneTaken, StepsKeep, MovesKeep, LeavesKeep, ChangesKeep, EntriesKeep, BelowIsFound, StartsStand};
 
 /// Where the relation stands, the interrupt controller mirrors the abstract scheduler.
 pub fn mirror_of_stands()

@@ -9,20 +9,20 @@ use Rattle.sloth_base.specs.declared.service.Service.TheVariants as service
 use Rattle.sloth_base.specs.Machine.{State}
 use Rattle.sloth_region.specs.Layout.{cur}
 use Rattle.rv32_instr.specs.Ram.{word_at}
-use Rattle.rv32_routine.specs.Kernel.{LeftAs}
+use Rattle.masked_code.specs.Kernel.{LeftAs}
 use Rattle.service_gen.specs.ActivateTask.{Activated}
 use Rattle.block_parts.specs.Looks.{LooksSuspended}
 use Rattle.block_parts.specs.Back.{a0}
-use Rattle.osek_machine.specs.declared.state.TaskState.TheVariants as mode
-use Rattle.osek_machine.specs.State.{Task, System, task}
-use Rattle.osek_machine.specs.Services.{activated, answers, answered, is_there, GoesOn}
-use Rattle.osek_machine.specs.Outcomes.{outcome}
-use Rattle.osek_machine.specs.Steps.{settled}
+use Rattle.osek_scheduler.specs.declared.state.TaskState.TheVariants as mode
+use Rattle.osek_scheduler.specs.State.{Task, System, task}
+use Rattle.osek_scheduler.specs.Services.{activated_state, answers, answered_state, is_there, GoesOn}
+use Rattle.osek_scheduler.specs.Outcomes.{outcome}
+use Rattle.osek_scheduler.specs.Steps.{settled_state}
 use Rattle.sim_relation.specs.Build.{Build, Fits}
 use Rattle.sim_relation.specs.Stands.{Stands}
 use Rattle.sim_relation.proofs.Parts.{by_task}
 use Rattle.sim_services.specs.Served.{IsServed, Answers}
-use Rattle.sim_services.specs.Laws.{MayGoOn}
+use Rattle.sim_services.specs.ServiceSteps.{MayGoOn}
 use Rattle.sim_services.proofs.GoesOn.{active, answers_so, behind_status}
 use Rattle.sim_services.proofs.Raising.{looks, is_so, readied, stayed, first_outcome, second_outcome}
 
@@ -67,7 +67,7 @@ module _ (b : Build) (state : State) (s : System) (t : ℕ) (own : Task) (object
   -- the caller has its status, and the line is not raised yet
   module _ (status : ℕ) (status_is : slice_index end.core.registers a0 ≡ status) where
     abbrev after : System
-    after = settled (answered status t s)
+    after = settled_state (answered_state status t s)
 
     before : Stands b middle after
     before =
@@ -82,14 +82,14 @@ module _ (b : Build) (state : State) (s : System) (t : ℕ) (own : Task) (object
     same_state = by_task (λ u (v : Task). v.state ≡ (task s u).state) s t (answers status (task s t)) among refl (λ u n. refl) object
 
     module _ (next : System) (answer_is : outcome b.config service.ActivateTask is.opening.block.call.object is.opening.block.call.mask t s ≡ GoesOn status next)
-        (stands : Stands b (state_arrive (object ∷ []) middle) (settled next)) where
+        (stands : Stands b (state_arrive (object ∷ []) middle) (settled_state next)) where
       answer : Answers b s t service.ActivateTask touched end
       answer =
           answers_so b state s t own service.ActivateTask is fits touched end object object
           (subst (AllByRecursion (Contains (object ∷ object ∷ []))) (sym effect.touches) ((0, (omega arith), refl), tt))
           (subst (λ o. is_there b.config own.held service.ActivateTask o ≡ true) (sym may.object_is) may.names)
           status status_is next answer_is
-          (subst (λ x. Stands b x (settled next)) (sym end_is) stands)
+          (subst (λ x. Stands b x (settled_state next)) (sym end_is) stands)
           (ap (λ r. word_at r cur) effect.back.left.ram)
 
   abbrev call : ℕ
@@ -103,14 +103,14 @@ module _ (b : Build) (state : State) (s : System) (t : ℕ) (own : Task) (object
       ⊎_elim
       (λ (h : LooksSuspended object state.core × (slice_index end.core.registers a0 ≡ E_OK)).
       let asleep = is_so b state s k object declared h.0 in
-      answer E_OK h.1 (activated (answered E_OK t s) object)
+      answer E_OK h.1 (activated_state (answered_state E_OK t s) object)
       (outcome_at is.opening.block.call.mask
-      ∙ first_outcome (task s object).state (GoesOn E_OK (activated (answered E_OK t s) object)) (GoesOn E_OS_LIMIT (answered E_OS_LIMIT t s)) asleep)
+      ∙ first_outcome (task s object).state (GoesOn E_OK (activated_state (answered_state E_OK t s) object)) (GoesOn E_OS_LIMIT (answered_state E_OS_LIMIT t s)) asleep)
       (readied b middle (after E_OK h.1) (before E_OK h.1) object declared few (same_state E_OK h.1 ∙ asleep)))
       (λ (h : (LooksSuspended object state.core → ⊥) × (slice_index end.core.registers a0 ≡ E_OS_LIMIT)).
       let awake : (task s object).state ≡ mode.Suspended → ⊥ = λ e. h.0 (looks b state s k object declared e) in
-      answer E_OS_LIMIT h.1 (answered E_OS_LIMIT t s)
+      answer E_OS_LIMIT h.1 (answered_state E_OS_LIMIT t s)
       (outcome_at is.opening.block.call.mask
-      ∙ second_outcome (task s object).state (GoesOn E_OK (activated (answered E_OK t s) object)) (GoesOn E_OS_LIMIT (answered E_OS_LIMIT t s)) awake)
+      ∙ second_outcome (task s object).state (GoesOn E_OK (activated_state (answered_state E_OK t s) object)) (GoesOn E_OS_LIMIT (answered_state E_OS_LIMIT t s)) awake)
       (stayed b middle (after E_OS_LIMIT h.1) (before E_OS_LIMIT h.1) object declared few (λ e. awake (sym (same_state E_OS_LIMIT h.1) ∙ e))))
       effect.status

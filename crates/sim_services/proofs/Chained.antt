@@ -11,16 +11,16 @@ use Rattle.sloth_region.specs.Layout.{cur}
 use Rattle.rv32_instr.specs.Ram.{word_at}
 use Rattle.block_parts.specs.Looks.{LooksSuspended}
 use Rattle.service_gen.specs.ChainTask.{HasChained, HasNotChained, Chained}
-use Rattle.osek_machine.specs.declared.state.TaskState.TheVariants as mode
-use Rattle.osek_machine.specs.State.{Task, System, task, zero_registers}
-use Rattle.osek_machine.specs.Services.{if_suspended, activated, answered, ended, is_there, Outcome, GoesOn, Leaves}
-use Rattle.osek_machine.specs.Outcomes.{outcome}
-use Rattle.osek_machine.specs.Steps.{settled}
+use Rattle.osek_scheduler.specs.declared.state.TaskState.TheVariants as mode
+use Rattle.osek_scheduler.specs.State.{Task, System, task, zero_registers}
+use Rattle.osek_scheduler.specs.Services.{if_suspended, activated_state, answered_state, ended_state, is_there, Outcome, GoesOn, Leaves}
+use Rattle.osek_scheduler.specs.Outcomes.{outcome}
+use Rattle.osek_scheduler.specs.Steps.{settled_state}
 use Rattle.sim_relation.specs.Build.{Build, Fits}
 use Rattle.sim_relation.specs.Stands.{Stands}
 use Rattle.sim_relation.proofs.Parts.{other_task}
 use Rattle.sim_services.specs.Served.{IsServed, Answers}
-use Rattle.sim_services.specs.Laws.{MayEnd, MayChainTo}
+use Rattle.sim_services.specs.ServiceSteps.{MayEnd, MayChainTo}
 use Rattle.sim_services.proofs.Ending.{ended_stands, ended_own, elsewhere}
 use Rattle.sim_services.proofs.GoesOn.{active, answers_status, leaves_so}
 use Rattle.sim_services.proofs.Raising.{looks, is_so, readied, first_outcome, second_outcome}
@@ -45,24 +45,24 @@ module _ (b : Build) (state : State) (s : System) (t : ℕ) (own : Task) (object
   -- ---- what the abstract scheduler answers
 
   abbrev other_first : Outcome
-  other_first = Leaves (activated (ended t s) object)
+  other_first = Leaves (activated_state (ended_state t s) object)
 
   abbrev other_second : Outcome
-  other_second = GoesOn E_OS_LIMIT (answered E_OS_LIMIT t s)
+  other_second = GoesOn E_OS_LIMIT (answered_state E_OS_LIMIT t s)
 
   outcome_is : outcome b.config service.ChainTask is.opening.block.call.object is.opening.block.call.mask t s
-      ≡ cond (object == t) (Leaves (activated (ended t s) t)) (if_suspended (task s object).state other_first other_second)
+      ≡ cond (object == t) (Leaves (activated_state (ended_state t s) t)) (if_suspended (task s object).state other_first other_second)
   outcome_is = ap (λ o. outcome b.config service.ChainTask o is.opening.block.call.mask t s) may.goes_on.object_is
 
-  of_itself : object ≡ t → outcome b.config service.ChainTask is.opening.block.call.object is.opening.block.call.mask t s ≡ Leaves (activated (ended t s) t)
+  of_itself : object ≡ t → outcome b.config service.ChainTask is.opening.block.call.object is.opening.block.call.mask t s ≡ Leaves (activated_state (ended_state t s) t)
   of_itself e =
       outcome_is
-      ∙ ap (λ (x : Bool). cond x (Leaves (activated (ended t s) t)) (if_suspended (task s object).state other_first other_second)) (eq-eqb object t e)
+      ∙ ap (λ (x : Bool). cond x (Leaves (activated_state (ended_state t s) t)) (if_suspended (task s object).state other_first other_second)) (eq-eqb object t e)
 
   of_other : object ≢ t → outcome b.config service.ChainTask is.opening.block.call.object is.opening.block.call.mask t s ≡ if_suspended (task s object).state other_first other_second
   of_other n =
       outcome_is
-      ∙ ap (λ (x : Bool). cond x (Leaves (activated (ended t s) t)) (if_suspended (task s object).state other_first other_second)) (ne_eqb object t n)
+      ∙ ap (λ (x : Bool). cond x (Leaves (activated_state (ended_state t s) t)) (if_suspended (task s object).state other_first other_second)) (ne_eqb object t n)
 
   -- ---- the caller ends
 
@@ -74,7 +74,7 @@ module _ (b : Build) (state : State) (s : System) (t : ℕ) (own : Task) (object
     middle = h.middle
 
     abbrev after : System
-    after = settled (ended t s)
+    after = settled_state (ended_state t s)
 
     over : Stands b middle after
     over = ended_stands b state s t own service.ChainTask place (t ∷ []) middle fits may_end h.ended
@@ -88,11 +88,11 @@ module _ (b : Build) (state : State) (s : System) (t : ℕ) (own : Task) (object
     -- this task is raised
     module _ (u : ℕ) (in_range : u < length b.config.tasks) (asleep : (task after u).state ≡ mode.Suspended) (raised : end ≡ state_arrive (u ∷ []) middle)
         (touches : AllByRecursion (Contains (u ∷ t ∷ [])) touched)
-        (answer_is : outcome b.config service.ChainTask is.opening.block.call.object is.opening.block.call.mask t s ≡ Leaves (activated (ended t s) u)) where
+        (answer_is : outcome b.config service.ChainTask is.opening.block.call.object is.opening.block.call.mask t s ≡ Leaves (activated_state (ended_state t s) u)) where
       ends_so : Answers b s t service.ChainTask touched end
       ends_so =
-          leaves_so b state s t own service.ChainTask is fits touched end u t touches names (activated (ended t s) u) answer_is
-          (subst (λ x. Stands b x (settled (activated (ended t s) u))) (sym raised) (readied b middle after over u in_range few asleep)) gone
+          leaves_so b state s t own service.ChainTask is fits touched end u t touches names (activated_state (ended_state t s) u) answer_is
+          (subst (λ x. Stands b x (settled_state (activated_state (ended_state t s) u))) (sym raised) (readied b middle after over u in_range few asleep)) gone
 
     pub chains : Answers b s t service.ChainTask touched end
     chains =

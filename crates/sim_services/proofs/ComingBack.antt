@@ -4,8 +4,8 @@ use Rattle.std.specs.Prelude.{slice_index}
 use Rattle.sloth_base.specs.Machine.{State}
 use Rattle.sloth_base.specs.PriorityLevels.{level_of}
 use Rattle.service_gen.specs.Schedule.{CameBack, start_register}
-use Rattle.osek_machine.specs.State.{Task, System, task, with_task, declaration}
-use Rattle.osek_machine.specs.Steps.{settled}
+use Rattle.osek_scheduler.specs.State.{Task, System, task, with_task, declaration}
+use Rattle.osek_scheduler.specs.Steps.{settled_state}
 use Rattle.sim_relation.specs.Build.{Build, Fits}
 use Rattle.sim_relation.specs.Context.{RunsTask, Running}
 use Rattle.sim_relation.specs.Moves.{moved_to}
@@ -16,7 +16,7 @@ use Rattle.sim_relation.proofs.AtItem.{position_first}
 use Rattle.sim_relation.proofs.Framing.{position_elim}
 use Rattle.sim_relation.proofs.Fresh.{start_priority}
 use Rattle.sim_relation.proofs.Placed.{first_by_word, active_by_word}
-use Rattle.sim_services.specs.Laws.{MayReturn, Returns}
+use Rattle.sim_services.specs.ServiceSteps.{MayReturn, Returns}
 use Rattle.sim_services.proofs.OtherLevel.{at_other_level}
 
 clash : {X : Type 0} → true ≡ false → X
@@ -89,7 +89,7 @@ module _ (b : Build) (state : State) (s : System) (t : ℕ) (touched : List ℕ)
 
   pub comes_back : Returns b s t end
   comes_back = record {
-    after = settled (with_task s t own_now);
+    after = settled_state (with_task s t own_now);
     step_is = (k.tidy.booted, may.top, here.active, may.owes, refl);
     stands = stands;
   }

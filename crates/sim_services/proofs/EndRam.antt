@@ -3,7 +3,7 @@ use Rattle.std.proofs.Common.{◌≡◌, ℕ, ◌%◌, ◌<◌, ◌≤◌, List,
 use Rattle.std.specs.Prelude.{◌≢◌, slice_index}
 use Rattle.sloth_region.specs.Layout.{cur, below_word, active, events, idle_context}
 use Rattle.rv32_instr.specs.Ram.{word_at, with_word}
-use Rattle.rv32_routine.proofs.Words.{word_at-same, get_or-with_word, length-with_word}
+use Rattle.masked_code.proofs.Words.{word_at-same, get_or-with_word, length-with_word}
 use Rattle.sim_relation.proofs.Parts.{word_other}
 
 pub record EndRam (old new : List ℕ) (t current link : ℕ) : Type 0 where

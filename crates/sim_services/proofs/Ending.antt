@@ -7,13 +7,13 @@ use Rattle.sloth_base.specs.declared.service.Service.{Service}
 use Rattle.sloth_base.specs.Machine.{State}
 use Rattle.sloth_region.specs.Layout.{cur, resume}
 use Rattle.rv32_instr.specs.Ram.{word_at}
-use Rattle.rv32_routine.proofs.Words.{word_below}
+use Rattle.masked_code.proofs.Words.{word_below}
 use Rattle.service_gen.specs.TerminateTask.{Terminated}
-use Rattle.osek_machine.specs.declared.state.TaskState.TheVariants as mode
-use Rattle.osek_machine.specs.State.{Task, System, task, zero_registers}
-use Rattle.osek_machine.specs.Priority.{is_active}
-use Rattle.osek_machine.specs.Services.{ended}
-use Rattle.osek_machine.specs.Steps.{settled}
+use Rattle.osek_scheduler.specs.declared.state.TaskState.TheVariants as mode
+use Rattle.osek_scheduler.specs.State.{Task, System, task, zero_registers}
+use Rattle.osek_scheduler.specs.Priority.{is_active}
+use Rattle.osek_scheduler.specs.Services.{ended_state}
+use Rattle.osek_scheduler.specs.Steps.{settled_state}
 use Rattle.sloth_base.specs.declared.app.Op.TheVariants as op
 use Rattle.sim_induction.proofs.Passing.{not_suspended}
 use Rattle.sim_relation.specs.Build.{Build, Fits}
@@ -28,7 +28,7 @@ use Rattle.sim_relation.proofs.Tops.{falling_head}
 use Rattle.sim_relation.proofs.Leaving.{leave_stands}
 use Rattle.sim_relation.proofs.TaskSteps.{active_resumes}
 use Rattle.sim_services.specs.Opening.{AtOpening}
-use Rattle.sim_services.specs.Laws.{MayEnd}
+use Rattle.sim_services.specs.ServiceSteps.{MayEnd}
 use Rattle.sim_services.proofs.EndRam.{EndRam, end_ram}
 
 module _ (b : Build) (state : State) (s : System) (t : ℕ) (called : Task) (served : Service) (place : ℕ) (touched : List ℕ) (end : State)
@@ -46,7 +46,7 @@ module _ (b : Build) (state : State) (s : System) (t : ℕ) (called : Task) (ser
   new = end.core.ram
 
   abbrev next : System
-  next = settled (ended t s)
+  next = settled_state (ended_state t s)
 
   abbrev own : Task
   own = record (task s t) { state = mode.Suspended; registers = zero_registers; frames = []; events = 0; raised = false }

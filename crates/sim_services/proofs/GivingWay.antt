@@ -12,10 +12,10 @@ use Rattle.sloth_base.specs.PriorityLevels.{level_of}
 use Rattle.sloth_region.specs.Layout.{cur}
 use Rattle.rv32_instr.specs.Ram.{word_at}
 use Rattle.service_gen.specs.Schedule.{Yielded}
-use Rattle.osek_machine.specs.State.{Task, System, task, with_task, declaration}
-use Rattle.osek_machine.specs.Meaning.{going_on}
-use Rattle.osek_machine.specs.Priority.{current_priority, greatest, ceiling, highest}
-use Rattle.osek_machine.specs.Services.{answers, is_there, moved}
+use Rattle.osek_scheduler.specs.State.{Task, System, task, with_task, declaration}
+use Rattle.osek_scheduler.specs.Meaning.{going_on}
+use Rattle.osek_scheduler.specs.Priority.{current_priority, greatest, ceiling, highest_priority}
+use Rattle.osek_scheduler.specs.Services.{answers, is_there, moved_frames}
 use Rattle.sim_relation.specs.Build.{Build, Fits}
 use Rattle.sim_relation.specs.Context.{RunsTask}
 use Rattle.sim_relation.specs.Moves.{moved_to}
@@ -25,15 +25,15 @@ use Rattle.sim_relation.specs.Stands.{Stands, IsActive}
 use Rattle.sim_relation.proofs.Fresh.{start_priority}
 use Rattle.sim_services.specs.Opening.{AtOpening}
 use Rattle.sim_services.specs.Served.{IsServed, Answers}
-use Rattle.sim_services.specs.Laws.{MayGoOn, MayGiveWay}
+use Rattle.sim_services.specs.ServiceSteps.{MayGoOn, MayGiveWay}
 use Rattle.sim_services.proofs.GoesOn.{active, frames_are, stood, long_registers, held_registers, answers_so}
 use Rattle.sim_services.proofs.OtherLevel.{at_other_level}
 
 -- the priority of a task that holds nothing and has no internal resource
 plain_priority : (b : Build) (d : TaskDecl) (own : Task) → own.held ≡ [] → own.raised ≡ false → current_priority b.config d own ≡ d.priority
 plain_priority b d own h r =
-    ap (λ (x : List ℕ). max d.priority (max (greatest (map (ceiling b.config) x)) (cond own.raised (highest b.config) 0))) h
-    ∙ ap (λ x. max d.priority (max 0 (cond x (highest b.config) 0))) r
+    ap (λ (x : List ℕ). max d.priority (max (greatest (map (ceiling b.config) x)) (cond own.raised (highest_priority b.config) 0))) h
+    ∙ ap (λ x. max d.priority (max 0 (cond x (highest_priority b.config) 0))) r
     ∙ (let e : max d.priority (max 0 0) ≡ d.priority = omega arith in e)
 
 module _ (b : Build) (state : State) (s : System) (t : ℕ) (called : Task) (object offset : ℕ) (touched : List ℕ) (end : State) (fits : Fits b)
@@ -89,7 +89,7 @@ module _ (b : Build) (state : State) (s : System) (t : ℕ) (called : Task) (obj
       record {
         frame = going_on opening.frame;
         outer = opening.outer;
-        frames = ap moved (frames_are b state s t called service.Schedule is fits);
+        frames = ap moved_frames (frames_are b state s t called service.Schedule is fits);
         inside = may.followed.more;
         here = inr (inl (record {
           owes = refl;

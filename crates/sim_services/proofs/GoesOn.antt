@@ -10,13 +10,13 @@ use Rattle.sloth_base.specs.Named.{operation}
 use Rattle.sloth_base.specs.Status.{E_OK}
 use Rattle.sloth_region.specs.Layout.{cur}
 use Rattle.rv32_instr.specs.Ram.{word_at}
-use Rattle.rv32_routine.specs.Kernel.{LeftAs}
+use Rattle.masked_code.specs.Kernel.{LeftAs}
 use Rattle.block_parts.specs.Back.{WentBack, a0, a1}
-use Rattle.osek_machine.specs.State.{Frame, Task, System, task}
-use Rattle.osek_machine.specs.Meaning.{going_on}
-use Rattle.osek_machine.specs.Services.{moved, is_there, Outcome, GoesOn, Leaves, answered, answered_with}
-use Rattle.osek_machine.specs.Outcomes.{outcome}
-use Rattle.osek_machine.specs.Steps.{OsekStep, Serves, settled}
+use Rattle.osek_scheduler.specs.State.{Frame, Task, System, task}
+use Rattle.osek_scheduler.specs.Meaning.{going_on}
+use Rattle.osek_scheduler.specs.Services.{moved_frames, is_there, Outcome, GoesOn, Leaves, answered_state, answered_with}
+use Rattle.osek_scheduler.specs.Outcomes.{outcome}
+use Rattle.osek_scheduler.specs.Steps.{OsekStep, ServesCall, settled_state}
 use Rattle.sim_induction.proofs.Stretched.{shows_call, shows_left}
 use Rattle.sim_relation.specs.Build.{Build, Fits}
 use Rattle.sim_relation.specs.Context.{RunsTask, Running}
@@ -85,10 +85,10 @@ module _ (b : Build) (state : State) (s : System) (t : ℕ) (called : Task) (ser
       (x2 : slice_index end.core.registers 2 ≡ slice_index state.core.registers 2) (registers : List ℕ) (long : length registers ≡ 25)
       (held : (i : ℕ) → i < 25 → slice_index registers i ≡ slice_index end.core.registers (i + 5)) where
     abbrev own_now : Task
-    own_now = record own { registers = registers; frames = moved own.frames }
+    own_now = record own { registers = registers; frames = moved_frames own.frames }
 
-    frames_now : moved own.frames ≡ going_on frame ∷ opening.outer
-    frames_now = ap moved frames_are
+    frames_now : moved_frames own.frames ≡ going_on frame ∷ opening.outer
+    frames_now = ap moved_frames frames_are
 
     at_ram : (i : ℕ) → slice_index end.core.ram i ≡ slice_index state.core.ram i
     at_ram i = ap (λ r. slice_index r i) left.ram
@@ -135,7 +135,7 @@ module _ (b : Build) (state : State) (s : System) (t : ℕ) (called : Task) (ser
 
   -- the relation stands behind a status
   pub behind_status : IsFollowed b frame.func frame.item → (end : State) → WentBack a0 state.core state end → (status : ℕ)
-      → slice_index end.core.registers a0 ≡ status → Stands b end (settled (answered status t s))
+      → slice_index end.core.registers a0 ≡ status → Stands b end (settled_state (answered_state status t s))
   behind_status followed end back status status_is =
       behind followed end back.left back.pc back.x2 (set own.registers 5 status)
       (long_status own.registers state.core.registers end.core.registers long_registers held_registers status status_is)
@@ -144,7 +144,7 @@ module _ (b : Build) (state : State) (s : System) (t : ℕ) (called : Task) (ser
   module _ (touched : List ℕ) (end : State) (one other : ℕ) (touches : AllByRecursion (Contains (one ∷ other ∷ [])) touched)
       (names : is_there b.config called.held served opening.block.call.object ≡ true) where
     -- the call has this outcome
-    serves : (answer : Outcome) → outcome b.config served opening.block.call.object opening.block.call.mask t s ≡ answer → Serves b.config b.app t served s answer
+    serves : (answer : Outcome) → outcome b.config served opening.block.call.object opening.block.call.mask t s ≡ answer → ServesCall b.config b.app t served s answer
     serves answer answer_is = record {
       top = is.top;
       call = opening.block.call;
@@ -164,14 +164,14 @@ module _ (b : Build) (state : State) (s : System) (t : ℕ) (called : Task) (ser
 
     -- the service answers this status
     pub answers_so : (status : ℕ) → slice_index end.core.registers a0 ≡ status → (after : System)
-        → outcome b.config served opening.block.call.object opening.block.call.mask t s ≡ GoesOn status after → Stands b end (settled after)
+        → outcome b.config served opening.block.call.object opening.block.call.mask t s ≡ GoesOn status after → Stands b end (settled_state after)
         → word_at end.core.ram cur ≡ word_at state.core.ram cur → Answers b s t served touched end
     answers_so status status_is after answer_is stands current = record {
       one = one;
       other = other;
       touches = touches;
-      after = settled after;
-      step_is = subst (λ what. OsekStep b.config b.app what s (settled after))
+      after = settled_state after;
+      step_is = subst (λ what. OsekStep b.config b.app what s (settled_state after))
           (sym (shows_call t served end (current ∙ opening.current) ∙ ap (λ (v : ℕ). event.Call t served v) status_is))
           (k.tidy.booted, (after, serves (GoesOn status after) answer_is, refl));
       stands = stands;
@@ -179,9 +179,9 @@ module _ (b : Build) (state : State) (s : System) (t : ℕ) (called : Task) (ser
 
     -- it answers this status and does nothing else
     pub answers_status : IsFollowed b frame.func frame.item → WentBack a0 state.core state end → (status : ℕ) → slice_index end.core.registers a0 ≡ status
-        → outcome b.config served opening.block.call.object opening.block.call.mask t s ≡ GoesOn status (answered status t s) → Answers b s t served touched end
+        → outcome b.config served opening.block.call.object opening.block.call.mask t s ≡ GoesOn status (answered_state status t s) → Answers b s t served touched end
     answers_status followed back status status_is answer_is =
-        answers_so status status_is (answered status t s) answer_is (behind_status followed end back status status_is) (ap (λ r. word_at r cur) back.left.ram)
+        answers_so status status_is (answered_state status t s) answer_is (behind_status followed end back status status_is) (ap (λ r. word_at r cur) back.left.ram)
 
     -- it answers a number besides
     pub answers_number : IsFollowed b frame.func frame.item → WentBack a1 state.core state end → slice_index end.core.registers a0 ≡ E_OK
@@ -195,14 +195,14 @@ module _ (b : Build) (state : State) (s : System) (t : ℕ) (called : Task) (ser
         (ap (λ r. word_at r cur) back.left.ram)
 
     -- its caller leaves
-    pub leaves_so : (after : System) → outcome b.config served opening.block.call.object opening.block.call.mask t s ≡ Leaves after → Stands b end (settled after)
+    pub leaves_so : (after : System) → outcome b.config served opening.block.call.object opening.block.call.mask t s ≡ Leaves after → Stands b end (settled_state after)
         → (word_at end.core.ram cur ≡ t + 1 → ⊥) → Answers b s t served touched end
     leaves_so after answer_is stands gone = record {
       one = one;
       other = other;
       touches = touches;
-      after = settled after;
-      step_is = subst (λ what. OsekStep b.config b.app what s (settled after)) (sym (shows_left t served end gone))
+      after = settled_state after;
+      step_is = subst (λ what. OsekStep b.config b.app what s (settled_state after)) (sym (shows_left t served end gone))
           (k.tidy.booted, (after, serves (Leaves after) answer_is, refl));
       stands = stands;
     }

@@ -12,9 +12,9 @@ use Rattle.sloth_base.specs.Named.{operation}
 use Rattle.sloth_base.specs.Stretches.{Masks, stretch_limit}
 use Rattle.rv32_instr.specs.declared.InstrKind.{InstrKind}
 use Rattle.rv32_machine.specs.Run.{arrived}
-use Rattle.rv32_routine.specs.Kernel.{masking}
-use Rattle.rv32_routine.specs.Masked.{FromOpening}
-use Rattle.rv32_routine.specs.Place.{at}
+use Rattle.masked_code.specs.Kernel.{masking}
+use Rattle.masked_code.specs.Masked.{FromOpening}
+use Rattle.masked_code.specs.Place.{at}
 use Rattle.observe.specs.Observe.{View}
 use Rattle.service_gen.specs.ActivateTask.{Activates, Activated}
 use Rattle.service_gen.specs.ChainTask.{Chains, Chained}
@@ -22,12 +22,12 @@ use Rattle.service_gen.specs.GetResource.{Takes, Taken}
 use Rattle.service_gen.specs.GetTaskID.{TellsTask, Told}
 use Rattle.service_gen.specs.GetTaskState.{StateTold, TellsState}
 use Rattle.service_gen.specs.ReleaseResource.{Releases, Released}
-use Rattle.osek_machine.specs.State.{Frame, Task, System, task}
+use Rattle.osek_scheduler.specs.State.{Frame, Task, System, task}
 use Rattle.sim_induction.specs.Admits.{IsSetting, lines_at, with_admits}
 use Rattle.sim_relation.specs.Build.{Build, Fits}
 use Rattle.sim_relation.specs.Placed.{setting_of}
 use Rattle.sim_relation.specs.Stands.{Stands}
-use Rattle.sim_services.specs.Laws.{MayGoOn}
+use Rattle.sim_services.specs.ServiceSteps.{MayGoOn}
 use Rattle.sim_services.specs.Opening.{AtOpening, IsFollowed, CanServe}
 use Rattle.sim_services.specs.Served.{IsServed, Answers, TouchesTasks}
 use Rattle.sim_services.specs.Stretch.{OpensChainTask, OpensGetResource, OpensGoingOn, Stretches}

@@ -3,11 +3,11 @@ use Rattle.std.proofs.Common.{◌≡◌, ℕ, ◌≤◌, List, [], ◌∷◌, �
 use Rattle.std.specs.Prelude.{◌==◌, ◌⊎◌}
 use Rattle.std.proofs.lemmas.Bool.{eqb-true, false≢true, or_cases, or_left, or_right}
 use Rattle.sloth_base.specs.PriorityLevels.{level_of}
-use Rattle.sloth_region.specs.Layout.{saved}
+use Rattle.sloth_region.specs.Layout.{saved_level}
 use Rattle.rv32_instr.specs.Ram.{word_at}
-use Rattle.osek_machine.specs.State.{Task, declaration}
-use Rattle.osek_machine.specs.Priority.{is_in, greatest, ceiling, current_priority}
-use Rattle.app_rules.specs.Code.{is_last, without_last}
+use Rattle.osek_scheduler.specs.State.{Task, declaration}
+use Rattle.osek_scheduler.specs.Priority.{is_in, greatest, ceiling, current_priority}
+use Rattle.code_rules.specs.Code.{is_last, without_last}
 use Rattle.sim_relation.specs.Build.{Build}
 use Rattle.sim_relation.specs.ServiceWords.{HeldWords, base_priority}
 
@@ -30,14 +30,14 @@ with_one_more b priority (q ∷ held) r = with_one_more b (max priority (ceiling
 
 -- one more is taken
 pub words_push : (b : Build) (ram : List ℕ) (priority : ℕ) (held : List ℕ) (r : ℕ) → HeldWords b ram priority held
-    → word_at ram (saved r) ≡ level_of b.config (with_held b priority held) → HeldWords b ram priority (held ++ r ∷ [])
+    → word_at ram (saved_level r) ≡ level_of b.config (with_held b priority held) → HeldWords b ram priority (held ++ r ∷ [])
 words_push b ram priority [] r h e = (e, tt)
 words_push b ram priority (q ∷ held) r h e = (h.0, words_push b ram (max priority (ceiling b.config q)) held r h.1 e)
 
 -- the last one is released
 pub record Popped (b : Build) (ram : List ℕ) (priority : ℕ) (held : List ℕ) (r : ℕ) : Type 0 where
   pub words : HeldWords b ram priority (without_last held)
-  pub level : word_at ram (saved r) ≡ level_of b.config (with_held b priority (without_last held))
+  pub level : word_at ram (saved_level r) ≡ level_of b.config (with_held b priority (without_last held))
   pub among : is_in r held ≡ true
 
 pub words_pop : (b : Build) (ram : List ℕ) (priority : ℕ) (held : List ℕ) (r : ℕ) → is_last r held ≡ true → HeldWords b ram priority held → Popped b ram priority held r
@@ -46,7 +46,7 @@ words_pop b ram priority (q ∷ []) r l h =
     let e : q ≡ r = eqb-true q r l in
     record {
       words = tt;
-      level = ap (λ x. word_at ram (saved x)) (sym e) ∙ h.0;
+      level = ap (λ x. word_at ram (saved_level x)) (sym e) ∙ h.0;
       among = or_left (q == r) false l;
     }
 words_pop b ram priority (q ∷ p ∷ held) r l h =

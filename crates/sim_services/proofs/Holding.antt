@@ -7,17 +7,17 @@ use Rattle.sloth_base.specs.Status.{E_OK}
 use Rattle.sloth_base.specs.PriorityLevels.{level_of}
 use Rattle.sloth_base.specs.declared.service.Service.TheVariants as service
 use Rattle.sloth_base.specs.Machine.{State}
-use Rattle.sloth_region.specs.Layout.{cur, saved, idle_context}
+use Rattle.sloth_region.specs.Layout.{cur, saved_level, idle_context}
 use Rattle.rv32_instr.specs.Ram.{word_at, with_word}
-use Rattle.rv32_routine.proofs.Words.{word_at-same, get_or-with_word, length-with_word}
+use Rattle.masked_code.proofs.Words.{word_at-same, get_or-with_word, length-with_word}
 use Rattle.service_gen.specs.GetResource.{Taken}
 use Rattle.service_gen.specs.ReleaseResource.{Released}
-use Rattle.app_rules.specs.Code.{is_last, without_last}
-use Rattle.osek_machine.specs.declared.state.TaskState.{TaskState}
-use Rattle.osek_machine.specs.declared.state.TaskState.TheVariants as mode
-use Rattle.osek_machine.specs.State.{Task, System, task, with_task, declaration}
-use Rattle.osek_machine.specs.Priority.{is_in, is_active, ceiling}
-use Rattle.osek_machine.specs.Services.{answers, is_there, GoesOn}
+use Rattle.code_rules.specs.Code.{is_last, without_last}
+use Rattle.osek_scheduler.specs.declared.state.TaskState.{TaskState}
+use Rattle.osek_scheduler.specs.declared.state.TaskState.TheVariants as mode
+use Rattle.osek_scheduler.specs.State.{Task, System, task, with_task, declaration}
+use Rattle.osek_scheduler.specs.Priority.{is_in, is_active, ceiling}
+use Rattle.osek_scheduler.specs.Services.{answers, is_there, GoesOn}
 use Rattle.osek_valid.proofs.Stacks.{is_in-append, in-without_last}
 use Rattle.sim_relation.specs.Build.{Build, Fits}
 use Rattle.sim_relation.specs.Context.{RunsTask, Running}
@@ -28,7 +28,7 @@ use Rattle.sim_relation.proofs.Parts.{held_kept, word_other}
 use Rattle.sim_relation.proofs.Placed.{first_by_word}
 use Rattle.sim_relation.proofs.Tops.{below_first}
 use Rattle.sim_services.specs.Served.{IsServed, Answers}
-use Rattle.sim_services.specs.Laws.{MayGoOn, MayHaveResource}
+use Rattle.sim_services.specs.ServiceSteps.{MayGoOn, MayHaveResource}
 use Rattle.sim_services.proofs.Answered.{long_status, status_held}
 use Rattle.sim_services.proofs.GoesOn.{active, long_registers, held_registers, answers_so}
 use Rattle.sim_services.proofs.HeldLevels.{with_held, current_is, with_one_more, words_push, Popped, words_pop, holds_at_least}
@@ -84,7 +84,7 @@ module _ (b : Build) (state : State) (s : System) (t : ℕ) (called : Task) (obj
   old = state.core.ram
 
   abbrev new : List ℕ
-  new = with_word old (saved object) state.core.ilevel
+  new = with_word old (saved_level object) state.core.ilevel
 
   abbrev held_now : List ℕ
   held_now = own.held ++ object ∷ []
@@ -110,19 +110,19 @@ module _ (b : Build) (state : State) (s : System) (t : ℕ) (called : Task) (obj
   small : state.core.ilevel < 4294967296
   small = let e = runs_at in let m = level_of-few b.config (with_held b base own.held) in let f = fits.few_tasks in omega arith
 
-  named : (p : ℕ) → p % 4 ≡ 0 → p ≢ saved object → word_at new p ≡ word_at old p
-  named p a n = word_other old (saved object) state.core.ilevel p a (omega arith) n
+  named : (p : ℕ) → p % 4 ≡ 0 → p ≢ saved_level object → word_at new p ≡ word_at old p
+  named p a n = word_other old (saved_level object) state.core.ilevel p a (omega arith) n
 
-  saved_is : word_at new (saved object) ≡ level_of b.config (with_held b base own.held)
-  saved_is = let f = k.fixed.ram in let l = may.is_resource in word_at-same old (saved object) state.core.ilevel (omega arith) small ∙ runs_at
+  saved_is : word_at new (saved_level object) ≡ level_of b.config (with_held b base own.held)
+  saved_is = let f = k.fixed.ram in let l = may.is_resource in word_at-same old (saved_level object) state.core.ilevel (omega arith) small ∙ runs_at
 
-  differs : (q : ℕ) → is_in q own.held ≡ true → saved q ≢ saved object
+  differs : (q : ℕ) → is_in q own.held ≡ true → saved_level q ≢ saved_level object
   differs q i e = let same : q ≡ object = omega arith in let c : is_in object own.held ≡ true = subst (λ x. is_in x own.held ≡ true) same i in let d = not_yet in cc
 
   words : HeldWords b new base held_now
   words =
       words_push b new base own.held object
-      (held_kept b old new base own.held (λ q i. named (saved q) (omega arith) (differs q i)) (k.words t here.declared).held) saved_is
+      (held_kept b old new base own.held (λ q i. named (saved_level q) (omega arith) (differs q i)) (k.words t here.declared).held) saved_is
 
   few : (q : ℕ) → is_in q held_now ≡ true → q < 33
   few q i = by (or_cases _ _ (sym (is_in-append q own.held (object ∷ [])) ∙ i))
@@ -131,13 +131,13 @@ module _ (b : Build) (state : State) (s : System) (t : ℕ) (called : Task) (obj
       by (inl e) = (k.tidy.each t here.declared).few q e
       by (inr e) = ⊎_elim (λ x. let same = eqb-true object q x in let l = may.is_resource in omega arith) (λ x. absurd cc) (or_cases _ _ e)
 
-  others : (u q : ℕ) → u < length b.config.tasks → u ≢ t → is_in q (task s u).held ≡ true → word_at new (saved q) ≡ word_at old (saved q)
+  others : (u q : ℕ) → u < length b.config.tasks → u ≢ t → is_in q (task s u).held ≡ true → word_at new (saved_level q) ≡ word_at old (saved_level q)
   others u q l n i =
       let f = first_by_word b state s t k.stack k.running is.opening.current in
-      named (saved q) (omega arith) (λ e. other_holder b state s k t f.0 f.1 object may.below u q l n i (omega arith))
+      named (saved_level q) (omega arith) (λ e. other_holder b state s k t f.0 f.1 object may.below u q l n i (omega arith))
 
   high : (i : ℕ) → idle_context ≤ i → slice_index new i ≡ slice_index old i
-  high i h = let l = may.is_resource in get_or-with_word old (saved object) state.core.ilevel i (inr (omega arith))
+  high i h = let l = may.is_resource in get_or-with_word old (saved_level object) state.core.ilevel i (inr (omega arith))
 
   holds : AtOtherLevel b state s t object own_now (max state.core.ilevel level) new end
   holds =
@@ -152,7 +152,7 @@ module _ (b : Build) (state : State) (s : System) (t : ℕ) (called : Task) (obj
         same = status_held own.registers state.core.registers end.core.registers long same E_OK effect.status effect.back.kept;
         words = words;
         few = few;
-        ram_long = length-with_word old (saved object) state.core.ilevel;
+        ram_long = length-with_word old (saved_level object) state.core.ilevel;
         high = high;
         named = named;
         others = others;
@@ -176,7 +176,7 @@ module _ (b : Build) (state : State) (s : System) (k : Stands b state s) (t : �
   pub popped : Popped b state.core.ram (base_priority b t (task s t)) (task s t).held r
   popped = words_pop b state.core.ram (base_priority b t (task s t)) (task s t).held r last (k.words t declared).held
 
-  pub saved_few : length b.config.tasks ≤ 30 → word_at state.core.ram (saved r) < 256
+  pub saved_few : length b.config.tasks ≤ 30 → word_at state.core.ram (saved_level r) < 256
   saved_few f =
       let e = popped.level in
       let m = level_of-few b.config (with_held b (base_priority b t (task s t)) (without_last (task s t).held)) in
@@ -199,7 +199,7 @@ module _ (b : Build) (state : State) (s : System) (t : ℕ) (called : Task) (obj
   pop : Popped b state.core.ram (base_priority b t releasing) releasing.held object
   pop = popped b state s release_is.stands t releaser.declared object (ap (λ (o : Task). is_last object o.held) release_is.own_is ∙ on.names)
 
-  releases_to : AtOtherLevel b state s t object released (word_at state.core.ram (saved object)) state.core.ram end
+  releases_to : AtOtherLevel b state s t object released (word_at state.core.ram (saved_level object)) state.core.ram end
   releases_to =
       let long = long_registers b state s t called service.ReleaseResource release_is fits in
       let same = held_registers b state s t called service.ReleaseResource release_is fits in
@@ -227,6 +227,6 @@ module _ (b : Build) (state : State) (s : System) (t : ℕ) (called : Task) (obj
       (subst (AllByRecursion (Contains (t ∷ t ∷ []))) (sym effect.touches) tt)
       (subst (λ o. is_there b.config called.held service.ReleaseResource o ≡ true) (sym on.object_is) on.names)
       E_OK effect.status (with_task s t released) refl
-      (at_other_level b state s release_is.stands fits t release_is.opening.current object released (word_at state.core.ram (saved object))
+      (at_other_level b state s release_is.stands fits t release_is.opening.current object released (word_at state.core.ram (saved_level object))
       state.core.ram end releases_to)
       (ap (λ r. word_at r cur) effect.back.left.ram)

@@ -4,14 +4,14 @@ use Rattle.std.specs.Prelude.{◌≢◌, slice_index}
 use Rattle.sloth_base.specs.Machine.{State}
 use Rattle.sloth_base.specs.PriorityLevels.{level_of}
 use Rattle.sloth_base.specs.declared.service.Service.{Service}
-use Rattle.sloth_region.specs.Layout.{cur, below_word, active as active_place, events, wait, resume, saved, idle_context}
+use Rattle.sloth_region.specs.Layout.{cur, below_word, active as active_place, events, wait, resume, saved_level, idle_context}
 use Rattle.rv32_instr.specs.Ram.{word_at}
-use Rattle.rv32_routine.specs.Kernel.{LeftAs}
-use Rattle.osek_machine.specs.declared.state.TaskState.TheVariants as mode
-use Rattle.osek_machine.specs.State.{Task, System, task, declaration}
-use Rattle.osek_machine.specs.Meaning.{going_on}
-use Rattle.osek_machine.specs.Priority.{is_in, is_active, current_priority}
-use Rattle.osek_machine.specs.Services.{moved}
+use Rattle.masked_code.specs.Kernel.{LeftAs}
+use Rattle.osek_scheduler.specs.declared.state.TaskState.TheVariants as mode
+use Rattle.osek_scheduler.specs.State.{Task, System, task, declaration}
+use Rattle.osek_scheduler.specs.Meaning.{going_on}
+use Rattle.osek_scheduler.specs.Priority.{is_in, is_active, current_priority}
+use Rattle.osek_scheduler.specs.Services.{moved_frames}
 use Rattle.sim_relation.specs.Build.{Build, Fits}
 use Rattle.sim_relation.specs.Context.{RunsTask, Running}
 use Rattle.sim_relation.specs.Moves.{moved_to, TaskMove}
@@ -42,8 +42,8 @@ pub record AtOtherLevel (b : Build) (state : State) (s : System) (t resource : �
   pub few : (r : ℕ) → is_in r own.held ≡ true → r < 33
   pub ram_long : length ram ≡ length state.core.ram
   pub high : (i : ℕ) → idle_context ≤ i → slice_index ram i ≡ slice_index state.core.ram i
-  pub named : (p : ℕ) → p % 4 ≡ 0 → p ≢ saved resource → word_at ram p ≡ word_at state.core.ram p
-  pub others : (u r : ℕ) → u < length b.config.tasks → u ≢ t → is_in r (task s u).held ≡ true → word_at ram (saved r) ≡ word_at state.core.ram (saved r)
+  pub named : (p : ℕ) → p % 4 ≡ 0 → p ≢ saved_level resource → word_at ram p ≡ word_at state.core.ram p
+  pub others : (u r : ℕ) → u < length b.config.tasks → u ≢ t → is_in r (task s u).held ≡ true → word_at ram (saved_level r) ≡ word_at state.core.ram (saved_level r)
   pub level_is : (below : List ℕ) → RunsTask b state s t below → level ≡ level_of b.config (current_priority b.config (declaration b.config t) own)
   pub position : (below : List ℕ) (run : RunsTask b state s t below) → Position b end.core.ram t own (thread_of end) run.place
 
@@ -61,7 +61,7 @@ module _ (b : Build) (state : State) (s : System) (k : Stands b state s) (fits :
   high : (i : ℕ) → idle_context ≤ i → slice_index new i ≡ slice_index old i
   high i l = ap (λ r. slice_index r i) h.left.ram ∙ h.high i l
 
-  named : (p : ℕ) → p % 4 ≡ 0 → p ≢ saved resource → word_at new p ≡ word_at old p
+  named : (p : ℕ) → p % 4 ≡ 0 → p ≢ saved_level resource → word_at new p ≡ word_at old p
   named p a n = ap (λ r. word_at r p) h.left.ram ∙ h.named p a n
 
   own_words : ServiceWords b new t own
@@ -85,7 +85,7 @@ module _ (b : Build) (state : State) (s : System) (k : Stands b state s) (fits :
       service_kept b old new u (task s u)
       (named (active_place u) (omega arith) (λ e. omega arith)) (named (events u) (omega arith) (λ e. omega arith))
       (named (wait u) (omega arith) (λ e. omega arith)) (named (resume u) (omega arith) (λ e. omega arith))
-      (λ r i. ap (λ m. word_at m (saved r)) h.left.ram ∙ h.others u r l n i)
+      (λ r i. ap (λ m. word_at m (saved_level r)) h.left.ram ∙ h.others u r l n i)
       (λ a f i x y. let low = fits.from u l in high i (omega arith)) (k.words u l)
 
   module _ (below : List ℕ) (stack_is : k.stack ≡ t ∷ below) where
@@ -132,7 +132,7 @@ module _ (b : Build) (state : State) (s : System) (k : Stands b state s) (fits :
 module _ (b : Build) (state : State) (s : System) (t : ℕ) (called : Task) (served : Service) (is : IsServed b state s t called served) (fits : Fits b)
     (followed : IsFollowed b is.opening.frame.func is.opening.frame.item) (end : State) (pc : end.pc ≡ slice_index state.core.registers 31)
     (ram : List ℕ) (ram_is : end.core.ram ≡ ram) (high : (i : ℕ) → idle_context ≤ i → slice_index ram i ≡ slice_index state.core.ram i)
-    (own : Task) (frames : own.frames ≡ moved (task s t).frames) (owes : own.owed ≡ (task s t).owed) (below : List ℕ) (run : RunsTask b state s t below) where
+    (own : Task) (frames : own.frames ≡ moved_frames (task s t).frames) (owes : own.owed ≡ (task s t).owed) (below : List ℕ) (run : RunsTask b state s t below) where
   abbrev opening : AtOpening b state t called served
   opening = is.opening
 
@@ -148,5 +148,5 @@ module _ (b : Build) (state : State) (s : System) (t : ℕ) (called : Task) (ser
   pub position_behind : Position b end.core.ram t own (thread_of end) run.place
   position_behind =
       position_first b end.core.ram t own (thread_of end) run.place (going_on opening.frame) opening.outer
-      (frames ∙ ap moved (frames_are b state s t called served is fits)) (owes ∙ free b state s t called served is fits) followed.more
+      (frames ∙ ap moved_frames (frames_are b state s t called served is fits)) (owes ∙ free b state s t called served is fits) followed.more
       (pc ∙ opening.block.returns ∙ sym followed.adjacent) frames_now

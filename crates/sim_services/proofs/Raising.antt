@@ -6,11 +6,11 @@ use Rattle.sloth_base.specs.Machine.{State}
 use Rattle.sloth_region.specs.Layout.{active}
 use Rattle.rv32_instr.specs.Ram.{word_at}
 use Rattle.block_parts.specs.Looks.{LooksSuspended}
-use Rattle.osek_machine.specs.declared.state.TaskState.{TaskState}
-use Rattle.osek_machine.specs.declared.state.TaskState.TheVariants as mode
-use Rattle.osek_machine.specs.State.{System, task}
-use Rattle.osek_machine.specs.Services.{if_suspended, activated, Outcome}
-use Rattle.osek_machine.specs.Steps.{admitted, settled}
+use Rattle.osek_scheduler.specs.declared.state.TaskState.{TaskState}
+use Rattle.osek_scheduler.specs.declared.state.TaskState.TheVariants as mode
+use Rattle.osek_scheduler.specs.State.{System, task}
+use Rattle.osek_scheduler.specs.Services.{if_suspended, activated_state, Outcome}
+use Rattle.osek_scheduler.specs.Steps.{admitted_state, settled_state}
 use Rattle.sim_relation.specs.Build.{Build}
 use Rattle.sim_relation.specs.ServiceWords.{active_word}
 use Rattle.sim_relation.specs.Stands.{Stands, IsLineOf}
@@ -71,15 +71,15 @@ module _ (b : Build) (state : State) (s : System) (k : Stands b state s) (u : �
   enabled_bit = enabled_small (task s u).state (slice_index state.core.pending u) (slice_index state.core.enabled u) line_is
 
   module _ (few : length b.config.tasks ≤ 32) where
-    one : Stands b (state_arrive (u ∷ []) state) (admitted u s)
+    one : Stands b (state_arrive (u ∷ []) state) (admitted_state u s)
     one = arrived_one b state s u k declared few
 
     -- a Suspended task is Ready now
-    pub readied : (task s u).state ≡ mode.Suspended → Stands b (state_arrive (u ∷ []) state) (settled (activated s u))
+    pub readied : (task s u).state ≡ mode.Suspended → Stands b (state_arrive (u ∷ []) state) (settled_state (activated_state s u))
     readied e =
-        stands_fresh b (state_arrive (u ∷ []) state) (record (activated s u) { fresh = u ∷ s.fresh }) []
-        (subst (λ x. Stands b (state_arrive (u ∷ []) state) x) (ap (λ m. if_suspended m (record (activated s u) { fresh = u ∷ s.fresh }) s) e) one)
+        stands_fresh b (state_arrive (u ∷ []) state) (record (activated_state s u) { fresh = u ∷ s.fresh }) []
+        (subst (λ x. Stands b (state_arrive (u ∷ []) state) x) (ap (λ m. if_suspended m (record (activated_state s u) { fresh = u ∷ s.fresh }) s) e) one)
 
     -- any other task stays as it was
     pub stayed : ((task s u).state ≡ mode.Suspended → ⊥) → Stands b (state_arrive (u ∷ []) state) s
-    stayed n = subst (λ x. Stands b (state_arrive (u ∷ []) state) x) (not_suspended (task s u).state (record (activated s u) { fresh = u ∷ s.fresh }) s n) one
+    stayed n = subst (λ x. Stands b (state_arrive (u ∷ []) state) x) (not_suspended (task s u).state (record (activated_state s u) { fresh = u ∷ s.fresh }) s n) one

@@ -15,18 +15,18 @@ use Rattle.sloth_base.specs.declared.lines.Owners.{Owners}
 use Rattle.rv32_instr.specs.declared.InstrKind.{InstrKind}
 use Rattle.rv32_instr.specs.Execute.{touched, touched_by}
 use Rattle.rv32_machine.specs.Run.{arrived}
-use Rattle.rv32_routine.specs.Kernel as kernel
-use Rattle.rv32_routine.specs.Masked.{FromOpening}
-use Rattle.rv32_routine.specs.Place.{at, InPlace}
-use Rattle.rv32_routine.specs.Trace.{touched_lines, early, late}
-use Rattle.rv32_routine.proofs.Machine.{touched_at}
+use Rattle.masked_code.specs.Kernel as kernel
+use Rattle.masked_code.specs.Masked.{FromOpening}
+use Rattle.masked_code.specs.Place.{at, InPlace}
+use Rattle.masked_code.specs.Trace.{touched_lines, early, late}
+use Rattle.masked_code.proofs.Machine.{touched_at}
 use Rattle.service_gen.specs.Schedule.{CameBack, MayComeBack, way_back, Yielded, Yields}
 use Rattle.service_gen.proofs.Yielding.{in_place-rest}
-use Rattle.observe.specs.Observe.{View, mark_at, marked_event, task_of}
-use Rattle.osek_machine.specs.State.{System, task}
-use Rattle.osek_machine.specs.Steps.{OsekStep}
+use Rattle.observe.specs.Observe.{View, mark_at, marked_event, running_task}
+use Rattle.osek_scheduler.specs.State.{System, task}
+use Rattle.osek_scheduler.specs.Steps.{OsekStep}
 use Rattle.sim_induction.specs.Admits.{IsSetting, lines_at, with_admits}
-use Rattle.sim_induction.specs.Laws.{StretchLaw, seen_at}
+use Rattle.sim_induction.specs.PieceLaws.{StretchLaw, seen_at}
 use Rattle.sim_induction.proofs.Routes.{Masking, masking, begins_masked, opened_event}
 use Rattle.sim_induction.proofs.Schedule.{owned_at}
 use Rattle.sim_induction.proofs.Stretched.{early_none, task_is}
@@ -40,9 +40,9 @@ use Rattle.sim_relation.proofs.Arrive.{stands_arrived}
 use Rattle.sim_relation.proofs.Choice.{running_top}
 use Rattle.sim_relation.proofs.Levels.{level_of-few}
 use Rattle.sim_relation.proofs.Placed.{active_by_word, code_behind, first_by_word, placed_in}
-use Rattle.osek_machine.specs.Priority.{highest}
-use Rattle.osek_machine.specs.State.{declaration}
-use Rattle.sim_services.specs.Laws.{Returns}
+use Rattle.osek_scheduler.specs.Priority.{highest_priority}
+use Rattle.osek_scheduler.specs.State.{declaration}
+use Rattle.sim_services.specs.ServiceSteps.{Returns}
 use Rattle.sim_services.specs.Stretch.{OpensSchedule, OpensWayBack, Stretches}
 use Rattle.sim_services.proofs.ComingBack.{comes_back, owing_of}
 use Rattle.sim_services.proofs.GivingWay.{gives_way}
@@ -131,7 +131,7 @@ module _ (b : Build) (view : View) (arrivals : List Arrival) (count : ℕ) (stat
         let f = there.fixed in
         let again = opens.way.yields.masks_again in
         let a = fits.items p.frame.func p.frame.item in
-        let m = level_of-few b.config (cond (declaration b.config t).non (highest b.config) (declaration b.config t).priority) in
+        let m = level_of-few b.config (cond (declaration b.config t).non (highest_priority b.config) (declaration b.config t).priority) in
         let l = owing.level in
         record {
           goes_back = record {
@@ -189,7 +189,7 @@ module _ (b : Build) (view : View) (arrivals : List Arrival) (count : ℕ) (stat
             opened_event view count n e.next last opens.way.mark after_boot none
             (ap (λ o. mark_at view (enter o n).pc) none ∙ ap (mark_at view) owing.pc ∙ opens.way.marked)
             ∙ ap (λ v. marked_event v view opens.way.mark (seen_at (setting_of b view arrivals) count state e.next) last) opens.way.is_back
-            ∙ ap (λ v. event.Back (task_of view.owners.tasks v)) opens.current
+            ∙ ap (λ v. event.Back (running_task view.owners.tasks v)) opens.current
             ∙ ap (λ (v : ℕ). event.Back v) (task_is view.owners.tasks t (let v = ap (λ (o : Owners). o.tasks) setting.owners in let h = here.declared in omega arith));
         after = answer.after;
         step_is = subst (λ lines. OsekStep b.config b.app (event.Back t) (with_admits lines s1) answer.after) (sym no_early) answer.step_is;

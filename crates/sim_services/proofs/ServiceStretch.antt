@@ -13,18 +13,18 @@ use Rattle.sloth_base.specs.declared.lines.Owners.{Owners}
 use Rattle.rv32_instr.specs.declared.InstrKind.{InstrKind}
 use Rattle.rv32_instr.specs.Execute.{touched, touched_by}
 use Rattle.rv32_machine.specs.Run.{arrived}
-use Rattle.rv32_routine.specs.Kernel as kernel
-use Rattle.rv32_routine.specs.Masked.{FromOpening}
-use Rattle.rv32_routine.specs.Place.{at, InPlace}
-use Rattle.rv32_routine.specs.Trace.{touched_lines, early, late}
-use Rattle.rv32_routine.proofs.Machine.{touched_at}
+use Rattle.masked_code.specs.Kernel as kernel
+use Rattle.masked_code.specs.Masked.{FromOpening}
+use Rattle.masked_code.specs.Place.{at, InPlace}
+use Rattle.masked_code.specs.Trace.{touched_lines, early, late}
+use Rattle.masked_code.proofs.Machine.{touched_at}
 use Rattle.rv32_expand.specs.Expansion.{block_address, item_address, expansion}
 use Rattle.observe.specs.Observe.{View, mark_at}
-use Rattle.osek_machine.specs.State.{System, task}
-use Rattle.osek_machine.specs.Priority.{IsTop}
-use Rattle.osek_machine.specs.Steps.{OsekStep}
+use Rattle.osek_scheduler.specs.State.{System, task}
+use Rattle.osek_scheduler.specs.Priority.{IsTop}
+use Rattle.osek_scheduler.specs.Steps.{OsekStep}
 use Rattle.sim_induction.specs.Admits.{IsSetting, lines_at, with_admits}
-use Rattle.sim_induction.specs.Laws.{StretchLaw, served_event}
+use Rattle.sim_induction.specs.PieceLaws.{StretchLaw, served_event}
 use Rattle.sim_induction.specs.Mirror.{priority_of}
 use Rattle.sim_induction.proofs.Passing.{not_suspended, kept_admits, still_top}
 use Rattle.sim_induction.proofs.Routes.{Masking, masking}

@@ -5,11 +5,11 @@ use Rattle.std.specs.List.{AllByRecursion}
 use Rattle.sloth_base.specs.declared.service.Service.TheVariants as service
 use Rattle.sloth_base.specs.Machine.{State}
 use Rattle.service_gen.specs.TerminateTask.{Terminated}
-use Rattle.osek_machine.specs.State.{Task, System}
-use Rattle.osek_machine.specs.Services.{ended}
+use Rattle.osek_scheduler.specs.State.{Task, System}
+use Rattle.osek_scheduler.specs.Services.{ended_state}
 use Rattle.sim_relation.specs.Build.{Build, Fits}
 use Rattle.sim_services.specs.Served.{Answers}
-use Rattle.sim_services.specs.Laws.{MayEnd}
+use Rattle.sim_services.specs.ServiceSteps.{MayEnd}
 use Rattle.sim_services.proofs.Ending.{ended_stands, elsewhere}
 use Rattle.sim_services.proofs.GoesOn.{leaves_so}
 
@@ -18,5 +18,5 @@ pub terminate_ends : (b : Build) (state : State) (s : System) (t : ℕ) (own : T
 terminate_ends b state s t own place touched end fits may effect =
     leaves_so b state s t own service.TerminateTask may.is_served fits touched end t t
     (subst (AllByRecursion (Contains (t ∷ t ∷ []))) (sym effect.touches) ((0, (omega arith), refl), tt))
-    refl (ended t s) refl (ended_stands b state s t own service.TerminateTask place touched end fits may effect)
+    refl (ended_state t s) refl (ended_stands b state s t own service.TerminateTask place touched end fits may effect)
     (elsewhere b state s t own service.TerminateTask place touched end fits may effect)

@@ -7,7 +7,7 @@ use Rattle.sloth_base.specs.Machine.{State}
 use Rattle.rv32_machine.specs.Run.{arrived}
 use Rattle.observe.specs.Observe.{View}
 use Rattle.service_gen.specs.TerminateTask.{Terminates, Terminated}
-use Rattle.osek_machine.specs.State.{System, task}
+use Rattle.osek_scheduler.specs.State.{System, task}
 use Rattle.sim_induction.specs.Admits.{IsSetting, lines_at, with_admits}
 use Rattle.sim_relation.specs.Build.{Build, Fits}
 use Rattle.sim_relation.specs.Placed.{setting_of}

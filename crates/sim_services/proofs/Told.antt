@@ -5,11 +5,11 @@ use Rattle.std.specs.List.{AllByRecursion}
 use Rattle.sloth_base.specs.declared.service.Service.TheVariants as service
 use Rattle.sloth_base.specs.Machine.{State}
 use Rattle.service_gen.specs.GetTaskID.{Told}
-use Rattle.osek_machine.specs.State.{Task, System}
-use Rattle.osek_machine.specs.Services.{is_there}
+use Rattle.osek_scheduler.specs.State.{Task, System}
+use Rattle.osek_scheduler.specs.Services.{is_there}
 use Rattle.sim_relation.specs.Build.{Build, Fits}
 use Rattle.sim_services.specs.Served.{Answers}
-use Rattle.sim_services.specs.Laws.{MayGoOn}
+use Rattle.sim_services.specs.ServiceSteps.{MayGoOn}
 use Rattle.sim_services.proofs.GoesOn.{answers_number}
 
 pub tells : (b : Build) (state : State) (s : System) (t : ℕ) (own : Task) (object : ℕ) (touched : List ℕ) (end : State) → Fits b

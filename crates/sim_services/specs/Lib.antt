@@ -1,4 +1,4 @@
 pub mod Opening
 pub mod Served
-pub mod Laws
+pub mod ServiceSteps
 pub mod Stretch

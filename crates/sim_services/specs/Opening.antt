@@ -8,15 +8,15 @@ use Rattle.sloth_base.specs.Machine.{Core, State}
 use Rattle.sloth_region.specs.Layout.{cur}
 use Rattle.rv32_instr.specs.declared.InstrKind.{InstrKind}
 use Rattle.rv32_instr.specs.Ram.{word_at}
-use Rattle.rv32_routine.specs.Kernel.{IsBelow}
+use Rattle.masked_code.specs.Kernel.{IsBelow}
 use Rattle.rv32_expand.specs.Expansion.{item_address, block_address, expansion}
 use Rattle.block_parts.specs.Back.{CanGoBack}
 use Rattle.observe.specs.Observe.{View, mark_at}
 use Rattle.sloth_base.specs.ServiceCodes.{service_of}
-use Rattle.osek_machine.specs.State.{Frame, Task, System, task}
+use Rattle.osek_scheduler.specs.State.{Frame, Task, System, task}
 use Rattle.sloth_base.specs.Named.{function}
 use Rattle.sloth_base.specs.MemoryMap.{memory_base}
-use Rattle.osek_machine.specs.Priority.{is_in}
+use Rattle.osek_scheduler.specs.Priority.{is_in}
 use Rattle.sim_relation.specs.Bounds.{AreBelow}
 use Rattle.sim_relation.specs.Build.{Build}
 use Rattle.sim_relation.specs.Placed.{IsPlaced}
@@ -34,7 +34,7 @@ pub record AtOpening (b : Build) (state : State) (t : ℕ) (own : Task) (served 
   pub calls : block.call.service ≡ served
 
 -- the block of a service with its object stands in the image, with its mark, and its code is as a contract of the generator says
-pub record HasBlock (b : Build) (view : View) (served : Service) (object : ℕ) (Contract : List InstrKind → Type 0) : Type 0 where
+pub record StandsAtBlock (b : Build) (view : View) (served : Service) (object : ℕ) (Contract : List InstrKind → Type 0) : Type 0 where
   pub code : List InstrKind
   pub serves : Contract code
   pub offset : ℕ
@@ -51,7 +51,7 @@ pub record OpensService (b : Build) (view : View) (state : State) (s : System) (
     (Contract : ℕ → List InstrKind → Type 0) : Type 0 where
   pub none : choose state.core ≡ None
   pub opening : AtOpening b state t (task s t) served
-  pub block : HasBlock b view served opening.block.call.object (Contract opening.block.call.object)
+  pub block : StandsAtBlock b view served opening.block.call.object (Contract opening.block.call.object)
   pub not_fresh : is_in t s.fresh ≡ false
   pub bytes : AreBelow 256 state.core.ram
 

@@ -4,10 +4,10 @@ use Rattle.sloth_base.specs.declared.service.Service.{Service}
 use Rattle.sloth_base.specs.Arrive.{state_arrive}
 use Rattle.sloth_base.specs.Machine.{State}
 use Rattle.sloth_base.specs.Owners.{owners_in, AreTasks}
-use Rattle.osek_machine.specs.State.{Task, System, task}
-use Rattle.osek_machine.specs.Priority.{IsTop}
-use Rattle.osek_machine.specs.Steps.{OsekStep}
-use Rattle.sim_induction.specs.Laws.{served_event}
+use Rattle.osek_scheduler.specs.State.{Task, System, task}
+use Rattle.osek_scheduler.specs.Priority.{IsTop}
+use Rattle.osek_scheduler.specs.Steps.{OsekStep}
+use Rattle.sim_induction.specs.PieceLaws.{served_event}
 use Rattle.std.specs.List.{AllByRecursion}
 use Rattle.sim_relation.specs.Bounds.{AreBelow}
 use Rattle.sim_relation.specs.Build.{Build}

@@ -11,7 +11,7 @@ use Rattle.sloth_base.specs.declared.service.Service.TheVariants as service
 use Rattle.sloth_base.specs.Machine.{State}
 use Rattle.sloth_base.specs.MemoryMap.{memory_base}
 use Rattle.rv32_machine.specs.Run.{arrived}
-use Rattle.rv32_routine.specs.Trace.{Trace}
+use Rattle.masked_code.specs.Trace.{Trace}
 use Rattle.rv32_expand.specs.Expansion.{block_address}
 use Rattle.observe.specs.Observe.{View, mark_at}
 use Rattle.rv32_instr.specs.declared.InstrKind.{InstrKind}
@@ -23,14 +23,14 @@ use Rattle.service_gen.specs.GetTaskState.{TellsState}
 use Rattle.service_gen.specs.ReleaseResource.{Releases}
 use Rattle.service_gen.specs.Schedule.{way_back, Yields}
 use Rattle.service_gen.specs.TerminateTask.{Terminates}
-use Rattle.osek_machine.specs.State.{System, task}
-use Rattle.osek_machine.specs.Services.{is_there}
+use Rattle.osek_scheduler.specs.State.{System, task}
+use Rattle.osek_scheduler.specs.Services.{is_there}
 use Rattle.sim_induction.specs.Admits.{IsSetting, lines_at, with_admits}
-use Rattle.sim_induction.specs.Laws.{StretchLaw}
+use Rattle.sim_induction.specs.PieceLaws.{StretchLaw}
 use Rattle.sim_relation.specs.Build.{Build, Fits}
 use Rattle.sim_relation.specs.Stands.{Stands}
 use Rattle.sim_relation.specs.Placed.{IsPlaced, setting_of}
-use Rattle.sim_services.specs.Laws.{MayGiveWay, MayHaveResource}
+use Rattle.sim_services.specs.ServiceSteps.{MayGiveWay, MayHaveResource}
 use Rattle.sim_services.specs.Opening.{IsFollowed, OpensService}
 
 -- a stretch begins at the count

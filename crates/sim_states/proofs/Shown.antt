@@ -5,15 +5,15 @@ use Rattle.sloth_base.specs.Machine.{State}
 use Rattle.sloth_region.specs.Layout.{active, wait}
 use Rattle.rv32_instr.specs.Ram.{word_at}
 use Rattle.rv32_machine.specs.Run.{arrived}
-use Rattle.osek_machine.specs.declared.state.TaskState.{TaskState}
-use Rattle.osek_machine.specs.declared.state.TaskState.TheVariants as mode
-use Rattle.osek_machine.specs.State.{System, task, opening}
-use Rattle.osek_machine.proofs.Leading.{one_end}
+use Rattle.osek_scheduler.specs.declared.state.TaskState.{TaskState}
+use Rattle.osek_scheduler.specs.declared.state.TaskState.TheVariants as mode
+use Rattle.osek_scheduler.specs.State.{System, task, opening}
+use Rattle.osek_scheduler.proofs.Leading.{one_end}
 use Rattle.sim_relation.specs.Build.{Build}
 use Rattle.sim_relation.specs.ServiceWords.{active_word, IsWaitWord}
 use Rattle.sim_relation.specs.Stands.{Stands, IsLineOf}
 use Rattle.sloth_inspect.specs.States.{state_in}
-use Rattle.sim_laws.proofs.Whole.{stands_kernel}
+use Rattle.sim_laws.proofs.KernelRuns.{stands_kernel}
 use Rattle.sim_states.specs.Shown.{ShowStates, KernelShowsStates}
 
 -- a task's state, as its service words and the bytes of its line show it

@@ -10,8 +10,8 @@ use Rattle.sloth_base.specs.Machine.{Core, State}
 use Rattle.rv32_instr.specs.Memory.{memory_of}
 use Rattle.rv32_machine.specs.Start.{start}
 use Rattle.rv32_machine.specs.Run.{state_after, arrived}
-use Rattle.osek_machine.specs.State.{System, task, opening}
-use Rattle.osek_machine.specs.Runs.{Leads}
+use Rattle.osek_scheduler.specs.State.{System, task, opening}
+use Rattle.osek_scheduler.specs.Runs.{Leads}
 use Rattle.sloth_inspect.specs.States.{state_in}
 use Rattle.sim_induction.specs.Sound.{events_of, stands_before}
 use Rattle.sim_relation.specs.Build.{Build}

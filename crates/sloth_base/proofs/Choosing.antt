@@ -4,7 +4,7 @@ use Rattle.std.proofs.lemmas.Bool.{cases_Bool, cases_eq, ltb-true, ltb-false}
 use Rattle.std.proofs.lemmas.Bool.Decides.{nat_tests}
 use Rattle.std.specs.Prelude.{nat_lt}
 use Rattle.sloth_base.specs.Lines.{Lines}
-use Rattle.sloth_base.specs.Choose.{MayTake, Precedes, IsChosen, may_take, better, best_below, choose_line}
+use Rattle.sloth_base.specs.Choose.{MayTake, Precedes, IsChosen, may_take, better_line, best_below, choose_line}
 
 -- the test tells whether the line may be taken
 may-from : (lines : Lines) (level line : ℕ) → line < 32 → may_take lines level line ≡ true → MayTake lines level line
@@ -32,7 +32,7 @@ below_more P n a b k h =
 
 now_better
     : (lines : Lines) (level n : ℕ) (best : Option ℕ) → IsBest lines level n best → MayTake lines level n
-    → IsBest lines level (suc n) (better lines best n)
+    → IsBest lines level (suc n) (better_line lines best n)
 unfolding IsBest
 now_better lines level n None h m = (
   omega arith,
@@ -68,10 +68,10 @@ best lines level (suc n) b =
     let earlier = best lines level n (omega arith) in
     ⊎_elim
     (λ (e : may_take lines level n ≡ true).
-    subst (λ v. IsBest lines level (suc n) (cond v (better lines (best_below lines level n) n) (best_below lines level n))) (sym e)
+    subst (λ v. IsBest lines level (suc n) (cond v (better_line lines (best_below lines level n) n) (best_below lines level n))) (sym e)
     (now_better lines level n (best_below lines level n) earlier (may-from lines level n (omega arith) e)))
     (λ (e : may_take lines level n ≡ false).
-    subst (λ v. IsBest lines level (suc n) (cond v (better lines (best_below lines level n) n) (best_below lines level n))) (sym e)
+    subst (λ v. IsBest lines level (suc n) (cond v (better_line lines (best_below lines level n) n) (best_below lines level n))) (sym e)
     (as_before lines level n (best_below lines level n) earlier (λ m. let y = may-to lines level n m in cc)))
     (cases_Bool (may_take lines level n))
 

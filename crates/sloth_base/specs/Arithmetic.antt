@@ -59,13 +59,13 @@ abbrev pub shifted_right : ℕ → ℕ → ℕ
 shifted_right a count = a / 2 ^ count
 
 -- a signed number halved so many times, rounding down
-abbrev pub halved : ℤ → ℕ → ℤ
-halved (pos a) count = pos (a / 2 ^ count)
-halved (negsuc a) count = negsuc (a / 2 ^ count)
+abbrev pub halved_number : ℤ → ℕ → ℤ
+halved_number (pos a) count = pos (a / 2 ^ count)
+halved_number (negsuc a) count = negsuc (a / 2 ^ count)
 
 -- SRA: the sign comes in
 abbrev pub shifted_right_signed : ℕ → ℕ → ℕ
-shifted_right_signed a count = complement (halved (signed 32 a) count)
+shifted_right_signed a count = complement (halved_number (signed 32 a) count)
 
 -- ---- the two parts of a word, for LUI and ADDI (RISC-V assembly: %hi and %lo): the word is hi * 2^12 + lo modulo 2^32
 
@@ -88,12 +88,12 @@ size_of width.ByteU = 1
 size_of width.HalfU = 2
 
 -- the word that a load makes of the number in its bytes
-abbrev pub extended : Width → ℕ → ℕ
-extended width.Byte value = sign_extended 8 value
-extended width.Half value = sign_extended 16 value
-extended width.Word value = value
-extended width.ByteU value = value
-extended width.HalfU value = value
+abbrev pub extended_number : Width → ℕ → ℕ
+extended_number width.Byte value = sign_extended 8 value
+extended_number width.Half value = sign_extended 16 value
+extended_number width.Word value = value
+extended_number width.ByteU value = value
+extended_number width.HalfU value = value
 
 -- ---- the operations of task code
 

@@ -29,16 +29,16 @@ may_take lines level line =
     && ((slice_index lines.enabled line == 1) && nat_lt level (slice_index lines.levels line))
 
 -- the better of the best line so far and another that may be taken
-abbrev pub better : Lines → Option ℕ → ℕ → Option ℕ
-better lines None line = Some line
-better lines (Some best) line =
+abbrev pub better_line : Lines → Option ℕ → ℕ → Option ℕ
+better_line lines None line = Some line
+better_line lines (Some best) line =
     if nat_lt (slice_index lines.levels best) (slice_index lines.levels line) then Some line else Some best
 
 -- the best line below a number
 unfoldable pub best_below : Lines → ℕ → ℕ → Option ℕ
 best_below lines level zero = None
 best_below lines level (suc line) =
-    if may_take lines level line then better lines (best_below lines level line) line else best_below lines level line
+    if may_take lines level line then better_line lines (best_below lines level line) line else best_below lines level line
 
 -- the best of the 32 lines
 unfoldable pub choose_line : Lines → ℕ → Option ℕ

@@ -9,7 +9,7 @@ use Rattle.sloth_base.specs.declared.image.Image.{Image}
 use Rattle.sloth_base.specs.Owners.{owners_in}
 use Rattle.sloth_io.specs.Counts.{Rose}
 use Rattle.sloth_io.specs.Sink.{Output}
-use Rattle.sloth_io.specs.Store.{Files, KeepsFiles, fits}
+use Rattle.sloth_io.specs.Store.{Files, KeepsFiles, is_space_for}
 use Rattle.image_file.specs.ImageText.{image_bytes}
 use Rattle.sloth_source.specs.Texts.{Accepted}
 use Rattle.command_line.specs.Command.{Command, Building, Builds, Executes, Lists, Samples, Uses, IsCommand, IsInLimit}
@@ -19,7 +19,7 @@ use Rattle.sloth_cli.specs.declared.top.Status.{Status}
 use Rattle.sloth_cli.specs.declared.top.Status.TheVariants as status
 use Rattle.sloth_cli.specs.declared.failure.Failure.{Failure}
 use Rattle.sloth_cli.specs.declared.failure.Failure.TheVariants as failure
-use Rattle.sloth_cli.specs.Top.{World, world, inputs_of, names_of, AreInputs, FilesStay, IsAccepted, IsImageOf}
+use Rattle.sloth_cli.specs.Top.{World, world, inputs_of, names_of, AreInputs, FilesStay, IsAccepted, IsBuiltImage}
 use Rattle.sloth_cli.specs.Top.{IsWritten, IsDone, Requires, Puts, BrokeOff, Answers, done_text}
 use Rattle.sloth_cli.specs.Failures.{ReadFailed, JudgeFailed, PerformFailed, Ends, EndsPlainly, CommandFailed, IsPerformed, Finished}
 use Rattle.sloth_cli.proofs.Ceilings.{shown-keep}
@@ -53,13 +53,13 @@ pub record IsBuilt (old mid : Files) (c : Building) (image : Image) (arrivals : 
   pub config : Config
   pub app : App
   pub accepted : IsAccepted old c config app arrivals
-  pub is_image : IsImageOf config app image
+  pub is_image : IsBuiltImage config app image
   pub in_limit : IsInLimit c.run
   pub kept : KeepsFiles old mid
 
 pub built-of : (old mid : Files) (c : Building) (config : Config) (app : App) (image : Image) (arrivals : List Arrival) (oil src arr : List ℕ)
     → AreInputs old c oil src arr → Accepted oil src config app → AreRead (names_of config) arr arrivals → AreArrivals (owners_in config) arrivals
-    → IsImageOf config app image → IsInLimit c.run → KeepsFiles old mid → IsBuilt old mid c image arrivals
+    → IsBuiltImage config app image → IsInLimit c.run → KeepsFiles old mid → IsBuilt old mid c image arrivals
 built-of old mid c config app image arrivals oil src arr inputs accepted read in_range is_image in_limit kept = record {
   config = config;
   app = app;
@@ -97,7 +97,7 @@ perform-ends failure.WriteFile old mid sink new c image arrivals is h = (
     is_image = is.is_image;
     failed = (
       subst (λ n. Rose n new.files.failed_writes) is.kept.failed_writes h.0.0,
-      λ sure. (ap (λ s. fits s (length (image_bytes image))) (sym (is.kept.space c.img)) ∙ h.0.1 (subst (λ t. IsTrue t) (sym is.kept.sure) sure)),
+      λ sure. (ap (λ s. is_space_for s (length (image_bytes image))) (sym (is.kept.space c.img)) ∙ h.0.1 (subst (λ t. IsTrue t) (sym is.kept.sure) sure)),
     );
     others = λ name other. h.1 name other ∙ is.kept.holds name;
   },

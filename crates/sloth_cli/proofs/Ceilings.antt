@@ -6,7 +6,7 @@ use Rattle.sloth_base.specs.Arrivals.{AreArrivals}
 use Rattle.sloth_base.specs.declared.event.Arrival.{Arrival}
 use Rattle.sloth_base.specs.declared.image.Image.{Image}
 use Rattle.sloth_base.specs.Owners.{owners_in}
-use Rattle.app_rules.specs.AppRange.{AppInRange}
+use Rattle.code_rules.specs.AppRange.{AppInRange}
 use Rattle.osek_blocking.proofs.Protocol.{keeps_protocol}
 use Rattle.sim_induction.specs.Sound.{Sound, events_of}
 use Rattle.sloth_source.specs.Texts.{Accepted}

@@ -6,7 +6,7 @@ use Rattle.sloth_base.specs.declared.config.Config.{Config}
 use Rattle.sloth_base.specs.declared.app.App.{App}
 use Rattle.sloth_base.specs.declared.event.Arrival.{Arrival}
 use Rattle.sloth_base.specs.declared.refusal.Part.TheVariants.{Arr}
-use Rattle.sloth_refusal.specs.Order.{IsLeast, NoFault}
+use Rattle.least_fault.specs.Order.{IsLeast, NoFault}
 use Rattle.trace_text.specs.ArrivalsText.{arrivals_of, arrivals_in, LineFault, FaultAt, ArrivalsFault}
 use Rattle.sloth_source.proofs.Least.{one_least, of_some}
 use Rattle.sloth_base.specs.declared.image.Image.{Image}
@@ -26,7 +26,7 @@ use Rattle.sloth_cli.specs.ImageFiles.{IsNoImage}
 use Rattle.sloth_cli.specs.declared.top.Status.{Status}
 use Rattle.sloth_cli.specs.declared.top.Status.TheVariants as status
 use Rattle.sloth_cli.specs.Top.{World, arrivals_named, inputs_of, FirstUnread, AreInputs, HoldsArrivals, AreThere, IsFailedRead, IsLongRead}
-use Rattle.sloth_cli.specs.Top.{CommandDone, CommandRefused, CommandUnwritten, CommandStopped, names_of, done_text, IsRefusal, IsRefused, IsAccepted, IsImageOf, Requires, Puts, Took, BrokeOff, EndsAs, Answers}
+use Rattle.sloth_cli.specs.Top.{CommandDone, CommandRefused, CommandUnwritten, CommandStopped, names_of, done_text, IsRefusal, IsRefused, IsAccepted, IsBuiltImage, Requires, Puts, Took, BrokeOff, EndsAs, Answers}
 use Rattle.sloth_cli.specs.Top.{AnswersUsage, AnswersRefused, ReadsWork, WritesWork, HasSpace, PutsWork, CallsWork, TellsUsage, TellsRefused, IsComplete}
 use Rattle.command_line.proofs.Commands.{one-command}
 
@@ -251,10 +251,10 @@ one-app old c oil src arr config other app another arrivals others there h read 
     (same.0, same.1, g.read.arrivals_are ∙ (by_names ∙ (by_text ∙ sym read.arrivals_are)))
 
 -- an image of one is an image of the other
-pub image-of : (config other : Config) (app another : App) (image : Image) → (other ≡ config) × (another ≡ app) → IsImageOf other another image
-    → IsImageOf config app image
+pub image-of : (config other : Config) (app another : App) (image : Image) → (other ≡ config) × (another ≡ app) → IsBuiltImage other another image
+    → IsBuiltImage config app image
 image-of config other app another image same h =
-    subst (λ x. IsImageOf config x image) same.1 (subst (λ x. IsImageOf x another image) same.0 h)
+    subst (λ x. IsBuiltImage config x image) same.1 (subst (λ x. IsBuiltImage x another image) same.0 h)
 
 module _ (old new : World) (c : Building) (oil src arr : List ℕ) (config : Config) (app : App) (arrivals : List Arrival)
     (there : AreThere old.files c oil src arr) (h : Accepted oil src config app) (read : AreRead (names_of config) arr arrivals)

@@ -4,7 +4,7 @@ use Rattle.sloth_base.specs.Arrivals.{AreArrivals}
 use Rattle.sloth_base.specs.declared.event.Arrival.{Arrival}
 use Rattle.sloth_base.specs.declared.image.Image.{Image}
 use Rattle.sloth_base.specs.Owners.{owners_named}
-use Rattle.sloth_io.specs.Sink.{Output, gains, GainsPart}
+use Rattle.sloth_io.specs.Sink.{Output, output_with, GainsPart}
 use Rattle.sloth_io.specs.Store.{Files, Holds}
 use Rattle.sloth_io.proofs.Gains.{gains-gains, gains-nil, part-behind}
 use Rattle.image_file.specs.ImageText.{ImageText}
@@ -23,15 +23,15 @@ use Rattle.sloth_runner.specs.declared.runner.RunEnd.TheVariants as ends
 
 -- ---- texts of two parts
 
-pub took-both : (old mid new : Output) (one other : List ℕ) → mid ≡ gains old one → new ≡ gains mid other → new ≡ gains old (one ++ other)
-took-both old mid new one other a b = b ∙ ap (λ x. gains x other) a ∙ gains-gains old one other
+pub took-both : (old mid new : Output) (one other : List ℕ) → mid ≡ output_with old one → new ≡ output_with mid other → new ≡ output_with old (one ++ other)
+took-both old mid new one other a b = b ∙ ap (λ x. output_with x other) a ∙ gains-gains old one other
 
 -- it broke off in the first part
 pub broke-first : (old new : Output) (one other : List ℕ) → GainsPart old new one → GainsPart old new (one ++ other)
 broke-first old new one other h = part-behind old old new [] one other (one ++ other) (sym (gains-nil old)) h refl
 
 -- it broke off in the second
-pub broke-second : (old mid new : Output) (one other : List ℕ) → mid ≡ gains old one → GainsPart mid new other → GainsPart old new (one ++ other)
+pub broke-second : (old mid new : Output) (one other : List ℕ) → mid ≡ output_with old one → GainsPart mid new other → GainsPart old new (one ++ other)
 broke-second old mid new one other a h =
     part-behind old mid new one other [] (one ++ other) a h (ap (λ x. one ++ x) (sym (append-nil other)))
 

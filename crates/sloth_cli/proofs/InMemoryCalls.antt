@@ -4,8 +4,8 @@ use Rattle.std.specs.Prelude.{IsTrue, codes}
 use Rattle.sloth_base.specs.declared.config.Config.{Config}
 use Rattle.sloth_base.specs.declared.app.App.{App}
 use Rattle.sloth_base.specs.declared.event.Arrival.{Arrival}
-use Rattle.sloth_io.specs.MemStore.{is_sure, shown as store_shown}
-use Rattle.sloth_io.specs.MemSink.{taken_by, told_space, shown as sink_shown}
+use Rattle.sloth_io.specs.MemStore.{is_sure, shown_files as store_shown}
+use Rattle.sloth_io.specs.MemSink.{taken_by, told_space, shown_output as sink_shown}
 use Rattle.sloth_io.specs.declared.mem_store.MemStore.{MemStore}
 use Rattle.sloth_io.specs.declared.mem_sink.MemSink.{MemSink}
 use Rattle.command_line.specs.Command.{Building}

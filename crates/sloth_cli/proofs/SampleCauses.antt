@@ -11,9 +11,9 @@ use Rattle.sloth_io.specs.Store.{Files}
 use Rattle.image_file.specs.ImageText.{image_bytes}
 use Rattle.sloth_source.specs.Texts.{Accepted}
 use Rattle.command_line.specs.Command.{Samples}
-use Rattle.sloth_runner.proofs.Whole.{whole-run}
+use Rattle.sloth_runner.proofs.SoundRuns.{whole-run}
 use Rattle.sloth_cli.specs.Samples.{sample_oil, sample_source, sample_arrivals, sample_text}
-use Rattle.sloth_cli.specs.Top.{World, world, IsImageOf, IsWritten, IsSampled, Took}
+use Rattle.sloth_cli.specs.Top.{World, world, IsBuiltImage, IsWritten, IsSampled, Took}
 use Rattle.sloth_cli.specs.Failures.{PerformFailed, CommandFailed, IsPerformed}
 use Rattle.sloth_cli.specs.declared.top.Status.TheVariants as status
 use Rattle.sloth_cli.specs.declared.failure.Failure.{Failure}
@@ -24,11 +24,11 @@ pub record IsGenerated (seed : ℕ) (image : Image) : Type 0 where
   pub config : Config
   pub app : App
   pub accepted : Accepted sample_oil (sample_source seed) config app
-  pub is_image : IsImageOf config app image
+  pub is_image : IsBuiltImage config app image
   pub in_range : AreArrivals (owners_in config) (sample_arrivals seed)
 
 pub generated : (seed : ℕ) (config : Config) (app : App) (image : Image) (arrivals : List Arrival) → Accepted sample_oil (sample_source seed) config app
-    → IsImageOf config app image → arrivals ≡ sample_arrivals seed → AreArrivals (owners_in config) arrivals → IsGenerated seed image
+    → IsBuiltImage config app image → arrivals ≡ sample_arrivals seed → AreArrivals (owners_in config) arrivals → IsGenerated seed image
 generated seed config app image arrivals accepted is_image are in_range = record {
   config = config;
   app = app;

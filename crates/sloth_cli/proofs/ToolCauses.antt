@@ -4,7 +4,7 @@ use Rattle.std.specs.Prelude.{IsTrue, Option, Some, None, Result, Ok, Err, IfOk,
 use Rattle.image_file.specs.declared.fault.ImageFault.{ImageFault}
 use Rattle.sloth_io.specs.Counts.{Rose}
 use Rattle.sloth_io.specs.Sink.{Output}
-use Rattle.sloth_io.specs.Store.{Files, KeepsFiles, fits}
+use Rattle.sloth_io.specs.Store.{Files, KeepsFiles, is_space_for}
 use Rattle.command_line.specs.Command.{Uses, IsCommand}
 use Rattle.command_line.specs.Tools.{ToolUse, IsToolUse}
 use Rattle.tool_commands.specs.Answers.{IsAnswer, input, reads_image}
@@ -79,7 +79,7 @@ unwritten-kept old mid new None bytes kept h = absurd h
 unwritten-kept old mid new (Some name) bytes kept h = (
   (
     subst (λ n. Rose n new.failed_writes) kept.failed_writes h.0.0,
-    λ sure. (ap (λ s. fits s (length bytes)) (sym (kept.space name)) ∙ h.0.1 (subst (λ t. IsTrue t) (sym kept.sure) sure)),
+    λ sure. (ap (λ s. is_space_for s (length bytes)) (sym (kept.space name)) ∙ h.0.1 (subst (λ t. IsTrue t) (sym kept.sure) sure)),
   ),
   λ other differs. h.1 other differs ∙ kept.holds other,
 )

@@ -7,7 +7,7 @@ use Rattle.sloth_io.specs.Store.{Files, KeepsOthers, IsMissing, IsTooLong, IsUnw
 use Rattle.sloth_io.specs.declared.store.StoreFault.{StoreFault}
 use Rattle.sloth_io.specs.declared.store.StoreFault.TheVariants as fault
 use Rattle.sloth_base.specs.declared.image.Image.{Image}
-use Rattle.sloth_refusal.specs.Order.{IsLeast}
+use Rattle.least_fault.specs.Order.{IsLeast}
 use Rattle.trace_text.specs.ArrivalsText.{ArrivalsFault}
 use Rattle.image_file.specs.ImageText.{ImageText}
 use Rattle.image_file.specs.Faults.{Faulty}

@@ -11,7 +11,7 @@ use Rattle.sloth_io.specs.declared.mem_sink.MemSink.{MemSink}
 use Rattle.image_file.specs.ImageText.{image_bytes}
 use Rattle.command_line.specs.Command.{Building}
 use Rattle.sloth_cli.specs.Samples.{sample_arrivals, sample_text}
-use Rattle.sloth_cli.specs.Top.{IsImageOf, done_text}
+use Rattle.sloth_cli.specs.Top.{IsBuiltImage, done_text}
 
 -- the sink has space for a text
 abbrev pub HasRoom : MemSink → List ℕ → Type 0
@@ -30,8 +30,8 @@ pub record NoneFails (store : MemStore) (sink : MemSink) : Type 0 where
 -- and there is space for the image and for the lines of a command that builds
 pub record AreEnough (store : MemStore) (sink : MemSink) (c : Building) (config : Config) (app : App) (arrivals : List Arrival) : Type 0 where
   pub calls : NoneFails store sink
-  pub file : (image : Image) → IsImageOf config app image → HasRoomFor store c.img (length (image_bytes image))
-  pub lines : (image : Image) → IsImageOf config app image → HasRoom sink (done_text image arrivals c.run)
+  pub file : (image : Image) → IsBuiltImage config app image → HasRoomFor store c.img (length (image_bytes image))
+  pub lines : (image : Image) → IsBuiltImage config app image → HasRoom sink (done_text image arrivals c.run)
 
 -- and there is space for the lines of a command on an image file
 pub record AreEnoughForLines (store : MemStore) (sink : MemSink) (text : List ℕ) : Type 0 where
@@ -41,5 +41,5 @@ pub record AreEnoughForLines (store : MemStore) (sink : MemSink) (text : List �
 -- and there is space for the image and for the summary of a generated application
 pub record AreEnoughForSample (store : MemStore) (sink : MemSink) (seed : ℕ) (img : List ℕ) (config : Config) (app : App) : Type 0 where
   pub calls : NoneFails store sink
-  pub file : (image : Image) → IsImageOf config app image → HasRoomFor store img (length (image_bytes image))
-  pub lines : (image : Image) → IsImageOf config app image → HasRoom sink (sample_text image (sample_arrivals seed))
+  pub file : (image : Image) → IsBuiltImage config app image → HasRoomFor store img (length (image_bytes image))
+  pub lines : (image : Image) → IsBuiltImage config app image → HasRoom sink (sample_text image (sample_arrivals seed))

@@ -1,7 +1,7 @@
 -- What commands read.
 use Rattle.std.specs.Prelude.{ℕ, ◌≡◌, List}
 use Rattle.sloth_base.specs.declared.event.Arrival.{Arrival}
-use Rattle.sloth_refusal.specs.Order.{NoFault}
+use Rattle.least_fault.specs.Order.{NoFault}
 use Rattle.trace_text.specs.ArrivalsText.{ArrivalsFault, arrivals_in}
 
 -- the greatest number of bytes of an input: 4 MiB

@@ -8,14 +8,14 @@ use Rattle.image_file.specs.ImageText.{image_bytes}
 use Rattle.sloth_source.specs.Texts.{Accepted, FirstRefusal}
 use Rattle.command_line.specs.Command.{Samples, IsCommand}
 use Rattle.sloth_cli.specs.Samples.{sample_oil, sample_source, sample_arrivals, sample_text}
-use Rattle.sloth_cli.specs.Top.{World, IsImageOf, EndsAs, AnswersRefused, WritesWork, PutsWork}
+use Rattle.sloth_cli.specs.Top.{World, IsBuiltImage, EndsAs, AnswersRefused, WritesWork, PutsWork}
 use Rattle.sloth_cli.specs.declared.top.Status.{Status}
 use Rattle.sloth_cli.specs.declared.top.Status.TheVariants as status
 
 -- No write and no put failed: their counts stay, or the store and the sink tell before that what they are asked for will be done.
 pub record SampleWorks (seed : ℕ) (img : List ℕ) (config : Config) (app : App) (old new : World) : Type 0 where
-  pub write : (image : Image) → IsImageOf config app image → WritesWork old.files new.files img (length (image_bytes image))
-  pub lines : (image : Image) → IsImageOf config app image → PutsWork old.sink new.sink (sample_text image (sample_arrivals seed))
+  pub write : (image : Image) → IsBuiltImage config app image → WritesWork old.files new.files img (length (image_bytes image))
+  pub lines : (image : Image) → IsBuiltImage config app image → PutsWork old.sink new.sink (sample_text image (sample_arrivals seed))
   pub last_line : PutsWork old.sink new.sink (codes "no memory\n")
 
 -- The generated texts are refused so: Refused, with the line that says it.

@@ -9,14 +9,14 @@ use Rattle.sloth_base.specs.declared.refusal.Refusal.{Refusal}
 use Rattle.sloth_base.specs.Arrivals.{AreArrivals}
 use Rattle.sloth_base.specs.ImageRange.{InFormat}
 use Rattle.sloth_base.specs.Owners.{owners_in}
-use Rattle.sloth_refusal.specs.Order.{IsLeast}
+use Rattle.least_fault.specs.Order.{IsLeast}
 use Rattle.rv32_expand.specs.InPlace.{ItemsInPlace}
 use Rattle.osek_blocking.specs.Protocol.{KeepsCeilingProtocol}
 use Rattle.sim_induction.specs.Sound.{Sound, events_of}
 use Rattle.sim_states.specs.Shown.{ShowsStates}
 use Rattle.sloth_io.specs.Counts.{Rose, Stays}
-use Rattle.sloth_io.specs.Sink.{Output, gains, GainsPart}
-use Rattle.sloth_io.specs.Store.{Files, Holds, KeepsOthers, IsMissing, IsTooLong, IsUnwritten, fits}
+use Rattle.sloth_io.specs.Sink.{Output, output_with, GainsPart}
+use Rattle.sloth_io.specs.Store.{Files, Holds, KeepsOthers, IsMissing, IsTooLong, IsUnwritten, is_space_for}
 use Rattle.image_file.specs.ImageText.{image_bytes}
 use Rattle.image_file.specs.declared.fault.ImageFault.{ImageFault}
 use Rattle.rv32_instr.specs.declared.stop.Stop.{Stop}
@@ -145,7 +145,7 @@ RunsKeepProtocol config app image =
     → KeepsCeilingProtocol config app (events_of image arrivals n)
 
 -- an image of a configuration and its task code
-pub record IsImageOf (config : Config) (app : App) (image : Image) : Type 0 where
+pub record IsBuiltImage (config : Config) (app : App) (image : Image) : Type 0 where
   -- every run of the image, whatever lines arrive, is one of the abstract scheduler
   pub sound : Sound config app image
   -- and the machine shows the task states of the abstract scheduler at each count that finds interrupts open
@@ -171,7 +171,7 @@ pub record IsDone (old new : Files) (c : Building) (text : List ℕ) : Type 0 wh
   pub arrivals : List Arrival
   pub image : Image
   pub accepted : IsAccepted old c config app arrivals
-  pub is_image : IsImageOf config app image
+  pub is_image : IsBuiltImage config app image
   pub written : IsWritten old new c.img (image_bytes image)
   pub text_is : text ≡ done_text image arrivals c.run
   -- and the events of this text keep the priority ceiling protocol
@@ -192,7 +192,7 @@ pub record IsUnwrittenBuild (old new : Files) (c : Building) : Type 0 where
   pub arrivals : List Arrival
   pub image : Image
   pub accepted : IsAccepted old c config app arrivals
-  pub is_image : IsImageOf config app image
+  pub is_image : IsBuiltImage config app image
   pub failed : IsUnwritten old new c.img (length (image_bytes image))
   pub others : KeepsOthers old new c.img
 
@@ -203,7 +203,7 @@ pub record IsSampled (old new : Files) (seed : ℕ) (img text : List ℕ) : Type
   pub app : App
   pub image : Image
   pub accepted : Accepted sample_oil (sample_source seed) config app
-  pub is_image : IsImageOf config app image
+  pub is_image : IsBuiltImage config app image
   pub written : IsWritten old new img (image_bytes image)
   pub text_is : text ≡ sample_text image (sample_arrivals seed)
   -- so all its instructions are run
@@ -217,7 +217,7 @@ pub record IsUnwrittenSample (old new : Files) (seed : ℕ) (img : List ℕ) : T
   pub app : App
   pub image : Image
   pub accepted : Accepted sample_oil (sample_source seed) config app
-  pub is_image : IsImageOf config app image
+  pub is_image : IsBuiltImage config app image
   pub failed : IsUnwritten old new img (length (image_bytes image))
   pub others : KeepsOthers old new img
 
@@ -289,7 +289,7 @@ CommandStopped old new (Uses u) text = IsToolEnd status.Stopped old new u text
 
 -- the sink took the text, and no put failed
 abbrev pub Took : Output → Output → List ℕ → Type 0
-Took old new text = new ≡ gains old text
+Took old new text = new ≡ output_with old text
 
 -- a put failed, and the sink took a part of the text
 abbrev pub BrokeOff : Output → Output → List ℕ → Type 0
@@ -363,7 +363,7 @@ ReadsWork old new = Stays old.failed_reads new.failed_reads ⊎ IsTrue old.sure
 
 -- no write failed in this call, or none is to fail and the file has space for so many bytes
 abbrev pub WritesWork : Files → Files → List ℕ → ℕ → Type 0
-WritesWork old new name size = Stays old.failed_writes new.failed_writes ⊎ (IsTrue old.sure × IsTrue (fits (old.space name) size))
+WritesWork old new name size = Stays old.failed_writes new.failed_writes ⊎ (IsTrue old.sure × IsTrue (is_space_for (old.space name) size))
 
 -- a sink that tells its space has enough for a text
 abbrev pub HasSpace : Option (List ℕ) → Option ℕ → List ℕ → Type 0
@@ -378,8 +378,8 @@ PutsWork old new text = Stays old.faults new.faults ⊎ HasSpace old.taken old.s
 -- No call of the store or of the sink failed: their counts stay, or they tell before that what they are asked for will be done.
 pub record CallsWork (c : Building) (config : Config) (app : App) (arrivals : List Arrival) (old new : World) : Type 0 where
   pub reads : ReadsWork old.files new.files
-  pub write : (image : Image) → IsImageOf config app image → WritesWork old.files new.files c.img (length (image_bytes image))
-  pub lines : (image : Image) → IsImageOf config app image → PutsWork old.sink new.sink (done_text image arrivals c.run)
+  pub write : (image : Image) → IsBuiltImage config app image → WritesWork old.files new.files c.img (length (image_bytes image))
+  pub lines : (image : Image) → IsBuiltImage config app image → PutsWork old.sink new.sink (done_text image arrivals c.run)
   pub last_line : PutsWork old.sink new.sink (codes "no memory\n")
 
 -- The words are those of no command: Usage.

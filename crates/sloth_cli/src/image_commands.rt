@@ -3,7 +3,7 @@ ghost use Rattle.std.specs.Prelude.{◌≡◌, ◌≤◌, IfOk, IfErr, OnOk, OnE
 ghost use Rattle.sloth_base.specs.Arrivals.{AreArrivals};
 ghost use Rattle.sloth_base.specs.Owners.{owners_named};
 ghost use Rattle.sloth_base.specs.ImageRange.{InFormat};
-ghost use Rattle.sloth_io.specs.Sink.{gains, GainsPart};
+ghost use Rattle.sloth_io.specs.Sink.{output_with, GainsPart};
 ghost use Rattle.sloth_io.specs.Store.{KeepsFiles};
 ghost use Rattle.image_file.specs.ImageText.{ImageText};
 ghost use Rattle.trace_text.specs.Listing.{listing};
@@ -74,7 +74,7 @@ fn load(alloc: Global, inputs: &ExecInputs) -> Result<Loaded, Failure>
 
 // Puts the line of a run that stopped.
 fn put_end<S: Sink>(end: RunEnd, out: &mut S) -> Result<(), SinkFault>
-    ensures ok { OnOk result (S.seen out.new ≡ gains (S.seen out.old) (end_line end)) }
+    ensures ok { OnOk result (S.seen out.new ≡ output_with (S.seen out.old) (end_line end)) }
     ensures err { OnErr result (GainsPart (S.seen out.old) (S.seen out.new) (end_line end)) }
 {
     match end {

@@ -3,13 +3,13 @@ ghost use Rattle.std.specs.Prelude.{◌≡◌, IfOk, IfErr, OnOk, OnErr, length}
 ghost use Rattle.sloth_base.specs.Arrivals.{AreArrivals};
 ghost use Rattle.sloth_base.specs.Owners.{owners_in, owners_named};
 ghost use Rattle.sloth_base.specs.ImageRange.{InFormat};
-ghost use Rattle.sloth_io.specs.Sink.{gains, GainsPart};
+ghost use Rattle.sloth_io.specs.Sink.{output_with, GainsPart};
 ghost use Rattle.image_file.specs.ImageText.{image_bytes};
 ghost use Rattle.sloth_source.specs.Texts.{Accepted};
 ghost use Rattle.command_line.specs.Command.{Samples};
-ghost use Rattle.sloth_runner.specs.Runner.{IsFresh, image_of, given};
+ghost use Rattle.sloth_runner.specs.Runner.{IsFresh, image_of, given_arrivals};
 ghost use Rattle.sloth_cli.specs.Samples.{sample_oil, sample_source, sample_arrivals, sample_text};
-ghost use Rattle.sloth_cli.specs.Top.{world, IsImageOf, IsWritten, Took};
+ghost use Rattle.sloth_cli.specs.Top.{world, IsBuiltImage, IsWritten, Took};
 ghost use Rattle.sloth_cli.specs.Failures.{SampleFailed, PerformFailed, CommandFailed, IsPerformed};
 
 use crate::failure::Failure;
@@ -47,7 +47,7 @@ struct Generated {
 // Generates an application, and builds its image.
 fn generate(alloc: Global, seed: u32) -> Result<Generated, Failure>
     ensures accepted { IfOk result (λ made. Accepted sample_oil (sample_source seed) made.config made.app) }
-    ensures image { IfOk result (λ made. IsImageOf made.config made.app made.image) }
+    ensures image { IfOk result (λ made. IsBuiltImage made.config made.app made.image) }
     ensures arrivals { IfOk result (λ made. made.arrivals ≡ sample_arrivals seed) }
     ensures in_range { IfOk result (λ made. AreArrivals (owners_in made.config) made.arrivals) }
     ensures err { IfErr result (λ failure. SampleFailed failure seed) }
@@ -66,8 +66,8 @@ fn generate(alloc: Global, seed: u32) -> Result<Generated, Failure>
 #[tactic(auto, unfolding(crate::specs::Samples::sample_text))]
 fn show<S: Sink>(runner: &mut Runner, out: &mut S) -> Result<(), SinkFault>
     requires fresh { IsFresh runner.old }
-    ensures ok { OnOk result (S.seen out.new ≡ gains (S.seen out.old) (sample_text (image_of runner.old) (given runner.old))) }
-    ensures err { OnErr result (GainsPart (S.seen out.old) (S.seen out.new) (sample_text (image_of runner.old) (given runner.old))) }
+    ensures ok { OnOk result (S.seen out.new ≡ output_with (S.seen out.old) (sample_text (image_of runner.old) (given_arrivals runner.old))) }
+    ensures err { OnErr result (GainsPart (S.seen out.old) (S.seen out.new) (sample_text (image_of runner.old) (given_arrivals runner.old))) }
 {
     let tally = runner.tally(INSTRUCTIONS);
     put_summary(&tally.counts, out)

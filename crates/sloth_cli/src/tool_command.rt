@@ -1,6 +1,6 @@
 //! The commands that are tools: they read files, come to one answer, write one file at most, and put the answer's text.
 ghost use Rattle.std.specs.Prelude.{◌≡◌, ◌<◌, ◌≤◌, IfOk, IfErr, OnOk, OnErr, length};
-ghost use Rattle.sloth_io.specs.Sink.{gains, GainsPart};
+ghost use Rattle.sloth_io.specs.Sink.{output_with, GainsPart};
 ghost use Rattle.sloth_io.specs.Store.{KeepsFiles};
 ghost use Rattle.command_line.specs.Command.{Uses, words_of};
 ghost use Rattle.command_line.specs.Tools.{IsToolUse};
@@ -66,7 +66,7 @@ fn line_length(text: &[u8]) -> usize
 
 // Puts a text, a line at a time.
 fn put_text<S: Sink>(out: &mut S, text: &[u8]) -> Result<(), SinkFault>
-    ensures ok { OnOk result (S.seen out.new ≡ gains (S.seen out.old) text.now) }
+    ensures ok { OnOk result (S.seen out.new ≡ output_with (S.seen out.old) text.now) }
     ensures err { OnErr result (GainsPart (S.seen out.old) (S.seen out.new) text.now) }
 {
     let mut rest = text;

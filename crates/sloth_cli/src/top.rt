@@ -11,7 +11,7 @@ ghost use Rattle.command_line.specs.Words.{building_of, command_of, run_of};
 ghost use Rattle.sloth_cli.specs.Inputs.{input_limit, AreRead};
 ghost use Rattle.command_line.specs.LastLine.{built_line};
 ghost use Rattle.sloth_runner.specs.Runner.{run_text};
-ghost use Rattle.sloth_cli.specs.Top.{world, arrivals_named, inputs_of, names_of, AreInputs, HoldsArrivals, IsImageOf, IsWritten, done_text};
+ghost use Rattle.sloth_cli.specs.Top.{world, arrivals_named, inputs_of, names_of, AreInputs, HoldsArrivals, IsBuiltImage, IsWritten, done_text};
 ghost use Rattle.sloth_cli.specs.Top.{Took, Puts, Answers, TellsUsage, TellsRefused, IsComplete};
 ghost use Rattle.sloth_cli.specs.ImageAnswers.{TellsFault, TellsNoImage, TellsExecRefused, TellsExecuted, TellsListed};
 ghost use Rattle.sloth_cli.specs.SampleAnswers.{TellsSampleRefused, TellsSampled};
@@ -133,7 +133,7 @@ fn judge(alloc: Global, inputs: &Inputs) -> Result<Judged, Failure>
     requires src { length inputs.now.src.items ≤ input_limit }
     requires arr { length inputs.now.arr.items ≤ input_limit }
     ensures accepted { IfOk result (λ judged. Accepted inputs.now.oil.items inputs.now.src.items judged.config judged.app) }
-    ensures image { IfOk result (λ judged. IsImageOf judged.config judged.app judged.image) }
+    ensures image { IfOk result (λ judged. IsBuiltImage judged.config judged.app judged.image) }
     ensures read { IfOk result (λ judged. AreRead (names_of judged.config) inputs.now.arr.items judged.arrivals.items) }
     ensures in_range { IfOk result (λ judged. AreArrivals (owners_in judged.config) judged.arrivals.items) }
     ensures err { IfErr result (λ failure. JudgeFailed failure inputs.now.oil.items inputs.now.src.items inputs.now.arr.items) }

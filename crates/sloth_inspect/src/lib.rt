@@ -5,7 +5,7 @@ ghost use Rattle.std.specs.Prelude.{◌≡◌, ◌≤◌, ◌<◌, ◌+◌, ◌%
 ghost use Rattle.rv32_instr.specs.Ram.{word_at};
 ghost use Rattle.sloth_inspect.specs.States.{state_in, states_in};
 
-use osek_machine::state::TaskState;
+use osek_scheduler::state::TaskState;
 use rv32_machine::{Bus, SlothBus};
 use sloth_base::app::Width;
 use sloth_base::numbers::Line;

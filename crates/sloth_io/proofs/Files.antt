@@ -3,7 +3,7 @@ use Rattle.std.proofs.Common.{◌≡◌, ◌≢◌, ◌<◌, ◌⊎◌, ℕ, zer
 use Rattle.std.specs.Str.{bytes_eq}
 use Rattle.std.proofs.Math.ListN.{set}
 use Rattle.std.proofs.lemmas.Slice.Eq.{bytes_eq-Decides}
-use Rattle.sloth_io.specs.MemStore.{IsPlace, bytes_named, file_named, file_of, has_space, space_named, written}
+use Rattle.sloth_io.specs.MemStore.{IsPlace, bytes_named, file_named, file_of, has_space, space_named, files_with}
 use Rattle.sloth_io.specs.declared.mem_store.MemFile.{MemFile}
 use Rattle.sloth_io.specs.declared.mem_store.Slot.{Slot}
 
@@ -44,7 +44,7 @@ found_at name (f ∷ fs) (suc k) s h e = let off : bytes_eq f.name name ≡ fals
 -- the slot at its place is written, or kept as it is
 pub replaced : (name bytes : List ℕ) (slots : List Slot) (k : ℕ) (s t : Slot) (done : Bool) → IsPlace name (map file_of slots) k
     → s ≡ get_or slots k s → file_of t ≡ cond done (record (file_of s) { bytes = bytes }) (file_of s)
-    → map file_of (set slots k t) ≡ cond done (written name bytes (map file_of slots)) (map file_of slots)
+    → map file_of (set slots k t) ≡ cond done (files_with name bytes (map file_of slots)) (map file_of slots)
 replaced name bytes [] k s t done h e q = absurd h
 replaced name bytes (f ∷ fs) zero s t true h e q =
     rw h (ap (λ x. x ∷ map file_of fs) (q ∙ ap (λ x. record (file_of x) { bytes = bytes }) e))
@@ -55,7 +55,7 @@ replaced name bytes (f ∷ fs) (suc k) s t false h e q = ap (λ x. file_of f ∷
 
 -- the written file holds the bytes
 pub bytes_named-written : (name bytes : List ℕ) (size : ℕ) (files : List MemFile) → has_space name size files ≡ true
-    → bytes_named name (written name bytes files) ≡ Some bytes
+    → bytes_named name (files_with name bytes files) ≡ Some bytes
 bytes_named-written name bytes size [] h = cc
 bytes_named-written name bytes size (f ∷ fs) h =
     elim (either (bytes_eq f.name name)) [
@@ -65,7 +65,7 @@ bytes_named-written name bytes size (f ∷ fs) h =
 
 -- and each other file what it held
 pub bytes_named-written_other : (name bytes other : List ℕ) (files : List MemFile) → other ≢ name
-    → bytes_named other (written name bytes files) ≡ bytes_named other files
+    → bytes_named other (files_with name bytes files) ≡ bytes_named other files
 bytes_named-written_other name bytes other [] n = refl
 bytes_named-written_other name bytes other (f ∷ fs) n =
     elim (either (bytes_eq f.name name)) [
@@ -88,7 +88,7 @@ as_replaced name bytes old new space kept false e q = rw (e, q) refl
 
 -- a write changes no file's space
 pub space_named-written : (name bytes other : List ℕ) (files : List MemFile)
-    → space_named other (written name bytes files) ≡ space_named other files
+    → space_named other (files_with name bytes files) ≡ space_named other files
 space_named-written name bytes other [] = refl
 space_named-written name bytes other (f ∷ fs) =
     elim (either (bytes_eq f.name name)) [

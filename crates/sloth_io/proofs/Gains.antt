@@ -4,27 +4,27 @@ use Rattle.std.proofs.Common.{append_assoc, append-nil, take, drop, Bool, true, 
 use Rattle.std.specs.Prelude.{◌&&◌, nat_le, is_none}
 use Rattle.std.proofs.lemmas.List.{take-append-drop, length-append}
 use Rattle.sloth_io.specs.MemSink.{limit_of, part_of, told_space}
-use Rattle.sloth_io.specs.Sink.{Output, longer, gains, fails, GainsPart, HasNoSpace}
+use Rattle.sloth_io.specs.Sink.{Output, longer_bytes, output_with, failed_output, GainsPart, HasNoSpace}
 
-longer-longer : (taken : Option (List ℕ)) (one other : List ℕ) → longer (longer taken one) other ≡ longer taken (one ++ other)
+longer-longer : (taken : Option (List ℕ)) (one other : List ℕ) → longer_bytes (longer_bytes taken one) other ≡ longer_bytes taken (one ++ other)
 longer-longer None one other = refl
 longer-longer (Some taken) one other = ap (λ x. Some x) (append_assoc taken one other)
 
-longer-nil : (taken : Option (List ℕ)) → longer taken [] ≡ taken
+longer-nil : (taken : Option (List ℕ)) → longer_bytes taken [] ≡ taken
 longer-nil None = refl
 longer-nil (Some taken) = ap (λ x. Some x) (append-nil taken)
 
 -- two pieces, one after the other
-pub gains-gains : (old : Output) (one other : List ℕ) → gains (gains old one) other ≡ gains old (one ++ other)
+pub gains-gains : (old : Output) (one other : List ℕ) → output_with (output_with old one) other ≡ output_with old (one ++ other)
 gains-gains old one other =
     ap (λ (t : Option (List ℕ)). record { taken = t; space = old.space; faults = old.faults }) (longer-longer old.taken one other)
 
-pub gains-nil : (old : Output) → gains old [] ≡ old
+pub gains-nil : (old : Output) → output_with old [] ≡ old
 gains-nil old = ap (λ (t : Option (List ℕ)). record { taken = t; space = old.space; faults = old.faults }) (longer-nil old.taken)
 
 -- where there is no space for a piece behind a front, there is none for a text that begins with both
 no-space-behind : (taken : Option (List ℕ)) (space : Option ℕ) (front piece more all : List ℕ) → all ≡ front ++ (piece ++ more)
-    → HasNoSpace (longer taken front) space piece → HasNoSpace taken space all
+    → HasNoSpace (longer_bytes taken front) space piece → HasNoSpace taken space all
 no-space-behind taken None front piece more all e h = tt
 no-space-behind None (Some space) front piece more all e h = tt
 no-space-behind (Some taken) (Some space) front piece more all e h =
@@ -35,14 +35,14 @@ no-space-behind (Some taken) (Some space) front piece more all e h =
     omega (arith, whole, before, full)
 
 -- a part of a piece, after a front of a text, is a part of the text
-pub part-behind : (before between after : Output) (front piece more all : List ℕ) → between ≡ gains before front
+pub part-behind : (before between after : Output) (front piece more all : List ℕ) → between ≡ output_with before front
     → GainsPart between after piece → all ≡ front ++ (piece ++ more) → GainsPart before after all
 part-behind before between after front piece more all h p e =
     let N : Output → Type 0 = λ x. HasNoSpace x.taken x.space piece in (
       front ++ p.0,
       p.1 ++ more,
       e ∙ ap (λ x. front ++ (x ++ more)) p.2 ∙ ap (λ x. front ++ x) (append_assoc p.0 p.1 more) ∙ sym (append_assoc front p.0 (p.1 ++ more)),
-      p.3 ∙ ap (λ x. fails (gains x p.0)) h ∙ ap fails (gains-gains before front p.0),
+      p.3 ∙ ap (λ x. failed_output (output_with x p.0)) h ∙ ap failed_output (gains-gains before front p.0),
       no-space-behind before.taken before.space front piece more all e (subst N h p.4),
     )
 
@@ -52,7 +52,7 @@ sink_shown taken space calls faults = record { taken = Some taken; space = told_
 
 -- a failed call that took this much
 after-failure : (new took : List ℕ) (kept space faults after : ℕ) (calls : List (ℕ × ℕ)) → new ≡ took → kept ≡ space
-    → after ≡ min (faults + 1) 18446744073709551615 → sink_shown new kept calls after ≡ fails (sink_shown took space calls faults)
+    → after ≡ min (faults + 1) 18446744073709551615 → sink_shown new kept calls after ≡ failed_output (sink_shown took space calls faults)
 after-failure new took kept space faults after calls e k f =
     ap (λ x. sink_shown x kept calls after) e ∙ ap (λ s. sink_shown took s calls after) k ∙ ap (λ n. sink_shown took space calls n) f
 

@@ -4,8 +4,8 @@ use Rattle.sloth_io.specs.Store.{Files}
 use Rattle.sloth_io.specs.declared.file_store.FileStore.{FileStore}
 
 -- a store that does not tell its files, with these counts
-abbrev pub untold : ℕ → ℕ → ℕ → Files
-untold failed_reads overlong_reads failed_writes = record {
+abbrev pub untold_files : ℕ → ℕ → ℕ → Files
+untold_files failed_reads overlong_reads failed_writes = record {
   tells = false;
   sure = false;
   holds = λ _. None;
@@ -16,8 +16,8 @@ untold failed_reads overlong_reads failed_writes = record {
 }
 
 -- what files of the system show
-abbrev pub shown : {R : Type 0} → FileStore R → Files
-shown store = untold store.failed_reads store.overlong_reads store.failed_writes
+abbrev pub shown_files : {R : Type 0} → FileStore R → Files
+shown_files store = untold_files store.failed_reads store.overlong_reads store.failed_writes
 
 -- some bytes stand behind the old ones
 abbrev pub Extends : List ℕ → List ℕ → Type 0

@@ -15,8 +15,8 @@ told_space space [] = Some space
 told_space space (_ ∷ _) = None
 
 -- what the sink shows
-abbrev pub shown : MemSink → Output
-shown sink = record {
+abbrev pub shown_output : MemSink → Output
+shown_output sink = record {
   taken = Some (taken_by sink);
   space = told_space sink.buffer.space sink.fails.items;
   faults = sink.faults;

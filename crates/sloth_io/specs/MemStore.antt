@@ -5,7 +5,7 @@ use Rattle.std.specs.List.{list_any}
 use Rattle.std.specs.Option.{option_map}
 use Rattle.std.specs.Str.{bytes_eq}
 use Rattle.sloth_io.specs.Counts.{next_call}
-use Rattle.sloth_io.specs.Store.{Files, fits}
+use Rattle.sloth_io.specs.Store.{Files, is_space_for}
 use Rattle.sloth_io.specs.declared.store.StoreFault.{StoreFault}
 use Rattle.sloth_io.specs.declared.store.StoreFault.TheVariants.{Failed, TooLong, Memory}
 use Rattle.sloth_io.specs.declared.mem_store.MemStore.{MemStore}
@@ -30,10 +30,10 @@ abbrev pub bytes_named : List ℕ → List MemFile → Option (List ℕ)
 bytes_named name files = option_map (λ file. file.bytes) (file_named name files)
 
 -- the files, with these bytes in the first one of a name
-abbrev pub written : List ℕ → List ℕ → List MemFile → List MemFile
-written name bytes [] = []
-written name bytes (file ∷ rest) =
-    if bytes_eq file.name name then record file { bytes = bytes } ∷ rest else file ∷ written name bytes rest
+abbrev pub files_with : List ℕ → List ℕ → List MemFile → List MemFile
+files_with name bytes [] = []
+files_with name bytes (file ∷ rest) =
+    if bytes_eq file.name name then record file { bytes = bytes } ∷ rest else file ∷ files_with name bytes rest
 
 -- how many bytes it can hold
 abbrev pub space_named : List ℕ → List MemFile → Option ℕ
@@ -41,7 +41,7 @@ space_named name files = option_map (λ file. file.space) (file_named name files
 
 -- there is a file of the name, with space for so many bytes
 abbrev pub has_space : List ℕ → ℕ → List MemFile → Bool
-has_space name size files = fits (space_named name files) size
+has_space name size files = is_space_for (space_named name files) size
 
 -- the next call, counted over reads and writes, is to fail
 abbrev pub fails_next : MemStore → Bool
@@ -74,8 +74,8 @@ abbrev pub writes_next : MemStore → List ℕ → ℕ → Bool
 writes_next store name size = not (fails_next store) && has_space name size (files_of store)
 
 -- what the store shows
-abbrev pub shown : MemStore → Files
-shown store = record {
+abbrev pub shown_files : MemStore → Files
+shown_files store = record {
   tells = true;
   sure = is_sure store.fails.items;
   holds = λ name. bytes_named name (files_of store);

@@ -4,5 +4,5 @@ use Rattle.sloth_io.specs.Sink.{Output}
 use Rattle.sloth_io.specs.declared.out_sink.OutSink.{OutSink}
 
 -- what standard output shows: how many calls have failed
-abbrev pub shown : {P : Type 0} → OutSink P → Output
-shown sink = record { taken = None; space = None; faults = sink.faults }
+abbrev pub shown_output : {P : Type 0} → OutSink P → Output
+shown_output sink = record { taken = None; space = None; faults = sink.faults }

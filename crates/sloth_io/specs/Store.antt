@@ -49,14 +49,14 @@ IsTooLong old new name limit =
     × (IsTrue old.tells → (bytes : List ℕ) × (old.holds name ≡ Some bytes) × (limit < length bytes))
 
 -- there is space for so many bytes
-abbrev pub fits : Option ℕ → ℕ → Bool
-fits None size = false
-fits (Some space) size = nat_le size space
+abbrev pub is_space_for : Option ℕ → ℕ → Bool
+is_space_for None size = false
+is_space_for (Some space) size = nat_le size space
 
 -- a failed write of so many bytes is counted; a sure store has no space for them in the file
 abbrev pub IsUnwritten : Files → Files → List ℕ → ℕ → Type 0
 IsUnwritten old new name size =
-    Rose old.failed_writes new.failed_writes × (IsTrue old.sure → fits (old.space name) size ≡ false)
+    Rose old.failed_writes new.failed_writes × (IsTrue old.sure → is_space_for (old.space name) size ≡ false)
 
 -- the file holds these bytes
 abbrev pub Holds : Files → List ℕ → List ℕ → Type 0

@@ -1,6 +1,6 @@
 //! The system's files.
 ghost use Rattle.std.specs.Prelude.{◌≡◌, OnOk};
-ghost use Rattle.sloth_io.specs.FileStore.{Extends, ExtendsBeyond, ExtendsWithin, shown, untold};
+ghost use Rattle.sloth_io.specs.FileStore.{Extends, ExtendsBeyond, ExtendsWithin, shown_files, untold_files};
 
 use crate::store::{Store, StoreFault};
 use std::fs;
@@ -19,7 +19,7 @@ pub struct FileStore<'a, R> {
 impl<'a, R: Files> FileStore<'a, R> {
     /// The files that this handle reaches, with no refusal counted.
     pub fn new(rt: &'a R) -> FileStore<'a, R>
-        ensures { shown result ≡ untold 0 0 0 }
+        ensures { shown_files result ≡ untold_files 0 0 0 }
     {
         FileStore {
             rt,
@@ -31,7 +31,7 @@ impl<'a, R: Files> FileStore<'a, R> {
 
     /// How many reads have failed.
     pub fn failed_reads(&self) -> u64
-        ensures { result ≡ (shown self.now).failed_reads }
+        ensures { result ≡ (shown_files self.now).failed_reads }
     {
         self.failed_reads
     }
@@ -86,7 +86,7 @@ fn write_whole<R: Files>(rt: &R, name: &str, bytes: &[u8]) -> bool {
 }
 
 impl<'a, R: Files> Store for FileStore<'a, R> {
-    ghost seen = { λ store. shown store };
+    ghost seen = { λ store. shown_files store };
 
     fn read(&mut self, name: &str, limit: usize, into: &mut Vec<u8>) -> Result<(), StoreFault> {
         let before = into.len();

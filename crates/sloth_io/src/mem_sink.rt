@@ -1,8 +1,8 @@
 //! A sink in memory.
 ghost use Rattle.std.specs.Prelude.{◌≡◌, ◌≤◌, IfOk, OnErr, OnOk, is_ok, is_err, if◌then◌else◌};
-ghost use Rattle.sloth_io.specs.Counts.{counted};
-ghost use Rattle.sloth_io.specs.MemSink.{IsCalled, IsFresh, limit_of, shown, taken_by, taken_next, takes_next};
-ghost use Rattle.sloth_io.specs.Sink.{gains, GainsPart};
+ghost use Rattle.sloth_io.specs.Counts.{counted_more};
+ghost use Rattle.sloth_io.specs.MemSink.{IsCalled, IsFresh, limit_of, shown_output, taken_by, taken_next, takes_next};
+ghost use Rattle.sloth_io.specs.Sink.{output_with, GainsPart};
 
 use crate::buffer::Buffer;
 use crate::sink::{Sink, SinkFault};
@@ -55,17 +55,17 @@ impl MemSink {
 }
 
 impl Sink for MemSink {
-    ghost seen = { λ sink. shown sink };
+    ghost seen = { λ sink. shown_output sink };
 
     fn put(&mut self, piece: &[u8]) -> Result<(), SinkFault>
-        ensures ok { OnOk result (shown self.new ≡ gains (shown self.old) piece.now) }
-        ensures err { OnErr result (GainsPart (shown self.old) (shown self.new) piece.now) }
+        ensures ok { OnOk result (shown_output self.new ≡ output_with (shown_output self.old) piece.now) }
+        ensures err { OnErr result (GainsPart (shown_output self.old) (shown_output self.new) piece.now) }
         ensures never_falls { self.old.faults ≤ self.new.faults }
 
         // It fails exactly at the calls that are to fail, and where there is no space for the piece.
         ensures done { is_ok result ≡ takes_next self.old piece.now }
         ensures taken { taken_by self.new ≡ taken_next self.old piece.now }
-        ensures faults { self.new.faults ≡ counted (is_err result) self.old.faults }
+        ensures faults { self.new.faults ≡ counted_more (is_err result) self.old.faults }
         ensures called { IsCalled self.old self.new }
     {
         self.calls = self.calls.saturating_add(1);

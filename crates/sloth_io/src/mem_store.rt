@@ -2,9 +2,9 @@
 ghost use Rattle.std.specs.Prelude.{◌≡◌, ◌≢◌, ◌≤◌, ◌<◌, List, Option, None, Some, length, map, All};
 ghost use Rattle.std.specs.Prelude.{OnErr, OnOk, IfOk, IfSome, IfNone, IsOkUnless, MatchOption, is_ok, is_err, if◌then◌else◌};
 ghost use Rattle.std.specs.List.{AllPairs};
-ghost use Rattle.sloth_io.specs.Counts.{counted, next_call};
+ghost use Rattle.sloth_io.specs.Counts.{counted_more, next_call};
 ghost use Rattle.sloth_io.specs.MemStore.{IsFresh, bytes_named, fails_next, file_named, file_of, files_of, has_space, IsCalled};
-ghost use Rattle.sloth_io.specs.MemStore.{IsPlace, is_too_long, read_fault, shown, writes_next, written};
+ghost use Rattle.sloth_io.specs.MemStore.{IsPlace, is_too_long, read_fault, shown_files, writes_next, files_with};
 ghost use Rattle.sloth_io.specs.Store.{Appends, IsMissing, IsTooLong, IsUnwritten, Holds, KeepsOthers, KeepsFiles, KeepsReads};
 
 use crate::buffer::Buffer;
@@ -127,7 +127,7 @@ fn place_of(slots: &[Slot], name: &[u8]) -> Option<usize>
 fn replace(slots: &mut Vec<Slot>, name: &[u8], bytes: &[u8]) -> bool
     ensures done { result ≡ has_space name.now (length bytes.now) (map file_of slots.old.items) }
     ensures files { map file_of slots.new.items ≡
-        (if result then written name.now bytes.now (map file_of slots.old.items) else map file_of slots.old.items) }
+        (if result then files_with name.now bytes.now (map file_of slots.old.items) else map file_of slots.old.items) }
 {
     let Some(place) = place_of(slots.as_slice(), name) else {
         return false;
@@ -136,24 +136,24 @@ fn replace(slots: &mut Vec<Slot>, name: &[u8], bytes: &[u8]) -> bool
 }
 
 impl Store for MemStore {
-    ghost seen = { λ store. shown store };
+    ghost seen = { λ store. shown_files store };
 
     fn read(&mut self, name: &str, limit: usize, into: &mut Vec<u8>) -> Result<(), StoreFault>
-        ensures ok { OnOk result (Appends (shown self.old) name.now limit into.old.items into.new.items) }
+        ensures ok { OnOk result (Appends (shown_files self.old) name.now limit into.old.items into.new.items) }
         ensures err { OnErr result (into.new.items ≡ into.old.items) }
-        ensures failed { result ≡ Err StoreFault.Failed → IsMissing (shown self.old) (shown self.new) name.now }
+        ensures failed { result ≡ Err StoreFault.Failed → IsMissing (shown_files self.old) (shown_files self.new) name.now }
         ensures too_long { result ≡ Err StoreFault.TooLong →
-            IsTooLong (shown self.old) (shown self.new) name.now limit }
-        ensures keeps { KeepsFiles (shown self.old) (shown self.new) }
+            IsTooLong (shown_files self.old) (shown_files self.new) name.now limit }
+        ensures keeps { KeepsFiles (shown_files self.old) (shown_files self.new) }
         ensures failed_reads { result ≢ Err StoreFault.Failed → self.new.failed_reads ≡ self.old.failed_reads }
         ensures overlong_reads { result ≢ Err StoreFault.TooLong → self.new.overlong_reads ≡ self.old.overlong_reads }
 
         // It refuses exactly the calls that are to fail, files that are not there and files that are too long.
         ensures refused { MatchOption (read_fault self.old name.now limit)
             (IsOkUnless result StoreFault.Memory) (λ fault. result ≡ Err fault) }
-        ensures counted_failed { self.new.failed_reads ≡ counted (fails_next self.old) self.old.failed_reads }
+        ensures counted_failed { self.new.failed_reads ≡ counted_more (fails_next self.old) self.old.failed_reads }
         ensures counted_overlong { self.new.overlong_reads ≡
-            counted (is_too_long (read_fault self.old name.now limit)) self.old.overlong_reads }
+            counted_more (is_too_long (read_fault self.old name.now limit)) self.old.overlong_reads }
         ensures called { IsCalled self.old self.new }
         ensures files { files_of self.new ≡ files_of self.old }
     {
@@ -175,19 +175,19 @@ impl Store for MemStore {
     }
 
     fn write(&mut self, name: &str, bytes: &[u8]) -> Result<(), StoreFault>
-        ensures ok { OnOk result (Holds (shown self.new) name.now bytes.now) }
-        ensures failed { OnErr result (IsUnwritten (shown self.old) (shown self.new) name.now (length bytes.now)) }
+        ensures ok { OnOk result (Holds (shown_files self.new) name.now bytes.now) }
+        ensures failed { OnErr result (IsUnwritten (shown_files self.old) (shown_files self.new) name.now (length bytes.now)) }
         ensures only_failed { OnErr result (result ≡ Err StoreFault.Failed) }
-        ensures others { KeepsOthers (shown self.old) (shown self.new) name.now }
-        ensures keeps { KeepsReads (shown self.old) (shown self.new) }
+        ensures others { KeepsOthers (shown_files self.old) (shown_files self.new) name.now }
+        ensures keeps { KeepsReads (shown_files self.old) (shown_files self.new) }
         ensures failed_writes { OnOk result (self.new.failed_writes ≡ self.old.failed_writes) }
 
         // It fails exactly at the calls that are to fail, and where there is no file with space for the bytes.
         ensures done { is_ok result ≡ writes_next self.old name.now (length bytes.now) }
-        ensures counted_failed { self.new.failed_writes ≡ counted (is_err result) self.old.failed_writes }
+        ensures counted_failed { self.new.failed_writes ≡ counted_more (is_err result) self.old.failed_writes }
         ensures called { IsCalled self.old self.new }
         ensures files { files_of self.new ≡
-            (if is_ok result then written name.now bytes.now (files_of self.old) else files_of self.old) }
+            (if is_ok result then files_with name.now bytes.now (files_of self.old) else files_of self.old) }
     {
         if !self.call() && replace(&mut self.slots, name.as_bytes(), bytes) {
             return Ok(());

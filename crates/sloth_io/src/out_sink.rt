@@ -1,6 +1,6 @@
 //! Standard output.
 ghost use Rattle.std.specs.Prelude.{◌≡◌};
-ghost use Rattle.sloth_io.specs.OutSink.{shown};
+ghost use Rattle.sloth_io.specs.OutSink.{shown_output};
 
 use crate::sink::{Sink, SinkFault};
 
@@ -14,7 +14,7 @@ pub struct OutSink<'a, P> {
 impl<'a, P: Print> OutSink<'a, P> {
     /// What this handle prints to, with no fault counted.
     pub fn new(to: &'a P) -> OutSink<'a, P>
-        ensures { (shown result).faults ≡ 0 }
+        ensures { (shown_output result).faults ≡ 0 }
     {
         OutSink { to, faults: 0 }
     }
@@ -33,7 +33,7 @@ fn write_whole<P: Print>(to: &P, piece: &[u8]) -> bool {
 }
 
 impl<'a, P: Print> Sink for OutSink<'a, P> {
-    ghost seen = { λ sink. shown sink };
+    ghost seen = { λ sink. shown_output sink };
 
     fn put(&mut self, piece: &[u8]) -> Result<(), SinkFault> {
         if write_whole(self.to, piece) {

@@ -1,6 +1,6 @@
 //! Where lines are printed.
 ghost use Rattle.std.specs.Prelude.{◌≡◌, ◌≤◌, OnErr, OnOk};
-ghost use Rattle.sloth_io.specs.Sink.{Output, gains, GainsPart};
+ghost use Rattle.sloth_io.specs.Sink.{Output, output_with, GainsPart};
 
 use thiserror::Error;
 
@@ -18,7 +18,7 @@ pub trait Sink {
 
     /// Takes a piece; on a failure, some first part of it. A failed call alone is counted.
     fn put(&mut self, piece: &[u8]) -> Result<(), SinkFault>
-        ensures ok { OnOk result (seen self.new ≡ gains (seen self.old) piece.now) }
+        ensures ok { OnOk result (seen self.new ≡ output_with (seen self.old) piece.now) }
         ensures err { OnErr result (GainsPart (seen self.old) (seen self.new) piece.now) }
         ensures never_falls { (seen self.old).faults ≤ (seen self.new).faults };
 }

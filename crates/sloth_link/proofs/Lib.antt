@@ -1,5 +1,5 @@
 pub mod Written
 pub mod Stand
 pub mod Marked
-pub mod Whole
+pub mod WrittenMemory
 pub mod Housed

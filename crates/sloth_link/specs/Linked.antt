@@ -7,7 +7,7 @@ use Rattle.sloth_base.specs.MemoryMap.{memory_base}
 use Rattle.rv32_instr.specs.declared.InstrKind.{InstrKind}
 use Rattle.rv32_instr.specs.declared.block.Block.{Block}
 use Rattle.rv32_instr.specs.Encode.{Encode}
-use Rattle.rv32_routine.specs.Place.{AreWritten}
+use Rattle.masked_code.specs.Place.{AreWritten}
 use Rattle.sloth_link.specs.declared.datum.Datum.{Datum}
 
 -- bytes, and the offset of the first

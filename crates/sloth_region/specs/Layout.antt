@@ -27,8 +27,8 @@ abbrev pub resume : ℕ → ℕ
 resume task = 632 + 4 * task
 
 -- the level at which a held resource was taken
-abbrev pub saved : ℕ → ℕ
-saved resource = 752 + 4 * resource
+abbrev pub saved_level : ℕ → ℕ
+saved_level resource = 752 + 4 * resource
 
 -- the context of the idle loop
 abbrev pub idle_context : ℕ

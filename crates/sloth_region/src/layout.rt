@@ -1,6 +1,6 @@
 //! The offsets of `specs/Layout.antt` as numbers for instructions: service words, contexts, and the controller's bytes.
 ghost use Rattle.std.specs.Prelude.{◌≡◌, ◌<◌, ◌≤◌, pos};
-ghost use Rattle.sloth_region.specs.Layout.{active, events, wait, resume, saved, pending_byte, enabled_byte, level_byte};
+ghost use Rattle.sloth_region.specs.Layout.{active, events, wait, resume, saved_level, pending_byte, enabled_byte, level_byte};
 
 /// Bits 31 to 12 of the address of the service words.
 pub const WORDS_HIGH: u32 = 0x8_0000;
@@ -69,7 +69,7 @@ pub fn resume(task: u32) -> i32
 /// The level at which a held resource was taken.
 pub fn saved(resource: u8) -> i32
     requires { resource ≤ 32 }
-    ensures { result ≡ pos (saved resource) }
+    ensures { result ≡ pos (saved_level resource) }
 {
     752 + 4 * resource as i32
 }

@@ -15,7 +15,7 @@ use Rattle.sloth_base.specs.declared.image.Mark.{Mark}
 use Rattle.sloth_base.specs.declared.image.MarkKind.{MarkKind}
 use Rattle.sloth_base.specs.declared.image.MarkKind.TheVariants as kind
 use Rattle.observe.specs.Pieces.{Piece, Outside, Stretch, pieces, cut_off, begins}
-use Rattle.observe.specs.Observe.{View, view_of_image, mark_at, events_of_kind, outside_events, admit, stamp, is_early, masked_from, last_of, found_admits, stretch_event, stretch_events, piece_events, observe}
+use Rattle.observe.specs.Observe.{View, view_of_image, mark_at, events_of_kind, outside_events, admission, stamp, is_early, masked_from, last_of, found_admits, stretch_event, stretch_events, piece_events, observe}
 use Rattle.rv32_machine.specs.Coherent.{Coherent}
 use Rattle.rv32_machine.specs.Start.{start}
 use Rattle.rv32_machine.specs.Advance.{Outcome, Goes, Halts}
@@ -67,9 +67,9 @@ of-mark None view step = omega arith
 module _ (view : View) (A : List Arrival) where
   of-outside : (step : Step) → length (piece_events view A (Outside step)) ≤ length (moments step.count (step.count + 1) A) + 1
   of-outside step =
-      let admits = map (admit view) (moments step.count (step.count + 1) A) in
+      let admits = map (admission view) (moments step.count (step.count + 1) A) in
       let events = outside_events (mark_at view step.pc) view step in
-      let a = length-map (moments step.count (step.count + 1) A) (admit view) in
+      let a = length-map (moments step.count (step.count + 1) A) (admission view) in
       let b = length-map events (stamp step.count step.count) in
       let few = of-mark (mark_at view step.pc) view step in
       let all = length-append admits (map (stamp step.count step.count) events) in omega (arith, a, b, few, all)
@@ -80,15 +80,15 @@ module _ (view : View) (A : List Arrival) where
       let inside = moments (masked_from first) ((last_of first more).count + 1) A in
       let early : Arrival → Bool = is_early (first ∷ more) in
       let late : Arrival → Bool = λ a. not (early a) in
-      let a = length-map (filter early inside) (admit view) in
-      let b = length-map (filter late inside) (admit view) in
+      let a = length-map (filter early inside) (admission view) in
+      let b = length-map (filter late inside) (admission view) in
       let both = length-filter_both early late (λ x. refl) inside in
-      let all = length-append (map (admit view) (filter early inside))
-      (stamp first.count (last_of first more).count (stretch_event view first (last_of first more)) ∷ map (admit view) (filter late inside)) in
+      let all = length-append (map (admission view) (filter early inside))
+      (stamp first.count (last_of first more).count (stretch_event view first (last_of first more)) ∷ map (admission view) (filter late inside)) in
       omega (arith, a, b, both, all)
 
   of-found : (first : Step) (more : List Step) → length (found_admits view A (first ∷ more)) ≡ length (moments first.count (masked_from first) A)
-  of-found first more = length-map (moments first.count (masked_from first) A) (admit view)
+  of-found first more = length-map (moments first.count (masked_from first) A) (admission view)
 
   masked-late : (first : Step) → (first.count ≤ masked_from first) × (masked_from first ≤ first.count + 1)
   masked-late first =

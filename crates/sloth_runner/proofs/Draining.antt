@@ -3,7 +3,7 @@ use Rattle.std.proofs.Common.{◌≡◌, ℕ, List, [], ◌∷◌, ◌++◌, Boo
 use Rattle.sloth_base.specs.declared.image.Image.{Image}
 use Rattle.sloth_base.specs.declared.step.Step.{Step}
 use Rattle.sloth_base.specs.declared.event.Stamped.{Stamped}
-use Rattle.sloth_io.specs.Sink.{Output, gains, GainsPart}
+use Rattle.sloth_io.specs.Sink.{Output, output_with, GainsPart}
 use Rattle.sloth_io.proofs.Gains.{gains-gains, gains-nil, part-behind}
 use Rattle.trace_text.specs.Texts.{text_after, ends_idle, is_idle}
 use Rattle.trace_text.specs.declared.print.Form.{Form}
@@ -48,7 +48,7 @@ draining-init image form idle o t = record {
 pub draining-more : (image : Image) (form : Form) (idle : Bool) (o0 : Observer) (last : Bool) (o p : Observer) (t0 t u : Output) (e : Stamped)
     → Draining image form idle o0 last o t0 t → remaining o ≡ e ∷ remaining p → view_of p ≡ view_of o → arrivals_of p ≡ arrivals_of o → expected_of p ≡ expected_of o
     → ((steps : List Step) (events : List Stamped) → Fed o steps events → Fed p steps (events ++ e ∷ []))
-    → u ≡ gains t (text_after image form last (e ∷ []))
+    → u ≡ output_with t (text_after image form last (e ∷ []))
     → Draining image form idle o0 (is_idle e.event) p t0 u
 draining-more image form idle o0 last o p t0 t u e d head view arrivals expected fed put =
     let line : List ℕ = text_after image form last (e ∷ []) in
@@ -56,7 +56,7 @@ draining-more image form idle o0 last o p t0 t u e d head view arrivals expected
     ap (text_after image form last) head ∙ text_after-append image form last (e ∷ []) (remaining p) in
     record {
       done = d.done ++ line;
-      taken = put ∙ ap (λ x. gains x line) d.taken ∙ gains-gains t0 d.done line;
+      taken = put ∙ ap (λ x. output_with x line) d.taken ∙ gains-gains t0 d.done line;
       text = d.text ∙ ap (λ x. d.done ++ x) split ∙ sym (append_assoc d.done line (text_after image form (is_idle e.event) (remaining p)));
       ends = d.ends ∙ ap (ends_idle last) head;
       hands = handing-more o0 o p e d.hands head view arrivals expected fed;
@@ -79,9 +79,9 @@ nothing-left image form.Bare last = refl
 
 -- all was put
 pub draining-done : (image : Image) (form : Form) (idle : Bool) (o0 : Observer) (last : Bool) (o : Observer) (t0 t : Output) → Draining image form idle o0 last o t0 t → remaining o ≡ []
-    → t ≡ gains t0 (text_after image form idle (remaining o0))
+    → t ≡ output_with t0 (text_after image form idle (remaining o0))
 draining-done image form idle o0 last o t0 t d none =
-    d.taken ∙ ap (gains t0) (sym (d.text ∙ ap (λ es. d.done ++ text_after image form last es) none ∙ ap (λ x. d.done ++ x) (nothing-left image form last) ∙ append-nil d.done))
+    d.taken ∙ ap (output_with t0) (sym (d.text ∙ ap (λ es. d.done ++ text_after image form last es) none ∙ ap (λ x. d.done ++ x) (nothing-left image form last) ∙ append-nil d.done))
 
 pub draining-ends : (image : Image) (form : Form) (idle : Bool) (o0 : Observer) (last : Bool) (o : Observer) (t0 t : Output) → Draining image form idle o0 last o t0 t → remaining o ≡ []
     → last ≡ ends_idle idle (remaining o0)
@@ -92,12 +92,12 @@ pub draining-put : (image i : Image) (form f : Form) (idle : Bool) (o0 : Observe
     → Draining image form idle o0 last o t0 t → i ≡ image → f ≡ form → next ≡ is_idle e.event
     → remaining o ≡ e ∷ remaining p → view_of p ≡ view_of o → arrivals_of p ≡ arrivals_of o → expected_of p ≡ expected_of o
     → ((steps : List Step) (events : List Stamped) → Fed o steps events → Fed p steps (events ++ e ∷ []))
-    → u ≡ gains t (text_after i f last (e ∷ []))
+    → u ≡ output_with t (text_after i f last (e ∷ []))
     → Draining image form idle o0 next p t0 u
 draining-put image i form f idle o0 last next o p t0 t u e d ei ef en head view arrivals expected fed put =
     let P : Bool → Type 0 = λ b. Draining image form idle o0 b p t0 u in
-    let same : u ≡ gains t (text_after image form last (e ∷ [])) =
-    put ∙ ap (λ x. gains t (text_after x f last (e ∷ []))) ei ∙ ap (λ x. gains t (text_after image x last (e ∷ []))) ef in
+    let same : u ≡ output_with t (text_after image form last (e ∷ [])) =
+    put ∙ ap (λ x. output_with t (text_after x f last (e ∷ []))) ei ∙ ap (λ x. output_with t (text_after image x last (e ∷ []))) ef in
     subst P (sym en) (draining-more image form idle o0 last o p t0 t u e d head view arrivals expected fed same)
 
 -- or in part

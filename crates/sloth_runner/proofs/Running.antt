@@ -4,7 +4,7 @@ use Rattle.sloth_base.specs.Take.{entered}
 use Rattle.sloth_base.specs.declared.image.Image.{Image}
 use Rattle.sloth_base.specs.declared.event.Arrival.{Arrival}
 use Rattle.sloth_base.specs.declared.event.Stamped.{Stamped}
-use Rattle.sloth_io.specs.Sink.{Output, gains, GainsPart}
+use Rattle.sloth_io.specs.Sink.{Output, output_with, GainsPart}
 use Rattle.sloth_io.proofs.Gains.{gains-gains, gains-nil, part-behind}
 use Rattle.trace_text.specs.Texts.{text_after, text_in, ends_idle}
 use Rattle.trace_text.specs.declared.print.Form.{Form}
@@ -17,7 +17,7 @@ use Rattle.rv32_machine.specs.Advance.{Halts}
 use Rattle.rv32_machine.specs.Run.{Moment, moment, arrived, run, run_from, steps_of, state_after}
 use Rattle.rv32_machine.proofs.Runs.{run_halts, stop_halts, stop_none, run_front}
 use Rattle.sim_induction.specs.Sound.{events_of}
-use Rattle.sloth_runner.specs.Runner.{Ran, Running, IsFresh, IsRunning, Went, Broke, Halted, Adds, image_of, given, count_of, sloth_state, run_steps, run_text, run_end, end_of}
+use Rattle.sloth_runner.specs.Runner.{Ran, Running, IsFresh, IsRunning, Went, Broke, Halted, Adds, image_of, given_arrivals, count_of, sloth_state, run_steps, run_text, run_end, end_of}
 use Rattle.sloth_runner.specs.declared.runner.Runner.{Runner}
 use Rattle.sloth_runner.specs.declared.runner.Printer.{Printer}
 use Rattle.sloth_runner.specs.declared.runner.RunEnd.{RunEnd}
@@ -36,14 +36,14 @@ running-init r form printer t f idle form_is printed =
     let P : ℕ → Type 0 = λ k. Running r r form printer t t k in
     subst P (sym f.1) (record {
       ran = record { running = f.0; count = f.1; image = refl; arrivals = refl };
-      taken = sym (gains-nil t) ∙ ap (gains t) (sym (ap (text_in (image_of r) form) (nothing-yet (image_of r) (given r)) ∙ no-text (image_of r) form));
-      idle = idle ∙ sym (ap (ends_idle false) (nothing-yet (image_of r) (given r)));
+      taken = sym (gains-nil t) ∙ ap (output_with t) (sym (ap (text_in (image_of r) form) (nothing-yet (image_of r) (given_arrivals r)) ∙ no-text (image_of r) form));
+      idle = idle ∙ sym (ap (ends_idle false) (nothing-yet (image_of r) (given_arrivals r)));
       form_is = form_is;
       printed = printed;
     })
 
 -- behind one instruction more
-pub ran-more : (r0 r q : Runner) (k : ℕ) → Ran r0 r k → IsRunning q → count_of q ≡ count_of r + 1 → image_of q ≡ image_of r → given q ≡ given r → Ran r0 q (k + 1)
+pub ran-more : (r0 r q : Runner) (k : ℕ) → Ran r0 r k → IsRunning q → count_of q ≡ count_of r + 1 → image_of q ≡ image_of r → given_arrivals q ≡ given_arrivals r → Ran r0 q (k + 1)
 ran-more r0 r q k ran running count image arrivals =
     record { running = running; count = count ∙ ap (λ n. n + 1) ran.count; image = image ∙ ran.image; arrivals = arrivals ∙ ran.arrivals }
 
@@ -69,16 +69,16 @@ piece-at : (i j : Image) (f g : Form) (b c : Bool) (es : List Stamped) → i ≡
 piece-at i j f g b c es p q e = ap (λ x. text_after x f b es) p ∙ ap (λ x. text_after j x b es) q ∙ ap (λ x. text_after j g x es) e
 
 running-more : (r0 r q : Runner) (form : Form) (before after : Printer) (t0 t u : Output) (k : ℕ) → Running r0 r form before t0 t k → Went r q before after t u
-    → image_of q ≡ image_of r → given q ≡ given r → after.form ≡ before.form → after.image.now ≡ before.image.now → Running r0 q form after t0 u (k + 1)
+    → image_of q ≡ image_of r → given_arrivals q ≡ given_arrivals r → after.form ≡ before.form → after.image.now ≡ before.image.now → Running r0 q form after t0 u (k + 1)
 running-more r0 r q form before after t0 t u k run w image arrivals form_is printed =
     let i0 : Image = image_of r0 in
-    let A : List Arrival = given r0 in
-    let adds = adds-at (image_of r) i0 (given r) A (count_of r) k w.events run.ran.image run.ran.arrivals run.ran.count w.adds in
+    let A : List Arrival = given_arrivals r0 in
+    let adds = adds-at (image_of r) i0 (given_arrivals r) A (count_of r) k w.events run.ran.image run.ran.arrivals run.ran.count w.adds in
     let piece = piece-at (image_of r) i0 before.form form before.after_idle (ends_idle false (events_of i0 A k)) w.events run.ran.image run.form_is run.idle in
     record {
       ran = ran-more r0 r q k run.ran w.running w.count image arrivals;
-      taken = w.taken ∙ ap (gains t) piece ∙ ap (λ x. gains x (text_after i0 form (ends_idle false (events_of i0 A k)) w.events)) run.taken
-          ∙ gains-gains t0 (run_text i0 A form k) (text_after i0 form (ends_idle false (events_of i0 A k)) w.events) ∙ ap (gains t0) (sym (text-more i0 A form k w.events adds));
+      taken = w.taken ∙ ap (output_with t) piece ∙ ap (λ x. output_with x (text_after i0 form (ends_idle false (events_of i0 A k)) w.events)) run.taken
+          ∙ gains-gains t0 (run_text i0 A form k) (text_after i0 form (ends_idle false (events_of i0 A k)) w.events) ∙ ap (output_with t0) (sym (text-more i0 A form k w.events adds));
       idle = w.idle ∙ ap (λ b. ends_idle b w.events) run.idle ∙ sym (ends-append false (events_of i0 A k) w.events) ∙ ap (ends_idle false) (sym adds);
       form_is = form_is ∙ run.form_is;
       printed = printed ∙ run.printed;
@@ -86,53 +86,53 @@ running-more r0 r q form before after t0 t u k run w image arrivals form_is prin
 
 -- behind one instruction more
 pub running-on : (r0 r q : Runner) (form : Form) (before after : Printer) (t0 t u : Output) → Running r0 r form before t0 t (count_of r)
-    → Went r q before after t u → image_of q ≡ image_of r → given q ≡ given r → after.form ≡ before.form → after.image.now ≡ before.image.now
+    → Went r q before after t u → image_of q ≡ image_of r → given_arrivals q ≡ given_arrivals r → after.form ≡ before.form → after.image.now ≡ before.image.now
     → Running r0 q form after t0 u (count_of q)
 running-on r0 r q form before after t0 t u run w image arrivals form_is printed =
     let P : ℕ → Type 0 = λ k. Running r0 q form after t0 u k in
     subst P (sym w.count) (running-more r0 r q form before after t0 t u (count_of r) run w image arrivals form_is printed)
 
 -- the state after the instructions that were done
-after-is : (r0 r : Runner) (k : ℕ) → Ran r0 r k → state_after k (given r0) (start (image_of r0)) ≡ Some (sloth_state r.machine)
+after-is : (r0 r : Runner) (k : ℕ) → Ran r0 r k → state_after k (given_arrivals r0) (start (image_of r0)) ≡ Some (sloth_state r.machine)
 after-is r0 r k ran =
-    ap (λ n. state_after n (given r0) (start (image_of r0))) (sym ran.count)
+    ap (λ n. state_after n (given_arrivals r0) (start (image_of r0))) (sym ran.count)
     ∙ ap (λ A. state_after (count_of r) A (start (image_of r0))) (sym ran.arrivals)
-    ∙ ap (λ (i : Image). state_after (count_of r) (given r) (start i)) (sym ran.image) ∙ ran.running.ran.after
+    ∙ ap (λ (i : Image). state_after (count_of r) (given_arrivals r) (start i)) (sym ran.image) ∙ ran.running.ran.after
 
-halted-is : (r0 r : Runner) (k : ℕ) (e : RunEnd) → Ran r0 r k → (h : Halted r e) → moment (given r0) k (sloth_state r.machine) ≡ Halts h.0
+halted-is : (r0 r : Runner) (k : ℕ) (e : RunEnd) → Ran r0 r k → (h : Halted r e) → moment (given_arrivals r0) k (sloth_state r.machine) ≡ Halts h.0
 halted-is r0 r k e ran h =
-    ap (λ A. moment A k (sloth_state r.machine)) (sym ran.arrivals) ∙ ap (λ n. moment (given r) n (sloth_state r.machine)) (sym ran.count) ∙ h.1
+    ap (λ A. moment A k (sloth_state r.machine)) (sym ran.arrivals) ∙ ap (λ n. moment (given_arrivals r) n (sloth_state r.machine)) (sym ran.count) ∙ h.1
 
 -- a run that stops shows no more
-pub stopped-events : (r0 r : Runner) (k n : ℕ) (e : RunEnd) → Ran r0 r k → Halted r e → k < n → events_of (image_of r0) (given r0) k ≡ events_of (image_of r0) (given r0) n
+pub stopped-events : (r0 r : Runner) (k n : ℕ) (e : RunEnd) → Ran r0 r k → Halted r e → k < n → events_of (image_of r0) (given_arrivals r0) k ≡ events_of (image_of r0) (given_arrivals r0) n
 stopped-events r0 r k n e ran h lt =
     let i0 : Image = image_of r0 in
-    ap (λ ms. observe (view_of_image i0) (given r0) (steps_of ms))
-    (sym (run_halts n k (given r0) (start i0) (sloth_state r.machine) h.0 lt (after-is r0 r k ran) (halted-is r0 r k e ran h)))
+    ap (λ ms. observe (view_of_image i0) (given_arrivals r0) (steps_of ms))
+    (sym (run_halts n k (given_arrivals r0) (start i0) (sloth_state r.machine) h.0 lt (after-is r0 r k ran) (halted-is r0 r k e ran h)))
 
-pub stopped-text : (r0 r : Runner) (form : Form) (p : Printer) (t0 t u : Output) (k n : ℕ) (e : RunEnd) → Running r0 r form p t0 t k → Halted r e → k < n → u ≡ t → u ≡ gains t0 (run_text (image_of r0) (given r0) form n)
+pub stopped-text : (r0 r : Runner) (form : Form) (p : Printer) (t0 t u : Output) (k n : ℕ) (e : RunEnd) → Running r0 r form p t0 t k → Halted r e → k < n → u ≡ t → u ≡ output_with t0 (run_text (image_of r0) (given_arrivals r0) form n)
 stopped-text r0 r form p t0 t u k n e run h lt same =
-    same ∙ run.taken ∙ ap (λ es. gains t0 (text_in (image_of r0) form es)) (stopped-events r0 r k n e run.ran h lt)
+    same ∙ run.taken ∙ ap (λ es. output_with t0 (text_in (image_of r0) form es)) (stopped-events r0 r k n e run.ran h lt)
 
-pub stopped-end : (r0 r : Runner) (k n : ℕ) (e : RunEnd) → Ran r0 r k → Halted r e → k < n → e ≡ run_end (image_of r0) (given r0) n
+pub stopped-end : (r0 r : Runner) (k n : ℕ) (e : RunEnd) → Ran r0 r k → Halted r e → k < n → e ≡ run_end (image_of r0) (given_arrivals r0) n
 stopped-end r0 r k n e ran h lt =
     h.2 ∙ ap (λ A. end_of (Some (record { pc = (entered (arrived A (count_of r) (sloth_state r.machine))).pc; stop = h.0 }))) ran.arrivals
-    ∙ ap (λ c. end_of (Some (record { pc = (entered (arrived (given r0) c (sloth_state r.machine))).pc; stop = h.0 }))) ran.count
-    ∙ ap end_of (sym (stop_halts n k (given r0) (start (image_of r0)) (sloth_state r.machine) h.0 lt (after-is r0 r k ran) (halted-is r0 r k e ran h)))
+    ∙ ap (λ c. end_of (Some (record { pc = (entered (arrived (given_arrivals r0) c (sloth_state r.machine))).pc; stop = h.0 }))) ran.count
+    ∙ ap end_of (sym (stop_halts n k (given_arrivals r0) (start (image_of r0)) (sloth_state r.machine) h.0 lt (after-is r0 r k ran) (halted-is r0 r k e ran h)))
 
-pub whole-end : (r0 r : Runner) (k : ℕ) → Ran r0 r k → end_of None ≡ run_end (image_of r0) (given r0) k
-whole-end r0 r k ran = ap end_of (sym (stop_none k (given r0) 0 (start (image_of r0)) (sloth_state r.machine) (after-is r0 r k ran)))
+pub whole-end : (r0 r : Runner) (k : ℕ) → Ran r0 r k → end_of None ≡ run_end (image_of r0) (given_arrivals r0) k
+whole-end r0 r k ran = ap end_of (sym (stop_none k (given_arrivals r0) 0 (start (image_of r0)) (sloth_state r.machine) (after-is r0 r k ran)))
 
 steps-append : (ms ns : List Moment) → steps_of (ms ++ ns) ≡ steps_of ms ++ steps_of ns
 steps-append [] ns = refl
 steps-append (m ∷ ms) ns = ap (λ ss. m.step ∷ ss) (steps-append ms ns)
 
 -- a run that broke off put a front of the text
-pub broken-text : (r0 r : Runner) (form : Form) (p : Printer) (t0 t u : Output) (k n : ℕ) → Running r0 r form p t0 t k → Broke r p t u → k < n → GainsPart t0 u (run_text (image_of r0) (given r0) form n)
+pub broken-text : (r0 r : Runner) (form : Form) (p : Printer) (t0 t u : Output) (k n : ℕ) → Running r0 r form p t0 t k → Broke r p t u → k < n → GainsPart t0 u (run_text (image_of r0) (given_arrivals r0) form n)
 broken-text r0 r form p t0 t u k n run b lt =
     let i0 : Image = image_of r0 in
-    let A : List Arrival = given r0 in
-    let adds = adds-at (image_of r) i0 (given r) A (count_of r) k b.events run.ran.image run.ran.arrivals run.ran.count b.adds in
+    let A : List Arrival = given_arrivals r0 in
+    let adds = adds-at (image_of r) i0 (given_arrivals r) A (count_of r) k b.events run.ran.image run.ran.arrivals run.ran.count b.adds in
     let last : Bool = ends_idle false (events_of i0 A k) in
     let piece = piece-at (image_of r) i0 p.form form p.after_idle last b.events run.ran.image run.form_is run.idle in
     let P : List ℕ → Type 0 = λ x. GainsPart t u x in

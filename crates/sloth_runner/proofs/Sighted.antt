@@ -12,7 +12,7 @@ use Rattle.rv32_machine.specs.Advance.{Halts}
 use Rattle.rv32_machine.specs.Run.{arrived, moment, state_after}
 use Rattle.rv32_machine.proofs.Runs.{stop_halts, stop_none}
 use Rattle.sloth_runner.specs.declared.runner.Runner.{Runner}
-use Rattle.sloth_runner.specs.Runner.{HasRun, run_end, end_of, image_of, given, count_of, sloth_state}
+use Rattle.sloth_runner.specs.Runner.{HasRun, run_end, end_of, image_of, given_arrivals, count_of, sloth_state}
 use Rattle.sloth_runner.specs.declared.runner.RunEnd.TheVariants as ends
 use Rattle.sloth_runner.specs.declared.sight.Seen.{Seen}
 use Rattle.sloth_runner.specs.declared.sight.Sight.{Sight}
@@ -116,10 +116,10 @@ module _ (image : Image) (A : List Arrival) where
   one_sight k (sights.At a) (sights.At b) h l = ap sights.At (one-seen (k + 1) a b h.1 l.1)
 
 -- what the run of a runner shows that did not stop
-pub sight-behind : (r0 r : Runner) (k : ℕ) (last : Option Seen) → HasRun r (image_of r0) (count_of r) → given r ≡ given r0
-    → IsLast (image_of r0) (given r0) (count_of r) last → count_of r ≡ k + 1 → IsSight (image_of r0) (given r0) k (sight_of last)
+pub sight-behind : (r0 r : Runner) (k : ℕ) (last : Option Seen) → HasRun r (image_of r0) (count_of r) → given_arrivals r ≡ given_arrivals r0
+    → IsLast (image_of r0) (given_arrivals r0) (count_of r) last → count_of r ≡ k + 1 → IsSight (image_of r0) (given_arrivals r0) k (sight_of last)
 sight-behind r0 r k last ran same is all =
-    let N : ℕ → Type 0 = λ n. state_after n (given r0) (start (image_of r0)) ≡ Some (sloth_state r.machine) in
-    let L : ℕ → Type 0 = λ n. IsLast (image_of r0) (given r0) n last in
-    sight-whole (image_of r0) (given r0) k (sloth_state r.machine) last
+    let N : ℕ → Type 0 = λ n. state_after n (given_arrivals r0) (start (image_of r0)) ≡ Some (sloth_state r.machine) in
+    let L : ℕ → Type 0 = λ n. IsLast (image_of r0) (given_arrivals r0) n last in
+    sight-whole (image_of r0) (given_arrivals r0) k (sloth_state r.machine) last
     (subst N all (ap (λ A. state_after (count_of r) A (start (image_of r0))) (sym same) ∙ ran.after)) (subst L all is)

@@ -12,8 +12,8 @@ use Rattle.sloth_base.specs.declared.event.Stamped.{Stamped}
 use Rattle.trace_text.specs.Summary.{kind_of, count_of_kind, counts_of}
 use Rattle.observe.specs.Progress.{remaining}
 use Rattle.sim_induction.specs.Sound.{events_of}
-use Rattle.sloth_runner.specs.Tally.{counted_one, counted}
-use Rattle.sloth_runner.specs.Runner.{Advanced, Adds, Ran, image_of, given, count_of}
+use Rattle.sloth_runner.specs.Tally.{counted_one, counts_with}
+use Rattle.sloth_runner.specs.Runner.{Advanced, Adds, Ran, image_of, given_arrivals, count_of}
 use Rattle.sloth_runner.specs.declared.runner.Runner.{Runner}
 use Rattle.sloth_runner.proofs.Running.{adds-at}
 use Rattle.sloth_runner.proofs.Turning.{advanced-adds}
@@ -50,10 +50,10 @@ one-more events e =
     get_or-set_other old k i v 0 (λ q. no.1 (sym q)) ∙ at events i 0 inside ∙ same ∙ sym (ap (λ b. count_of_kind events i + cond b 1 0) no.0) ∙ new)
     (eqb_tells k i))
 
-counted-counts : (events more : List Stamped) → counted (counts_of events) more ≡ counts_of (events ++ more)
+counted-counts : (events more : List Stamped) → counts_with (counts_of events) more ≡ counts_of (events ++ more)
 counted-counts events [] = ap counts_of (sym (append-nil events))
 counted-counts events (e ∷ rest) =
-    ap (λ counts. counted counts rest) (one-more events e) ∙ counted-counts (events ++ e ∷ []) rest ∙ ap counts_of (append_assoc events (e ∷ []) rest)
+    ap (λ counts. counts_with counts rest) (one-more events e) ∙ counted-counts (events ++ e ∷ []) rest ∙ ap counts_of (append_assoc events (e ∷ []) rest)
 
 -- each number is that of some events, and small where they are few
 counts-small : (events : List Stamped) (more most : ℕ) → length events + more < most → All (λ number. number + more < most) (counts_of events)
@@ -81,21 +81,21 @@ next-room counts k before after e below head h =
     room-more counts k (length after) (2 ^ 32) below (subst P head h)
 
 -- the events of an instruction that was done, in terms of what the run began with
-pub adds-of : (r0 r p : Runner) (k : ℕ) → Ran r0 r k → Advanced r p → given p ≡ given r → Adds (image_of r0) (given r0) k (remaining p.observer)
+pub adds-of : (r0 r p : Runner) (k : ℕ) → Ran r0 r k → Advanced r p → given_arrivals p ≡ given_arrivals r → Adds (image_of r0) (given_arrivals r0) k (remaining p.observer)
 adds-of r0 r p k ran advanced same =
-    adds-at (image_of r) (image_of r0) (given r) (given r0) (count_of r) k (remaining p.observer) ran.image ran.arrivals ran.count (advanced-adds r p ran.running advanced same)
+    adds-at (image_of r) (image_of r0) (given_arrivals r) (given_arrivals r0) (count_of r) k (remaining p.observer) ran.image ran.arrivals ran.count (advanced-adds r p ran.running advanced same)
 
 -- there is room for them
-pub room-of : (r0 r p : Runner) (k : ℕ) → Ran r0 r k → Advanced r p → given p ≡ given r → length (given r0) ≤ 100000 → k < 1000000
-    → All (λ number. number + length (remaining p.observer) < 2 ^ 32) (counts_of (events_of (image_of r0) (given r0) k))
+pub room-of : (r0 r p : Runner) (k : ℕ) → Ran r0 r k → Advanced r p → given_arrivals p ≡ given_arrivals r → length (given_arrivals r0) ≤ 100000 → k < 1000000
+    → All (λ number. number + length (remaining p.observer) < 2 ^ 32) (counts_of (events_of (image_of r0) (given_arrivals r0) k))
 room-of r0 r p k ran advanced same few short =
     let adds = ap length (adds-of r0 r p k ran advanced same) in
-    let all = few-events (image_of r0) (given r0) (k + 1) in
-    let both = length-append (events_of (image_of r0) (given r0) k) (remaining p.observer) in
-    counts-small (events_of (image_of r0) (given r0) k) (length (remaining p.observer)) (2 ^ 32) (omega (arith, adds, all, both, few, short))
+    let all = few-events (image_of r0) (given_arrivals r0) (k + 1) in
+    let both = length-append (events_of (image_of r0) (given_arrivals r0) k) (remaining p.observer) in
+    counts-small (events_of (image_of r0) (given_arrivals r0) k) (length (remaining p.observer)) (2 ^ 32) (omega (arith, adds, all, both, few, short))
 
 -- the numbers behind an instruction
-pub counts-behind : (r0 r p : Runner) (k : ℕ) → Ran r0 r k → Advanced r p → given p ≡ given r
-    → counted (counts_of (events_of (image_of r0) (given r0) k)) (remaining p.observer) ≡ counts_of (events_of (image_of r0) (given r0) (k + 1))
+pub counts-behind : (r0 r p : Runner) (k : ℕ) → Ran r0 r k → Advanced r p → given_arrivals p ≡ given_arrivals r
+    → counts_with (counts_of (events_of (image_of r0) (given_arrivals r0) k)) (remaining p.observer) ≡ counts_of (events_of (image_of r0) (given_arrivals r0) (k + 1))
 counts-behind r0 r p k ran advanced same =
-    counted-counts (events_of (image_of r0) (given r0) k) (remaining p.observer) ∙ ap counts_of (sym (adds-of r0 r p k ran advanced same))
+    counted-counts (events_of (image_of r0) (given_arrivals r0) k) (remaining p.observer) ∙ ap counts_of (sym (adds-of r0 r p k ran advanced same))

@@ -22,7 +22,7 @@ use Rattle.rv32_machine.specs.declared.machine.Machine.{Machine}
 use Rattle.rv32_machine.specs.declared.sloth.SlothBus.{SlothBus}
 use Rattle.rv32_machine.specs.Run.{Moment, moment, moment_of, arrived, run, run_from, steps_of, state_after}
 use Rattle.sim_induction.specs.Sound.{events_of}
-use Rattle.sloth_runner.specs.Runner.{AreLines, HasRun, HasDone, HasArrived, HasExecuted, HandsOut, Advanced, Adds, IsRunning, image_of, given, count_of, sloth_state, run_steps}
+use Rattle.sloth_runner.specs.Runner.{AreLines, HasRun, HasDone, HasArrived, HasExecuted, HandsOut, Advanced, Adds, IsRunning, image_of, given_arrivals, count_of, sloth_state, run_steps}
 use Rattle.sloth_runner.specs.declared.runner.Runner.{Runner}
 use Rattle.rv32_machine.proofs.Runs.{after_more, run_more}
 use Rattle.std.proofs.lemmas.List.Elements.{All-take, All-drop}
@@ -37,17 +37,17 @@ pub weaker : (m n : ℕ) (A : List Arrival) → n ≤ m → NeverFalls m A → N
 weaker m n [] le h = tt
 weaker m n (a ∷ A) le h = (omega arith, h.1)
 
-in-order : (r : Runner) (image : Image) (k : ℕ) → HasRun r image k → NeverFalls 0 (given r)
-in-order r image k ran = weaker 1 0 (given r) (omega arith) ran.arrivals.ordered
+in-order : (r : Runner) (image : Image) (k : ℕ) → HasRun r image k → NeverFalls 0 (given_arrivals r)
+in-order r image k ran = weaker 1 0 (given_arrivals r) (omega arith) ran.arrivals.ordered
 
 -- the state with the arrivals of the next moment
 pub arrived-is : (r : Runner) (image : Image) (k : ℕ) (h : List Arrival) (m : State) → HasRun r image k
     → h ≡ take (length (here r.count r.coming.now)) r.coming.now → m ≡ state_arrive (map (λ a. a.line) h) (sloth_state r.machine)
-    → m ≡ arrived (given r) k (sloth_state r.machine)
+    → m ≡ arrived (given_arrivals r) k (sloth_state r.machine)
 arrived-is r image k h m st e n =
     let H : ℕ → List Arrival → List Arrival = λ c xs. take (length (here c xs)) xs in
-    let mine : h ≡ moments k (k + 1) (given r) =
-    e ∙ ap (λ c. H c r.coming.now) st.count ∙ ap (H k) st.coming ∙ front-is _ (from k (given r)) ∙ here-from 0 k (given r) (in-order r image k st) in
+    let mine : h ≡ moments k (k + 1) (given_arrivals r) =
+    e ∙ ap (λ c. H c r.coming.now) st.count ∙ ap (H k) st.coming ∙ front-is _ (from k (given_arrivals r)) ∙ here-from 0 k (given_arrivals r) (in-order r image k st) in
     n ∙ ap (λ g. state_arrive (map (λ a. a.line) g) (sloth_state r.machine)) mine
 
 map-append : (xs : List Moment) (m : Moment) → steps_of (xs ++ m ∷ []) ≡ steps_of xs ++ m.step ∷ []
@@ -60,16 +60,16 @@ steps-more k A m0 m n s h g = ap steps_of (run_more k A m0 m n s h g) ∙ map-ap
 
 -- what the machine does at a moment, behind its arrivals
 pub moment-is : (r a : Runner) (o : Outcome) → r.machine.count ≡ count_of r → HasArrived r a → advance a.machine.count (sloth_state a.machine) ≡ o
-    → moment (given r) (count_of r) (sloth_state r.machine) ≡ o
+    → moment (given_arrivals r) (count_of r) (sloth_state r.machine) ≡ o
 moment-is r a o e arrived does =
     ap (advance (count_of r)) (sym arrived.state) ∙ ap (λ c. advance c (sloth_state a.machine)) (sym (arrived.executed ∙ e)) ∙ does
 
 -- the machine after an instruction
 pub machine-more : (r a q : Runner) (image : Image) (step : Step) → HasRun r image (count_of r) → HasArrived r a → HasExecuted a q step
-    → given q ≡ given r → q.coming.now ≡ a.coming.now → HasRun q image (count_of r + 1)
+    → given_arrivals q ≡ given_arrivals r → q.coming.now ≡ a.coming.now → HasRun q image (count_of r + 1)
 machine-more r a q image step ran arrived executed same coming =
     let k : ℕ = count_of r in
-    let A : List Arrival = given r in
+    let A : List Arrival = given_arrivals r in
     let L : List Arrival → Type 0 = AreLines in
     let goes = moment-is r a (Goes step (sloth_state q.machine)) ran.executed arrived executed.goes in
     record {
@@ -83,21 +83,21 @@ machine-more r a q image step ran arrived executed same coming =
 
 -- the events that an instruction adds
 pub adds-is : (r : Runner) (image : Image) (k : ℕ) (s : Step) (n : State) (o : Observer) → HasDone r image k
-    → moment (given r) k (sloth_state r.machine) ≡ Goes s n
-    → ((steps : List Step) (events : List Stamped) → Fed r.observer steps events → Fed o (steps ++ s ∷ []) events) → view_of o ≡ view_of r.observer → arrivals_of o ≡ given r
-    → Adds image (given r) k (remaining o)
+    → moment (given_arrivals r) k (sloth_state r.machine) ≡ Goes s n
+    → ((steps : List Step) (events : List Stamped) → Fed r.observer steps events → Fed o (steps ++ s ∷ []) events) → view_of o ≡ view_of r.observer → arrivals_of o ≡ given_arrivals r
+    → Adds image (given_arrivals r) k (remaining o)
 adds-is r image k s n o st g fed view arrivals =
-    let F : List Step = run_steps image (given r) k in
-    let f = fed F (events_of image (given r) k) st.fed in
-    ap (observe (view_of_image image) (given r)) (steps-more k (given r) (start image) (sloth_state r.machine) n s st.ran.after g)
-    ∙ ap (λ w. observe w (given r) (F ++ s ∷ [])) (sym (view ∙ st.view)) ∙ ap (λ B. observe (view_of o) B (F ++ s ∷ [])) (sym arrivals) ∙ sym f.told
+    let F : List Step = run_steps image (given_arrivals r) k in
+    let f = fed F (events_of image (given_arrivals r) k) st.fed in
+    ap (observe (view_of_image image) (given_arrivals r)) (steps-more k (given_arrivals r) (start image) (sloth_state r.machine) n s st.ran.after g)
+    ∙ ap (λ w. observe w (given_arrivals r) (F ++ s ∷ [])) (sym (view ∙ st.view)) ∙ ap (λ B. observe (view_of o) B (F ++ s ∷ [])) (sym arrivals) ∙ sym f.told
 
 -- the events of an instruction that was done
-pub advanced-adds : (r p : Runner) → IsRunning r → (a : Advanced r p) → given p ≡ given r → Adds (image_of r) (given r) (count_of r) (remaining p.observer)
+pub advanced-adds : (r p : Runner) → IsRunning r → (a : Advanced r p) → given_arrivals p ≡ given_arrivals r → Adds (image_of r) (given_arrivals r) (count_of r) (remaining p.observer)
 advanced-adds r p st a arrivals = adds-is r (image_of r) (count_of r) a.step (sloth_state p.machine) p.observer st a.goes a.fed a.view arrivals
 
 -- what the machine has done, with another observer of the same arrivals
-ran-beside : (p q : Runner) (image : Image) (k : ℕ) → HasRun p image k → given q ≡ given p → q.machine ≡ p.machine → q.coming.now ≡ p.coming.now → q.count ≡ p.count
+ran-beside : (p q : Runner) (image : Image) (k : ℕ) → HasRun p image k → given_arrivals q ≡ given_arrivals p → q.machine ≡ p.machine → q.coming.now ≡ p.coming.now → q.count ≡ p.count
     → HasRun q image k
 ran-beside p q image k ran same machine coming count =
     let L : List Arrival → Type 0 = AreLines in
@@ -111,13 +111,13 @@ ran-beside p q image k ran same machine coming count =
     }
 
 -- the runner behind an instruction whose events were all handed out
-done-more : (r p q : Runner) → IsRunning r → Advanced r p → given p ≡ given r → HandsOut p.observer q.observer
+done-more : (r p q : Runner) → IsRunning r → Advanced r p → given_arrivals p ≡ given_arrivals r → HandsOut p.observer q.observer
     → view_of q.observer ≡ view_of p.observer → arrivals_of q.observer ≡ arrivals_of p.observer → expected_of q.observer ≡ expected_of p.observer → remaining q.observer ≡ []
     → HasRun q (image_of r) (count_of r + 1) → HasDone q (image_of r) (count_of r + 1)
 done-more r p q st a arrivals hands view same expected none ran =
     let image : Image = image_of r in
     let k : ℕ = count_of r in
-    let A : List Arrival = given r in
+    let A : List Arrival = given_arrivals r in
     let F : List Step = run_steps image A k in
     let E : List Stamped = events_of image A k in
     let more = steps-more k A (start image) (sloth_state r.machine) (sloth_state p.machine) a.step st.ran.after a.goes in
@@ -139,7 +139,7 @@ running-at : (q : Runner) (k : ℕ) → HasDone q q.image.now k → IsRunning q
 running-at q k st = let P : ℕ → Type 0 = λ n. HasDone q q.image.now n in subst P (sym st.ran.count) st
 
 -- the runner behind an instruction, once its events were handed out
-pub running-behind : (r p q : Runner) → IsRunning r → Advanced r p → image_of q ≡ image_of r → given p ≡ given r → HandsOut p.observer q.observer
+pub running-behind : (r p q : Runner) → IsRunning r → Advanced r p → image_of q ≡ image_of r → given_arrivals p ≡ given_arrivals r → HandsOut p.observer q.observer
     → view_of q.observer ≡ view_of p.observer → arrivals_of q.observer ≡ arrivals_of p.observer → expected_of q.observer ≡ expected_of p.observer → remaining q.observer ≡ []
     → q.machine ≡ p.machine → q.coming.now ≡ p.coming.now → q.count ≡ p.count → IsRunning q
 running-behind r p q st a image arrivals hands view same expected none machine coming count =

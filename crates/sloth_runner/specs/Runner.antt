@@ -7,7 +7,7 @@ use Rattle.sloth_base.specs.declared.image.Image.{Image}
 use Rattle.sloth_base.specs.declared.event.Arrival.{Arrival}
 use Rattle.sloth_base.specs.declared.event.Stamped.{Stamped}
 use Rattle.sloth_base.specs.declared.step.Step.{Step}
-use Rattle.sloth_io.specs.Sink.{Output, gains, GainsPart}
+use Rattle.sloth_io.specs.Sink.{Output, output_with, GainsPart}
 use Rattle.trace_text.specs.Texts.{text_after, text_in, ends_idle}
 use Rattle.trace_text.specs.declared.print.Form.{Form}
 use Rattle.observe.specs.Observe.{view_of_image}
@@ -69,7 +69,7 @@ pub record HandingOut (o0 o : Observer) : Type 0 where
 -- and their lines were put
 pub record Draining (image : Image) (form : Form) (idle : Bool) (o0 : Observer) (last : Bool) (o : Observer) (t0 t : Output) : Type 0 where
   pub done : List ℕ
-  pub taken : t ≡ gains t0 done
+  pub taken : t ≡ output_with t0 done
   pub text : text_after image form idle (remaining o0) ≡ done ++ text_after image form last (remaining o)
   pub ends : ends_idle idle (remaining o0) ≡ ends_idle last (remaining o)
   pub hands : HandingOut o0 o
@@ -85,8 +85,8 @@ abbrev pub image_of : Runner → Image
 image_of runner = runner.image.now
 
 -- the arrivals that it was given
-abbrev pub given : Runner → List Arrival
-given runner = arrivals_of runner.observer
+abbrev pub given_arrivals : Runner → List Arrival
+given_arrivals runner = arrivals_of runner.observer
 
 -- how many instructions are done
 abbrev pub count_of : Runner → ℕ
@@ -98,10 +98,10 @@ AreLines arrivals = All (λ arrival. arrival.line < 32) arrivals
 
 -- k instructions are done on its machine
 pub record HasRun (runner : Runner) (image : Image) (k : ℕ) : Type 0 where
-  pub arrivals : AreArrivals (owners_named image) (given runner)
+  pub arrivals : AreArrivals (owners_named image) (given_arrivals runner)
   pub lines : AreLines runner.coming.now
-  pub after : state_after k (given runner) (start image) ≡ Some (sloth_state runner.machine)
-  pub coming : runner.coming.now ≡ from k (given runner)
+  pub after : state_after k (given_arrivals runner) (start image) ≡ Some (sloth_state runner.machine)
+  pub coming : runner.coming.now ≡ from k (given_arrivals runner)
   pub count : runner.count ≡ k
   pub executed : runner.machine.count ≡ k
 
@@ -110,7 +110,7 @@ pub record HasDone (runner : Runner) (image : Image) (k : ℕ) : Type 0 where
   pub format : InFormat image
   pub ran : HasRun runner image k
   pub view : view_of runner.observer ≡ view_of_image image
-  pub fed : Fed runner.observer (run_steps image (given runner) k) (events_of image (given runner) k)
+  pub fed : Fed runner.observer (run_steps image (given_arrivals runner) k) (events_of image (given_arrivals runner) k)
   pub drained : remaining runner.observer ≡ []
   pub expected : expected_of runner.observer ≡ k
 
@@ -128,7 +128,7 @@ Adds image arrivals k events = events_of image arrivals (k + 1) ≡ events_of im
 
 -- the arrivals of the moment have come
 pub record HasArrived (old new : Runner) : Type 0 where
-  pub state : sloth_state new.machine ≡ arrived (given old) (count_of old) (sloth_state old.machine)
+  pub state : sloth_state new.machine ≡ arrived (given_arrivals old) (count_of old) (sloth_state old.machine)
   pub coming : new.coming.now ≡ behind old.count old.coming.now
   pub lines : AreLines new.coming.now
   pub count : count_of new ≡ count_of old
@@ -149,7 +149,7 @@ pub record HaltsAt (old : Runner) (halt : Halt) : Type 0 where
 -- an instruction was done, and its step fed to the observer, which has its events
 pub record Advanced (old new : Runner) : Type 0 where
   pub step : Step
-  pub goes : moment (given old) (count_of old) (sloth_state old.machine) ≡ Goes step (sloth_state new.machine)
+  pub goes : moment (given_arrivals old) (count_of old) (sloth_state old.machine) ≡ Goes step (sloth_state new.machine)
   pub fed : (steps : List Step) (events : List Stamped) → Fed old.observer steps events → Fed new.observer (steps ++ step ∷ []) events
   pub view : view_of new.observer ≡ view_of old.observer
   pub expected : expected_of new.observer ≡ expected_of old.observer + 1
@@ -160,32 +160,32 @@ pub record Went (old new : Runner) (before after : Printer) (t u : Output) : Typ
   pub running : IsRunning new
   pub count : count_of new ≡ count_of old + 1
   pub events : List Stamped
-  pub adds : Adds (image_of old) (given old) (count_of old) events
-  pub taken : u ≡ gains t (text_after (image_of old) before.form before.after_idle events)
+  pub adds : Adds (image_of old) (given_arrivals old) (count_of old) events
+  pub taken : u ≡ output_with t (text_after (image_of old) before.form before.after_idle events)
   pub idle : after.after_idle ≡ ends_idle before.after_idle events
 
 -- they were put in part
 pub record Broke (old : Runner) (before : Printer) (t u : Output) : Type 0 where
   pub events : List Stamped
-  pub adds : Adds (image_of old) (given old) (count_of old) events
+  pub adds : Adds (image_of old) (given_arrivals old) (count_of old) events
   pub taken : GainsPart t u (text_after (image_of old) before.form before.after_idle events)
 
 -- the next instruction stops, and the run ends so
 abbrev pub Halted : Runner → RunEnd → Type 0
-Halted old end = (stop : Stop) × (moment (given old) (count_of old) (sloth_state old.machine) ≡ Halts stop)
-    × (end ≡ ends.Stopped (entered (arrived (given old) (count_of old) (sloth_state old.machine))).pc stop)
+Halted old end = (stop : Stop) × (moment (given_arrivals old) (count_of old) (sloth_state old.machine) ≡ Halts stop)
+    × (end ≡ ends.Stopped (entered (arrived (given_arrivals old) (count_of old) (sloth_state old.machine))).pc stop)
 
 -- k instructions were done since the runner was fresh
 pub record Ran (r0 r : Runner) (k : ℕ) : Type 0 where
   pub running : IsRunning r
   pub count : count_of r ≡ k
   pub image : image_of r ≡ image_of r0
-  pub arrivals : given r ≡ given r0
+  pub arrivals : given_arrivals r ≡ given_arrivals r0
 
 -- and the lines of their events were put
 pub record Running (r0 r : Runner) (form : Form) (printer : Printer) (t0 t : Output) (k : ℕ) : Type 0 where
   pub ran : Ran r0 r k
-  pub taken : t ≡ gains t0 (run_text (image_of r0) (given r0) form k)
-  pub idle : printer.after_idle ≡ ends_idle false (events_of (image_of r0) (given r0) k)
+  pub taken : t ≡ output_with t0 (run_text (image_of r0) (given_arrivals r0) form k)
+  pub idle : printer.after_idle ≡ ends_idle false (events_of (image_of r0) (given_arrivals r0) k)
   pub form_is : printer.form ≡ form
   pub printed : printer.image.now ≡ image_of r0

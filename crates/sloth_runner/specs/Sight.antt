@@ -6,7 +6,7 @@ use Rattle.sloth_base.specs.Machine.{State}
 use Rattle.rv32_instr.specs.Memory.{memory_of}
 use Rattle.rv32_machine.specs.Start.{start}
 use Rattle.rv32_machine.specs.Run.{arrived, state_after}
-use Rattle.osek_machine.specs.declared.state.TaskState.{TaskState}
+use Rattle.osek_scheduler.specs.declared.state.TaskState.{TaskState}
 use Rattle.sloth_inspect.specs.States.{states_in}
 use Rattle.sloth_runner.specs.declared.runner.RunEnd.TheVariants as ends
 use Rattle.sloth_runner.specs.declared.sight.Seen.{Seen}

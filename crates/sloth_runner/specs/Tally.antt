@@ -8,6 +8,6 @@ abbrev pub counted_one : List ℕ → Stamped → List ℕ
 counted_one counts e = slice_set counts (kind_of e.event) (slice_index counts (kind_of e.event) + 1)
 
 -- with all of these events more
-abbrev pub counted : List ℕ → List Stamped → List ℕ
-counted counts [] = counts
-counted counts (e ∷ rest) = counted (counted_one counts e) rest
+abbrev pub counts_with : List ℕ → List Stamped → List ℕ
+counts_with counts [] = counts
+counts_with counts (e ∷ rest) = counts_with (counted_one counts e) rest

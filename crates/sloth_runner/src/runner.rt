@@ -4,7 +4,7 @@ ghost use Rattle.sloth_base.specs.ImageRange.{InFormat};
 ghost use Rattle.sloth_base.specs.Arrivals.{AreArrivals};
 ghost use Rattle.sloth_base.specs.Owners.{owners_named};
 ghost use Rattle.sloth_base.specs.Arrive.{state_arrive};
-ghost use Rattle.sloth_io.specs.Sink.{gains, GainsPart};
+ghost use Rattle.sloth_io.specs.Sink.{output_with, GainsPart};
 ghost use Rattle.trace_text.specs.Texts.{ends_idle, is_idle};
 ghost use Rattle.observe.specs.Progress.{remaining, view_of, arrivals_of, expected_of, here};
 ghost use Rattle.sloth_runner.specs.Runner.{AreLines, sloth_state, lines_of, HandsOut};
@@ -50,7 +50,7 @@ impl<'a> Printer<'a> {
     // Puts the line of an event. In the bare form an idle directly behind an idle has none.
     fn put<S: Sink>(&mut self, event: &Stamped, out: &mut S) -> Result<(), SinkFault>
         requires { InFormat self.old.image.now }
-        ensures ok { OnOk result (S.seen out.new ≡ gains (S.seen out.old) (lines_of self.old (event.now ∷ []))) }
+        ensures ok { OnOk result (S.seen out.new ≡ output_with (S.seen out.old) (lines_of self.old (event.now ∷ []))) }
         ensures err { OnErr result (GainsPart (S.seen out.old) (S.seen out.new) (lines_of self.old (event.now ∷ []))) }
         ensures after_idle { self.new.after_idle ≡ is_idle event.now.event }
         ensures image { self.new.image.now ≡ self.old.image.now }
@@ -70,7 +70,7 @@ impl<'a> Printer<'a> {
     // Puts the lines of all finished events.
     fn drain<S: Sink>(&mut self, observer: &mut Observer, out: &mut S) -> Result<(), SinkFault>
         requires { InFormat self.old.image.now }
-        ensures ok { OnOk result (S.seen out.new ≡ gains (S.seen out.old) (lines_of self.old (remaining observer.old))) }
+        ensures ok { OnOk result (S.seen out.new ≡ output_with (S.seen out.old) (lines_of self.old (remaining observer.old))) }
         ensures err { OnErr result (GainsPart (S.seen out.old) (S.seen out.new) (lines_of self.old (remaining observer.old))) }
         ensures after_idle { OnOk result (self.new.after_idle ≡ ends_idle self.old.after_idle (remaining observer.old)) }
         ensures image { self.new.image.now ≡ self.old.image.now }
@@ -121,7 +121,7 @@ pub struct Runner<'a> {
 }
 
 impl<'a> Runner<'a> {
-    ghost use Rattle.sloth_runner.specs.Runner.{IsFresh, IsRunning, HasRun, HasArrived, HasExecuted, HaltsAt, Advanced, Went, Broke, Halted, image_of, count_of, given, run_text, run_end};
+    ghost use Rattle.sloth_runner.specs.Runner.{IsFresh, IsRunning, HasRun, HasArrived, HasExecuted, HaltsAt, Advanced, Went, Broke, Halted, image_of, count_of, given_arrivals, run_text, run_end};
 
     /// A runner that has run nothing, with all memory of a run.
     pub fn new(
@@ -133,7 +133,7 @@ impl<'a> Runner<'a> {
         requires arrivals { AreArrivals (owners_named image.now) arrivals.now }
         ensures fresh { IfOk result IsFresh }
         ensures image { IfOk result (λ runner. image_of runner ≡ image.now) }
-        ensures arrivals { IfOk result (λ runner. given runner ≡ arrivals.now) }
+        ensures arrivals { IfOk result (λ runner. given_arrivals runner ≡ arrivals.now) }
     {
         let machine = Machine::starting(alloc, image)?;
         let observer = Observer::new(alloc, image, arrivals)?;
@@ -185,7 +185,7 @@ impl<'a> Runner<'a> {
         ensures went { IfNone result (Advanced self.old self.new) }
         ensures halted { IfSome result (Halted self.old) }
         ensures image { image_of self.new ≡ image_of self.old }
-        ensures arrivals { given self.new ≡ given self.old }
+        ensures arrivals { given_arrivals self.new ≡ given_arrivals self.old }
     {
         self.arrive_now();
         match self.execute() {
@@ -215,7 +215,7 @@ impl<'a> Runner<'a> {
         ensures untold { IfOk result (λ end. OnSome end (S.seen out.new ≡ S.seen out.old)) }
         ensures broke { OnErr result (Broke self.old printer.old (S.seen out.old) (S.seen out.new)) }
         ensures image { image_of self.new ≡ image_of self.old }
-        ensures arrivals { given self.new ≡ given self.old }
+        ensures arrivals { given_arrivals self.new ≡ given_arrivals self.old }
         ensures form { printer.new.form ≡ printer.old.form }
         ensures printed { printer.new.image.now ≡ printer.old.image.now }
     {
@@ -230,10 +230,10 @@ impl<'a> Runner<'a> {
     pub fn run<S: Sink>(&mut self, n: u32, form: Form, out: &mut S) -> Result<RunEnd, SinkFault>
         requires fresh { IsFresh self.old }
         requires few { n ≤ 1000000 }
-        ensures text { OnOk result (S.seen out.new ≡ gains (S.seen out.old) (run_text (image_of self.old) (given self.old) form n)) }
-        ensures end { IfOk result (λ end. end ≡ run_end (image_of self.old) (given self.old) n) }
+        ensures text { OnOk result (S.seen out.new ≡ output_with (S.seen out.old) (run_text (image_of self.old) (given_arrivals self.old) form n)) }
+        ensures end { IfOk result (λ end. end ≡ run_end (image_of self.old) (given_arrivals self.old) n) }
         ensures broke { OnErr result
-            (GainsPart (S.seen out.old) (S.seen out.new) (run_text (image_of self.old) (given self.old) form n)) }
+            (GainsPart (S.seen out.old) (S.seen out.new) (run_text (image_of self.old) (given_arrivals self.old) form n)) }
     {
         let mut printer = Printer {
             image: self.image,

@@ -4,7 +4,7 @@ ghost use Rattle.sloth_runner.specs.Runner.{sloth_state};
 ghost use Rattle.sloth_runner.specs.Sight.{seen_at};
 
 use crate::runner::Runner;
-use osek_machine::state::TaskState;
+use osek_scheduler::state::TaskState;
 use rv32_machine::Stop;
 use sloth_inspect::{TASKS, states};
 
@@ -27,7 +27,7 @@ pub enum Sight {
 }
 
 impl<'a> Runner<'a> {
-    ghost use Rattle.sloth_runner.specs.Runner.{IsFresh, image_of, given, count_of};
+    ghost use Rattle.sloth_runner.specs.Runner.{IsFresh, image_of, given_arrivals, count_of};
     ghost use Rattle.sloth_runner.specs.Sight.{IsSight};
 
     // What the machine shows of the tasks, where interrupts are open.
@@ -50,7 +50,7 @@ impl<'a> Runner<'a> {
     pub fn state_at(&mut self, k: u32) -> Sight
         requires fresh { IsFresh self.old }
         requires few { k < 1000000 }
-        ensures { IsSight (image_of self.old) (given self.old) k result }
+        ensures { IsSight (image_of self.old) (given_arrivals self.old) k result }
     {
         let mut last = None;
         while self.count <= k {

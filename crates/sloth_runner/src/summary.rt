@@ -1,6 +1,6 @@
 //! Puts summaries.
 ghost use Rattle.std.specs.Prelude.{◌≡◌, ◌<◌, OnOk, OnErr};
-ghost use Rattle.sloth_io.specs.Sink.{gains, GainsPart};
+ghost use Rattle.sloth_io.specs.Sink.{output_with, GainsPart};
 ghost use Rattle.trace_text.specs.Summary.{kind_line, summary_text};
 
 use sloth_io::sink::{Sink, SinkFault};
@@ -9,7 +9,7 @@ use trace_text::summary::{KINDS, kind_line};
 // Puts the line of a kind.
 fn put_kind<S: Sink>(counts: &[u32; KINDS], kind: usize, out: &mut S) -> Result<(), SinkFault>
     requires { kind < 9 }
-    ensures ok { OnOk result (S.seen out.new ≡ gains (S.seen out.old) (kind_line counts.now kind)) }
+    ensures ok { OnOk result (S.seen out.new ≡ output_with (S.seen out.old) (kind_line counts.now kind)) }
     ensures err { OnErr result (GainsPart (S.seen out.old) (S.seen out.new) (kind_line counts.now kind)) }
 {
     out.put(kind_line(counts, kind).bytes())
@@ -17,7 +17,7 @@ fn put_kind<S: Sink>(counts: &[u32; KINDS], kind: usize, out: &mut S) -> Result<
 
 /// Puts the summary of these numbers of events, a line at a time.
 pub fn put_summary<S: Sink>(counts: &[u32; KINDS], out: &mut S) -> Result<(), SinkFault>
-    ensures ok { OnOk result (S.seen out.new ≡ gains (S.seen out.old) (summary_text counts.now)) }
+    ensures ok { OnOk result (S.seen out.new ≡ output_with (S.seen out.old) (summary_text counts.now)) }
     ensures err { OnErr result (GainsPart (S.seen out.old) (S.seen out.new) (summary_text counts.now)) }
 {
     for kind in 0..KINDS {

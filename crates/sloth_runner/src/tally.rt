@@ -4,7 +4,7 @@ ghost use Rattle.sim_induction.specs.Sound.{events_of};
 ghost use Rattle.observe.specs.Progress.{remaining, view_of, arrivals_of, expected_of};
 ghost use Rattle.trace_text.specs.Summary.{counts_of};
 ghost use Rattle.sloth_runner.specs.Runner.{HandsOut};
-ghost use Rattle.sloth_runner.specs.Tally.{counted};
+ghost use Rattle.sloth_runner.specs.Tally.{counts_with};
 
 use crate::runner::{RunEnd, Runner};
 use observe::observer::Observer;
@@ -20,7 +20,7 @@ pub struct Tally {
 // Counts all finished events.
 fn count_events(observer: &mut Observer, counts: &mut [u32; KINDS])
     requires room { All (λ number. number + length (remaining observer.old) < 2 ^ 32) counts.old }
-    ensures counts { counts.new ≡ counted counts.old (remaining observer.old) }
+    ensures counts { counts.new ≡ counts_with counts.old (remaining observer.old) }
     ensures drained { remaining observer.new ≡ [] }
     ensures fed { HandsOut observer.old observer.new }
     ensures view { view_of observer.new ≡ view_of observer.old }
@@ -33,14 +33,14 @@ fn count_events(observer: &mut Observer, counts: &mut [u32; KINDS])
 }
 
 impl<'a> Runner<'a> {
-    ghost use Rattle.sloth_runner.specs.Runner.{IsFresh, image_of, given, run_end};
+    ghost use Rattle.sloth_runner.specs.Runner.{IsFresh, image_of, given_arrivals, run_end};
 
     /// Runs n instructions, at most 1,000,000, and counts the events.
     pub fn tally(&mut self, n: u32) -> Tally
         requires fresh { IsFresh self.old }
         requires few { n ≤ 1000000 }
-        ensures counts { result.counts ≡ counts_of (events_of (image_of self.old) (given self.old) n) }
-        ensures end { result.end ≡ run_end (image_of self.old) (given self.old) n }
+        ensures counts { result.counts ≡ counts_of (events_of (image_of self.old) (given_arrivals self.old) n) }
+        ensures end { result.end ≡ run_end (image_of self.old) (given_arrivals self.old) n }
     {
         let mut counts = [0; KINDS];
         while self.count < n {

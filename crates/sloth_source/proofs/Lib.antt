@@ -5,5 +5,5 @@ mod SourceParts
 pub mod Unique
 pub mod Refusals
 pub mod RankedTexts
-mod Whole
+mod FirstRefusal
 mod Named

@@ -5,8 +5,8 @@ use Rattle.sloth_base.specs.declared.app.App.{App}
 use Rattle.sloth_base.specs.declared.refusal.Refusal.{Refusal}
 use Rattle.sloth_base.specs.declared.refusal.BuildError.{BuildError}
 use Rattle.sloth_base.specs.declared.refusal.BuildError.TheVariants as error
-use Rattle.sloth_refusal.specs.Order.{ErrorIs}
-use Rattle.app_rules.specs.WellFormed.{CycleFault, RuleFault}
+use Rattle.least_fault.specs.Order.{ErrorIs}
+use Rattle.code_rules.specs.WellFormed.{CycleFault, RuleFault}
 use Rattle.asm_lines.specs.Faults.{source_lines}
 use Rattle.asm_parse.specs.AppTexts.{SourceTextFault}
 use Rattle.asm_parse.specs.Apps.{app_of}

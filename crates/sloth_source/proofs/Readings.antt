@@ -3,7 +3,7 @@ use Rattle.std.proofs.Common.{◌≡◌, ◌∙◌, ℕ, List, sym, ap, inl, inr
 use Rattle.sloth_base.specs.declared.config.Config.{Config}
 use Rattle.sloth_base.specs.declared.refusal.BuildError.{BuildError}
 use Rattle.sloth_base.specs.declared.refusal.BuildError.TheVariants as error
-use Rattle.sloth_refusal.specs.Order.{NoFault, ErrorIs}
+use Rattle.least_fault.specs.Order.{NoFault, ErrorIs}
 use Rattle.oil_lex.specs.Tokens.{Lexeme, AreTokens, TextFault}
 use Rattle.oil_parse.specs.Faults.{GrammarFault}
 use Rattle.oil_parse.proofs.Texts.{one_tree, grammar_of}

@@ -4,13 +4,13 @@ use Rattle.sloth_base.specs.declared.config.Config.{Config}
 use Rattle.sloth_base.specs.declared.app.App.{App}
 use Rattle.sloth_base.specs.declared.refusal.Refusal.{Refusal}
 use Rattle.sloth_base.specs.declared.refusal.Part.TheVariants.{Oil, Src}
-use Rattle.sloth_refusal.specs.Order.{IsLeast, NoFault}
+use Rattle.least_fault.specs.Order.{IsLeast, NoFault}
 use Rattle.oil_lex.specs.Tokens.{TextFault}
 use Rattle.oil_parse.specs.declared.tree.OilTree.{OilTree}
 use Rattle.oil_parse.specs.Text.{BreaksGrammar}
 use Rattle.oil_parse.proofs.Texts.{one_tree, not_both}
 use Rattle.oil_model.specs.ModelFaults.{ModelFault}
-use Rattle.app_rules.specs.WellFormed.{CycleFault, RuleFault}
+use Rattle.code_rules.specs.WellFormed.{CycleFault, RuleFault}
 use Rattle.asm_parse.specs.AppTexts.{SourceTextFault}
 use Rattle.sloth_source.specs.OilText.{OilRefusal}
 use Rattle.sloth_source.specs.SourceText.{HasApp, SourceRefusal}

@@ -12,9 +12,9 @@ use Rattle.asm_names.specs.Bodies.{BodyText, bodies_of}
 use Rattle.asm_names.specs.Scopes.{scope_of}
 use Rattle.asm_names.specs.NameFaults.{DataFault, LineFault as NamedLineFault, BodyFault, NameFault}
 use Rattle.asm_parse.specs.AppTexts.{SourceTextFault}
-use Rattle.app_rules.specs.WellFormed.{CycleFault, RuleFault, BodyFault as RuleBodyFault}
-use Rattle.app_rules.specs.WellFormed.CycleFault.{on_cycle}
-use Rattle.app_rules.specs.WellFormed.BodyFault.{at_header, at_label, at_item}
+use Rattle.code_rules.specs.WellFormed.{CycleFault, RuleFault, BodyFault as RuleBodyFault}
+use Rattle.code_rules.specs.WellFormed.CycleFault.{on_cycle}
+use Rattle.code_rules.specs.WellFormed.BodyFault.{at_header, at_label, at_item}
 use Rattle.sloth_source.proofs.Least.{of_some}
 
 of_case : (b : Bool) (line : ℕ) (c : Code) (r : Refusal) → Case b line c r → r.part ≡ Src

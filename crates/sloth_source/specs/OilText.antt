@@ -4,7 +4,7 @@ use Rattle.sloth_base.specs.declared.config.Config.{Config}
 use Rattle.sloth_base.specs.declared.refusal.Refusal.{Refusal}
 use Rattle.sloth_base.specs.declared.refusal.BuildError.{BuildError}
 use Rattle.sloth_base.specs.declared.refusal.BuildError.TheVariants as error
-use Rattle.sloth_refusal.specs.Order.{IsLeast, NoFault}
+use Rattle.least_fault.specs.Order.{IsLeast, NoFault}
 use Rattle.oil_lex.specs.Tokens.{TextFault}
 use Rattle.oil_parse.specs.declared.tree.OilTree.{OilTree}
 use Rattle.oil_parse.specs.Text.{HasTree, BreaksGrammar}

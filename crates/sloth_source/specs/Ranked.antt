@@ -5,8 +5,8 @@ use Rattle.sloth_base.specs.declared.app.App.{App}
 use Rattle.sloth_base.specs.declared.refusal.Refusal.{Refusal}
 use Rattle.sloth_base.specs.declared.refusal.BuildError.{BuildError}
 use Rattle.sloth_base.specs.declared.refusal.BuildError.TheVariants as error
-use Rattle.sloth_refusal.specs.Order.{IsLeast, NoFault}
-use Rattle.app_rules.specs.WellFormed.{CycleFault}
+use Rattle.least_fault.specs.Order.{IsLeast, NoFault}
+use Rattle.code_rules.specs.WellFormed.{CycleFault}
 use Rattle.asm_parse.specs.AppTexts.{SourceTextFault}
 use Rattle.sloth_source.specs.OilText.{OilText, OilRefusal}
 use Rattle.sloth_source.specs.SourceText.{HasApp, HasCycleFault}

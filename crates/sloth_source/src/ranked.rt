@@ -1,9 +1,9 @@
 //! What both texts mean before the rules of task code are judged.
 ghost use Rattle.std.specs.Prelude.{◌<◌, IfOk, IfErr, length};
 ghost use Rattle.sloth_base.specs.ConfigRange.{InRange};
-ghost use Rattle.sloth_refusal.specs.Order.{NoFault};
-ghost use Rattle.app_rules.specs.AppRange.{AppInRange};
-ghost use Rattle.app_rules.specs.WellFormed.{CycleFault};
+ghost use Rattle.least_fault.specs.Order.{NoFault};
+ghost use Rattle.code_rules.specs.AppRange.{AppInRange};
+ghost use Rattle.code_rules.specs.WellFormed.{CycleFault};
 ghost use Rattle.call_graph.specs.Ranks.{RanksOf};
 ghost use Rattle.sloth_source.specs.SourceText.{HasApp, BodiesAreNamed};
 ghost use Rattle.sloth_source.specs.Ranked.{HasRanks, EarlySourceErrorIs, EarlyErrorIs};

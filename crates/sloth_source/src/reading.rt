@@ -1,6 +1,6 @@
 //! What both texts mean.
 ghost use Rattle.std.specs.Prelude.{◌<◌, All, IfOk, IfErr, length};
-ghost use Rattle.app_rules.specs.WellFormed.{WellFormed};
+ghost use Rattle.code_rules.specs.WellFormed.{WellFormed};
 ghost use Rattle.stack_bounds.specs.Bounds.{AreBounds, AreParts, HaveRoom, IsLength};
 ghost use Rattle.sloth_source.specs.SourceText.{BodiesAreNamed};
 ghost use Rattle.sloth_source.specs.Texts.{Accepted, ErrorIs};

@@ -8,7 +8,7 @@ use Rattle.sloth_base.specs.declared.app.Op.{Op}
 use Rattle.sloth_base.specs.declared.app.Op.TheVariants as op
 use Rattle.sloth_base.specs.Options.{is_number}
 use Rattle.sloth_base.specs.Named.{function, body_of, missing, no_item, IsBodyOf}
-use Rattle.app_rules.specs.AppRange.{AppInRange, IsOp}
+use Rattle.code_rules.specs.AppRange.{AppInRange, IsOp}
 use Rattle.stack_bounds.specs.Tables.{IsKnown, AreCallable, HasBody}
 
 some_number : (t : ℕ) (o : Option ℕ) → is_number t o ≡ true → o ≡ Some t

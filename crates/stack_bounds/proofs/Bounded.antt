@@ -9,11 +9,11 @@ use Rattle.sloth_base.specs.declared.config.TaskDecl.{TaskDecl}
 use Rattle.sloth_base.specs.declared.app.App.{App}
 use Rattle.sloth_base.specs.declared.app.Func.{Func}
 use Rattle.sloth_base.specs.Named.{declaration, function, body_of, undeclared}
-use Rattle.app_rules.specs.WellFormed.{WellFormed}
+use Rattle.code_rules.specs.WellFormed.{WellFormed}
 use Rattle.call_graph.specs.declared.ranking.Ranks.{Ranks}
 use Rattle.call_graph.specs.Ranks.{RanksOf}
 use Rattle.stack_bounds.specs.Bounds.{total, IsGreatest, context_bytes, frame_bytes, call_bytes, CallsInTurn, used_bytes, IsBasic, MayBePreempted, AreStacked, AreBounds, HaveRoom, IsLength}
-use Rattle.stack_bounds.specs.Tables.{sum_below, in_table, IsTable, task_bytes, gives_way, bytes_under, bytes_with_lower, most_stacked, AreStacks, task_of}
+use Rattle.stack_bounds.specs.Tables.{sum_below, in_table, IsTable, task_bytes, gives_way, bytes_under, bytes_with_lower, most_stacked, AreStacks, task_at}
 use Rattle.stack_bounds.proofs.Bodies.{has_body, callable}
 use Rattle.stack_bounds.proofs.Chains.{greatest, greatest_small, inwards, words}
 use Rattle.stack_bounds.proofs.Yielding.{Decides-gives_way}
@@ -42,7 +42,7 @@ pub record AreTables (config : Config) (app : App) (ranks : Ranks) (table : List
 pub made : (config : Config) (app : App) (ranks : Ranks) (tasks : List TaskDecl) (funcs : List Func) (pauses : List Bool) (table slice : List ℕ) (yielding : List Bool) (bytes : List ℕ)
     → WellFormed config app → RanksOf app ranks → tasks ≡ config.tasks → funcs ≡ app.funcs → pauses ≡ ranks.pauses → slice ≡ table → IsTable funcs (length funcs) table
     → length bytes ≡ length tasks → ((t : ℕ) → t < length tasks → get_or bytes t 0 ≡ task_bytes funcs slice t)
-    → length yielding ≡ length tasks → ((t : ℕ) → t < length tasks → get_or yielding t false ≡ gives_way (task_of tasks t) (get_or pauses (body_of funcs t) false))
+    → length yielding ≡ length tasks → ((t : ℕ) → t < length tasks → get_or yielding t false ≡ gives_way (task_at tasks t) (get_or pauses (body_of funcs t) false))
     → AreTables config app ranks table yielding bytes
 made config app ranks tasks funcs pauses table slice yielding bytes w belong e f p s calls count are yields yield = record {
   verified = w;
@@ -54,7 +54,7 @@ made config app ranks tasks funcs pauses table slice yielding bytes w belong e f
       ∙ ap (λ (x : List ℕ). task_bytes app.funcs x t) s;
   yielding_count = yields ∙ ap length e;
   yielding_are = λ t l. yield t (subst (λ (x : List TaskDecl). t < length x) (sym e) l)
-      ∙ ap (λ (x : List TaskDecl). gives_way (task_of x t) (get_or pauses (body_of funcs t) false)) e
+      ∙ ap (λ (x : List TaskDecl). gives_way (task_at x t) (get_or pauses (body_of funcs t) false)) e
       ∙ ap (λ (x : List Func). gives_way (declaration config t) (get_or pauses (body_of x t) false)) f
       ∙ ap (λ (x : List Bool). gives_way (declaration config t) (get_or x (body_of app.funcs t) false)) p;
 }

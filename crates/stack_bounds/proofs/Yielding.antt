@@ -11,9 +11,9 @@ use Rattle.sloth_base.specs.declared.service.Service.{Service}
 use Rattle.sloth_base.specs.declared.service.Service.TheVariants as service
 use Rattle.sloth_base.specs.declared.refusal.Code.TheVariants as code
 use Rattle.sloth_base.specs.Named.{declaration, function, operation, body_of, undeclared, missing, no_item}
-use Rattle.app_rules.specs.AppRange.{IsOp, IsMask, mask_of, no_event}
-use Rattle.app_rules.specs.Code.{IsItem, serve, Pauses, Reaches, TaskReaches, ReachesPause}
-use Rattle.app_rules.specs.WellFormed.{WellFormed, HasEvents, UsesUndeclared, at_item, uses_undeclared}
+use Rattle.code_rules.specs.AppRange.{IsOp, IsMask, mask_of, no_event}
+use Rattle.code_rules.specs.Code.{IsItem, serve, Pauses, Reaches, TaskReaches, ReachesPause}
+use Rattle.code_rules.specs.WellFormed.{WellFormed, HasEvents, UsesUndeclared, at_item, uses_undeclared}
 use Rattle.call_graph.specs.declared.ranking.Ranks.{Ranks}
 use Rattle.call_graph.specs.Ranks.{RanksOf}
 use Rattle.stack_bounds.specs.Bounds.{IsBasic, ReachesSchedule, MayBePreempted}

@@ -6,7 +6,7 @@ use Rattle.sloth_base.specs.declared.places.Bounds.{Bounds}
 use Rattle.sloth_base.specs.declared.service.Service.TheVariants as service
 use Rattle.stack_bounds.specs.declared.stacks.Stacks.{Stacks}
 use Rattle.sloth_base.specs.Named.{declaration, function, body_of, IsBodyOf}
-use Rattle.app_rules.specs.Code.{IsItem, serve, Calls, IsCalledBy, TaskReaches}
+use Rattle.code_rules.specs.Code.{IsItem, serve, Calls, IsCalledBy, TaskReaches}
 
 -- a size summed over a list
 abbrev pub total : (ℕ → ℕ) → List ℕ → ℕ

@@ -73,8 +73,8 @@ abbrev pub task_bytes : List Func → List ℕ → ℕ → ℕ
 task_bytes funcs table t = 4 * (func_of funcs (body_of funcs t)).frame_words + in_table table (body_of funcs t) + 128
 
 -- the task's declaration
-abbrev pub task_of : List TaskDecl → ℕ → TaskDecl
-task_of tasks t = get_or tasks t undeclared
+abbrev pub task_at : List TaskDecl → ℕ → TaskDecl
+task_at tasks t = get_or tasks t undeclared
 
 -- it is basic and may be preempted, by whether its body waits or calls Schedule
 abbrev pub gives_way : TaskDecl → Bool → Bool
@@ -83,18 +83,18 @@ gives_way task pauses = not task.extended && (not task.non || pauses)
 -- the bytes of a task that may stand below one of this priority
 abbrev pub bytes_under : List TaskDecl → List Bool → List ℕ → (priority : ℕ) → ℕ → ℕ
 bytes_under tasks yielding bytes priority t =
-    cond (get_or yielding t false && nat_lt (task_of tasks t).priority priority) (get_or bytes t 0) 0
+    cond (get_or yielding t false && nat_lt (task_at tasks t).priority priority) (get_or bytes t 0) 0
 
 -- the bytes of all that may stand below a basic task, and 0 for an extended one
 abbrev pub bytes_lower : List TaskDecl → List Bool → List ℕ → ℕ → ℕ
 bytes_lower tasks yielding bytes t =
-    cond (task_of tasks t).extended 0 (sum_below (length tasks) (bytes_under tasks yielding bytes (task_of tasks t).priority))
+    cond (task_at tasks t).extended 0 (sum_below (length tasks) (bytes_under tasks yielding bytes (task_at tasks t).priority))
 
 -- the bytes of a basic task with all that may stand below it
 abbrev pub bytes_with_lower : List TaskDecl → List Bool → List ℕ → ℕ → ℕ
 bytes_with_lower tasks yielding bytes t =
-    cond (task_of tasks t).extended 0
-    (sum_below (length tasks) (bytes_under tasks yielding bytes (task_of tasks t).priority) + get_or bytes t 0)
+    cond (task_at tasks t).extended 0
+    (sum_below (length tasks) (bytes_under tasks yielding bytes (task_at tasks t).priority) + get_or bytes t 0)
 
 -- the most bytes of a basic task with all that may stand below it
 abbrev pub most_stacked : List TaskDecl → List Bool → List ℕ → ℕ

@@ -1,6 +1,6 @@
 //! The most bytes that all basic tasks need on one stack.
 ghost use Rattle.std.specs.Prelude.{◌≡◌, ℕ, ◌<◌, ◌≤◌, false, length, get_or, cond, nat_lt, ◌&&◌, IfOk};
-ghost use Rattle.stack_bounds.specs.Tables.{sum_below, task_of, bytes_under, bytes_lower, bytes_with_lower, most_stacked, AreStacks, AreOffsets};
+ghost use Rattle.stack_bounds.specs.Tables.{sum_below, task_at, bytes_under, bytes_lower, bytes_with_lower, most_stacked, AreStacks, AreOffsets};
 
 use crate::calls::larger;
 use sloth_base::config::TaskDecl;

@@ -2,7 +2,7 @@
 ghost use Rattle.std.specs.Prelude.{◌≡◌, ℕ, ◌<◌, ◌||◌, ◌&&◌, not, false, length, get_or, Some, IfOk};
 ghost use Rattle.sloth_base.specs.Options.{is_number};
 ghost use Rattle.sloth_base.specs.Named.{body_of};
-ghost use Rattle.stack_bounds.specs.Tables.{AreCallable, HasBody, IsSmall, func_of, task_of, task_bytes, gives_way};
+ghost use Rattle.stack_bounds.specs.Tables.{AreCallable, HasBody, IsSmall, func_of, task_at, task_bytes, gives_way};
 
 use sloth_base::app::Func;
 use sloth_base::config::TaskDecl;
@@ -80,7 +80,7 @@ pub fn yielding_tasks(
     requires same { length pauses.now ≡ length funcs.now }
     ensures count { IfOk result (λ yielding. length yielding.items ≡ length tasks.now) }
     ensures yielding { IfOk result (λ yielding. (t : ℕ) → t < length tasks.now
-        → get_or yielding.items t false ≡ gives_way (task_of tasks.now t) (get_or pauses.now (body_of funcs.now t) false)) }
+        → get_or yielding.items t false ≡ gives_way (task_at tasks.now t) (get_or pauses.now (body_of funcs.now t) false)) }
 {
     let mut yielding = Vec::new(alloc);
     for (number, task) in tasks.iter().enumerate() {

@@ -1,9 +1,9 @@
 -- Where ranks fall along calls, no function lies on a cycle of calls.
 use Rattle.std.proofs.Common.{ℕ, ◌<◌, List, [], ◌∷◌, get_or, arith}
 use Rattle.sloth_base.specs.declared.app.App.{App}
-use Rattle.sloth_refusal.specs.Order.{NoFault}
-use Rattle.app_rules.specs.Code.{CallChain}
-use Rattle.app_rules.specs.WellFormed.{CycleFault, on_cycle}
+use Rattle.least_fault.specs.Order.{NoFault}
+use Rattle.code_rules.specs.Code.{CallChain}
+use Rattle.code_rules.specs.WellFormed.{CycleFault, on_cycle}
 use Rattle.call_graph.specs.declared.ranking.Ranks.{Ranks}
 use Rattle.call_graph.specs.Ranks.{RanksOf}
 

@@ -7,14 +7,14 @@ use Rattle.std.proofs.lemmas.Bool.{eqb-true, eq-eqb, cases_eq}
 use Rattle.sloth_base.specs.declared.app.Func.{Func}
 use Rattle.sloth_base.specs.declared.app.Label.{Label}
 use Rattle.sloth_base.specs.Named.{nowhere, label_of}
-use Rattle.app_rules.specs.Code.{labelled, marked, held_at, fallen, is_fallen_into, is_entered, held_entering}
+use Rattle.code_rules.specs.Code.{held_at_labels, mark_at_labels, held_at, held_fallen_into, is_fallen_into, is_entered, held_entering}
 use Rattle.task_verify.specs.Labels.{last_below, list_of, or_else, first_below}
 
-pub labelled_snoc : (i : ℕ) (xs : List Label) (l : Label) (held : List ℕ) → labelled i (xs ++ l ∷ []) held ≡ cond (l.item == i) l.holds (labelled i xs held)
+pub labelled_snoc : (i : ℕ) (xs : List Label) (l : Label) (held : List ℕ) → held_at_labels i (xs ++ l ∷ []) held ≡ cond (l.item == i) l.holds (held_at_labels i xs held)
 labelled_snoc i [] l held = refl
 labelled_snoc i (x ∷ xs) l held = labelled_snoc i xs l (cond (x.item == i) x.holds held)
 
-pub marked_snoc : (i : ℕ) (xs : List Label) (l : Label) (into : Bool) → marked i (xs ++ l ∷ []) into ≡ ((l.item == i) || marked i xs into)
+pub marked_snoc : (i : ℕ) (xs : List Label) (l : Label) (into : Bool) → mark_at_labels i (xs ++ l ∷ []) into ≡ ((l.item == i) || mark_at_labels i xs into)
 marked_snoc i [] l into = refl
 marked_snoc i (x ∷ xs) l into = marked_snoc i xs l ((x.item == i) || into)
 
@@ -25,33 +25,33 @@ module _ (labels : List Label) (place : ℕ) where
   last_at : (k : ℕ) (b : Bool) → at k ≡ b → last_below labels place (suc k) ≡ cond b (Some k) (last_below labels place k)
   last_at k b e = ap (λ c. cond c (Some k) (last_below labels place k)) e
 
-  pub labelled_take : (k : ℕ) (held : List ℕ) → k ≤ length labels → labelled place (take k labels) held ≡ list_of labels (last_below labels place k) held
+  pub labelled_take : (k : ℕ) (held : List ℕ) → k ≤ length labels → held_at_labels place (take k labels) held ≡ list_of labels (last_below labels place k) held
   labelled_take zero held l = refl
   labelled_take (suc k) held l =
-      ap (λ x. labelled place x held) (take-suc labels k nowhere (omega (arith, l)))
+      ap (λ x. held_at_labels place x held) (take-suc labels k nowhere (omega (arith, l)))
       ∙ labelled_snoc place (take k labels) (get_or labels k nowhere) held
       ∙ by (at k) refl (labelled_take k held (omega (arith, l)))
     where
-      by : (b : Bool) → at k ≡ b → labelled place (take k labels) held ≡ list_of labels (last_below labels place k) held
-          → cond (at k) (get_or labels k nowhere).holds (labelled place (take k labels) held) ≡ list_of labels (last_below labels place (suc k)) held
+      by : (b : Bool) → at k ≡ b → held_at_labels place (take k labels) held ≡ list_of labels (last_below labels place k) held
+          → cond (at k) (get_or labels k nowhere).holds (held_at_labels place (take k labels) held) ≡ list_of labels (last_below labels place (suc k)) held
       by true e ih =
-          ap (λ c. cond c (get_or labels k nowhere).holds (labelled place (take k labels) held)) e
+          ap (λ c. cond c (get_or labels k nowhere).holds (held_at_labels place (take k labels) held)) e
           ∙ sym (ap (λ o. list_of labels o held) (last_at k true e))
       by false e ih =
-          ap (λ c. cond c (get_or labels k nowhere).holds (labelled place (take k labels) held)) e
+          ap (λ c. cond c (get_or labels k nowhere).holds (held_at_labels place (take k labels) held)) e
           ∙ ih ∙ sym (ap (λ o. list_of labels o held) (last_at k false e))
 
-  pub marked_take : (k : ℕ) (into : Bool) → k ≤ length labels → marked place (take k labels) into ≡ (is_some (last_below labels place k) || into)
+  pub marked_take : (k : ℕ) (into : Bool) → k ≤ length labels → mark_at_labels place (take k labels) into ≡ (is_some (last_below labels place k) || into)
   marked_take zero into l = refl
   marked_take (suc k) into l =
-      ap (λ x. marked place x into) (take-suc labels k nowhere (omega (arith, l)))
+      ap (λ x. mark_at_labels place x into) (take-suc labels k nowhere (omega (arith, l)))
       ∙ marked_snoc place (take k labels) (get_or labels k nowhere) into
       ∙ by (at k) refl (marked_take k into (omega (arith, l)))
     where
-      by : (b : Bool) → at k ≡ b → marked place (take k labels) into ≡ (is_some (last_below labels place k) || into)
-          → (at k || marked place (take k labels) into) ≡ (is_some (last_below labels place (suc k)) || into)
-      by true e ih = ap (λ c. c || marked place (take k labels) into) e ∙ sym (ap (λ o. is_some o || into) (last_at k true e))
-      by false e ih = ap (λ c. c || marked place (take k labels) into) e ∙ ih ∙ sym (ap (λ o. is_some o || into) (last_at k false e))
+      by : (b : Bool) → at k ≡ b → mark_at_labels place (take k labels) into ≡ (is_some (last_below labels place k) || into)
+          → (at k || mark_at_labels place (take k labels) into) ≡ (is_some (last_below labels place (suc k)) || into)
+      by true e ih = ap (λ c. c || mark_at_labels place (take k labels) into) e ∙ sym (ap (λ o. is_some o || into) (last_at k true e))
+      by false e ih = ap (λ c. c || mark_at_labels place (take k labels) into) e ∙ ih ∙ sym (ap (λ o. is_some o || into) (last_at k false e))
 
   pub last_inside : (k j : ℕ) → last_below labels place k ≡ Some j → j < k
   last_inside zero j e = absurd cc
@@ -115,16 +115,16 @@ module _ (labels : List Label) (place : ℕ) where
 
 -- ---- held lists
 
-pub held_is : (f : Func) (i : ℕ) → held_at f i ≡ list_of f.labels (last_below f.labels i (length f.labels)) (fallen f i)
-held_is f i = at i ∙ ap (λ x. labelled i x (fallen f i)) (sym (take_all (length f.labels) f.labels (omega arith))) ∙ labelled_take f.labels i (length f.labels) (fallen f i) (omega arith)
+pub held_is : (f : Func) (i : ℕ) → held_at f i ≡ list_of f.labels (last_below f.labels i (length f.labels)) (held_fallen_into f i)
+held_is f i = at i ∙ ap (λ x. held_at_labels i x (held_fallen_into f i)) (sym (take_all (length f.labels) f.labels (omega arith))) ∙ labelled_take f.labels i (length f.labels) (held_fallen_into f i) (omega arith)
   where
-    at : (i : ℕ) → held_at f i ≡ labelled i f.labels (fallen f i)
+    at : (i : ℕ) → held_at f i ≡ held_at_labels i f.labels (held_fallen_into f i)
     at zero = refl
     at (suc i) = refl
 
 pub entering_is : (f : Func) (k : ℕ) → k < length f.labels
-    → held_entering f k ≡ list_of f.labels (last_below f.labels (label_of f k).item k) (fallen f (label_of f k).item)
-entering_is f k l = labelled_take f.labels (label_of f k).item k (fallen f (label_of f k).item) (omega (arith, l))
+    → held_entering f k ≡ list_of f.labels (last_below f.labels (label_of f k).item k) (held_fallen_into f (label_of f k).item)
+entering_is f k l = labelled_take f.labels (label_of f k).item k (held_fallen_into f (label_of f k).item) (omega (arith, l))
 
 pub entered_is : (f : Func) (k : ℕ) → k < length f.labels
     → is_entered f k ≡ (is_some (last_below f.labels (label_of f k).item k) || is_fallen_into f (label_of f k).item)

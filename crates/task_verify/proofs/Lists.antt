@@ -10,11 +10,11 @@ use Rattle.sloth_base.specs.declared.app.Func.{Func}
 use Rattle.sloth_base.specs.declared.app.Item.{Item}
 use Rattle.sloth_base.specs.declared.app.Label.{Label}
 use Rattle.sloth_base.specs.Named.{item_of, no_item, label_of, nowhere}
-use Rattle.app_rules.specs.Code.{is_in, is_last, without_last}
-use Rattle.call_graph.specs.Bits.{has}
+use Rattle.code_rules.specs.Code.{is_in, is_last, without_last}
+use Rattle.call_graph.specs.Bits.{is_member}
 
-pub has_above : (n set member : ℕ) → set < 2 ^ n → n ≤ member → has set member ≡ false
-unfolding has
+pub has_above : (n set member : ℕ) → set < 2 ^ n → n ≤ member → is_member set member ≡ false
+unfolding is_member
 has_above n set member fits le = ap (λ x. x == 1) (bit_at_above set n member fits le)
 
 pub is_last_at : (r n : ℕ) (xs : List ℕ) → length xs ≡ suc n → is_last r xs ≡ (get_or xs n 0 == r)

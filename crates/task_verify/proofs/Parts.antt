@@ -9,8 +9,8 @@ use Rattle.sloth_base.specs.declared.refusal.Code.{Code}
 use Rattle.sloth_base.specs.declared.refusal.Code.TheVariants as code
 use Rattle.sloth_base.specs.declared.refusal.Refusal.{Refusal}
 use Rattle.sloth_base.specs.Named.{function, item_of, label_of}
-use Rattle.app_rules.specs.Code.{fallen, is_fallen_into, held_entering, is_entered}
-use Rattle.app_rules.specs.WellFormed.{Breaks, accesses_past, is_uneven, masks_past, runs_out, is_unreached, holds_other, releases_other, takes_held, leaves_holding, leaves_wrongly, uses_undeclared, Differs, falling_in, at_begin, BodyFault, at_header, at_label, at_item, at_line}
+use Rattle.code_rules.specs.Code.{held_fallen_into, is_fallen_into, held_entering, is_entered}
+use Rattle.code_rules.specs.WellFormed.{Breaks, accesses_past, is_uneven, masks_past, runs_out, is_unreached, holds_other, releases_other, takes_held, leaves_holding, leaves_wrongly, uses_undeclared, Differs, falling_in, at_begin, BodyFault, at_header, at_label, at_item, at_line}
 use Rattle.task_verify.specs.Cases.{EmptyFault, LabelFaults, ItemFaults, PlacesFault, FallFault}
 use Rattle.task_verify.specs.Labels.{last_below, list_of, ArePlaced}
 use Rattle.task_verify.proofs.Labelled.{is_first, first_is, entering_is, entered_is}
@@ -22,7 +22,7 @@ fall_of : (f : Func) (k : ℕ) → k < length f.labels → is_entered f k ≡ tr
 fall_of f k l entered differs none =
     let place = (label_of f k).item in
     let into : is_fallen_into f place ≡ true = sym (entered_is f k l ∙ ap (λ o. is_some o || is_fallen_into f place) none) ∙ entered in
-    let held : held_entering f k ≡ fallen f place = entering_is f k l ∙ ap (λ o. list_of f.labels o (fallen f place)) none in
+    let held : held_entering f k ≡ held_fallen_into f place = entering_is f k l ∙ ap (λ o. list_of f.labels o (held_fallen_into f place)) none in
     (k, is_first f.labels place (length f.labels) k l refl none, ((into, λ e. differs (e ∙ sym held)), refl))
 
 differs_of : (f : Func) (place : ℕ) (r : Refusal) → FallFault f place r
@@ -32,8 +32,8 @@ differs_of f place r x =
     let first = first_is f.labels place (length f.labels) k x.1 in
     let none : last_below f.labels (label_of f k).item k ≡ None = subst (λ (p : ℕ). last_below f.labels p k ≡ None) (sym first.1) first.2 in
     let into : is_fallen_into f (label_of f k).item ≡ true = ap (is_fallen_into f) first.1 ∙ x.2.0.0 in
-    let held : held_entering f k ≡ fallen f place =
-    entering_is f k first.0 ∙ ap (λ o. list_of f.labels o (fallen f (label_of f k).item)) none ∙ ap (fallen f) first.1 in (
+    let held : held_entering f k ≡ held_fallen_into f place =
+    entering_is f k first.0 ∙ ap (λ o. list_of f.labels o (held_fallen_into f (label_of f k).item)) none ∙ ap (held_fallen_into f) first.1 in (
       k,
       first.0,
       falling_in (entered_is f k first.0 ∙ ap (λ o. is_some o || is_fallen_into f (label_of f k).item) none ∙ into) (λ e. x.2.0.1 (e ∙ held)),
@@ -57,7 +57,7 @@ module _ (config : Config) (app : App) (b : ℕ) where
       by : (o : Option ℕ) → last_below (function app b).labels (label_of (function app b) k).item k ≡ o → Parts (at_line (label_of (function app b) k).line code.V7)
       by (Some j) e =
           let f = function app b in
-          let held = entering_is f k l ∙ ap (λ o. list_of f.labels o (fallen f (label_of f k).item)) e in
+          let held = entering_is f k l ∙ ap (λ o. list_of f.labels o (held_fallen_into f (label_of f k).item)) e in
           inr (inl (k, l, (inl (j, e, λ same. differs (same ∙ sym held)), refl)))
       by None e =
           let f = function app b in inr (inr (inr (fallen_part (label_of f k).item _ (placed k l) (fall_of f k l entered differs e))))
@@ -92,7 +92,7 @@ module _ (config : Config) (app : App) (b : ℕ) where
   from_parts r (inl x) = subst (BodyFault config app b) (sym x.1) (at_header x.0)
   from_parts r (inr (inl (k, l, (inl (j, e, differs), q)))) =
       let f = function app b in
-      let held = entering_is f k l ∙ ap (λ o. list_of f.labels o (fallen f (label_of f k).item)) e in
+      let held = entering_is f k l ∙ ap (λ o. list_of f.labels o (held_fallen_into f (label_of f k).item)) e in
       subst (BodyFault config app b) (sym q)
       (at_label k l
       (falling_in (entered_is f k l ∙ ap (λ o. is_some o || is_fallen_into f (label_of f k).item) e) (λ same. differs (same ∙ held))))

@@ -6,8 +6,8 @@ use Rattle.std.proofs.lemmas.List.{get_or_past}
 use Rattle.sloth_base.specs.declared.app.Func.{Func}
 use Rattle.sloth_base.specs.Named.{item_of, label_of, no_item}
 use Rattle.std.specs.Bool.{Decides}
-use Rattle.app_rules.specs.Code.{falls, way, GoesOn, Path}
-use Rattle.app_rules.specs.WellFormed.{IsUnreached}
+use Rattle.code_rules.specs.Code.{is_followed, way, GoesOn, Path}
+use Rattle.code_rules.specs.WellFormed.{IsUnreached}
 use Rattle.task_verify.specs.Ways.{inside_or, next_of, label_place, jump_of, Reached, first, by_next, by_jump, Marked}
 
 -- a closed set of marks has all that is reached
@@ -36,9 +36,9 @@ chosen f place itself k e = by (nat_lt place (length f.items)) refl
     by false g = inr (sym (ap (λ c. cond c place itself) g) ∙ e)
 
 pub next_goes : (f : Func) (i k : ℕ) → next_of f i ≡ k → GoesOn f i k ⊎ (i ≡ k)
-next_goes f i k e = by (falls (item_of f i).op) refl
+next_goes f i k e = by (is_followed (item_of f i).op) refl
   where
-    by : (b : Bool) → falls (item_of f i).op ≡ b → GoesOn f i k ⊎ (i ≡ k)
+    by : (b : Bool) → is_followed (item_of f i).op ≡ b → GoesOn f i k ⊎ (i ≡ k)
     by true g = ⊎_elim (λ a. inl (inl (g, sym a))) inr (chosen f (i + 1) i k (sym (ap (λ c. cond c (inside_or f (i + 1) i) i) g) ∙ e))
     by false g = inr (sym (ap (λ c. cond c (inside_or f (i + 1) i) i) g) ∙ e)
 
@@ -61,7 +61,7 @@ pub goes_from_inside : (f : Func) (i j : ℕ) → GoesOn f i j → i < length f.
 goes_from_inside f i j g = ⊎_elim (λ l. l) (λ l. absurd (none l g)) (cases_lt i (length f.items))
   where
     none : length f.items ≤ i → GoesOn f i j → ⊥
-    none l (inl a) = false≢true (sym (ap (λ x. falls x.op) (get_or_past f.items i no_item l)) ∙ a.0)
+    none l (inl a) = false≢true (sym (ap (λ x. is_followed x.op) (get_or_past f.items i no_item l)) ∙ a.0)
     none l (inr a) = let e : None ≡ Some a.0 = sym (ap (λ x. way x.op) (get_or_past f.items i no_item l)) ∙ a.1 in cc
 
 lands : (f : Func) (place itself : ℕ) → place < length f.items → inside_or f place itself ≡ place

@@ -6,7 +6,7 @@ use Rattle.std.proofs.lemmas.List.{get_or-set_same, get_or-set_other, get_or_pas
 use Rattle.std.proofs.lemmas.List.Folds.{list_any-append}
 use Rattle.sloth_base.specs.declared.app.Func.{Func}
 use Rattle.sloth_base.specs.Named.{item_of, label_of}
-use Rattle.app_rules.specs.Code.{falls, way, is_in}
+use Rattle.code_rules.specs.Code.{is_followed, way, is_in}
 use Rattle.task_verify.specs.Ways.{inside_or, next_of, label_place, jump_of, Reached, first, by_next, by_jump, Marked, Visited, Searching}
 use Rattle.task_verify.proofs.Paths.{closed_all}
 
@@ -40,7 +40,7 @@ inside_in f place itself l = by (nat_lt place (length f.items)) refl
     by false e = subst (λ (b : Bool). cond b place itself < length f.items) (sym e) l
 
 pub next_inside : (f : Func) (x : ℕ) → x < length f.items → next_of f x < length f.items
-next_inside f x l = by (falls (item_of f x).op)
+next_inside f x l = by (is_followed (item_of f x).op)
   where
     by : (b : Bool) → cond b (inside_or f (x + 1) x) x < length f.items
     by true = inside_in f (x + 1) x l

@@ -3,9 +3,9 @@ use Rattle.std.proofs.Common.{Bool, ◌≡◌, ℕ, Option, sym, ◌∙◌}
 use Rattle.std.specs.Bool.{Decides}
 use Rattle.sloth_base.specs.declared.refusal.Code.{Code}
 use Rattle.sloth_base.specs.declared.refusal.Refusal.{Refusal}
-use Rattle.sloth_refusal.specs.Search.{Finds, when}
-use Rattle.app_rules.specs.WellFormed.{at_line}
-use Rattle.app_rules.proofs.Judged.{decided}
+use Rattle.least_fault.specs.Search.{Finds, when}
+use Rattle.code_rules.specs.WellFormed.{at_line}
+use Rattle.code_rules.proofs.Judged.{decided}
 
 -- a test that is that of a rule finds the refusal where the rule is broken
 pub tested : (P : Type 0) (rule test : Bool) (line : ℕ) (c : Code) (found : Option Refusal) → found ≡ when test (at_line line c) → test ≡ rule → Decides rule P

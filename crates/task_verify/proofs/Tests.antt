@@ -13,16 +13,16 @@ use Rattle.sloth_base.specs.declared.service.Service.{Service}
 use Rattle.sloth_base.specs.declared.service.Service.TheVariants as service
 use Rattle.sloth_base.specs.Arithmetic.{size_of}
 use Rattle.sloth_base.specs.Named.{declaration, item_of, label_of, symbol_size}
-use Rattle.app_rules.specs.AppRange.{AppInRange, IsOp}
-use Rattle.app_rules.specs.Code.{falls, way, Ends, Pauses, TaskReaches, is_in, is_last}
-use Rattle.app_rules.specs.WellFormed.{AccessesPast, IsUneven, MasksPast, RunsOut, ReleasesOther, TakesHeld, LeavesHolding, LeavesWrongly, Lists, HasEvents, IsUnlisted, IsLacked, Misuses, UsesUndeclared}
+use Rattle.code_rules.specs.AppRange.{AppInRange, IsOp}
+use Rattle.code_rules.specs.Code.{is_followed, way, Ends, Pauses, TaskReaches, is_in, is_last}
+use Rattle.code_rules.specs.WellFormed.{AccessesPast, IsUneven, MasksPast, RunsOut, ReleasesOther, TakesHeld, LeavesHolding, LeavesWrongly, Lists, HasEvents, IsUnlisted, IsLacked, Misuses, UsesUndeclared}
 use Rattle.call_graph.specs.declared.ranking.Ranks.{Ranks}
-use Rattle.call_graph.specs.Bits.{has}
+use Rattle.call_graph.specs.Bits.{is_member}
 use Rattle.call_graph.specs.Ranks.{RanksOf}
 use Rattle.call_graph.specs.Reached.{any_below}
 use Rattle.call_graph.specs.Rows.{is_get, is_pausing}
 use Rattle.call_graph.proofs.Itself.{number_found, number_counts, get_is, pausing_is, is_pausing_of}
-use Rattle.task_verify.specs.Tests.{accesses_past, is_uneven, masks_past, leads_out, runs_out, is_ending, is_release, holds_any, releases_other, takes_held, leaves_holding, leaves_wrongly, is_unlisted, lacks, is_lacked, misuses, uses_undeclared, OperandsOf}
+use Rattle.task_verify.specs.Tests.{accesses_past, is_uneven, masks_past, leads_out, runs_out, is_ending, is_release, holds_any, releases_other, takes_held, leaves_holding, leaves_wrongly, is_unlisted, lacks, is_lacked, is_misuse, uses_undeclared, OperandsOf}
 use Rattle.task_verify.specs.Ways.{LeadsToLabels}
 use Rattle.task_verify.proofs.Lists.{number_among, among_number}
 
@@ -82,15 +82,15 @@ pub Decides-runs_out : (f : Func) (i : ℕ) → Decides (runs_out f i) (RunsOut 
 Decides-runs_out f i =
     let o = (item_of f i).op in
     Decides-like (runs_out f i) to from
-    (Decides-or (falls o && nat_le (length f.items) (i + 1)) (leads_out f (way o))
-    (Decides-and (falls o) (nat_le (length f.items) (i + 1)) (itself (falls o)) (leb_decides (length f.items) (i + 1)))
+    (Decides-or (is_followed o && nat_le (length f.items) (i + 1)) (leads_out f (way o))
+    (Decides-and (is_followed o) (nat_le (length f.items) (i + 1)) (itself (is_followed o)) (leb_decides (length f.items) (i + 1)))
     (Decides-leads_out f (way o)))
   where
-    to : ((falls (item_of f i).op ≡ true) × (length f.items ≤ i + 1)) ⊎ LeadsOut f (way (item_of f i).op) → RunsOut f i
+    to : ((is_followed (item_of f i).op ≡ true) × (length f.items ≤ i + 1)) ⊎ LeadsOut f (way (item_of f i).op) → RunsOut f i
     to (inl a) = (i + 1, inl (a.0, refl), a.1)
     to (inr b) = ((label_of f b.0).item, inr (b.0, b.1, refl), b.2)
 
-    from : RunsOut f i → ((falls (item_of f i).op ≡ true) × (length f.items ≤ i + 1)) ⊎ LeadsOut f (way (item_of f i).op)
+    from : RunsOut f i → ((is_followed (item_of f i).op ≡ true) × (length f.items ≤ i + 1)) ⊎ LeadsOut f (way (item_of f i).op)
     from (j, inl a, l) = inl (a.0, subst (λ (x : ℕ). length f.items ≤ x) a.1 l)
     from (j, inr b, l) = inr (b.0, b.1, subst (λ (x : ℕ). length f.items ≤ x) b.2 l)
 
@@ -149,7 +149,7 @@ module _ (config : Config) (app : App) (ranks : Ranks) (in_range : AppInRange co
   pub Decides-takes_held : (f : Func) (held : List ℕ) (o : Op) → IsOp config app f o → Decides (takes_held ranks held o) (TakesHeld app held o)
   Decides-takes_held f held (op.Serve call) is = Decides-and (is_get call.service) (is_in call.object held) (Decides-is_get call.service) (itself (is_in call.object held))
   Decides-takes_held f held (op.Invoke g) is =
-      let test : ℕ → Bool = λ r. has (get_or ranks.resources g 0) r in (
+      let test : ℕ → Bool = λ r. is_member (get_or ranks.resources g 0) r in (
         λ e. let x = number_among test held e in (x.0, (belong.resources g x.0 is.0).0 x.1, x.2),
         λ x. among_number test held x.0 ((belong.resources g x.0 is.0).1 x.1) x.2,
       )
@@ -169,33 +169,33 @@ module _ (config : Config) (app : App) (ranks : Ranks) (in_range : AppInRange co
 
 module _ (config : Config) (app : App) (in_range : AppInRange config app) where
   -- where some task that reaches the function fails a test
-  some_user : (f users : ℕ) (test : ℕ → Bool) (P : ℕ → Type 0) → ((t : ℕ) → Decides (has users t) (TaskReaches app t f)) → ((t : ℕ) → Decides (test t) (P t))
-      → Decides (any_below (length config.tasks) (λ t. has users t && test t)) ((t : ℕ) × TaskReaches app t f × P t)
+  some_user : (f users : ℕ) (test : ℕ → Bool) (P : ℕ → Type 0) → ((t : ℕ) → Decides (is_member users t) (TaskReaches app t f)) → ((t : ℕ) → Decides (test t) (P t))
+      → Decides (any_below (length config.tasks) (λ t. is_member users t && test t)) ((t : ℕ) × TaskReaches app t f × P t)
   some_user f users test P reach decides = (
     λ e.
-        let x = number_found (λ t. has users t && test t) (length config.tasks) e in
-        let parts = and_parts (has users x.0) (test x.0) x.2 in
+        let x = number_found (λ t. is_member users t && test t) (length config.tasks) e in
+        let parts = and_parts (is_member users x.0) (test x.0) x.2 in
         (x.0, (reach x.0).0 parts.0, (decides x.0).0 parts.1),
     λ x.
-        number_counts (λ t. has users t && test t) (length config.tasks) x.0 (in_range.tasks.declared x.0 x.1.0 x.1.1)
-        (and_from (has users x.0) (test x.0) ((reach x.0).1 x.1) ((decides x.0).1 x.2)),
+        number_counts (λ t. is_member users t && test t) (length config.tasks) x.0 (in_range.tasks.declared x.0 x.1.0 x.1.1)
+        (and_from (is_member users x.0) (test x.0) ((reach x.0).1 x.1) ((decides x.0).1 x.2)),
   )
 
   Decides-lacks : (t mask : ℕ) → Decides (lacks config t mask) (¬ (HasEvents (declaration config t) mask))
   Decides-lacks t mask = differs_decides (bit_and mask (declaration config t).events) mask
 
-  Decides-is_unlisted : (f users r : ℕ) → ((t : ℕ) → Decides (has users t) (TaskReaches app t f)) → Decides (not (r == 32) && is_unlisted config users r) (IsUnlisted config app f r)
+  Decides-is_unlisted : (f users r : ℕ) → ((t : ℕ) → Decides (is_member users t) (TaskReaches app t f)) → Decides (not (r == 32) && is_unlisted config users r) (IsUnlisted config app f r)
   Decides-is_unlisted f users r reach =
       Decides-and (not (r == 32)) (is_unlisted config users r) (differs_decides r 32)
       (some_user f users (λ t. not (is_in r (declaration config t).resources)) (λ t. ¬ (Lists (declaration config t) r)) reach
       (λ t. Decides-not (is_in r (declaration config t).resources) (itself (is_in r (declaration config t).resources))))
 
-  Decides-is_lacked : (f users mask : ℕ) → ((t : ℕ) → Decides (has users t) (TaskReaches app t f)) → Decides (is_lacked config users mask) (IsLacked config app f mask)
+  Decides-is_lacked : (f users mask : ℕ) → ((t : ℕ) → Decides (is_member users t) (TaskReaches app t f)) → Decides (is_lacked config users mask) (IsLacked config app f mask)
   Decides-is_lacked f users mask reach =
       some_user f users (λ t. lacks config t mask) (λ t. ¬ (HasEvents (declaration config t) mask)) reach (λ t. Decides-lacks t mask)
 
-  Decides-misuses : (f users : ℕ) (s : Service) (object mask : ℕ) → ((t : ℕ) → Decides (has users t) (TaskReaches app t f))
-      → Decides (misuses config users s object mask) (Misuses config app f s object mask)
+  Decides-misuses : (f users : ℕ) (s : Service) (object mask : ℕ) → ((t : ℕ) → Decides (is_member users t) (TaskReaches app t f))
+      → Decides (is_misuse config users s object mask) (Misuses config app f s object mask)
   Decides-misuses f users service.GetResource r mask reach = Decides-is_unlisted f users r reach
   Decides-misuses f users service.ReleaseResource r mask reach = Decides-is_unlisted f users r reach
   Decides-misuses f users service.ClearEvent object mask reach = Decides-is_lacked f users mask reach
@@ -204,7 +204,7 @@ module _ (config : Config) (app : App) (in_range : AppInRange config app) where
   Decides-misuses f users service.GetEvent t mask reach = is_false (declaration config t).extended
   Decides-misuses f users _ object mask reach = none
 
-  pub Decides-uses_undeclared : (f users : ℕ) (o : Op) → ((t : ℕ) → Decides (has users t) (TaskReaches app t f))
+  pub Decides-uses_undeclared : (f users : ℕ) (o : Op) → ((t : ℕ) → Decides (is_member users t) (TaskReaches app t f))
       → Decides (uses_undeclared config users o) (UsesUndeclared config app f o)
   Decides-uses_undeclared f users (op.Serve call) reach = Decides-misuses f users call.service call.object call.mask reach
   Decides-uses_undeclared f users _ reach = none

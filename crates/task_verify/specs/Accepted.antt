@@ -3,6 +3,6 @@ use Rattle.sloth_base.specs.declared.config.Config.{Config}
 use Rattle.sloth_base.specs.declared.app.App.{App}
 
 -- a configuration and its task code, as they were verified
-pub record Accepted : Type 0 where
+pub record VerifiedCode : Type 0 where
   pub config : Config
   pub app : App

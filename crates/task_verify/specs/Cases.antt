@@ -8,10 +8,10 @@ use Rattle.sloth_base.specs.declared.refusal.Code.{Code}
 use Rattle.sloth_base.specs.declared.refusal.Code.TheVariants as code
 use Rattle.sloth_base.specs.declared.refusal.Refusal.{Refusal}
 use Rattle.sloth_base.specs.Named.{item_of, label_of}
-use Rattle.app_rules.specs.AppRange.{IsOp}
-use Rattle.app_rules.specs.Code.{TaskReaches, held_at, fallen, is_fallen_into}
-use Rattle.app_rules.specs.WellFormed.{AccessesPast, IsUneven, MasksPast, RunsOut, IsUnreached, HoldsOther, ReleasesOther, TakesHeld, LeavesHolding, LeavesWrongly, UsesUndeclared, at_line}
-use Rattle.call_graph.specs.Bits.{has}
+use Rattle.code_rules.specs.AppRange.{IsOp}
+use Rattle.code_rules.specs.Code.{TaskReaches, held_at, held_fallen_into, is_fallen_into}
+use Rattle.code_rules.specs.WellFormed.{AccessesPast, IsUneven, MasksPast, RunsOut, IsUnreached, HoldsOther, ReleasesOther, TakesHeld, LeavesHolding, LeavesWrongly, UsesUndeclared, at_line}
+use Rattle.call_graph.specs.Bits.{is_member}
 use Rattle.task_verify.specs.Labels.{last_below, first_below}
 
 -- a refusal of this code at this line, where this is so
@@ -74,7 +74,7 @@ LabelFaults f r = (k : ℕ) × (k < length f.labels) × LabelFault f k r
 
 -- V7 of label k at a place, where the place is fallen into
 abbrev pub FallsOther : Func → (place k : ℕ) → Refusal → Type 0
-FallsOther f place k r = Case ((is_fallen_into f place ≡ true) × ((label_of f k).holds ≢ fallen f place)) (label_of f k).line code.V7 r
+FallsOther f place k r = Case ((is_fallen_into f place ≡ true) × ((label_of f k).holds ≢ held_fallen_into f place)) (label_of f k).line code.V7 r
 
 -- V7 of the first label at a place that is fallen into
 abbrev pub FallFault : Func → ℕ → Refusal → Type 0
@@ -98,4 +98,4 @@ AreOps config app f = (i : ℕ) → i < length f.items → IsOp config app f (it
 
 -- the tasks that reach body b
 abbrev pub AreUsers : App → (b users : ℕ) → Type 0
-AreUsers app b users = (t : ℕ) → Decides (has users t) (TaskReaches app t b)
+AreUsers app b users = (t : ℕ) → Decides (is_member users t) (TaskReaches app t b)

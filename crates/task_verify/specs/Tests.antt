@@ -11,10 +11,10 @@ use Rattle.sloth_base.specs.declared.service.Service.TheVariants as service
 use Rattle.sloth_base.specs.Arithmetic.{size_of}
 use Rattle.sloth_base.specs.Named.{declaration, item_of, label_of, symbol_size}
 use Rattle.sloth_base.specs.ConfigRange.{scheduler_number}
-use Rattle.app_rules.specs.AppRange.{AreOperands}
-use Rattle.app_rules.specs.Code.{falls, way, is_in, is_last}
+use Rattle.code_rules.specs.AppRange.{AreOperands}
+use Rattle.code_rules.specs.Code.{is_followed, way, is_in, is_last}
 use Rattle.call_graph.specs.declared.ranking.Ranks.{Ranks}
-use Rattle.call_graph.specs.Bits.{has}
+use Rattle.call_graph.specs.Bits.{is_member}
 use Rattle.call_graph.specs.Rows.{is_get, is_pausing}
 use Rattle.call_graph.specs.Reached.{any_below}
 
@@ -47,7 +47,7 @@ leads_out f (Some k) = nat_le (length f.items) (label_of f k).item
 
 -- V5
 abbrev pub runs_out : Func → ℕ → Bool
-runs_out f i = (falls (item_of f i).op && nat_le (length f.items) (i + 1)) || leads_out f (way (item_of f i).op)
+runs_out f i = (is_followed (item_of f i).op && nat_le (length f.items) (i + 1)) || leads_out f (way (item_of f i).op)
 
 -- a service that ends the caller
 abbrev pub is_ending : Service → Bool
@@ -72,7 +72,7 @@ releases_other held _ = false
 -- V9
 abbrev pub takes_held : Ranks → List ℕ → Op → Bool
 takes_held ranks held (op.Serve call) = is_get call.service && is_in call.object held
-takes_held ranks held (op.Invoke g) = list_any (λ r. has (get_or ranks.resources g 0) r) held
+takes_held ranks held (op.Invoke g) = list_any (λ r. is_member (get_or ranks.resources g 0) r) held
 takes_held ranks held _ = false
 
 -- V10
@@ -90,7 +90,7 @@ leaves_wrongly f _ = false
 
 -- one of these tasks does not list the resource; lacks one of the events
 abbrev pub is_unlisted : Config → (users r : ℕ) → Bool
-is_unlisted config users r = any_below (length config.tasks) (λ t. has users t && not (is_in r (declaration config t).resources))
+is_unlisted config users r = any_below (length config.tasks) (λ t. is_member users t && not (is_in r (declaration config t).resources))
 
 -- task t lacks one of these events
 abbrev pub lacks : Config → (t mask : ℕ) → Bool
@@ -98,21 +98,21 @@ lacks config t mask = not (bit_and mask (declaration config t).events == mask)
 
 -- one of these tasks lacks one of these events
 abbrev pub is_lacked : Config → (users mask : ℕ) → Bool
-is_lacked config users mask = any_below (length config.tasks) (λ t. has users t && lacks config t mask)
+is_lacked config users mask = any_below (length config.tasks) (λ t. is_member users t && lacks config t mask)
 
 -- a service uses what one of these tasks does not declare
-abbrev pub misuses : Config → ℕ → Service → (object mask : ℕ) → Bool
-misuses config users service.GetResource r mask = not (r == scheduler_number) && is_unlisted config users r
-misuses config users service.ReleaseResource r mask = not (r == scheduler_number) && is_unlisted config users r
-misuses config users service.ClearEvent object mask = is_lacked config users mask
-misuses config users service.WaitEvent object mask = is_lacked config users mask
-misuses config users service.SetEvent t mask = lacks config t mask
-misuses config users service.GetEvent t mask = not (declaration config t).extended
-misuses config users _ object mask = false
+abbrev pub is_misuse : Config → ℕ → Service → (object mask : ℕ) → Bool
+is_misuse config users service.GetResource r mask = not (r == scheduler_number) && is_unlisted config users r
+is_misuse config users service.ReleaseResource r mask = not (r == scheduler_number) && is_unlisted config users r
+is_misuse config users service.ClearEvent object mask = is_lacked config users mask
+is_misuse config users service.WaitEvent object mask = is_lacked config users mask
+is_misuse config users service.SetEvent t mask = lacks config t mask
+is_misuse config users service.GetEvent t mask = not (declaration config t).extended
+is_misuse config users _ object mask = false
 
 -- V12, where these tasks reach the item
 abbrev pub uses_undeclared : Config → (users : ℕ) → Op → Bool
-uses_undeclared config users (op.Serve call) = misuses config users call.service call.object call.mask
+uses_undeclared config users (op.Serve call) = is_misuse config users call.service call.object call.mask
 uses_undeclared config users _ = false
 
 -- the operands of a service are in range

@@ -3,7 +3,7 @@ use Rattle.std.specs.Prelude.{ℕ, ◌+◌, ◌<◌, ◌≡◌, ◌⊎◌, nat_l
 use Rattle.sloth_base.specs.declared.app.Func.{Func}
 use Rattle.sloth_base.specs.declared.app.Op.{Op}
 use Rattle.sloth_base.specs.Named.{item_of, label_of}
-use Rattle.app_rules.specs.Code.{falls, way, is_in}
+use Rattle.code_rules.specs.Code.{is_followed, way, is_in}
 
 -- the label of a branch or jump is one of the body
 abbrev pub LeadsToLabels : Func → Op → Type 0
@@ -15,7 +15,7 @@ inside_or f place itself = cond (nat_lt place (length f.items)) place itself
 
 -- where item i goes on to the next one; itself, where it does not
 abbrev pub next_of : Func → ℕ → ℕ
-next_of f i = cond (falls (item_of f i).op) (inside_or f (i + 1) i) i
+next_of f i = cond (is_followed (item_of f i).op) (inside_or f (i + 1) i) i
 
 -- the place of a label; the item itself, without a label
 abbrev pub label_place : Func → Option ℕ → ℕ → ℕ
@@ -39,8 +39,8 @@ abbrev pub Marked : List Bool → ℕ → Type 0
 Marked marks i = get_or marks i false ≡ true
 
 -- how many items are not marked
-abbrev pub unmarked : List Bool → ℕ
-unmarked marks = count_by not marks
+abbrev pub unmarked_count : List Bool → ℕ
+unmarked_count marks = count_by not marks
 
 -- a visit marks an item and keeps it, where it is not marked yet
 abbrev pub Visited : (old new : List Bool) → (pending kept : List ℕ) → (at : ℕ) → Type 0

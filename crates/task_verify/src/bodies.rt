@@ -1,20 +1,20 @@
 //! V2 to V12 of task code, body by body.
 ghost use Rattle.std.specs.Prelude.{◌≡◌, ◌<◌, length, IfOk};
-ghost use Rattle.sloth_refusal.specs.Search.{Finds};
-ghost use Rattle.app_rules.specs.AppRange.{AppInRange};
+ghost use Rattle.least_fault.specs.Search.{Finds};
+ghost use Rattle.code_rules.specs.AppRange.{AppInRange};
 ghost use Rattle.sloth_base.specs.Named.{function};
-ghost use Rattle.app_rules.specs.WellFormed.{BodyFault, RuleFault};
+ghost use Rattle.code_rules.specs.WellFormed.{BodyFault, RuleFault};
 ghost use Rattle.call_graph.specs.Ranks.{RanksOf};
 
 use crate::items::item_faults;
 use crate::labels::label_faults;
 use crate::walk::held_faults;
 use call_graph::ranking::Ranks;
+use least_fault::{merge, when};
 use sloth_base::app::{App, Func};
 use sloth_base::config::Config;
 use sloth_base::memory::NoMemory;
 use sloth_base::refusal::{Code, Part, Refusal};
-use sloth_refusal::{merge, when};
 use std::alloc::Global;
 
 fn body_fault(

@@ -1,9 +1,9 @@
 //! V7 to V10: what is held at an item.
 ghost use Rattle.std.specs.Prelude.{◌≡◌, ◌==◌, ℕ, ◌<◌, ◌||◌, length, get_or, false, Some, Decides, IfOk};
 ghost use Rattle.std.specs.List.{list_any};
-ghost use Rattle.app_rules.specs.Code.{is_in, is_last, held_behind, held_after};
-ghost use Rattle.app_rules.specs.WellFormed.{HoldsOther};
-ghost use Rattle.call_graph.specs.Bits.{has};
+ghost use Rattle.code_rules.specs.Code.{is_in, is_last, held_behind, held_after};
+ghost use Rattle.code_rules.specs.WellFormed.{HoldsOther};
+ghost use Rattle.call_graph.specs.Bits.{is_member};
 ghost use Rattle.call_graph.specs.Rows.{is_get, is_pausing};
 ghost use Rattle.task_verify.specs.Tests.{is_ending, is_release, holds_any, releases_other, takes_held, leaves_holding};
 ghost use Rattle.task_verify.specs.Ways.{LeadsToLabels};
@@ -102,7 +102,7 @@ fn taken_by(ranks: &Ranks, func: FuncId) -> u64
 }
 
 fn takes_one(taken: u64, held: &[u32]) -> bool
-    ensures { result ≡ list_any (λ r. has taken r) held.now }
+    ensures { result ≡ list_any (λ r. is_member taken r) held.now }
 {
     held.iter()
         .any(|resource| contains(taken, *resource as usize))

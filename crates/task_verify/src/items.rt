@@ -1,9 +1,9 @@
 //! V2 to V6, V11 and V12: the items of a body, one by one.
 ghost use Rattle.std.specs.Prelude.{◌≡◌, ℕ, ◌<◌, ◌↔◌, length, IfOk};
-ghost use Rattle.sloth_refusal.specs.Search.{Finds};
-ghost use Rattle.app_rules.specs.AppRange.{AppInRange, IsOp};
+ghost use Rattle.least_fault.specs.Search.{Finds};
+ghost use Rattle.code_rules.specs.AppRange.{AppInRange, IsOp};
 ghost use Rattle.sloth_base.specs.Named.{item_of};
-ghost use Rattle.app_rules.specs.WellFormed.{at_line};
+ghost use Rattle.code_rules.specs.WellFormed.{at_line};
 ghost use Rattle.task_verify.specs.Ways.{Marked, Reached};
 ghost use Rattle.task_verify.specs.Cases.{AccessFault, FlowFault, PathFault, ItemFault, ItemFaults, AreOps, AreUsers};
 
@@ -11,11 +11,11 @@ use crate::accesses::{accesses_past, is_uneven, masks_past};
 use crate::reachable::reached;
 use crate::tasks::{leaves_wrongly, uses_undeclared};
 use crate::ways::runs_out;
+use least_fault::{merge, when};
 use sloth_base::app::{App, Func};
 use sloth_base::config::Config;
 use sloth_base::memory::NoMemory;
 use sloth_base::refusal::{Code, Part, Refusal};
-use sloth_refusal::{merge, when};
 use std::alloc::Global;
 
 fn access_fault(app: &App, func: &Func, number: usize) -> Option<Refusal>

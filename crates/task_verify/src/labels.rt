@@ -1,15 +1,15 @@
 //! The labels at each place of a body.
 ghost use Rattle.std.specs.Prelude.{◌≡◌, ◌≢◌, ℕ, ◌+◌, ◌<◌, ◌≤◌, ◌||◌, [], Some, None, length, get_or, Decides, IfOk};
-ghost use Rattle.sloth_refusal.specs.Search.{Finds};
+ghost use Rattle.least_fault.specs.Search.{Finds};
 ghost use Rattle.sloth_base.specs.Named.{label_of};
 ghost use Rattle.task_verify.specs.Labels.{or_else, first_below, last_below, ArePlaced};
 ghost use Rattle.task_verify.specs.Cases.{FollowsOther, BeginsHolding, LabelFault, LabelFaults};
 
+use least_fault::{merge, when};
 use sloth_base::app::{Func, Label};
 use sloth_base::memory::NoMemory;
 use sloth_base::numbers::ResId;
 use sloth_base::refusal::{Code, Part, Refusal};
-use sloth_refusal::{merge, when};
 use std::alloc::Global;
 
 /// As many places without a label.

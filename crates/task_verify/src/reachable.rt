@@ -1,7 +1,7 @@
 //! V6: which items the paths from the first one reach.
 ghost use Rattle.std.specs.Prelude.{◌≡◌, ℕ, ◌+◌, ◌*◌, ◌<◌, ◌≤◌, ◌↔◌, false, length, get_or, [], IfOk, OnOk};
 ghost use Rattle.sloth_base.specs.Named.{item_of};
-ghost use Rattle.task_verify.specs.Ways.{LeadsToLabels, Marked, Reached, unmarked, Visited, Searching};
+ghost use Rattle.task_verify.specs.Ways.{LeadsToLabels, Marked, Reached, unmarked_count, Visited, Searching};
 
 use crate::ways::{jump_of, next_of};
 use sloth_base::app::Func;
@@ -12,7 +12,7 @@ use std::alloc::Global;
 fn visit(marks: &mut [bool], pending: &mut Vec<usize>, at: usize) -> Result<(), NoMemory>
     requires { at < length marks.old }
     ensures visited { OnOk result (Visited marks.old marks.new pending.old.items pending.new.items at) }
-    ensures cost { OnOk result (2 * unmarked marks.new + length pending.new.items ≤ 2 * unmarked marks.old + length pending.old.items) }
+    ensures cost { OnOk result (2 * unmarked_count marks.new + length pending.new.items ≤ 2 * unmarked_count marks.old + length pending.old.items) }
 {
     if marks[at] {
         return Ok(());

@@ -1,10 +1,10 @@
 //! V11 and V12: what the tasks that reach an item may do there.
 ghost use Rattle.std.specs.Prelude.{◌≡◌, ◌==◌, ℕ, ◌<◌, ◌||◌, ◌&&◌, not, length};
 ghost use Rattle.std.specs.List.{list_any};
-ghost use Rattle.app_rules.specs.AppRange.{AreOperands};
-ghost use Rattle.app_rules.specs.Code.{is_in};
-ghost use Rattle.call_graph.specs.Bits.{has};
-ghost use Rattle.task_verify.specs.Tests.{is_ending, leaves_wrongly, is_unlisted, lacks, is_lacked, misuses, OperandsOf, uses_undeclared};
+ghost use Rattle.code_rules.specs.AppRange.{AreOperands};
+ghost use Rattle.code_rules.specs.Code.{is_in};
+ghost use Rattle.call_graph.specs.Bits.{is_member};
+ghost use Rattle.task_verify.specs.Tests.{is_ending, leaves_wrongly, is_unlisted, lacks, is_lacked, is_misuse, OperandsOf, uses_undeclared};
 
 use call_graph::bits::has;
 use sloth_base::app::{Call, Func, Op};
@@ -17,7 +17,7 @@ const SET_SIZE: usize = 64;
 
 /// Whether the set has this member.
 pub fn contains(set: u64, member: usize) -> bool
-    ensures { result ≡ has set member }
+    ensures { result ≡ is_member set member }
 {
     member < SET_SIZE && has(set, member)
 }
@@ -95,7 +95,7 @@ fn is_lacked(config: &Config, users: u64, mask: u32) -> bool
 
 fn misuses(config: &Config, users: u64, call: Call) -> bool
     requires { AreOperands config.now call.service call.object call.mask }
-    ensures { result ≡ misuses config.now users call.service call.object call.mask }
+    ensures { result ≡ is_misuse config.now users call.service call.object call.mask }
 {
     match call.service {
         Service::GetResource | Service::ReleaseResource => {

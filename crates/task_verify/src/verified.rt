@@ -1,6 +1,6 @@
 //! Task code that keeps the rules.
 ghost use Rattle.std.specs.Prelude.{◌≡◌};
-ghost use Rattle.app_rules.specs.WellFormed.{WellFormed};
+ghost use Rattle.code_rules.specs.WellFormed.{WellFormed};
 
 use sloth_base::app::App;
 use sloth_base::config::Config;
@@ -14,10 +14,10 @@ pub struct Verified {
 }
 
 impl Model for Verified {
-    ghost use Rattle.app_rules.specs.WellFormed.{WellFormed};
-    ghost use Rattle.task_verify.specs.Accepted.{Accepted};
+    ghost use Rattle.code_rules.specs.WellFormed.{WellFormed};
+    ghost use Rattle.task_verify.specs.Accepted.{VerifiedCode};
 
-    ghost Value = { Accepted };
+    ghost Value = { VerifiedCode };
 
     ghost view = { λ verified. record { config = verified.config; app = verified.app } };
 

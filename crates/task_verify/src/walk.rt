@@ -1,9 +1,9 @@
 //! V7 to V10: a walk over the items of a body with the list of held resources.
 ghost use Rattle.std.specs.Prelude.{◌≡◌, ◌≢◌, ℕ, ◌+◌, ◌<◌, ◌≤◌, true, Some, None, length, get_or, Decides, IfOk};
-ghost use Rattle.sloth_refusal.specs.Search.{Finds};
-ghost use Rattle.app_rules.specs.AppRange.{AppInRange, IsOp};
+ghost use Rattle.least_fault.specs.Search.{Finds};
+ghost use Rattle.code_rules.specs.AppRange.{AppInRange, IsOp};
 ghost use Rattle.sloth_base.specs.Named.{item_of, label_of};
-ghost use Rattle.app_rules.specs.Code.{fallen, is_fallen_into};
+ghost use Rattle.code_rules.specs.Code.{held_fallen_into, is_fallen_into};
 ghost use Rattle.call_graph.specs.Ranks.{RanksOf};
 ghost use Rattle.task_verify.specs.Labels.{first_below, last_below, list_of, ArePlaced, AreTables};
 ghost use Rattle.task_verify.specs.Cases.{FallsOther, FallFault, HeldFault, PlacesFault, AreOps};
@@ -14,11 +14,11 @@ use crate::held::{
 use crate::labels::{first_labels, last_labels};
 use crate::ways::falls;
 use call_graph::ranking::Ranks;
+use least_fault::{merge, when};
 use sloth_base::app::{App, Func};
 use sloth_base::config::Config;
 use sloth_base::memory::NoMemory;
 use sloth_base::refusal::{Code, Part, Refusal};
-use sloth_refusal::{merge, when};
 use std::alloc::Global;
 
 fn is_fallen_into(func: &Func, place: usize) -> bool
@@ -44,7 +44,7 @@ fn falls_other(func: &Func, place: usize, label: usize, held: &[u32]) -> bool
 fn labelled_fault(func: &Func, place: usize, label: usize, held: &[u32]) -> Option<Refusal>
     requires inside { place ≤ length func.now.items }
     requires known { label < length func.now.labels }
-    requires held { held.now ≡ fallen func.now place }
+    requires held { held.now ≡ held_fallen_into func.now place }
     ensures { Finds (FallsOther func.now place label) result }
 {
     let differs = falls_other(func, place, label, held);
@@ -55,7 +55,7 @@ fn labelled_fault(func: &Func, place: usize, label: usize, held: &[u32]) -> Opti
 fn fall_fault(func: &Func, place: usize, first: Option<usize>, held: &[u32]) -> Option<Refusal>
     requires inside { place ≤ length func.now.items }
     requires first { first ≡ first_below func.now.labels place (length func.now.labels) }
-    requires held { held.now ≡ fallen func.now place }
+    requires held { held.now ≡ held_fallen_into func.now place }
     ensures { Finds (FallFault func.now place) result }
 {
     match first {

@@ -1,7 +1,7 @@
 //! Where items of a body go on.
 ghost use Rattle.std.specs.Prelude.{◌≡◌, ℕ, ◌<◌, length, Some};
 ghost use Rattle.sloth_base.specs.Named.{item_of};
-ghost use Rattle.app_rules.specs.Code.{ends_for_good, falls, way};
+ghost use Rattle.code_rules.specs.Code.{ends_for_good, is_followed, way};
 ghost use Rattle.task_verify.specs.Tests.{leads_out, runs_out};
 ghost use Rattle.task_verify.specs.Ways.{inside_or, next_of, label_place, jump_of, LeadsToLabels};
 
@@ -10,7 +10,7 @@ use sloth_base::service::Service;
 
 /// Whether a path goes on to the next item.
 pub fn falls(op: Op) -> bool
-    ensures { result ≡ falls op }
+    ensures { result ≡ is_followed op }
 {
     match op {
         Op::Jump { .. } | Op::Return => false,

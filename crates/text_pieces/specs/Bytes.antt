@@ -13,5 +13,5 @@ unfoldable pub is_name : List ℕ → Bool
 is_name t = begins_name t && list_all continues_word t
 
 -- the byte stands in the text
-unfoldable pub has : ℕ → List ℕ → Bool
-has stop t = list_any (λ b. b == stop) t
+unfoldable pub is_byte_of : ℕ → List ℕ → Bool
+is_byte_of stop t = list_any (λ b. b == stop) t

@@ -11,5 +11,5 @@ value_from base v [] = v
 value_from base v (d ∷ ds) = value_from base (base * v + digit_value d) ds
 
 -- The lesser of a value and 4,294,967,296. No number of a text may be that great, so one that is cut off is refused as the whole one is.
-abbrev pub capped : ℕ → ℕ
-capped v = min v 4294967296
+abbrev pub capped_value : ℕ → ℕ
+capped_value v = min v 4294967296

@@ -3,7 +3,7 @@ ghost use Rattle.std.specs.Prelude.{◌≡◌, ◌==◌, not, drop, take, length
 ghost use Rattle.std.specs.List.{take_while, list_all, before_first, after_first};
 ghost use Rattle.std.specs.Str.{bytes_eq};
 ghost use Rattle.sloth_base.specs.ImageRange.{begins_word, continues_word};
-ghost use Rattle.text_pieces.specs.Bytes.{begins_name, is_name, has};
+ghost use Rattle.text_pieces.specs.Bytes.{begins_name, is_name, is_byte_of};
 
 /// What follows the first `n` bytes.
 pub fn after(text: &[u8], n: usize) -> &[u8]
@@ -40,9 +40,9 @@ fn length_until(text: &[u8], stop: u8) -> usize
 }
 
 /// Whether this byte stands in the text.
-#[tactic(auto, unfolding(crate::specs::Bytes::has))]
+#[tactic(auto, unfolding(crate::specs::Bytes::is_byte_of))]
 pub fn has(text: &[u8], stop: u8) -> bool
-    ensures { result ≡ has stop text.now }
+    ensures { result ≡ is_byte_of stop text.now }
 {
     text.iter().any(|b| *b == stop)
 }

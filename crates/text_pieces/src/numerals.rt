@@ -1,6 +1,6 @@
 //! The values of digits.
 ghost use Rattle.std.specs.Prelude.{◌≡◌, ◌<◌, ◌≤◌};
-ghost use Rattle.text_pieces.specs.Digits.{digit_value, value_from, capped};
+ghost use Rattle.text_pieces.specs.Digits.{digit_value, value_from, capped_value};
 
 /// A number that a text writes counts as no more than this.
 const CAP: u64 = 4_294_967_296;
@@ -24,7 +24,7 @@ fn digit_value(byte: u8) -> u64
 pub fn value(digits: &[u8], base: u64) -> u64
     requires some { 0 < base }
     requires few { base ≤ 16 }
-    ensures value { result ≡ capped (value_from base 0 digits.now) }
+    ensures value { result ≡ capped_value (value_from base 0 digits.now) }
     ensures small { result ≤ 4294967296 }
 {
     let mut value = 0;

@@ -3,7 +3,7 @@ use Rattle.std.specs.Prelude.{ℕ, ◌≡◌, List, [], codes}
 use Rattle.sloth_base.specs.declared.event.Arrival.{Arrival}
 use Rattle.sloth_base.specs.declared.image.Image.{Image}
 use Rattle.sloth_base.specs.declared.refusal.Refusal.{Refusal}
-use Rattle.sloth_refusal.specs.Order.{IsLeast, NoFault}
+use Rattle.least_fault.specs.Order.{IsLeast, NoFault}
 use Rattle.image_file.specs.ImageText.{ImageText}
 use Rattle.image_file.specs.Faults.{Faulty}
 use Rattle.trace_text.specs.ArrivalsText.{ArrivalsFault, arrivals_in}

@@ -13,7 +13,7 @@ use Rattle.sloth_base.specs.declared.event.Stamped.{Stamped}
 use Rattle.sloth_base.specs.Events.{admitted_line}
 use Rattle.sloth_base.specs.Owners.{IsOwned, line_kind, owners_in}
 use Rattle.sloth_base.specs.declared.lines.LineKind.TheVariants as line_of
-use Rattle.osek_machine.specs.InTime.{InTime}
+use Rattle.osek_scheduler.specs.InTime.{InTime}
 use Rattle.trace_text.specs.EventLines.{HasNumbers}
 use Rattle.trace_time.specs.Counts.{AreSmall, IsSmall}
 use Rattle.trace_check.specs.TraceText.{HasLine, HasRead, Shows}

@@ -9,13 +9,13 @@ use Rattle.sloth_base.specs.declared.event.Event.{Event}
 use Rattle.sloth_base.specs.declared.event.Event.TheVariants as event
 use Rattle.sloth_base.specs.declared.event.Stamp.{Stamp}
 use Rattle.sloth_base.specs.declared.event.Stamped.{Stamped}
-use Rattle.osek_machine.specs.declared.state.TaskState.{TaskState}
-use Rattle.osek_machine.specs.declared.state.TaskState.TheVariants as mode
-use Rattle.osek_machine.specs.State.{Task, System, task, sleeping, opening, declaration}
-use Rattle.osek_machine.specs.Services.{if_suspended, activated, entered, starts}
-use Rattle.osek_machine.specs.Steps.{OsekStep, admitted}
-use Rattle.osek_machine.specs.Runs.{Leads, ReadySince}
-use Rattle.osek_machine.proofs.Leading.{leads-append, leads-parts, one_end}
+use Rattle.osek_scheduler.specs.declared.state.TaskState.{TaskState}
+use Rattle.osek_scheduler.specs.declared.state.TaskState.TheVariants as mode
+use Rattle.osek_scheduler.specs.State.{Task, System, task, sleeping_task, opening, declaration}
+use Rattle.osek_scheduler.specs.Services.{if_suspended, activated_state, entered_state, started_task}
+use Rattle.osek_scheduler.specs.Steps.{OsekStep, admitted_state}
+use Rattle.osek_scheduler.specs.Runs.{Leads, ReadySince}
+use Rattle.osek_scheduler.proofs.Leading.{leads-append, leads-parts, one_end}
 use Rattle.osek_blocking.proofs.Effects.{Ordered, Effect, effect, opening_ordered, leads_ordered}
 use Rattle.trace_check.specs.Moments.{KeepsMoments, noted}
 
@@ -68,14 +68,14 @@ module _ (config : Config) (app : App) where
   -- ---- one admit behind which a task has been Ready
 
   behind_leads : (past : List Stamped) (s : System) (u k : ℕ) → (r : ReadySince config app past u k) → Leads config app past (opening config app) s
-      → Leads config app r.behind (admitted u r.found) s
+      → Leads config app r.behind (admitted_state u r.found) s
   behind_leads past s u k r h =
       let P : List Stamped → Type 0 = λ es. Leads config app es (opening config app) s in
       let parts = leads-parts config app r.before (r.admit ∷ r.behind) (opening config app) s (subst P r.is h) in
       let same : parts.0 ≡ r.found = one_end config app r.before (opening config app) parts.0 r.found parts.1 r.leads in
       let Q : Event → Type 0 = λ e. OsekStep config app e parts.0 parts.2.0 in
       let first = subst Q r.admits parts.2.1 in
-      let next : parts.2.0 ≡ admitted u r.found = first.2 ∙ ap (admitted u) same in
+      let next : parts.2.0 ≡ admitted_state u r.found = first.2 ∙ ap (admitted_state u) same in
       let R : System → Type 0 = λ x. Leads config app r.behind x s in
       subst R next parts.2.2
 
@@ -99,14 +99,14 @@ module _ (config : Config) (app : App) where
       since = λ front rest x cut path. by front rest x path (snoc_cut e r.behind front rest cut);
     }
       where
-        whole : Leads config app (r.behind ++ e ∷ []) (admitted u r.found) next
-        whole = leads-append config app r.behind (e ∷ []) (admitted u r.found) s next (behind_leads past s u k r leads) (next, step, refl)
+        whole : Leads config app (r.behind ++ e ∷ []) (admitted_state u r.found) next
+        whole = leads-append config app r.behind (e ∷ []) (admitted_state u r.found) s next (behind_leads past s u k r leads) (next, step, refl)
 
-        by : (front rest : List Stamped) (x : System) → Leads config app front (admitted u r.found) x → Snoc e r.behind front rest → IsReady x u
+        by : (front rest : List Stamped) (x : System) → Leads config app front (admitted_state u r.found) x → Snoc e r.behind front rest → IsReady x u
         by front rest x path (inl p) =
-            let P : List Stamped → Type 0 = λ l. Leads config app l (admitted u r.found) x in
+            let P : List Stamped → Type 0 = λ l. Leads config app l (admitted_state u r.found) x in
             let Q : System → Type 0 = λ y. IsReady y u in
-            subst Q (one_end config app (r.behind ++ e ∷ []) (admitted u r.found) next x whole (subst P p.1 path)) ready
+            subst Q (one_end config app (r.behind ++ e ∷ []) (admitted_state u r.found) next x whole (subst P p.1 path)) ready
         by front rest x path (inr p) = r.since front p.0 x p.1 path
 
     -- the event made the task Ready, or it has been Ready since an earlier one
@@ -169,7 +169,7 @@ module _ (config : Config) (app : App) where
         by (inr r) = let less = tells.1 r in omega (arith, less, same)
 
     -- that of the task that it makes Ready
-    admit_entry : (new : List ℕ) (u k : ℕ) → e.event ≡ event.Admit u → (task s u).state ≡ mode.Suspended → next ≡ admitted u s → IsReady next u
+    admit_entry : (new : List ℕ) (u k : ℕ) → e.event ≡ event.Admit u → (task s u).state ≡ mode.Suspended → next ≡ admitted_state u s → IsReady next u
         → get_or new u 0 ≡ e.stamp.at → Tells new u k
     admit_entry new u k is asleep leads_to ready entry = (
       λ less. record {
@@ -187,7 +187,7 @@ module _ (config : Config) (app : App) where
       λ r. by (since_before u k r),
     )
       where
-        now : (front rest : List Stamped) (x : System) → [] ≡ front ++ rest → Leads config app front (admitted u s) x → IsReady x u
+        now : (front rest : List Stamped) (x : System) → [] ≡ front ++ rest → Leads config app front (admitted_state u s) x → IsReady x u
         now [] rest x cut path = let Q : System → Type 0 = λ y. IsReady y u in subst Q (leads_to ∙ sym path) ready
         now (f ∷ front) rest x cut path = absurd cc
 
@@ -242,7 +242,7 @@ module _ (config : Config) (app : App) where
           let declared = step.1.declared in
           let count = ordered.count in
           ap (λ (x : System). (task x t).state) step.4
-          ∙ ap (λ (k : Task). k.state) (get_or-set_same s.tasks t (record (starts app t (task s t).frames (task s t)) { state = mode.Active; raised = (declaration config t).non }) sleeping (omega (arith, declared, count)))
+          ∙ ap (λ (k : Task). k.state) (get_or-set_same s.tasks t (record (started_task app t (task s t).frames (task s t)) { state = mode.Active; raised = (declaration config t).non }) sleeping_task (omega (arith, declared, count)))
 
       enters : (t : ℕ) → OsekStep config app (event.Enter t) s next → Told (event.Enter t) (set moments t 0)
       enters t step u k = by (cases_eq u t)
@@ -275,8 +275,8 @@ module _ (config : Config) (app : App) where
               let declared = step.1 in
               let count = ordered.count in
               ap (λ (x : System). (task x t).state) step.2
-              ∙ (ap (λ m. (task (if_suspended m (record (activated s t) { fresh = t ∷ s.fresh }) s) t).state) asleep
-              ∙ ap (λ (k : Task). k.state) (get_or-set_same s.tasks t (record (task s t) { state = mode.Ready }) sleeping (omega (arith, declared, count))))
+              ∙ (ap (λ m. (task (if_suspended m (record (activated_state s t) { fresh = t ∷ s.fresh }) s) t).state) asleep
+              ∙ ap (λ (k : Task). k.state) (get_or-set_same s.tasks t (record (task s t) { state = mode.Ready }) sleeping_task (omega (arith, declared, count))))
 
           same_number : event.Admit t ≡ event.Admit u → t ≡ u
           same_number h = cc

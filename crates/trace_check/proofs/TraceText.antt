@@ -14,7 +14,7 @@ use Rattle.sloth_base.specs.declared.event.Event.TheVariants as event
 use Rattle.sloth_base.specs.declared.event.Stamped.{Stamped}
 use Rattle.sloth_base.specs.declared.service.Service.{Service}
 use Rattle.sloth_base.specs.declared.service.Service.TheVariants as service
-use Rattle.text_pieces.specs.Bytes.{has}
+use Rattle.text_pieces.specs.Bytes.{is_byte_of}
 use Rattle.asm_lines.specs.Operands.{before, behind}
 use Rattle.asm_lines.proofs.Cuts.{lacks, has_in, has_here, before_is, behind_is}
 use Rattle.trace_text.specs.EventLines.{HasNumbers, IsLineOf, Has32Bits, counted_line}
@@ -26,18 +26,18 @@ use Rattle.trace_check.specs.TraceText.{text_of, HasLine, Shows, IsFirstBad, Beg
 
 -- ---- no LF stands in a line
 
-number_lacks : (n : ℕ) → n < 0x1_0000_0000 → has 10 (decimal n) ≡ false
+number_lacks : (n : ℕ) → n < 0x1_0000_0000 → is_byte_of 10 (decimal n) ≡ false
 number_lacks n h = lacks is_ascii_digit 10 refl (decimal n) (writes n (omega (arith, h))).digits_alone
 
-name_lacks : (name : List ℕ) → IsName name → has 10 name ≡ false
+name_lacks : (name : List ℕ) → IsName name → is_byte_of 10 name ≡ false
 name_lacks [] h = absurd h.word
 name_lacks (first ∷ rest) h =
     has_in 10 (first ∷ []) rest
     (lacks begins_word 10 refl (first ∷ []) (ap (λ b. b && true) h.word.0))
     (lacks continues_word 10 refl rest (list_all-from_AllPass continues_word rest h.word.1))
 
-service_lacks : (s : Service) → has 10 (service_name s) ≡ false
-unfolding has
+service_lacks : (s : Service) → is_byte_of 10 (service_name s) ≡ false
+unfolding is_byte_of
 service_lacks service.ActivateTask = refl
 service_lacks service.TerminateTask = refl
 service_lacks service.ChainTask = refl
@@ -53,36 +53,36 @@ service_lacks service.WaitEvent = refl
 
 -- fixed words
 record Fixed : Type 0 where
-  space : has 10 (codes " ") ≡ false
-  dash : has 10 (codes "-") ≡ false
-  boot : has 10 (codes "boot") ≡ false
-  admit : has 10 (codes "admit ") ≡ false
-  enter : has 10 (codes "enter ") ≡ false
-  run : has 10 (codes "run ") ≡ false
-  call : has 10 (codes "call ") ≡ false
-  left : has 10 (codes "left ") ≡ false
-  back : has 10 (codes "back ") ≡ false
-  idle : has 10 (codes "idle") ≡ false
-  stray : has 10 (codes "stray") ≡ false
+  space : is_byte_of 10 (codes " ") ≡ false
+  dash : is_byte_of 10 (codes "-") ≡ false
+  boot : is_byte_of 10 (codes "boot") ≡ false
+  admit : is_byte_of 10 (codes "admit ") ≡ false
+  enter : is_byte_of 10 (codes "enter ") ≡ false
+  run : is_byte_of 10 (codes "run ") ≡ false
+  call : is_byte_of 10 (codes "call ") ≡ false
+  left : is_byte_of 10 (codes "left ") ≡ false
+  back : is_byte_of 10 (codes "back ") ≡ false
+  idle : is_byte_of 10 (codes "idle") ≡ false
+  stray : is_byte_of 10 (codes "stray") ≡ false
 
 fixed : Fixed
-unfolding has
+unfolding is_byte_of
 fixed = record { space = refl; dash = refl; boot = refl; admit = refl; enter = refl; run = refl; call = refl; left = refl; back = refl; idle = refl; stray = refl }
 
-named_lacks : (names : List (List ℕ)) → AreNames names → (i : ℕ) → has 10 (name_of names i) ≡ false
+named_lacks : (names : List (List ℕ)) → AreNames names → (i : ℕ) → is_byte_of 10 (name_of names i) ≡ false
 named_lacks names named i = by (cases_lt i (length names))
   where
-    by : (i < length names) ⊎ (length names ≤ i) → has 10 (name_of names i) ≡ false
+    by : (i < length names) ⊎ (length names ≤ i) → is_byte_of 10 (name_of names i) ≡ false
     by (inl lt) =
         let e : name_of names i ≡ get_or names i [] = ap (λ o. unwrap_or o (codes "-")) (slice_get-get_or names i [] lt) in
-        ap (has 10) e ∙ name_lacks (get_or names i []) (named.each i [] lt)
-    by (inr ge) = ap (λ o. has 10 (unwrap_or o (codes "-"))) (slice_get_past names i ge) ∙ fixed.dash
+        ap (is_byte_of 10) e ∙ name_lacks (get_or names i []) (named.each i [] lt)
+    by (inr ge) = ap (λ o. is_byte_of 10 (unwrap_or o (codes "-"))) (slice_get_past names i ge) ∙ fixed.dash
 
 module _ (tasks functions : List (List ℕ)) (named : AreNames tasks) (called : AreNames functions) where
-  and : (a b : List ℕ) → has 10 a ≡ false → has 10 b ≡ false → has 10 (a ++ b) ≡ false
+  and : (a b : List ℕ) → is_byte_of 10 a ≡ false → is_byte_of 10 b ≡ false → is_byte_of 10 (a ++ b) ≡ false
   and a b p q = has_in 10 a b p q
 
-  event_lacks : (e : Event) → HasNumbers (length tasks) (length functions) e → has 10 (event_text tasks functions e) ≡ false
+  event_lacks : (e : Event) → HasNumbers (length tasks) (length functions) e → is_byte_of 10 (event_text tasks functions e) ≡ false
   event_lacks event.Boot h = fixed.boot
   event_lacks (event.Admit t) h = and (codes "admit ") (name_of tasks t) fixed.admit (named_lacks tasks named t)
   event_lacks (event.Enter t) h = and (codes "enter ") (name_of tasks t) fixed.enter (named_lacks tasks named t)
@@ -108,7 +108,7 @@ module _ (tasks functions : List (List ℕ)) (named : AreNames tasks) (called : 
   event_lacks event.Idle h = fixed.idle
   event_lacks event.Stray h = fixed.stray
 
-  line_lacks : (e : Stamped) → HasLine tasks functions e → has 10 (counted_line tasks functions e) ≡ false
+  line_lacks : (e : Stamped) → HasLine tasks functions e → is_byte_of 10 (counted_line tasks functions e) ≡ false
   line_lacks e h =
       and _ (event_text tasks functions e.event)
       (and _ (codes " ") (and _ (decimal e.stamp.at) (and (decimal e.stamp.from) (codes " ") (number_lacks e.stamp.from h.from) fixed.space) (number_lacks e.stamp.at h.at)) fixed.space)
@@ -208,10 +208,10 @@ module _ (tasks functions : List (List ℕ)) (named : AreNames tasks) (called : 
     line : List ℕ
     others : List ℕ
     is : text ≡ line ++ 10 ∷ others
-    lacks_it : has 10 line ≡ false
+    lacks_it : is_byte_of 10 line ≡ false
 
-  has_end : (text : List ℕ) → has 10 text ≡ true → HasEnd text
-  unfolding has
+  has_end : (text : List ℕ) → is_byte_of 10 text ≡ true → HasEnd text
+  unfolding is_byte_of
   has_end [] h = absurd (false≢true h)
   has_end (b ∷ text) h = by (has_end text) (b == 10) refl h
     where
@@ -226,21 +226,21 @@ module _ (tasks functions : List (List ℕ)) (named : AreNames tasks) (called : 
             lacks_it = ap (λ v. v || list_any (λ x. x == 10) rest.line) e ∙ rest.lacks_it;
           }
 
-  has_split : (text : List ℕ) → has 10 text ≡ true → text ≡ before 10 text ++ 10 ∷ behind 10 text
+  has_split : (text : List ℕ) → is_byte_of 10 text ≡ true → text ≡ before 10 text ++ 10 ∷ behind 10 text
   has_split text h =
       let end = has_end text h in
       let front = ap (before 10) end.is ∙ before_is 10 end.line end.others refl end.lacks_it in
       let back = ap (behind 10) end.is ∙ behind_is 10 end.line end.others refl end.lacks_it in
       end.is ∙ (ap (λ (l : List ℕ). l ++ 10 ∷ end.others) (sym front) ∙ ap (λ (l : List ℕ). before 10 text ++ 10 ∷ l) (sym back))
 
-  pub begins : (text : List ℕ) (e : Stamped) → has 10 text ≡ true → IsLineOf tasks functions e (before 10 text) → Begins tasks functions text e
+  pub begins : (text : List ℕ) (e : Stamped) → is_byte_of 10 text ≡ true → IsLineOf tasks functions e (before 10 text) → Begins tasks functions text e
   begins text e h is =
       let P : List ℕ → Type 0 = λ t. IsLineOf tasks functions e t in
       record { line = subst P is.prints is; is = has_split text h ∙ ap (λ (l : List ℕ). l ++ 10 ∷ behind 10 text) is.prints }
 
-  pub begins_no_end : (text : List ℕ) → has 10 text ≡ false → BeginsWithNone tasks functions text
+  pub begins_no_end : (text : List ℕ) → is_byte_of 10 text ≡ false → BeginsWithNone tasks functions text
   begins_no_end text no_end e after h same =
-      true≢false (sym (has_here 10 (counted_line tasks functions e) after refl) ∙ (sym (ap (has 10) same) ∙ no_end))
+      true≢false (sym (has_here 10 (counted_line tasks functions e) after refl) ∙ (sym (ap (is_byte_of 10) same) ∙ no_end))
 
   pub begins_none : (text : List ℕ) → ((e : Stamped) → IsLineOf tasks functions e (before 10 text) → ⊥) → BeginsWithNone tasks functions text
   begins_none text no_event e after h same =
@@ -297,7 +297,7 @@ module _ (tasks functions : List (List ℕ)) (named : AreNames tasks) (called : 
   abbrev ReadsLine : Option Stamped → Type 0
   ReadsLine result = (e : Stamped) → (result ≡ Some e) ↔ IsLineOf tasks functions e line
 
-  pub reads_some : (result : Option Stamped) → has 10 text ≡ true → line ≡ before 10 text → ReadsLine result → IfSome result (λ e. Begins tasks functions text e)
+  pub reads_some : (result : Option Stamped) → is_byte_of 10 text ≡ true → line ≡ before 10 text → ReadsLine result → IfSome result (λ e. Begins tasks functions text e)
   reads_some None ended is reads = tt
   reads_some (Some e) ended is reads =
       let P : List ℕ → Type 0 = λ t. IsLineOf tasks functions e t in

@@ -4,7 +4,7 @@ use Rattle.std.specs.Prelude.{◌-◌, ◌==◌, ◌&&◌, ◌||◌, is_some, no
 use Rattle.std.specs.Bool.{Decides}
 use Rattle.std.proofs.lemmas.Bool.{and_from, lt-ltb, true≢false}
 use Rattle.std.specs.Int.{bit_at}
-use Rattle.osek_run.specs.Steps.{Machine}
+use Rattle.osek_machine.specs.Steps.{Machine}
 use Rattle.std.proofs.lemmas.Bool.Decides.{Decides-and, Decides-or, Decides-not, Decides-ltb, Decides-like, Decides-below_and}
 use Rattle.std.proofs.lemmas.List.{append-nil, take-append-drop}
 use Rattle.std.proofs.Math.Seq.{take-append_seam}
@@ -14,15 +14,15 @@ use Rattle.sloth_base.specs.declared.app.App.{App}
 use Rattle.sloth_base.specs.declared.event.Event.{Event}
 use Rattle.sloth_base.specs.declared.event.Event.TheVariants as event
 use Rattle.sloth_base.specs.declared.event.Stamped.{Stamped}
-use Rattle.osek_machine.specs.declared.state.TaskState.TheVariants as mode
-use Rattle.osek_machine.specs.State.{System, task, opening}
-use Rattle.osek_machine.specs.Priority.{rank, is_active}
-use Rattle.osek_machine.specs.Steps.{OsekStep}
-use Rattle.osek_machine.specs.Next.{is_ready, all_below}
-use Rattle.osek_machine.specs.Runs.{Leads, Follows, ReadySince, OsekRun, PassesOver, PassesOverArrivals}
-use Rattle.osek_machine.proofs.Tests.{Decides-is_ready, Decides-is_active}
-use Rattle.osek_machine.proofs.Leading.{follows_leads, one_end, one_step}
-use Rattle.osek_run.specs.Above.{is_above}
+use Rattle.osek_scheduler.specs.declared.state.TaskState.TheVariants as mode
+use Rattle.osek_scheduler.specs.State.{System, task, opening}
+use Rattle.osek_scheduler.specs.Priority.{rank, is_active}
+use Rattle.osek_scheduler.specs.Steps.{OsekStep}
+use Rattle.osek_scheduler.specs.Next.{is_ready, all_below}
+use Rattle.osek_scheduler.specs.Runs.{Leads, Follows, ReadySince, OsekRun, PassesOver, PassesOverArrivals}
+use Rattle.osek_scheduler.proofs.Tests.{Decides-is_ready, Decides-is_active}
+use Rattle.osek_scheduler.proofs.Leading.{follows_leads, one_end, one_step}
+use Rattle.osek_machine.specs.Above.{is_above}
 use Rattle.trace_check.specs.Moments.{KeepsMoments, all_later, noted}
 use Rattle.trace_check.specs.Walk.{Walk, Walks, Walking, StraysAt, Stops, Walked, task_passes, event_passes}
 use Rattle.trace_check.proofs.Moments.{moments_more, no_moments}

@@ -5,10 +5,10 @@ use Rattle.sloth_base.specs.declared.app.App.{App}
 use Rattle.sloth_base.specs.declared.event.Event.{Event}
 use Rattle.sloth_base.specs.declared.event.Event.TheVariants as event
 use Rattle.sloth_base.specs.declared.event.Stamped.{Stamped}
-use Rattle.osek_machine.specs.State.{System, task, opening}
-use Rattle.osek_machine.specs.Services.{if_suspended}
-use Rattle.osek_machine.specs.Next.{all_below}
-use Rattle.osek_machine.specs.Runs.{Leads, ReadySince}
+use Rattle.osek_scheduler.specs.State.{System, task, opening}
+use Rattle.osek_scheduler.specs.Services.{if_suspended}
+use Rattle.osek_scheduler.specs.Next.{all_below}
+use Rattle.osek_scheduler.specs.Runs.{Leads, ReadySince}
 
 -- the moments after an event of moment `at` in state s: that of an admit that makes its task Ready is noted, an entry clears
 abbrev pub noted : Event → ℕ → System → List ℕ → List ℕ

@@ -4,8 +4,8 @@ use Rattle.sloth_base.specs.declared.config.Config.{Config}
 use Rattle.sloth_base.specs.declared.app.App.{App}
 use Rattle.sloth_base.specs.declared.event.Arrival.{Arrival}
 use Rattle.sloth_base.specs.declared.event.Stamped.{Stamped}
-use Rattle.osek_machine.specs.Runs.{OsekRun}
-use Rattle.osek_machine.specs.InTime.{InTime}
+use Rattle.osek_scheduler.specs.Runs.{OsekRun}
+use Rattle.osek_scheduler.specs.InTime.{InTime}
 use Rattle.trace_check.specs.TraceText.{Shows}
 use Rattle.trace_check.specs.Walk.{StraysAt}
 

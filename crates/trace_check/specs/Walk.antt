@@ -5,12 +5,12 @@ use Rattle.sloth_base.specs.declared.app.App.{App}
 use Rattle.sloth_base.specs.declared.event.Event.{Event}
 use Rattle.sloth_base.specs.declared.event.Stamped.{Stamped}
 use Rattle.sloth_base.specs.Events.{served_task}
-use Rattle.osek_machine.specs.State.{System, task, opening}
-use Rattle.osek_machine.specs.Priority.{is_active}
-use Rattle.osek_machine.specs.Steps.{OsekStep}
-use Rattle.osek_machine.specs.Runs.{OsekRun, Follows}
-use Rattle.osek_run.specs.Above.{is_above}
-use Rattle.osek_run.specs.Steps.{Machine}
+use Rattle.osek_scheduler.specs.State.{System, task, opening}
+use Rattle.osek_scheduler.specs.Priority.{is_active}
+use Rattle.osek_scheduler.specs.Steps.{OsekStep}
+use Rattle.osek_scheduler.specs.Runs.{OsekRun, Follows}
+use Rattle.osek_machine.specs.Above.{is_above}
+use Rattle.osek_machine.specs.Steps.{Machine}
 use Rattle.trace_check.specs.Moments.{KeepsMoments, all_later, noted}
 
 -- the scheduler as it stands, and the moments

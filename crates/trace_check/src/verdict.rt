@@ -2,7 +2,7 @@
 ghost use Rattle.std.specs.Prelude.{◌≡◌, ◌<◌, ◌↔◌, IfOk, length};
 ghost use Rattle.sloth_base.specs.Arrivals.{AreArrivals};
 ghost use Rattle.sloth_base.specs.Owners.{owners_in};
-ghost use Rattle.app_rules.specs.WellFormed.{WellFormed};
+ghost use Rattle.code_rules.specs.WellFormed.{WellFormed};
 ghost use Rattle.trace_check.specs.Verdicts.{Checked, func_names, task_names};
 ghost use Rattle.trace_check.specs.Answer.{IsVerdict};
 

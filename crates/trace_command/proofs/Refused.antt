@@ -6,7 +6,7 @@ use Rattle.sloth_base.specs.declared.config.Config.{Config}
 use Rattle.sloth_base.specs.declared.event.Arrival.{Arrival}
 use Rattle.sloth_base.specs.declared.refusal.Part.TheVariants.{Arr}
 use Rattle.sloth_base.specs.declared.refusal.Refusal.{Refusal}
-use Rattle.sloth_refusal.specs.Order.{IsLeast, NoFault}
+use Rattle.least_fault.specs.Order.{IsLeast, NoFault}
 use Rattle.sloth_source.specs.Texts.{Accepted}
 use Rattle.sloth_source.proofs.Least.{one_least, of_some}
 use Rattle.sloth_source.proofs.Refusals.{one_refusal}

@@ -2,7 +2,7 @@
 ghost use Rattle.std.specs.Prelude.{◌<◌, IfOk, IfErr, length};
 ghost use Rattle.sloth_base.specs.Arrivals.{AreArrivals};
 ghost use Rattle.sloth_base.specs.Owners.{owners_in};
-ghost use Rattle.app_rules.specs.WellFormed.{WellFormed};
+ghost use Rattle.code_rules.specs.WellFormed.{WellFormed};
 ghost use Rattle.sloth_source.specs.Texts.{Accepted};
 ghost use Rattle.trace_command.specs.Inputs.{AreRead, InputsErrorIs, names_of};
 

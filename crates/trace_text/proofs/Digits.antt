@@ -6,8 +6,8 @@ use Rattle.std.specs.Char.{is_ascii_digit}
 use Rattle.std.proofs.lemmas.Bool.{le-leb, lt-leb, le-ltb}
 use Rattle.std.proofs.lemmas.Fmt.{decimal_by_steps}
 use Rattle.std.proofs.lemmas.List.Folds.{list_all-append}
-use Rattle.text_pieces.specs.Bytes.{has}
-use Rattle.text_pieces.specs.Digits.{digit_value, value_from, capped}
+use Rattle.text_pieces.specs.Bytes.{is_byte_of}
+use Rattle.text_pieces.specs.Digits.{digit_value, value_from, capped_value}
 use Rattle.asm_lines.proofs.Cuts.{lacks}
 use Rattle.trace_text.specs.EventsRead.{number}
 
@@ -55,13 +55,13 @@ pub writes : (n : ℕ) → n < 2 ^ 64 → Writes n (decimal n)
 writes n h = decimal_by_steps Writes one more n h
 
 -- no space is a digit
-pub decimal_lacks : (n : ℕ) → n < 2 ^ 64 → has 32 (decimal n) ≡ false
+pub decimal_lacks : (n : ℕ) → n < 2 ^ 64 → is_byte_of 32 (decimal n) ≡ false
 decimal_lacks n h = lacks is_ascii_digit 32 refl (decimal n) (writes n h).digits_alone
 
 pub number_back : (n : ℕ) → n < 0x1_0000_0000 → number (decimal n) ≡ Some n
 unfolding number
 number_back n h =
     let v = (writes n (omega arith)).value in
-    let c : capped (value_from 10 0 (decimal n)) ≡ n = omega (arith, v) in
+    let c : capped_value (value_from 10 0 (decimal n)) ≡ n = omega (arith, v) in
     let t = le-ltb 4294967295 n (omega arith) in
     rw (c, t) refl

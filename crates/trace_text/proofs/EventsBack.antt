@@ -13,7 +13,7 @@ use Rattle.sloth_base.specs.ServiceCodes.{service_name}
 use Rattle.sloth_base.proofs.Services.{of_name}
 use Rattle.sloth_base.specs.declared.service.Service.{Service}
 use Rattle.sloth_base.specs.declared.service.Service.TheVariants as service
-use Rattle.text_pieces.specs.Bytes.{has}
+use Rattle.text_pieces.specs.Bytes.{is_byte_of}
 use Rattle.text_pieces.proofs.Places.{position_at}
 use Rattle.asm_lines.proofs.Cuts.{lacks, has_in, before_is, behind_is}
 use Rattle.trace_text.specs.EventLines.{IsPlace, IsTaskNumber, HasNumbers, IsLineOf, Has32Bits, counted_line}
@@ -36,15 +36,15 @@ four : (a b c d : List ℕ) → a ++ codes " " ++ b ++ codes " " ++ c ++ codes "
 four [] b c d = ap (λ (t : List ℕ). 32 ∷ t) (three b c d)
 four (x ∷ a) b c d = ap (λ (t : List ℕ). x ∷ t) (four a b c d)
 
-first_is : (a b : List ℕ) → has 32 a ≡ false → first_word (a ++ 32 ∷ b) ≡ a
+first_is : (a b : List ℕ) → is_byte_of 32 a ≡ false → first_word (a ++ 32 ∷ b) ≡ a
 first_is a b h = before_is 32 a b refl h
 
-others_are : (a b : List ℕ) → has 32 a ≡ false → other_words (a ++ 32 ∷ b) ≡ b
+others_are : (a b : List ℕ) → is_byte_of 32 a ≡ false → other_words (a ++ 32 ∷ b) ≡ b
 others_are a b h = behind_is 32 a b refl h
 
 -- ---- names
 
-name_lacks : (name : List ℕ) → IsName name → has 32 name ≡ false
+name_lacks : (name : List ℕ) → IsName name → is_byte_of 32 name ≡ false
 name_lacks [] h = absurd h.word
 name_lacks (first ∷ rest) h =
     has_in 32 (first ∷ []) rest
@@ -80,7 +80,7 @@ module _ (names : List (List ℕ)) (named : AreNames names) where
       ap (λ w. position (bytes_eq w) names >>= word_of) (inside i h.inside)
       ∙ (ap (λ o. o >>= word_of) (position_at names named.distinct i [] h.inside) ∙ word_is i h.word)
 
-  place_lacks : (i : ℕ) → IsPlace (length names) i → has 32 (name_of names i) ≡ false
+  place_lacks : (i : ℕ) → IsPlace (length names) i → is_byte_of 32 (name_of names i) ≡ false
   place_lacks i h = name_lacks (name_of names i) (is_name i h.inside)
 
   dash_back : (t : ℕ) → length names ≤ t → IsTaskNumber (length names) t → task_number names (name_of names t) ≡ Some t
@@ -98,17 +98,17 @@ module _ (names : List (List ℕ)) (named : AreNames names) where
   task_back : (t : ℕ) → IsTaskNumber (length names) t → task_number names (name_of names t) ≡ Some t
   task_back t h = ⊎_elim (λ lt. number_in_place t lt h) (λ ge. dash_back t ge h) (cases_lt t (length names))
 
-  task_lacks : (t : ℕ) → has 32 (name_of names t) ≡ false
-  unfolding has
-  task_lacks t = ⊎_elim (λ lt. name_lacks (name_of names t) (is_name t lt)) (λ ge. ap (has 32) (past t ge)) (cases_lt t (length names))
+  task_lacks : (t : ℕ) → is_byte_of 32 (name_of names t) ≡ false
+  unfolding is_byte_of
+  task_lacks t = ⊎_elim (λ lt. name_lacks (name_of names t) (is_name t lt)) (λ ge. ap (is_byte_of 32) (past t ge)) (cases_lt t (length names))
 
   -- a name or `-` is short
   pub short_names : (k : ℕ) → length (name_of names k) ≤ 64
   short_names k =
       ⊎_elim (λ lt. (is_name k lt).short) (λ ge. subst (λ (t : List ℕ). length t ≤ 64) (sym (past k ge)) (omega arith)) (cases_lt k (length names))
 
-service_lacks : (s : Service) → has 32 (service_name s) ≡ false
-unfolding has
+service_lacks : (s : Service) → is_byte_of 32 (service_name s) ≡ false
+unfolding is_byte_of
 service_lacks service.ActivateTask = refl
 service_lacks s = refl
 
@@ -118,7 +118,7 @@ one_after : {A B : Type 0} (o : Option A) (go : A → Option B) (a : A) → o �
 one_after o go a e = ap (λ x. x >>= go) e
 
 module _ (tasks functions : List (List ℕ)) (named : AreNames tasks) (known : AreNames functions) where
-  cut_there : (kind rest : List ℕ) → has 32 kind ≡ false
+  cut_there : (kind rest : List ℕ) → is_byte_of 32 kind ≡ false
       → of_task tasks functions (first_word (kind ++ 32 ∷ rest)) (other_words (kind ++ 32 ∷ rest)) ≡ of_task tasks functions kind rest
   cut_there kind rest h =
       ap (λ (k : List ℕ). of_task tasks functions k (other_words (kind ++ 32 ∷ rest))) (first_is kind rest h) ∙ ap (of_task tasks functions kind) (others_are kind rest h)
@@ -173,7 +173,7 @@ module _ (tasks functions : List (List ℕ)) (named : AreNames tasks) (known : A
   left_back t s = one_after (service_named (service_name s)) (λ s. Some (event.Left t s)) s (of_name s)
 
   event_back : (e : Event) → HasNumbers (length tasks) (length functions) e → event_in tasks functions (event_text tasks functions e) ≡ Some e
-  unfolding event_in is_single single_in more_in has
+  unfolding event_in is_single single_in more_in is_byte_of
   event_back event.Boot h = refl
   event_back (event.Admit t) h = cut_there (codes "admit") (name_of tasks t) refl ∙ alone (codes "admit") t h refl
   event_back (event.Enter t) h = cut_there (codes "enter") (name_of tasks t) refl ∙ alone (codes "enter") t h refl

@@ -14,9 +14,9 @@ use Rattle.sloth_base.specs.declared.refusal.Part.TheVariants.{Arr}
 use Rattle.sloth_base.specs.declared.refusal.Code.TheVariants.{T2, T3, T4}
 use Rattle.sloth_base.specs.Owners.{IsOwned}
 use Rattle.sloth_base.proofs.Owners.{task_owned}
-use Rattle.sloth_refusal.specs.Order.{NoFault}
-use Rattle.sloth_refusal.proofs.Nowhere.{case_false}
-use Rattle.trace_text.specs.ArrivalsText.{is_arrival, moment_of, task_of, task_text, arrival_of, last_moment, is_outside, is_t2, is_t3, is_t4, LineFault, owners_read}
+use Rattle.least_fault.specs.Order.{NoFault}
+use Rattle.least_fault.proofs.Nowhere.{case_false}
+use Rattle.trace_text.specs.ArrivalsText.{is_arrival, moment_of, named_task, task_text, arrival_of, last_moment, is_outside, is_t2, is_t3, is_t4, LineFault, owners_read}
 
 last-at : (none : ℕ) (xs : List Arrival) (k : ℕ) (d : Arrival) → length xs ≡ suc k → (slice_index_or xs k d).at ≡ last_moment none xs
 last-at none [] k d h = absurd (omega (arith, h))
@@ -35,7 +35,7 @@ last-fits none [] h all = h
 last-fits none (x ∷ xs) h all = last-fits x.at xs (All-head (λ a. a.at ≤ 1000000) x xs all) (All-tail (λ a. a.at ≤ 1000000) x xs all)
 
 -- a place that is found is one of the first 256
-pub found-below : (o : Option ℕ) (tasks : List (List ℕ)) (line : List ℕ) → o ≡ task_of tasks line → (i : ℕ) → o ≡ Some i → (i < 256) × (i < length tasks)
+pub found-below : (o : Option ℕ) (tasks : List (List ℕ)) (line : List ℕ) → o ≡ named_task tasks line → (i : ℕ) → o ≡ Some i → (i < 256) × (i < length tasks)
 found-below o tasks line q i e =
     let h = (position-Some (bytes_eq (task_text line)) (take 256 tasks) i [] (sym q ∙ e)).0 in
     let l = length-take 256 tasks in
@@ -74,12 +74,12 @@ module _ (tasks : List (List ℕ)) (before : List Arrival) (n : ℕ) (line : Lis
   pub moment-fits : moment_of line ≤ 1000000
   moment-fits = ltb-false 1000000 (moment_of line) is-in.2
 
-  names-task : unwrap_or (task_of tasks line) 0 < length tasks
+  names-task : unwrap_or (named_task tasks line) 0 < length tasks
   names-task =
       let t2 = case_false Arr (is_t2 tasks line) n T2 (λ r f. none r (inr (inl f))) in
-      let some = some-of (task_of tasks line) (without (is_arrival line) (not (is_some (task_of tasks line))) is t2) in
-      let e : unwrap_or (task_of tasks line) 0 ≡ some.0 = ap (λ o. unwrap_or o 0) some.1 in
-      let h = (found-below (task_of tasks line) tasks line refl some.0 some.1).1 in omega (arith, e, h)
+      let some = some-of (named_task tasks line) (without (is_arrival line) (not (is_some (named_task tasks line))) is t2) in
+      let e : unwrap_or (named_task tasks line) 0 ≡ some.0 = ap (λ o. unwrap_or o 0) some.1 in
+      let h = (found-below (named_task tasks line) tasks line refl some.0 some.1).1 in omega (arith, e, h)
 
   rises : last_moment 0 before ≤ moment_of line
   rises =

@@ -11,9 +11,9 @@ use Rattle.sloth_base.specs.declared.event.Arrival.{Arrival}
 use Rattle.sloth_base.specs.declared.refusal.Refusal.{Refusal}
 use Rattle.sloth_base.specs.declared.refusal.BuildError.{BuildError}
 use Rattle.sloth_base.specs.declared.refusal.BuildError.TheVariants.{Refused, Memory}
-use Rattle.sloth_refusal.specs.Order.{IsLeast, NoFault, ErrorIs}
-use Rattle.sloth_refusal.specs.Search.{SomeFrom, merge, lesser}
-use Rattle.sloth_refusal.proofs.Kept.{Loop, loop_more}
+use Rattle.least_fault.specs.Order.{IsLeast, NoFault, ErrorIs}
+use Rattle.least_fault.specs.Search.{SomeFrom, merge, lesser}
+use Rattle.least_fault.proofs.Kept.{Loop, loop_more}
 use Rattle.trace_text.specs.ArrivalsText.{is_arrival, arrival_of, arrivals_of, LineFault, FaultAt, LinesFault}
 
 arrivals-append : (tasks xs ys : List (List ℕ)) → arrivals_of tasks (xs ++ ys) ≡ arrivals_of tasks xs ++ arrivals_of tasks ys

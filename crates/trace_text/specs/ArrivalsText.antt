@@ -8,8 +8,8 @@ use Rattle.sloth_base.specs.declared.refusal.Part.TheVariants.{Arr}
 use Rattle.sloth_base.specs.declared.refusal.Code.TheVariants as code
 use Rattle.sloth_base.specs.declared.refusal.Refusal.{Refusal}
 use Rattle.sloth_base.specs.declared.lines.Owners.{Owners}
-use Rattle.sloth_refusal.specs.Search.{Somewhere}
-use Rattle.sloth_refusal.specs.Cases.{CaseOf}
+use Rattle.least_fault.specs.Search.{Somewhere}
+use Rattle.least_fault.specs.Cases.{CaseOf}
 use Rattle.text_pieces.specs.Bytes.{is_name}
 use Rattle.text_pieces.specs.Digits.{value_from}
 use Rattle.asm_lines.specs.Lines.{lines}
@@ -42,14 +42,14 @@ abbrev pub moment_of : List ℕ → ℕ
 moment_of line = value_from 10 0 (moment_text line)
 
 -- the number of the task with the arrival's name. A controller's line has a byte as its number, so none is behind the first 256 names.
-abbrev pub task_of : List (List ℕ) → List ℕ → Option ℕ
-task_of tasks line = position (bytes_eq (task_text line)) (take 256 tasks)
+abbrev pub named_task : List (List ℕ) → List ℕ → Option ℕ
+named_task tasks line = position (bytes_eq (task_text line)) (take 256 tasks)
 
 -- ---- the arrivals
 
 -- the arrival of a line, with the names of the tasks
 abbrev pub arrival_of : List (List ℕ) → List ℕ → Arrival
-arrival_of tasks line = record { at = moment_of line; line = unwrap_or (task_of tasks line) 0 }
+arrival_of tasks line = record { at = moment_of line; line = unwrap_or (named_task tasks line) 0 }
 
 -- the arrivals of these lines, in their order
 abbrev pub arrivals_of : List (List ℕ) → List (List ℕ) → List Arrival
@@ -72,7 +72,7 @@ is_t1 line = not (is_comment line) && not (is_arrival line)
 
 -- T2: a name that is no task's
 abbrev pub is_t2 : List (List ℕ) → List ℕ → Bool
-is_t2 tasks line = is_arrival line && not (is_some (task_of tasks line))
+is_t2 tasks line = is_arrival line && not (is_some (named_task tasks line))
 
 -- T3: a moment less than that of the arrival before
 abbrev pub is_t3 : List Arrival → List ℕ → Bool

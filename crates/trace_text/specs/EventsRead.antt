@@ -5,7 +5,7 @@ pub use Rattle.sloth_base.specs.ServiceCodes.{service_named}
 use Rattle.sloth_base.specs.declared.event.Event.{Event}
 use Rattle.sloth_base.specs.declared.event.Event.TheVariants as event
 use Rattle.sloth_base.specs.declared.event.Stamped.{Stamped}
-use Rattle.text_pieces.specs.Digits.{value_from, capped}
+use Rattle.text_pieces.specs.Digits.{value_from, capped_value}
 use Rattle.asm_lines.specs.Operands.{before, behind}
 
 infixl 10 ◌>>=◌
@@ -27,7 +27,7 @@ other_words text = behind 32 text
 
 -- the number that decimal digits write
 unfoldable pub number : List ℕ → Option ℕ
-number word = word_of (capped (value_from 10 0 word))
+number word = word_of (capped_value (value_from 10 0 word))
 
 -- the number of a name
 unfoldable pub place : List (List ℕ) → List ℕ → Option ℕ

@@ -15,10 +15,10 @@ is_idle event.Idle = true
 is_idle _ = false
 
 -- the events without each idle that directly follows an idle; whether the one before the first is an idle is given
-abbrev pub merged : Bool → List Stamped → List Stamped
-merged after_idle [] = []
-merged after_idle (e ∷ rest) =
-    if after_idle && is_idle e.event then merged true rest else e ∷ merged (is_idle e.event) rest
+abbrev pub merged_events : Bool → List Stamped → List Stamped
+merged_events after_idle [] = []
+merged_events after_idle (e ∷ rest) =
+    if after_idle && is_idle e.event then merged_events true rest else e ∷ merged_events (is_idle e.event) rest
 
 -- the last event is an idle, or of no events the one before them
 abbrev pub ends_idle : Bool → List Stamped → Bool
@@ -34,13 +34,13 @@ abbrev pub lines_of : Image → Form → List Stamped → List ℕ
 lines_of image form events = lines_with image.tasks image.funcs form events
 
 -- those that are printed: in the bare form no idle directly follows an idle
-abbrev pub printed : Form → Bool → List Stamped → List Stamped
-printed form.Counted after_idle events = events
-printed form.Bare after_idle events = merged after_idle events
+abbrev pub printed_events : Form → Bool → List Stamped → List Stamped
+printed_events form.Counted after_idle events = events
+printed_events form.Bare after_idle events = merged_events after_idle events
 
 -- the text of events that follow others, of which the last was an idle or not
 abbrev pub text_after : Image → Form → Bool → List Stamped → List ℕ
-text_after image form after_idle events = lines_of image form (printed form after_idle events)
+text_after image form after_idle events = lines_of image form (printed_events form after_idle events)
 
 -- the text of a run's events in a form
 abbrev pub text_in : Image → Form → List Stamped → List ℕ

@@ -2,16 +2,16 @@
 ghost use Rattle.std.specs.Prelude.{◌≡◌, ◌<◌, ◌≤◌, length, take, position, bytes_eq, IfSome};
 ghost use Rattle.std.specs.List.{list_all};
 ghost use Rattle.std.specs.Char.{is_ascii_digit};
-ghost use Rattle.sloth_refusal.specs.Search.{Finds};
-ghost use Rattle.text_pieces.specs.Digits.{capped};
-ghost use Rattle.trace_text.specs.ArrivalsText.{is_comment, are_digits, is_arrival, moment_of, task_of, arrival_of};
+ghost use Rattle.least_fault.specs.Search.{Finds};
+ghost use Rattle.text_pieces.specs.Digits.{capped_value};
+ghost use Rattle.trace_text.specs.ArrivalsText.{is_comment, are_digits, is_arrival, moment_of, named_task, arrival_of};
 ghost use Rattle.trace_text.specs.ArrivalsText.{last_moment, is_outside, is_t1, is_t2, is_t3, is_t4, LineFault};
 
+use least_fault::{merge, when};
 use sloth_base::event::Arrival;
 use sloth_base::name::Name;
 use sloth_base::numbers::Line;
 use sloth_base::refusal::{Code, Part, Refusal};
-use sloth_refusal::{merge, when};
 use text_pieces::bytes::{before, behind, is_name, same};
 use text_pieces::numerals::value;
 
@@ -53,7 +53,7 @@ pub fn is_arrival(line: &[u8]) -> bool
 
 // The moment, or a greater number than any moment.
 fn moment(line: &[u8]) -> u64
-    ensures moment { result ≡ capped (moment_of line.now) }
+    ensures moment { result ≡ capped_value (moment_of line.now) }
     ensures small { result ≤ 4294967296 }
 {
     value(before(line, b' '), 10)
@@ -77,7 +77,7 @@ fn first_names(tasks: &[Name], count: usize) -> &[Name]
 
 // The number of the task that the line names.
 fn task_of(tasks: &[Name], line: &[u8]) -> Option<usize>
-    ensures task { result ≡ task_of tasks.now line.now }
+    ensures task { result ≡ named_task tasks.now line.now }
     ensures small { IfSome result (λ number. number < 256) }
 {
     position(first_names(tasks, LINES), behind(line, b' '))

@@ -13,7 +13,7 @@ use Rattle.sloth_base.specs.declared.config.Config.{Config}
 use Rattle.sloth_base.specs.declared.event.Arrival.{Arrival}
 use Rattle.sloth_base.specs.declared.event.Stamped.{Stamped}
 use Rattle.sloth_base.specs.Events.{admitted_line}
-use Rattle.osek_machine.specs.InTime.{InTime, AdmitsAll, LeavesOut, others, longest}
+use Rattle.osek_scheduler.specs.InTime.{InTime, AdmitsAll, LeavesOut, others, longest_cut_off}
 use Rattle.trace_time.specs.Scan.{Scan, scan_start, scanned, MayFollow, FollowsScan}
 use Rattle.trace_time.specs.Counts.{AreSmall, Ending, SameCounts, admit_numbers, arrival_number, may_leave, last_moment, times}
 use Rattle.trace_time.specs.Timed.{Kept, is_late, NeverInTime, TimedBy}
@@ -143,4 +143,4 @@ module _ (kept : Kept) (rising : NeverFalls 1 kept.arrivals) (lines : All (λ a.
         no h =
             let ending = ending_is kept.config kept.n kept.arrivals events small lines rising kept.scan (timed.timely early).scans h in
             let Q : List ℕ → ℕ → Type 0 = λ l most. may_leave kept.n most kept.scan.ends (last_moment (front l)) (back l) ≡ true in
-            is ∙ subst (λ (most : ℕ). Q kept.admits most) (sym (timed.timely early).most) (subst (λ (l : List ℕ). Q l (longest kept.config events)) (sym (timed.timely early).admits) ending.leaves)
+            is ∙ subst (λ (most : ℕ). Q kept.admits most) (sym (timed.timely early).most) (subst (λ (l : List ℕ). Q l (longest_cut_off kept.config events)) (sym (timed.timely early).admits) ending.leaves)

@@ -7,9 +7,9 @@ use Rattle.sloth_base.specs.Stretches.{longest_stretch}
 use Rattle.sloth_base.specs.declared.config.Config.{Config}
 use Rattle.sloth_base.specs.declared.event.Arrival.{Arrival}
 use Rattle.sloth_base.specs.declared.event.Stamped.{Stamped}
-use Rattle.osek_machine.specs.Meaning.{on_some}
+use Rattle.osek_scheduler.specs.Meaning.{on_some}
 use Rattle.sloth_base.specs.Events.{admitted_line, is_boot}
-use Rattle.osek_machine.specs.InTime.{longest}
+use Rattle.osek_scheduler.specs.InTime.{longest_cut_off}
 use Rattle.trace_time.specs.Scan.{Scan, scan_start, looked, scanned}
 use Rattle.trace_time.specs.Counts.{admit_numbers, with_admit, last_moment}
 use Rattle.trace_time.specs.Timed.{Kept, is_late, NeverInTime, Timely, TimedBy}
@@ -29,12 +29,12 @@ numbers_more (x ∷ events) e =
     ∙ with_admit-append (admitted_line x.event) x.stamp.at (admit_numbers events) (with_admit (admitted_line e.event) e.stamp.at [])
 
 longest_more : (config : Config) (events : List Stamped) (e : Stamped)
-    → longest config (events ++ e ∷ []) ≡ cond (is_boot e.event) (longest_stretch config) (longest config events)
+    → longest_cut_off config (events ++ e ∷ []) ≡ cond (is_boot e.event) (longest_stretch config) (longest_cut_off config events)
 longest_more config [] e = refl
 longest_more config (x ∷ events) e = ap (cond (is_boot x.event) (longest_stretch config)) (longest_more config events e) ∙ by (is_boot x.event) (is_boot e.event)
   where
-    by : (b c : Bool) → cond b (longest_stretch config) (cond c (longest_stretch config) (longest config events))
-        ≡ cond c (longest_stretch config) (cond b (longest_stretch config) (longest config events))
+    by : (b c : Bool) → cond b (longest_stretch config) (cond c (longest_stretch config) (longest_cut_off config events))
+        ≡ cond c (longest_stretch config) (cond b (longest_stretch config) (longest_cut_off config events))
     by true true = refl
     by true false = refl
     by false c = refl
@@ -87,7 +87,7 @@ module _ (events : List Stamped) (old : Kept) (timed : TimedBy events old) (e : 
               most =
                   most
                   ∙ (ap (cond (is_boot e.event) (longest_stretch old.config)) was.most
-                  ∙ (sym (longest_more old.config events e) ∙ ap (λ (c : Config). longest c (events ++ e ∷ [])) (sym config)));
+                  ∙ (sym (longest_more old.config events e) ∙ ap (λ (c : Config). longest_cut_off c (events ++ e ∷ [])) (sym config)));
             }
 
         many : (b : Bool) → new.stopped ≡ b → is_late new ≡ true → length new.arrivals < length (admit_numbers (events ++ e ∷ []))

@@ -12,10 +12,10 @@ use Rattle.sloth_base.specs.declared.event.Event.{Event}
 use Rattle.sloth_base.specs.declared.event.Event.TheVariants as event
 use Rattle.sloth_base.specs.declared.event.Stamp.{Stamp}
 use Rattle.sloth_base.specs.declared.event.Stamped.{Stamped}
-use Rattle.osek_machine.specs.Meaning.{on_some, if_true}
-use Rattle.osek_machine.proofs.Tests.{if_true_some, if_true_is, on_some_from}
+use Rattle.osek_scheduler.specs.Meaning.{on_some, if_true}
+use Rattle.osek_scheduler.proofs.Tests.{if_true_some, if_true_is, on_some_from}
 use Rattle.sloth_base.specs.Events.{admitted_line, is_single}
-use Rattle.osek_machine.specs.InTime.{is_admit, Spans, IsStamped, StandsBefore, IsOrdered, IsSubsequence, KeepsOrder, others}
+use Rattle.osek_scheduler.specs.InTime.{is_admit, Spans, IsStamped, StandsBefore, IsOrdered, IsSubsequence, KeepsOrder, others}
 use Rattle.trace_time.specs.Scan.{Scan, scan_start, behind_first, from_moment, is_stamped, after_admit, after_other, after_event, looked, scanned, key_of, arrival_key, front_admits, KeepsBehind, Keeps, FollowsScan, MayFollow}
 use Rattle.trace_time.proofs.Subsequences.{sub_tail, sub_front, found_right, found_left, Found, AreFrom, trim_right, trim_left}
 

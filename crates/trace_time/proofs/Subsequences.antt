@@ -4,7 +4,7 @@ use Rattle.std.specs.Prelude.{◌==◌, ◌&&◌, ltb}
 use Rattle.std.proofs.lemmas.Bool.{and_parts, and_from, eqb-true, eq-eqb, true≢false, cases_lt, lt-ltb, le-ltb}
 use Rattle.std.proofs.lemmas.Option.{same_Some, none-some}
 use Rattle.sloth_base.specs.declared.event.Arrival.{Arrival}
-use Rattle.osek_machine.specs.InTime.{IsSubsequence}
+use Rattle.osek_scheduler.specs.InTime.{IsSubsequence}
 use Rattle.trace_time.specs.Scan.{behind_first, from_moment, arrival_key}
 
 abbrev Key : Type 0

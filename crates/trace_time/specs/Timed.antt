@@ -3,7 +3,7 @@ use Rattle.std.specs.Prelude.{ℕ, ◌<◌, ◌≡◌, ◌⊎◌, ◌||◌, List
 use Rattle.sloth_base.specs.declared.config.Config.{Config}
 use Rattle.sloth_base.specs.declared.event.Arrival.{Arrival}
 use Rattle.sloth_base.specs.declared.event.Stamped.{Stamped}
-use Rattle.osek_machine.specs.InTime.{longest}
+use Rattle.osek_scheduler.specs.InTime.{longest_cut_off}
 use Rattle.trace_time.specs.Scan.{Scan, scan_start, scanned}
 use Rattle.trace_time.specs.Counts.{admit_numbers}
 
@@ -30,7 +30,7 @@ NeverInTime n arrivals events = (scanned n (Some (scan_start arrivals)) events �
 pub record Timely (events : List Stamped) (kept : Kept) : Type 0 where
   pub scans : scanned kept.n (Some (scan_start kept.arrivals)) events ≡ Some kept.scan
   pub admits : kept.admits ≡ admit_numbers events
-  pub most : kept.most ≡ longest kept.config events
+  pub most : kept.most ≡ longest_cut_off kept.config events
 
 -- what is kept of these events
 pub record TimedBy (events : List Stamped) (kept : Kept) : Type 0 where

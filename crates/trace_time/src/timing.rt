@@ -5,7 +5,7 @@ ghost use Rattle.sloth_base.specs.Arrivals.{NeverFalls};
 ghost use Rattle.sloth_base.specs.declared.event.Stamped.{Stamped as AnyEvent};
 ghost use Rattle.sloth_base.specs.Events.{is_boot};
 ghost use Rattle.sloth_base.specs.Stretches.{Boots, longest_stretch, stretch_limit};
-ghost use Rattle.osek_machine.specs.InTime.{InTime};
+ghost use Rattle.osek_scheduler.specs.InTime.{InTime};
 ghost use Rattle.trace_time.specs.Counts.{AreSmall};
 ghost use Rattle.trace_time.specs.Timed.{TimedBy, is_late};
 

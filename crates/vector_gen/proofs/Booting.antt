@@ -9,13 +9,13 @@ use Rattle.sloth_region.specs.Layout.{idle_context, context_bytes, controller_ba
 use Rattle.rv32_instr.specs.declared.InstrKind.{InstrKind}
 use Rattle.rv32_instr.specs.declared.InstrKind.TheVariants.{Sb}
 use Rattle.sloth_base.specs.Arithmetic.{hi}
-use Rattle.rv32_routine.specs.Place.{at}
-use Rattle.rv32_routine.specs.Masked.{Masked, WithArrivals}
-use Rattle.rv32_routine.specs.Owes.{Owes, Pending, Enabled, Level}
-use Rattle.rv32_routine.proofs.Parts.{hi_lo}
-use Rattle.rv32_routine.proofs.Spread.{spread, spread_is, spread_from, others}
-use Rattle.rv32_routine.proofs.Whole.{handles}
-use Rattle.vector_gen.specs.Boot.{begins, raises, starts_one, starts, finishes, MayBoot, Booted, Boots}
+use Rattle.masked_code.specs.Place.{at}
+use Rattle.masked_code.specs.Masked.{Masked, WithArrivals}
+use Rattle.masked_code.specs.Owes.{Owes, Pending, Enabled, Level}
+use Rattle.masked_code.proofs.Parts.{hi_lo}
+use Rattle.masked_code.proofs.Spread.{spread, spread_is, spread_from, others}
+use Rattle.masked_code.proofs.Routines.{handles}
+use Rattle.vector_gen.specs.Boot.{register_code, line_code, starts_one, lines_code, finishing_code, MayBoot, Booted, Boots}
 
 -- the lines' bytes after the tasks from this line on
 abbrev levels_with : ℕ → List TaskDecl → List ℕ → List ℕ → List ℕ
@@ -39,26 +39,26 @@ module _ (from to : ℕ) (E : List ℕ → State → State → Type 0) (start : 
   abbrev with_x3 : ℕ → Core → Core
   with_x3 x3 c = record c { registers = 0 ∷ controller_base ∷ x2 ∷ x3 ∷ 1 ∷ tail }
 
-  raises_owe : (auto : Bool) (line o : ℕ) (code : List InstrKind) (c : Core) → line < 32 → ((o' : ℕ) → Owes from to o' code 0 E start (record c { pending = raised_if auto line c.pending })) → get_or c.registers 1 0 ≡ controller_base → get_or c.registers 4 0 ≡ 1 → Owes from to o (raises line auto ++ code) 0 E start c
+  raises_owe : (auto : Bool) (line o : ℕ) (code : List InstrKind) (c : Core) → line < 32 → ((o' : ℕ) → Owes from to o' code 0 E start (record c { pending = raised_if auto line c.pending })) → get_or c.registers 1 0 ≡ controller_base → get_or c.registers 4 0 ≡ 1 → Owes from to o (line_code line auto ++ code) 0 E start c
   raises_owe true line o code c h go one four = (Pending line, (omega arith, h), inl ((λ e. absurd (omega arith)), go (o + 4)))
   raises_owe false line o code c h go one four = go o
 
-  starts_owe : (tasks : List TaskDecl) (line o x3 : ℕ) (code : List InstrKind) (c : Core) → line + length tasks ≤ 32 → ((o' x3' : ℕ) → Owes from to o' code 0 E start (with_x3 x3' (record c { levels = levels_with line tasks levels c.levels; enabled = enabled_with line tasks c.enabled; pending = pending_with line tasks c.pending }))) → Owes from to o (starts line tasks levels ++ code) 0 E start (with_x3 x3 c)
+  starts_owe : (tasks : List TaskDecl) (line o x3 : ℕ) (code : List InstrKind) (c : Core) → line + length tasks ≤ 32 → ((o' x3' : ℕ) → Owes from to o' code 0 E start (with_x3 x3' (record c { levels = levels_with line tasks levels c.levels; enabled = enabled_with line tasks c.enabled; pending = pending_with line tasks c.pending }))) → Owes from to o (lines_code line tasks levels ++ code) 0 E start (with_x3 x3 c)
   starts_owe [] line o x3 code c h go = go o x3
   starts_owe (task ∷ tasks) line o x3 code c h go =
       let v = get_or levels line 0 in
       let below = small line in
       let o2 = o + 4 + 4 in
       let o3 = o2 + 4 in
-      let rest = starts (suc line) tasks levels ++ code in
+      let rest = lines_code (suc line) tasks levels ++ code in
       let d = with_x3 v (record c { levels = set c.levels line v; enabled = set c.enabled line 1 }) in
       let e : v % 256 ≡ v = omega arith in
       let raised = raises_owe task.autostart line o3 rest d (omega arith) (λ o'. starts_owe tasks (suc line) o' v code (record c { levels = set c.levels line v; enabled = set c.enabled line 1; pending = raised_if task.autostart line c.pending }) (omega arith) go) refl refl in
-      let enabled = subst (λ l. Owes from to o3 l 0 E start d) (sym (append_assoc (raises line task.autostart) (starts (suc line) tasks levels) code)) raised in
-      let levelled : Owes from to o2 (Sb 1 4 (pos (enabled_byte line)) ∷ ((raises line task.autostart ++ starts (suc line) tasks levels) ++ code)) 0 E start (with_x3 v (record c { levels = set c.levels line v })) =
+      let enabled = subst (λ l. Owes from to o3 l 0 E start d) (sym (append_assoc (line_code line task.autostart) (lines_code (suc line) tasks levels) code)) raised in
+      let levelled : Owes from to o2 (Sb 1 4 (pos (enabled_byte line)) ∷ ((line_code line task.autostart ++ lines_code (suc line) tasks levels) ++ code)) 0 E start (with_x3 v (record c { levels = set c.levels line v })) =
       (Enabled line, (omega arith, omega arith), enabled)
       in
-      (v, omega arith, (Level line, (omega arith, omega arith), subst (λ b. Owes from to o2 (Sb 1 4 (pos (enabled_byte line)) ∷ ((raises line task.autostart ++ starts (suc line) tasks levels) ++ code)) 0 E start (with_x3 v (record c { levels = set c.levels line b }))) (sym e) levelled))
+      (v, omega arith, (Level line, (omega arith, omega arith), subst (λ b. Owes from to o2 (Sb 1 4 (pos (enabled_byte line)) ∷ ((line_code line task.autostart ++ lines_code (suc line) tasks levels) ++ code)) 0 E start (with_x3 v (record c { levels = set c.levels line b }))) (sym e) levelled))
 
 -- ---- line by line
 
@@ -155,27 +155,27 @@ pending_kept (task ∷ tasks) line bytes (suc j) d h auto =
     ∙ raised_other task.autostart line bytes (suc line + j) (λ e. absurd (omega arith))
     ∙ ap (λ k. get_or bytes k 0) (sym e)
 
-length-starts : (tasks : List TaskDecl) (line : ℕ) (levels : List ℕ) → length (starts line tasks levels) ≤ 4 * length tasks
+length-starts : (tasks : List TaskDecl) (line : ℕ) (levels : List ℕ) → length (lines_code line tasks levels) ≤ 4 * length tasks
 length-starts [] line levels = omega arith
 length-starts (task ∷ tasks) line levels =
     let one = length-one task.autostart line in
     let ih = length-starts tasks (suc line) levels in
-    let e = length-append (starts_one line (get_or levels line 0) task.autostart) (starts (suc line) tasks levels) in
+    let e = length-append (starts_one line (get_or levels line 0) task.autostart) (lines_code (suc line) tasks levels) in
     omega arith
   where
-    length-one : (auto : Bool) (line : ℕ) → length (raises line auto) ≤ 1
+    length-one : (auto : Bool) (line : ℕ) → length (line_code line auto) ≤ 1
     length-one true line = omega arith
     length-one false line = omega arith
 
 abbrev pub boot_code : List TaskDecl → List ℕ → ℕ → List InstrKind
-boot_code tasks levels idle = begins ++ (starts 0 tasks levels ++ finishes idle)
+boot_code tasks levels idle = register_code ++ (lines_code 0 tasks levels ++ finishing_code idle)
 
 -- the end of the idle loop's context
 abbrev idle_end : ℕ
 idle_end = 0x8000_0000 + (idle_context + context_bytes)
 
 module _ (tasks : List TaskDecl) (levels : List ℕ) (idle : ℕ) (few : length tasks ≤ 30) (small : (k : ℕ) → get_or levels k 0 < 256) (fits : idle < 2 ^ 32) (aligned : idle % 4 ≡ 0) (offset : ℕ) (c : Core) (h : MayBoot offset (boot_code tasks levels idle) c) where
-  end_owes : (from to o x2 x3 : ℕ) → Owes from to o (finishes idle) 0 (Booted tasks levels idle) (at offset (spread c)) (record (spread c) { registers = 0 ∷ controller_base ∷ x2 ∷ x3 ∷ 1 ∷ spread_from 27 5 c.registers; levels = levels_with 0 tasks levels c.levels; enabled = enabled_with 0 tasks c.enabled; pending = pending_with 0 tasks c.pending })
+  end_owes : (from to o x2 x3 : ℕ) → Owes from to o (finishing_code idle) 0 (Booted tasks levels idle) (at offset (spread c)) (record (spread c) { registers = 0 ∷ controller_base ∷ x2 ∷ x3 ∷ 1 ∷ spread_from 27 5 c.registers; levels = levels_with 0 tasks levels c.levels; enabled = enabled_with 0 tasks c.enabled; pending = pending_with 0 tasks c.pending })
   end_owes from to o x2 x3 =
       let n = length tasks in
       let long_levels = h.levels in
@@ -234,7 +234,7 @@ module _ (tasks : List TaskDecl) (levels : List ℕ) (idle : ℕ) (few : length 
     (
       1,
       refl,
-      starts_owe from to (Booted tasks levels idle) (at offset (spread c)) (get_or c.registers 2 0) (spread_from 27 5 c.registers) levels small tasks 0 (offset + 4 + 4) (get_or c.registers 3 0) (finishes idle) (spread c) (omega arith)
+      starts_owe from to (Booted tasks levels idle) (at offset (spread c)) (get_or c.registers 2 0) (spread_from 27 5 c.registers) levels small tasks 0 (offset + 4 + 4) (get_or c.registers 3 0) (finishing_code idle) (spread c) (omega arith)
           (λ o x3. end_owes from to o (get_or c.registers 2 0) x3),
     ),
   )
@@ -244,7 +244,7 @@ module _ (tasks : List TaskDecl) (levels : List ℕ) (idle : ℕ) (few : length 
       let can = h.can_run in
       let to = offset + 4 * length (boot_code tasks levels idle) in
       let bound = length-starts tasks 0 levels in
-      let all = length-append (starts 0 tasks levels) (finishes idle) in
+      let all = length-append (lines_code 0 tasks levels) (finishing_code idle) in
       handles offset 130 (boot_code tasks levels idle) c (Booted tasks levels idle) (at offset c)
       (record { masked = h.masked; there = can.controller; lines = can.lines; aligned = can.aligned; fits = can.inside; placed = can.placed })
       (omega arith)
@@ -253,5 +253,5 @@ module _ (tasks : List TaskDecl) (levels : List ℕ) (idle : ℕ) (few : length 
 pub boots : (tasks : List TaskDecl) (levels : List ℕ) (idle : ℕ) → length tasks ≤ 30 → ((k : ℕ) → get_or levels k 0 < 256) → idle < 2 ^ 32 → Boots tasks levels idle (boot_code tasks levels idle)
 boots tasks levels idle few small fits =
     let bound = length-starts tasks 0 levels in
-    let all = length-append (starts 0 tasks levels) (finishes idle) in
+    let all = length-append (lines_code 0 tasks levels) (finishing_code idle) in
     record { size = omega arith; runs = λ offset c aligned h. runs_it tasks levels idle few small fits aligned offset c h }

@@ -5,8 +5,8 @@ use Rattle.sloth_base.specs.Machine.{Core}
 use Rattle.rv32_instr.specs.declared.InstrKind.TheVariants.{Jal}
 use Rattle.sloth_base.specs.Arithmetic.{plus}
 use Rattle.rv32_instr.specs.Execute.{Going, step, touched, perform, touched_by, jumps}
-use Rattle.rv32_routine.specs.Place.{at, InPlace}
-use Rattle.rv32_routine.proofs.Machine.{step_at, touched_at, jump_at}
+use Rattle.masked_code.specs.Place.{at, InPlace}
+use Rattle.masked_code.proofs.Machine.{step_at, touched_at, jump_at}
 use Rattle.vector_gen.specs.Idle.{Idles}
 
 stays : (o : ℕ) (c : Core) → o % 4 ≡ 0 → o + 4 ≤ 0x20_0000 → InPlace c.ram o (Jal 0 (pos 0) ∷ []) → step (at o c) ≡ Going (at o c)

@@ -8,8 +8,8 @@ use Rattle.rv32_instr.specs.Ram.{word_at}
 use Rattle.rv32_instr.specs.Table.{Decode}
 use Rattle.sloth_base.specs.Arithmetic.{plus}
 use Rattle.rv32_instr.specs.Execute.{Going, step, touched, perform, touched_by, jumps}
-use Rattle.rv32_routine.specs.Place.{at, InPlace}
-use Rattle.rv32_routine.proofs.Machine.{step_at, touched_at, jump_at}
+use Rattle.masked_code.specs.Place.{at, InPlace}
+use Rattle.masked_code.proofs.Machine.{step_at, touched_at, jump_at}
 use Rattle.vector_gen.specs.Vectors.{AreInReach, AreJumps, StepToHandlers}
 
 -- an instruction of code in place

@@ -8,33 +8,33 @@ use Rattle.rv32_instr.specs.declared.InstrKind.{InstrKind}
 use Rattle.rv32_instr.specs.declared.InstrKind.TheVariants.{Lui, Addi, Sb, Csrrw, Mret}
 use Rattle.sloth_base.specs.Arithmetic.{hi, lo}
 use Rattle.sloth_base.specs.MemoryMap.{memory_base}
-use Rattle.rv32_routine.specs.Place.{at}
-use Rattle.rv32_routine.specs.Masked.{Masked, WithArrivals}
-use Rattle.rv32_routine.specs.Kernel.{CanRun, LeftAs}
+use Rattle.masked_code.specs.Place.{at}
+use Rattle.masked_code.specs.Masked.{Masked, WithArrivals}
+use Rattle.masked_code.specs.Kernel.{CanRun, LeftAs}
 
 -- ---- the code
 
 -- x1 and x4 as the code of each line expects them
-abbrev pub begins : List InstrKind
-begins = Lui 1 controller_high ∷ Addi 4 0 (pos 1) ∷ []
+abbrev pub register_code : List InstrKind
+register_code = Lui 1 controller_high ∷ Addi 4 0 (pos 1) ∷ []
 
 -- x1 holds the controller's address, x4 holds 1
-abbrev pub raises : ℕ → Bool → List InstrKind
-raises line true = Sb 1 4 (pos (pending_byte line)) ∷ []
-raises line false = []
+abbrev pub line_code : ℕ → Bool → List InstrKind
+line_code line true = Sb 1 4 (pos (pending_byte line)) ∷ []
+line_code line false = []
 
 -- a task's line has its level and is enabled, and is pending where the task is autostarted
 abbrev pub starts_one : ℕ → ℕ → Bool → List InstrKind
-starts_one line level autostart = Addi 3 0 (pos level) ∷ Sb 1 3 (pos (level_byte line)) ∷ Sb 1 4 (pos (enabled_byte line)) ∷ raises line autostart
+starts_one line level autostart = Addi 3 0 (pos level) ∷ Sb 1 3 (pos (level_byte line)) ∷ Sb 1 4 (pos (enabled_byte line)) ∷ line_code line autostart
 
 -- those of the tasks from this line on
-abbrev pub starts : ℕ → List TaskDecl → List ℕ → List InstrKind
-starts line [] levels = []
-starts line (task ∷ tasks) levels = starts_one line (slice_index levels line) task.autostart ++ starts (suc line) tasks levels
+abbrev pub lines_code : ℕ → List TaskDecl → List ℕ → List InstrKind
+lines_code line [] levels = []
+lines_code line (task ∷ tasks) levels = starts_one line (slice_index levels line) task.autostart ++ lines_code (suc line) tasks levels
 
 -- the stack and the state of the idle loop, and the way there
-abbrev pub finishes : ℕ → List InstrKind
-finishes idle =
+abbrev pub finishing_code : ℕ → List InstrKind
+finishing_code idle =
     Lui 2 words_high ∷ Addi 2 2 (pos (idle_context + context_bytes)) ∷ Addi 3 0 MPIE ∷ Csrrw 0 3 MSTATUS ∷ Lui 3 (hi idle)
     ∷ Addi 3 3 (lo idle) ∷ Csrrw 0 3 MEPC ∷ Mret ∷ []
 

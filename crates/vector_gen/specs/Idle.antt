@@ -5,7 +5,7 @@ use Rattle.sloth_base.specs.declared.image.MarkKind.TheVariants as mark
 use Rattle.sloth_base.specs.Machine.{Core}
 use Rattle.rv32_instr.specs.declared.InstrKind.{InstrKind}
 use Rattle.rv32_instr.specs.Execute.{Going, step, touched}
-use Rattle.rv32_routine.specs.Place.{at, InPlace}
+use Rattle.masked_code.specs.Place.{at, InPlace}
 
 -- the mark on the idle loop
 abbrev pub idle_mark : ℕ → Mark

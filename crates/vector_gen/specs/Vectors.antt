@@ -6,7 +6,7 @@ use Rattle.rv32_instr.specs.declared.InstrKind.TheVariants.{Jal}
 use Rattle.sloth_base.specs.Arithmetic.{plus}
 use Rattle.sloth_base.specs.MemoryMap.{vectors_base, boot_base}
 use Rattle.rv32_instr.specs.Execute.{Going, step, touched}
-use Rattle.rv32_routine.specs.Place.{at, InPlace}
+use Rattle.masked_code.specs.Place.{at, InPlace}
 
 -- each handler stands behind the vector words, within reach of a jump, at a multiple of 4
 pub record AreInReach (handlers : List ℕ) : Type 0 where

@@ -2,13 +2,13 @@
 ghost use Rattle.std.specs.Prelude.{ℕ, ◌^◌, slice_index, ◌≡◌, ◌++◌, [], ◌<◌, ◌≤◌, IfOk, OnOk, length};
 ghost use Rattle.sloth_base.specs.MemoryMap.{boot_base};
 ghost use Rattle.sloth_base.specs.ConfigRange.{InRange};
-ghost use Rattle.vector_gen.specs.Boot.{begins, starts_one, starts, finishes, Boots};
+ghost use Rattle.vector_gen.specs.Boot.{register_code, starts_one, lines_code, finishing_code, Boots};
 
+use masked_code::emit::emit;
 use rv32_instr::asm::{X1, X2, X3, X4, ZERO, addi, csrrw, lui, mret, sb};
 use rv32_instr::constant::{hi, lo};
 use rv32_instr::csr::{MEPC, MPIE, MSTATUS};
 use rv32_instr::{Block, Instr};
-use rv32_routine::emit::emit;
 use sloth_base::config::{Config, TaskDecl};
 use sloth_base::list::List;
 use sloth_base::memory::NoMemory;
@@ -42,7 +42,7 @@ pub fn boot(alloc: Global, config: &Config, levels: &Levels, map: &Map) -> Resul
 
 /// x1 := the controller's address, x4 := 1.
 fn begin(code: &mut Vec<Instr>) -> Result<(), AllocError>
-    ensures { OnOk result (code.new.items ≡ code.old.items ++ begins) }
+    ensures { OnOk result (code.new.items ≡ code.old.items ++ register_code) }
 {
     emit(code, &[lui(X1, CONTROLLER_HIGH), addi(X4, ZERO, 1)])
 }
@@ -67,7 +67,7 @@ fn start(code: &mut Vec<Instr>, line: u8, level: u8, autostart: bool) -> Result<
 /// All tasks' lines.
 fn start_all(code: &mut Vec<Instr>, tasks: &[TaskDecl], levels: [u8; 30]) -> Result<(), AllocError>
     requires { length tasks.now ≤ 30 }
-    ensures added { OnOk result (code.new.items ≡ code.old.items ++ starts 0 tasks.now levels) }
+    ensures added { OnOk result (code.new.items ≡ code.old.items ++ lines_code 0 tasks.now levels) }
     ensures bytes { (line : ℕ) → slice_index levels line < 256 }
 {
     for i in 0..tasks.len() {
@@ -78,7 +78,7 @@ fn start_all(code: &mut Vec<Instr>, tasks: &[TaskDecl], levels: [u8; 30]) -> Res
 
 /// x2 := the end of the idle loop's context, MPIE := 1, and on to the idle loop.
 fn finish(code: &mut Vec<Instr>, idle: u32) -> Result<(), AllocError>
-    ensures added { OnOk result (code.new.items ≡ code.old.items ++ finishes idle) }
+    ensures added { OnOk result (code.new.items ≡ code.old.items ++ finishing_code idle) }
     ensures fits { idle < 2 ^ 32 }
 {
     let finished = [

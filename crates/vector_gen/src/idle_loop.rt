@@ -2,9 +2,9 @@
 ghost use Rattle.std.specs.Prelude.{◌≡◌, ◌≤◌, ◌∷◌, [], length, IfOk};
 ghost use Rattle.vector_gen.specs.Idle.{idle_mark, Idles};
 
+use masked_code::emit::emit;
 use rv32_instr::Block;
 use rv32_instr::asm::{ZERO, jal};
-use rv32_routine::emit::emit;
 use sloth_base::image::{Mark, MarkKind};
 use sloth_base::list::List;
 use sloth_base::memory::NoMemory;

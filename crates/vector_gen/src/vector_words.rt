@@ -4,9 +4,9 @@ ghost use Rattle.sloth_base.specs.MemoryMap.{vectors_base};
 ghost use Rattle.rv32_instr.specs.Range.{InRange};
 ghost use Rattle.vector_gen.specs.Vectors.{AreInReach, AreJumps, IsJump, StepToHandlers};
 
+use masked_code::emit::emit;
 use rv32_instr::asm::{ZERO, jal};
 use rv32_instr::{Block, InstrKind};
-use rv32_routine::emit::emit;
 use sloth_base::list::List;
 use sloth_base::memory::NoMemory;
 use sloth_base::memory_map::VECTORS_BASE;

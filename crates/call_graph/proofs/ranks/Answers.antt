@@ -1,9 +1,9 @@
 use Rattle.std.proofs.Common.{◌≡◌, ◌∙◌, ◌<◌, length, ap, subst, sym, List, ℕ}
 use Rattle.sloth_base.specs.declared.app.App.{App}
 use Rattle.sloth_base.specs.declared.app.Func.{Func}
-use Rattle.sloth_refusal.specs.Order.{NoFault, IsLeast}
-use Rattle.sloth_refusal.proofs.Kept.{least_same}
-use Rattle.app_rules.specs.WellFormed.{CycleFault}
+use Rattle.least_fault.specs.Order.{NoFault, IsLeast}
+use Rattle.least_fault.proofs.Kept.{least_same}
+use Rattle.code_rules.specs.WellFormed.{CycleFault}
 use Rattle.std.specs.Bool.{Decides}
 use Rattle.call_graph.specs.Cycles.{RowCycle}
 use Rattle.call_graph.specs.Rows.{row_has, RowChain}

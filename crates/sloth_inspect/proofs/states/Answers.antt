@@ -1,6 +1,6 @@
 use Rattle.std.proofs.Common.{◌∙◌, ap, arith, List, set}
 use Rattle.rv32_instr.specs.Memory.{Memory}
-use Rattle.osek_machine.specs.declared.state.TaskState.{TaskState}
+use Rattle.osek_scheduler.specs.declared.state.TaskState.{TaskState}
 use Rattle.sloth_inspect.specs.States.{state_in, states_in}
 use Rattle.sloth_inspect.proofs.Places.{one_more}
 use Rattle.sloth_inspect.proofs.states.Goals as goal

@@ -4,7 +4,7 @@ use Rattle.sloth_base.specs.declared.app.App.{App}
 use Rattle.sloth_base.specs.declared.app.Func.{Func}
 use Rattle.sloth_base.specs.declared.config.Config.{Config}
 use Rattle.sloth_base.specs.declared.config.TaskDecl.{TaskDecl}
-use Rattle.app_rules.specs.WellFormed.{WellFormed}
+use Rattle.code_rules.specs.WellFormed.{WellFormed}
 use Rattle.call_graph.specs.declared.ranking.Ranks.{Ranks}
 use Rattle.stack_bounds.specs.Bounds.{AreBounds, HaveRoom, IsLength, AreParts}
 use Rattle.stack_bounds.specs.Tables.{AreCallable, AreStacks, AreOffsets, HasBody, IsSmall, most_stacked}

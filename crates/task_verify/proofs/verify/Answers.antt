@@ -1,7 +1,7 @@
 use Rattle.std.proofs.Common.{Option, subst}
 use Rattle.sloth_base.specs.declared.refusal.Refusal.{Refusal}
-use Rattle.sloth_refusal.specs.Search.{Finds}
-use Rattle.app_rules.specs.WellFormed.{RuleFault}
+use Rattle.least_fault.specs.Search.{Finds}
+use Rattle.code_rules.specs.WellFormed.{RuleFault}
 use Rattle.task_verify.proofs.Acyclic.{no_cycle}
 use Rattle.task_verify.proofs.verify.Goals as goal
 

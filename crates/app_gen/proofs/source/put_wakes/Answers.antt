@@ -1,6 +1,6 @@
-use Rattle.app_gen.specs.Source.{wakes}
+use Rattle.app_gen.specs.Source.{waking_text}
 use Rattle.app_gen.proofs.Steps.{put_more}
 use Rattle.app_gen.proofs.source.put_wakes.Goals as goal
 
 pub loop-task-preserved : goal.loop-task-preserved
-loop-task-preserved c = put_more wakes _ _ _ c.loop-task.task c.args.tasks c.loop-task-test.true c.in_ok-put_wake.ensures c.loop-task.invariant
+loop-task-preserved c = put_more waking_text _ _ _ c.loop-task.task c.args.tasks c.loop-task-test.true c.in_ok-put_wake.ensures c.loop-task.invariant

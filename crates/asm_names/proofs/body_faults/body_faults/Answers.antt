@@ -3,8 +3,8 @@ use Rattle.std.specs.List.{sum_by}
 use Rattle.std.proofs.lemmas.List.{length-take-le}
 use Rattle.std.specs.Prelude.{count_by}
 use Rattle.asm_lines.specs.declared.source_line.SourceLine.{SourceLine}
-use Rattle.sloth_refusal.specs.Search.{Finds, Somewhere}
-use Rattle.sloth_refusal.proofs.Kept.{loop_more, loop_end}
+use Rattle.least_fault.specs.Search.{Finds, Somewhere}
+use Rattle.least_fault.proofs.Kept.{loop_more, loop_end}
 use Rattle.asm_names.specs.Said.{is_item, label_names}
 use Rattle.asm_names.specs.Bodies.{BodyText, body_name, function_names}
 use Rattle.asm_names.specs.NameFaults.{items_in, HeaderFault, LineFault, BodyFault}

@@ -1,6 +1,6 @@
 use Rattle.std.proofs.Common.{◌≡◌, ◌≤◌, ◌*◌, take}
 use Rattle.std.specs.List.{sum_by}
-use Rattle.sloth_refusal.proofs.Kept.{Loop}
+use Rattle.least_fault.proofs.Kept.{Loop}
 use Rattle.asm_names.specs.NameFaults.{items_in, BodyFault}
 use Rattle.asm_names.proofs.body_faults.body_faults.Given as goal
 

@@ -1,8 +1,8 @@
 use Rattle.std.proofs.Common.{take}
 use Rattle.sloth_base.specs.declared.refusal.Code.TheVariants.{A5, A6}
 use Rattle.sloth_base.specs.declared.refusal.Part.TheVariants.{Src}
-use Rattle.sloth_refusal.proofs.Kept.{both_are}
-use Rattle.sloth_refusal.proofs.Cases.{case_found}
+use Rattle.least_fault.proofs.Kept.{both_are}
+use Rattle.least_fault.proofs.Cases.{case_found}
 use Rattle.asm_lines.specs.Faults.{Case}
 use Rattle.asm_names.specs.NameFaults.{is_misnamed, is_beyond}
 use Rattle.asm_names.proofs.body_faults.inner_fault.Goals as goal

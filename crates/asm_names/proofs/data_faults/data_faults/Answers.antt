@@ -2,8 +2,8 @@ use Rattle.std.proofs.Common.{◌≡◌, ◌∙◌, ℕ, ◌+◌, List, ap, sym,
 use Rattle.std.specs.Prelude.{if◌then◌else◌}
 use Rattle.std.specs.List.{sum_by}
 use Rattle.std.proofs.lemmas.List.{length-take-le}
-use Rattle.sloth_refusal.specs.Search.{Finds}
-use Rattle.sloth_refusal.proofs.Kept.{loop_more}
+use Rattle.least_fault.specs.Search.{Finds}
+use Rattle.least_fault.proofs.Kept.{loop_more}
 use Rattle.asm_names.specs.Said.{is_data, name_of, symbol_names}
 use Rattle.asm_names.specs.NameFaults.{bytes_of, SymbolFault, DataFault}
 use Rattle.asm_names.proofs.Fronts.{sum_more, count_more, kept_front}

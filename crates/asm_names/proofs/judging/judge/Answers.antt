@@ -2,10 +2,10 @@ use Rattle.std.proofs.Common.{◌≡◌, ◌∙◌, ◌⊎◌, ℕ, ◌+◌, ◌
 use Rattle.std.specs.Prelude.{All}
 use Rattle.std.proofs.lemmas.List.Elements.{All-weaker}
 use Rattle.sloth_base.specs.declared.refusal.Code.TheVariants.{A7}
-use Rattle.sloth_refusal.specs.Search.{Finds, Somewhere}
+use Rattle.least_fault.specs.Search.{Finds, Somewhere}
 use Rattle.sloth_base.specs.declared.refusal.Part.TheVariants.{Src}
-use Rattle.sloth_refusal.proofs.Kept.{both_are}
-use Rattle.sloth_refusal.proofs.Cases.{case_found}
+use Rattle.least_fault.proofs.Kept.{both_are}
+use Rattle.least_fault.proofs.Cases.{case_found}
 use Rattle.asm_lines.specs.Faults.{Case}
 use Rattle.asm_names.specs.declared.scope.Scope.{Scope}
 use Rattle.asm_names.specs.Bodies.{BodyText, bodies_of}

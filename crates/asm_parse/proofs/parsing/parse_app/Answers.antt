@@ -1,6 +1,6 @@
 use Rattle.std.proofs.lemmas.Result.{err_from_is_err_and}
 use Rattle.std.proofs.Common.{◌∙◌, ap, subst, length, List, arith}
-use Rattle.sloth_refusal.specs.Order.{NoFault, IsLeast}
+use Rattle.least_fault.specs.Order.{NoFault, IsLeast}
 use Rattle.asm_lines.specs.declared.source_line.SourceLine.{SourceLine}
 use Rattle.asm_lines.proofs.Counts.{lines_few}
 use Rattle.asm_names.specs.NameFaults.{NameFault}

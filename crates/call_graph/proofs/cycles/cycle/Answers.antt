@@ -1,9 +1,9 @@
 use Rattle.std.proofs.Common.{◌≡◌, length, true, sym, subst, ◌∙◌}
 use Rattle.sloth_base.specs.declared.app.Func.{Func}
 use Rattle.sloth_base.specs.declared.refusal.Code.TheVariants as code
-use Rattle.sloth_refusal.specs.Search.{Finds}
-use Rattle.app_rules.specs.WellFormed.{at_line}
-use Rattle.app_rules.proofs.Judged.{judged_more, judged_end, decided}
+use Rattle.least_fault.specs.Search.{Finds}
+use Rattle.code_rules.specs.WellFormed.{at_line}
+use Rattle.code_rules.proofs.Judged.{judged_more, judged_end, decided}
 use Rattle.call_graph.specs.Rows.{row_has}
 use Rattle.call_graph.specs.Cycles.{RowCycleAt}
 use Rattle.call_graph.proofs.Itself.{func_is}

@@ -1,5 +1,5 @@
 use Rattle.std.proofs.Common.{length}
-use Rattle.app_rules.proofs.Judged.{Judged}
+use Rattle.code_rules.proofs.Judged.{Judged}
 use Rattle.call_graph.specs.Cycles.{RowCycleAt}
 use Rattle.call_graph.proofs.cycles.cycle.Given as goal
 

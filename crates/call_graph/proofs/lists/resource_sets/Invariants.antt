@@ -1,10 +1,10 @@
 use Rattle.std.proofs.Common.{◌≡◌, ℕ, ◌<◌, length, get_or}
-use Rattle.call_graph.specs.Bits.{has}
+use Rattle.call_graph.specs.Bits.{is_member}
 use Rattle.call_graph.specs.Reached.{takes_by}
 use Rattle.call_graph.proofs.lists.resource_sets.Given as goal
 
 abbrev pub invariant-loop-number : goal.invariant-loop-number
 invariant-loop-number l = record {
   count : length l.list.items ≡ l.number;
-  sets : (f r : ℕ) → f < l.number → has (get_or l.list.items f 0) r ≡ takes_by l.funcs f (get_or l.rows f 0) r;
+  sets : (f r : ℕ) → f < l.number → is_member (get_or l.list.items f 0) r ≡ takes_by l.funcs f (get_or l.rows f 0) r;
 }

@@ -1,5 +1,5 @@
 use Rattle.std.proofs.Common.{◌≡◌, ◌∷◌, sym, subst}
-use Rattle.rv32_routine.specs.Kernel.{masking}
+use Rattle.masked_code.specs.Kernel.{masking}
 use Rattle.event_gen.specs.ClearEvent.{ClearsEvents}
 use Rattle.event_gen.proofs.Clearing.{body, clears}
 use Rattle.event_gen.proofs.clear_event.code.Goals as goal

@@ -1,5 +1,5 @@
 use Rattle.std.proofs.Common.{◌≡◌, ◌∷◌, sym, subst}
-use Rattle.rv32_routine.specs.Kernel.{masking}
+use Rattle.masked_code.specs.Kernel.{masking}
 use Rattle.event_gen.specs.GetEvent.{TellsEvents}
 use Rattle.event_gen.proofs.Getting.{body, tells}
 use Rattle.event_gen.proofs.get_event.code.Goals as goal

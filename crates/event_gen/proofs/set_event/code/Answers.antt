@@ -1,5 +1,5 @@
 use Rattle.std.proofs.Common.{◌≡◌, ◌∷◌, sym, subst}
-use Rattle.rv32_routine.specs.Kernel.{masking}
+use Rattle.masked_code.specs.Kernel.{masking}
 use Rattle.event_gen.specs.SetEvent.{SetsEvents}
 use Rattle.event_gen.proofs.Setting.{body, sets}
 use Rattle.event_gen.proofs.set_event.code.Goals as goal

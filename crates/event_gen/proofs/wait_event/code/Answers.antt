@@ -1,5 +1,5 @@
 use Rattle.std.proofs.Common.{◌≡◌, ◌∷◌, sym, subst}
-use Rattle.rv32_routine.specs.Kernel.{masking}
+use Rattle.masked_code.specs.Kernel.{masking}
 use Rattle.event_gen.specs.WaitEvent.{Waits}
 use Rattle.event_gen.proofs.Waiting.{body, waits}
 use Rattle.event_gen.proofs.wait_event.code.Goals as goal

@@ -1,7 +1,7 @@
 use Rattle.std.proofs.Common.{subst}
 use Rattle.sloth_base.specs.declared.refusal.BuildError.{BuildError}
-use Rattle.sloth_refusal.specs.Order.{ErrorIs}
-use Rattle.app_rules.specs.WellFormed.{RuleFault}
+use Rattle.least_fault.specs.Order.{ErrorIs}
+use Rattle.code_rules.specs.WellFormed.{RuleFault}
 use Rattle.held_lists.proofs.BodyFillings.{have_labels, found_in_range, found_belongs, found_holds, none_holds}
 use Rattle.held_lists.proofs.inference.infer.Goals as goal
 

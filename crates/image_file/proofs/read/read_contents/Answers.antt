@@ -1,7 +1,7 @@
 use Rattle.std.proofs.lemmas.Result.{err_from_is_err_and}
-use Rattle.image_file.proofs.Whole.{image_of}
+use Rattle.image_file.proofs.RightParts.{image_of}
 use Rattle.sloth_base.specs.declared.image.Mark.{Mark}
-use Rattle.image_file.proofs.Whole.{are_right, is_image, marks_fail}
+use Rattle.image_file.proofs.RightParts.{are_right, is_image, marks_fail}
 use Rattle.std.proofs.Common.{arith, sym, ◌∙◌, subst, ap, take}
 use Rattle.std.proofs.lemmas.List.{drop_all}
 use Rattle.std.proofs.lemmas.Bool.{true≢false}

@@ -1,12 +1,12 @@
 use Rattle.std.proofs.Common.{◌∙◌, Option, List, ap, sym, subst, take}
 use Rattle.std.proofs.lemmas.List.Sums.{fold_more}
-use Rattle.sloth_refusal.specs.Search.{Finds}
-use Rattle.sloth_refusal.proofs.Kept.{loop_more, loop_end}
+use Rattle.least_fault.specs.Search.{Finds}
+use Rattle.least_fault.proofs.Kept.{loop_more, loop_end}
 use Rattle.oil_parse.specs.declared.tree.OilAttr.{OilAttr}
 use Rattle.oil_model.specs.declared.table.Attribute.{Attribute}
 use Rattle.oil_model.specs.declared.table.Place.TheVariants.{Nowhere}
 use Rattle.oil_model.specs.Table.{attribute_of}
-use Rattle.oil_model.specs.AttributeFaults.{opened, inner_place, place_by, RowFault, AttributeFault}
+use Rattle.oil_model.specs.AttributeFaults.{opened_place, inner_place, place_by, RowFault, AttributeFault}
 use Rattle.oil_model.proofs.attribute_faults.attribute_faults.Goals as goal
 
 pub loop-number-preserved : goal.loop-number-preserved
@@ -25,8 +25,8 @@ loop-number-preserved c =
           (subst (λ (r : Option Attribute). Finds (RowFault objects c.args.scheduler r (take i attrs) x) found) row
           (subst (λ (b : List OilAttr). Finds (RowFault objects c.args.scheduler c.attribute_of-row.result b x) found) k.behind c.row_fault.ensures))
           c.merge-least.ensures k.finds;
-      opens = c.opened-inner.ensures ∙ ap (λ p. opened place p x) k.opens ∙ ap (opened place (inner_place place (take i attrs))) c.index-attrs-number.is
-          ∙ sym (fold_more (opened place) Nowhere attrs i x c.loop-number-test.true);
+      opens = c.opened-inner.ensures ∙ ap (λ p. opened_place place p x) k.opens ∙ ap (opened_place place (inner_place place (take i attrs))) c.index-attrs-number.is
+          ∙ sym (fold_more (opened_place place) Nowhere attrs i x c.loop-number-test.true);
       behind = c.in_ok-before.ensures;
     }
 

@@ -1,11 +1,11 @@
 use Rattle.std.proofs.Common.{◌⊎◌}
 use Rattle.std.specs.Prelude.{is_none}
 use Rattle.sloth_base.specs.declared.refusal.Code.TheVariants.{O8, O9, O10, O12}
-use Rattle.sloth_refusal.proofs.Kept.{both_are}
+use Rattle.least_fault.proofs.Kept.{both_are}
 use Rattle.oil_model.specs.Cases.{Case}
 use Rattle.oil_model.specs.AttributeFaults.{is_second_use, refers_to_none, is_refused}
 use Rattle.sloth_base.specs.declared.refusal.Part.TheVariants.{Oil}
-use Rattle.sloth_refusal.proofs.Cases.{case_found}
+use Rattle.least_fault.proofs.Cases.{case_found}
 use Rattle.oil_model.proofs.attribute_faults.row_fault.Goals as goal
 
 pub returns : goal.returns

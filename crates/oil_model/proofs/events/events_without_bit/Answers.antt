@@ -1,10 +1,10 @@
 use Rattle.std.proofs.Common.{◌∙◌, ap, sym, take}
 use Rattle.std.proofs.lemmas.List.Sums.{fold_more}
 use Rattle.sloth_base.specs.declared.refusal.Code.TheVariants.{O15}
-use Rattle.sloth_refusal.specs.Search.{when}
-use Rattle.sloth_refusal.proofs.Kept.{loop_more, loop_end, finds_true_is}
+use Rattle.least_fault.specs.Search.{when}
+use Rattle.least_fault.proofs.Kept.{loop_more, loop_end, finds_true_is}
 use Rattle.sloth_base.specs.declared.refusal.Part.TheVariants.{Oil}
-use Rattle.sloth_refusal.specs.Cases.{at}
+use Rattle.least_fault.specs.Cases.{at}
 use Rattle.oil_model.specs.Events.{number_masks, taken_before, taken_more, lacks_bit, BitFault}
 use Rattle.oil_model.proofs.events.events_without_bit.Goals as goal
 

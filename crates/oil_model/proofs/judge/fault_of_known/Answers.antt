@@ -1,5 +1,5 @@
 use Rattle.std.proofs.Common.{◌≡◌, ◌∙◌, ap, sym, not, true}
-use Rattle.sloth_refusal.proofs.Kept.{finds_if}
+use Rattle.least_fault.proofs.Kept.{finds_if}
 use Rattle.oil_model.specs.Table.{place_of, is_nowhere}
 use Rattle.oil_model.specs.ObjectFaults.{is_known}
 use Rattle.oil_model.specs.ModelFaults.{InnerFault}

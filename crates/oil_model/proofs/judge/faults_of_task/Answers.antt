@@ -1,7 +1,7 @@
 use Rattle.std.proofs.Common.{◌≡◌, ◌∙◌, sym, subst, true, List}
 use Rattle.std.specs.Prelude.{codes}
-use Rattle.sloth_refusal.specs.Search.{Finds, Somewhere}
-use Rattle.sloth_refusal.proofs.Kept.{finds_if}
+use Rattle.least_fault.specs.Search.{Finds, Somewhere}
+use Rattle.least_fault.proofs.Kept.{finds_if}
 use Rattle.oil_parse.specs.declared.tree.OilAttr.{OilAttr}
 use Rattle.oil_model.specs.Objects.{is_of_kind}
 use Rattle.oil_model.specs.TaskFaults.{TaskFault}

@@ -1,6 +1,6 @@
 use Rattle.std.proofs.Common.{◌∙◌, ◌⊎◌, ap, subst, List}
-use Rattle.sloth_refusal.specs.Search.{Finds, Somewhere}
-use Rattle.sloth_refusal.proofs.Kept.{both_are}
+use Rattle.least_fault.specs.Search.{Finds, Somewhere}
+use Rattle.least_fault.proofs.Kept.{both_are}
 use Rattle.oil_parse.specs.declared.tree.OilAttr.{OilAttr}
 use Rattle.oil_model.specs.declared.table.Place.{Place}
 use Rattle.oil_model.specs.Table.{place_of}

@@ -1,15 +1,15 @@
 use Rattle.std.proofs.Common.{◌∙◌, ◌⊎◌, Bool, ap, subst, not, List}
 use Rattle.sloth_base.specs.declared.config.EventDecl.{EventDecl}
 use Rattle.sloth_base.specs.declared.refusal.Code.TheVariants.{O11}
-use Rattle.sloth_refusal.specs.Search.{Finds, Somewhere}
-use Rattle.sloth_refusal.proofs.Kept.{both_are}
+use Rattle.least_fault.specs.Search.{Finds, Somewhere}
+use Rattle.least_fault.proofs.Kept.{both_are}
 use Rattle.oil_parse.specs.declared.tree.OilObject.{OilObject}
 use Rattle.oil_model.specs.Cases.{Case}
 use Rattle.oil_model.specs.Objects.{has_scheduler}
 use Rattle.oil_model.specs.Events.{events_of, BitFault}
 use Rattle.oil_model.specs.ModelFaults.{ObjectFault, lacks_os}
 use Rattle.sloth_base.specs.declared.refusal.Part.TheVariants.{Oil}
-use Rattle.sloth_refusal.proofs.Cases.{case_found}
+use Rattle.least_fault.proofs.Cases.{case_found}
 use Rattle.oil_model.proofs.judge.judge.Goals as goal
 
 pub returns : goal.returns

@@ -1,6 +1,6 @@
 use Rattle.std.proofs.Common.{◌≡◌, true, take, subst, List}
-use Rattle.sloth_refusal.specs.Search.{Finds}
-use Rattle.sloth_refusal.proofs.Kept.{loop_more, loop_end, both_are}
+use Rattle.least_fault.specs.Search.{Finds}
+use Rattle.least_fault.proofs.Kept.{loop_more, loop_end, both_are}
 use Rattle.oil_parse.specs.declared.tree.OilObject.{OilObject}
 use Rattle.oil_model.specs.ObjectFaults.{is_known, KindFault}
 use Rattle.oil_model.specs.ModelFaults.{InnerFault, ObjectFault}

@@ -1,5 +1,5 @@
 use Rattle.std.proofs.Common.{◌≡◌, take}
-use Rattle.sloth_refusal.proofs.Kept.{Loop}
+use Rattle.least_fault.proofs.Kept.{Loop}
 use Rattle.oil_model.specs.ModelFaults.{ObjectFault}
 use Rattle.oil_model.proofs.judge.object_faults.Given as goal
 

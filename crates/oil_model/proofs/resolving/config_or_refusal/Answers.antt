@@ -5,7 +5,7 @@ use Rattle.sloth_base.specs.declared.config.EventDecl.{EventDecl}
 use Rattle.sloth_base.specs.declared.refusal.Refusal.{Refusal}
 use Rattle.sloth_base.specs.ConfigRange.{InRange}
 use Rattle.sloth_base.specs.ImageRange.{IsWord}
-use Rattle.sloth_refusal.specs.Search.{Finds}
+use Rattle.least_fault.specs.Search.{Finds}
 use Rattle.oil_parse.specs.declared.tree.OilObject.{OilObject}
 use Rattle.oil_parse.specs.Words.{IsObjectOfWords}
 use Rattle.oil_parse.proofs.Words.{tree_words}

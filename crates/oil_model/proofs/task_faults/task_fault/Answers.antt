@@ -1,12 +1,12 @@
 use Rattle.std.proofs.Common.{◌∙◌, ap}
 use Rattle.std.specs.Prelude.{◌&&◌, not, codes}
 use Rattle.sloth_base.specs.declared.refusal.Code.TheVariants.{O13, O15}
-use Rattle.sloth_refusal.proofs.Kept.{both_are}
+use Rattle.least_fault.proofs.Kept.{both_are}
 use Rattle.oil_model.specs.Cases.{Case}
 use Rattle.oil_model.specs.Objects.{is_use, number_of}
 use Rattle.oil_model.specs.TaskFaults.{is_taken, repeats_priority, shares_bit}
 use Rattle.sloth_base.specs.declared.refusal.Part.TheVariants.{Oil}
-use Rattle.sloth_refusal.proofs.Cases.{case_found}
+use Rattle.least_fault.proofs.Cases.{case_found}
 use Rattle.oil_model.proofs.task_faults.task_fault.Goals as goal
 
 pub returns : goal.returns

@@ -1,8 +1,8 @@
 use Rattle.std.proofs.Common.{◌∙◌, ap, sym, subst, take, ◌+◌}
 use Rattle.std.specs.Prelude.{◌||◌, codes}
 use Rattle.std.proofs.lemmas.List.Folds.{list_any_more}
-use Rattle.sloth_refusal.specs.Search.{Finds}
-use Rattle.sloth_refusal.proofs.Kept.{loop_more, loop_end}
+use Rattle.least_fault.specs.Search.{Finds}
+use Rattle.least_fault.proofs.Kept.{loop_more, loop_end}
 use Rattle.oil_parse.specs.declared.tree.OilAttr.{OilAttr}
 use Rattle.oil_model.specs.Objects.{is_use, is_used}
 use Rattle.oil_model.specs.References.{Referring}

@@ -1,6 +1,6 @@
 use Rattle.std.proofs.Common.{◌≡◌, take}
 use Rattle.std.specs.Prelude.{codes}
-use Rattle.sloth_refusal.proofs.Kept.{Loop}
+use Rattle.least_fault.proofs.Kept.{Loop}
 use Rattle.oil_model.specs.Objects.{is_used}
 use Rattle.oil_model.specs.TaskFaults.{TaskFault}
 use Rattle.oil_model.proofs.task_faults.task_faults.Given as goal

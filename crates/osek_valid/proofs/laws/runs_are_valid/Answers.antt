@@ -1,5 +1,5 @@
 use Rattle.osek_valid.proofs.laws.runs_are_valid.Goals as goal
-use Rattle.osek_machine.specs.State.{opening}
+use Rattle.osek_scheduler.specs.State.{opening}
 use Rattle.osek_valid.proofs.Facts.{facts}
 use Rattle.osek_valid.proofs.Reached.{run_valid}
 use Rattle.osek_valid.proofs.Steps.{opening_valid}

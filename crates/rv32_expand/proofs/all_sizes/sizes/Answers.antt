@@ -3,7 +3,7 @@ use Rattle.std.proofs.lemmas.Grind.{common_steps}
 use Rattle.sloth_base.specs.declared.app.Func.{Func}
 use Rattle.rv32_expand.specs.Passes.{IsSmall}
 use Rattle.rv32_expand.proofs.InRangeOf.{small}
-use Rattle.rv32_expand.proofs.Whole.{one_more, whole, AreSizesTo}
+use Rattle.rv32_expand.proofs.AllBodies.{one_more, whole, AreSizesTo}
 use Rattle.rv32_expand.proofs.all_sizes.sizes.Goals as goal
 
 pub shortest-requires : goal.shortest-requires

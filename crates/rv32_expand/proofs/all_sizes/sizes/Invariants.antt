@@ -1,4 +1,4 @@
-use Rattle.rv32_expand.proofs.Whole.{AreSizesTo}
+use Rattle.rv32_expand.proofs.AllBodies.{AreSizesTo}
 use Rattle.rv32_expand.proofs.all_sizes.sizes.Given as goal
 
 abbrev pub invariant-loop-body : goal.invariant-loop-body

@@ -1,6 +1,6 @@
 use Rattle.std.proofs.Common.{◌≡◌, length}
 use Rattle.rv32_expand.specs.Long.{Set, Suffices, IsWithin}
-use Rattle.rv32_expand.specs.Passes.{in_list, shorts}
+use Rattle.rv32_expand.specs.Passes.{in_list, short_count}
 use Rattle.rv32_expand.proofs.long_branches.shortest.Given as goal
 
 abbrev pub invariant-loop-long : goal.invariant-loop-long
@@ -10,4 +10,4 @@ invariant-loop-long l = record {
 }
 
 abbrev pub decreases-loop-long : goal.decreases-loop-long
-decreases-loop-long l = shorts l.long.items
+decreases-loop-long l = short_count l.long.items

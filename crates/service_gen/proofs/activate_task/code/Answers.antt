@@ -1,5 +1,5 @@
 use Rattle.std.proofs.Common.{◌≡◌, ◌∷◌, sym, subst}
-use Rattle.rv32_routine.specs.Kernel.{masking}
+use Rattle.masked_code.specs.Kernel.{masking}
 use Rattle.service_gen.specs.ActivateTask.{Activates}
 use Rattle.service_gen.proofs.Activating.{body, activates}
 use Rattle.service_gen.proofs.activate_task.code.Goals as goal

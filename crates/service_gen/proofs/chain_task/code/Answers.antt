@@ -1,5 +1,5 @@
 use Rattle.std.proofs.Common.{◌≡◌, ◌∷◌, sym, subst}
-use Rattle.rv32_routine.specs.Kernel.{masking}
+use Rattle.masked_code.specs.Kernel.{masking}
 use Rattle.service_gen.specs.ChainTask.{Chains}
 use Rattle.service_gen.proofs.Chaining.{body, chains}
 use Rattle.service_gen.proofs.chain_task.code.Goals as goal

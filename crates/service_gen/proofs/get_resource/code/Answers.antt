@@ -1,5 +1,5 @@
 use Rattle.std.proofs.Common.{◌≡◌, ◌∷◌, sym, subst}
-use Rattle.rv32_routine.specs.Kernel.{masking}
+use Rattle.masked_code.specs.Kernel.{masking}
 use Rattle.service_gen.specs.GetResource.{Takes}
 use Rattle.service_gen.proofs.Taking.{body, taken}
 use Rattle.service_gen.proofs.get_resource.code.Goals as goal

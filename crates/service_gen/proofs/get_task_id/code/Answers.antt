@@ -1,5 +1,5 @@
 use Rattle.std.proofs.Common.{◌≡◌, ◌∷◌, sym, subst}
-use Rattle.rv32_routine.specs.Kernel.{masking}
+use Rattle.masked_code.specs.Kernel.{masking}
 use Rattle.service_gen.specs.GetTaskID.{TellsTask}
 use Rattle.service_gen.proofs.Telling.{body, tells}
 use Rattle.service_gen.proofs.get_task_id.code.Goals as goal

@@ -1,5 +1,5 @@
 use Rattle.std.proofs.Common.{◌≡◌, ◌∷◌, sym, subst}
-use Rattle.rv32_routine.specs.Kernel.{masking}
+use Rattle.masked_code.specs.Kernel.{masking}
 use Rattle.service_gen.specs.GetTaskState.{TellsState}
 use Rattle.service_gen.proofs.Stating.{body, tells_state}
 use Rattle.service_gen.proofs.get_task_state.code.Goals as goal

@@ -1,5 +1,5 @@
 use Rattle.std.proofs.Common.{◌≡◌, ◌∷◌, sym, subst}
-use Rattle.rv32_routine.specs.Kernel.{masking}
+use Rattle.masked_code.specs.Kernel.{masking}
 use Rattle.service_gen.specs.ReleaseResource.{Releases}
 use Rattle.service_gen.proofs.Releasing.{body, releases}
 use Rattle.service_gen.proofs.release_resource.code.Goals as goal

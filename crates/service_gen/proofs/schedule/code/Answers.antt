@@ -1,5 +1,5 @@
 use Rattle.std.proofs.Common.{◌≡◌, ◌∷◌, sym, subst}
-use Rattle.rv32_routine.specs.Kernel.{masking}
+use Rattle.masked_code.specs.Kernel.{masking}
 use Rattle.service_gen.specs.Schedule.{Yields}
 use Rattle.service_gen.proofs.Yielding.{body, yields}
 use Rattle.service_gen.proofs.schedule.code.Goals as goal

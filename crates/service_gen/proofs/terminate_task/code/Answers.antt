@@ -1,5 +1,5 @@
 use Rattle.std.proofs.Common.{◌≡◌, ◌∷◌, sym, subst}
-use Rattle.rv32_routine.specs.Kernel.{masking}
+use Rattle.masked_code.specs.Kernel.{masking}
 use Rattle.service_gen.specs.TerminateTask.{Terminates}
 use Rattle.service_gen.proofs.TerminateTask.{body, terminates}
 use Rattle.service_gen.proofs.terminate_task.code.Goals as goal

@@ -1,6 +1,6 @@
 use Rattle.std.proofs.Common.{◌≡◌, ◌+◌, ◌/◌, ◌∙◌, length, ap, arith}
 use Rattle.std.proofs.lemmas.Result.{err_from_is_err_and}
-use Rattle.sloth_io.specs.Sink.{gains}
+use Rattle.sloth_io.specs.Sink.{output_with}
 use Rattle.trace_text.specs.Listing.{first_lines}
 use Rattle.sloth_cli.proofs.Listed.{took-none, took-more, broke-later}
 use Rattle.sloth_cli.proofs.listing.put_listing.Goals as goal
@@ -24,4 +24,4 @@ pub returns-clause-ok : goal.returns-clause-ok
 returns-clause-ok g c =
     let same = ap length c.items.ensures in
     let all : c.loop-k.k ≡ length c.args.image.now.memory / 4 + 1 = omega (arith, same) in
-    c.loop-k.invariant ∙ ap (λ n. gains (g.S.Sink.seen c.args.out.now) (first_lines c.args.image.now n)) all
+    c.loop-k.invariant ∙ ap (λ n. output_with (g.S.Sink.seen c.args.out.now) (first_lines c.args.image.now n)) all

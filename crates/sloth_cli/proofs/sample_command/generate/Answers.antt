@@ -1,7 +1,7 @@
 use Rattle.std.proofs.Common.{◌∙◌, ℕ, List, sym, subst}
 use Rattle.sloth_base.specs.Arrivals.{AreArrivals}
 use Rattle.sloth_source.specs.OilText.{OilText}
-use Rattle.app_tasks.proofs.Declared.{thirty-tasks}
+use Rattle.sample_tasks.proofs.Declared.{thirty-tasks}
 use Rattle.sloth_cli.proofs.Ceilings.{runs-keep}
 use Rattle.sloth_cli.proofs.sample_command.generate.Goals as goal
 

@@ -1,4 +1,4 @@
-use Rattle.sloth_link.proofs.Whole.{is_linked}
+use Rattle.sloth_link.proofs.WrittenMemory.{is_linked}
 use Rattle.sloth_link.proofs.linking.memory.Goals as goal
 
 pub returns : goal.returns

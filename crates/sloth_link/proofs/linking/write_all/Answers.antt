@@ -2,7 +2,7 @@ use Rattle.std.proofs.Common.{ap, length, ◌∙◌}
 use Rattle.std.specs.Prelude.{map}
 use Rattle.sloth_link.specs.Linked.{block_section}
 use Rattle.sloth_link.proofs.Written.{length-linked}
-use Rattle.sloth_link.proofs.Whole.{blocks_inside, symbols_inside}
+use Rattle.sloth_link.proofs.WrittenMemory.{blocks_inside, symbols_inside}
 use Rattle.sloth_link.proofs.linking.write_all.Goals as goal
 
 pub write_blocks-requires-clause-inside : goal.write_blocks-requires-clause-inside

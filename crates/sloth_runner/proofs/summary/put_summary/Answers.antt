@@ -1,6 +1,6 @@
 use Rattle.std.proofs.Common.{◌≡◌, ◌∙◌, ap, arith}
 use Rattle.std.proofs.lemmas.Result.{err_from_is_err_and}
-use Rattle.sloth_io.specs.Sink.{gains}
+use Rattle.sloth_io.specs.Sink.{output_with}
 use Rattle.trace_text.specs.Summary.{first_kinds}
 use Rattle.sloth_runner.proofs.Summed.{took-no-kinds, took-kind, broke-in-kind}
 use Rattle.sloth_runner.proofs.summary.put_summary.Goals as goal
@@ -22,4 +22,4 @@ returns-in_err-put_kind-clause-err g c =
 pub returns-clause-ok : goal.returns-clause-ok
 returns-clause-ok g c =
     let all : c.loop-kind.kind ≡ 9 = omega arith in
-    c.loop-kind.invariant ∙ ap (λ n. gains (g.S.Sink.seen c.args.out.now) (first_kinds c.args.counts.now n)) all
+    c.loop-kind.invariant ∙ ap (λ n. output_with (g.S.Sink.seen c.args.out.now) (first_kinds c.args.counts.now n)) all

@@ -2,13 +2,13 @@ use Rattle.std.proofs.Common.{◌≡◌, ◌+◌, ◌<◌, ◌^◌, length}
 use Rattle.std.specs.List.{All}
 use Rattle.observe.specs.Progress.{remaining}
 use Rattle.sloth_runner.specs.Runner.{HandingOut}
-use Rattle.sloth_runner.specs.Tally.{counted}
+use Rattle.sloth_runner.specs.Tally.{counts_with}
 use Rattle.sloth_runner.proofs.tally.count_events.Given as goal
 
 abbrev pub invariant-loop-event : goal.invariant-loop-event
 invariant-loop-event l = record {
   room : All (λ number. number + length (remaining l.observer) < 2 ^ 32) l.counts;
-  counts : counted l.counts (remaining l.observer) ≡ counted l.fn.counts (remaining l.fn.observer);
+  counts : counts_with l.counts (remaining l.observer) ≡ counts_with l.fn.counts (remaining l.fn.observer);
   handing : HandingOut l.fn.observer l.observer;
 }
 

@@ -1,5 +1,5 @@
 use Rattle.sloth_source.proofs.Unique.{never_both}
-use Rattle.sloth_source.proofs.Whole.{not_neither}
+use Rattle.sloth_source.proofs.FirstRefusal.{not_neither}
 use Rattle.sloth_source.proofs.laws.one_verdict.Goals as goal
 
 pub returns-clause-not_both : goal.returns-clause-not_both

@@ -4,10 +4,10 @@ use Rattle.std.proofs.lemmas.Bool.{eqb-true, eq-eqb}
 use Rattle.sloth_base.specs.declared.app.Func.{Func}
 use Rattle.sloth_base.specs.declared.app.Item.{Item}
 use Rattle.sloth_base.specs.declared.refusal.Code.TheVariants as code
-use Rattle.sloth_refusal.specs.Search.{Finds}
-use Rattle.sloth_refusal.proofs.Kept.{both_are, finds_same}
+use Rattle.least_fault.specs.Search.{Finds}
+use Rattle.least_fault.proofs.Kept.{both_are, finds_same}
 use Rattle.sloth_base.specs.Named.{missing, nowhere}
-use Rattle.app_rules.specs.WellFormed.{BodyFault}
+use Rattle.code_rules.specs.WellFormed.{BodyFault}
 use Rattle.task_verify.proofs.Tested.{tested}
 use Rattle.task_verify.specs.Cases.{EmptyFault, LabelFaults, ItemFaults, PlacesFault}
 use Rattle.task_verify.proofs.Parts.{Parts, to_parts, from_parts}

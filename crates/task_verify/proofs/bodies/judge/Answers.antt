@@ -1,7 +1,7 @@
 use Rattle.std.proofs.Common.{◌<◌, ◌≤◌, List, length, subst}
 use Rattle.sloth_base.specs.declared.app.Func.{Func}
-use Rattle.app_rules.specs.WellFormed.{BodyFault}
-use Rattle.app_rules.proofs.Judged.{judged_more, judged_end}
+use Rattle.code_rules.specs.WellFormed.{BodyFault}
+use Rattle.code_rules.proofs.Judged.{judged_more, judged_end}
 use Rattle.task_verify.proofs.bodies.judge.Goals as goal
 
 pub loop-body-preserved : goal.loop-body-preserved

@@ -1,6 +1,6 @@
 use Rattle.std.proofs.Common.{length}
-use Rattle.app_rules.specs.WellFormed.{BodyFault}
-use Rattle.app_rules.proofs.Judged.{Judged}
+use Rattle.code_rules.specs.WellFormed.{BodyFault}
+use Rattle.code_rules.proofs.Judged.{Judged}
 use Rattle.task_verify.proofs.bodies.judge.Given as goal
 
 abbrev pub invariant-loop-body : goal.invariant-loop-body

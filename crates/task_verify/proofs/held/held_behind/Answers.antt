@@ -1,5 +1,5 @@
 use Rattle.std.proofs.Common.{ap, sym, ◌∙◌}
-use Rattle.app_rules.specs.Code.{held_behind}
+use Rattle.code_rules.specs.Code.{held_behind}
 use Rattle.task_verify.proofs.Lists.{popped}
 use Rattle.task_verify.proofs.held.held_behind.Goals as goal
 

@@ -1,9 +1,9 @@
 use Rattle.std.proofs.Common.{◌⊎◌, subst}
 use Rattle.sloth_base.specs.declared.app.Item.{Item}
 use Rattle.sloth_base.specs.declared.refusal.Code.TheVariants as code
-use Rattle.sloth_refusal.specs.Search.{Finds}
-use Rattle.sloth_refusal.proofs.Kept.{both_are}
-use Rattle.app_rules.specs.WellFormed.{AccessesPast, IsUneven, MasksPast}
+use Rattle.least_fault.specs.Search.{Finds}
+use Rattle.least_fault.proofs.Kept.{both_are}
+use Rattle.code_rules.specs.WellFormed.{AccessesPast, IsUneven, MasksPast}
 use Rattle.task_verify.proofs.Tested.{tested}
 use Rattle.task_verify.specs.Cases.{Case}
 use Rattle.task_verify.specs.Tests.{accesses_past, is_uneven, masks_past}

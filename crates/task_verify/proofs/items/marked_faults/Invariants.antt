@@ -1,5 +1,5 @@
 use Rattle.std.proofs.Common.{length}
-use Rattle.app_rules.proofs.Judged.{Judged}
+use Rattle.code_rules.proofs.Judged.{Judged}
 use Rattle.task_verify.specs.Cases.{ItemFault}
 use Rattle.task_verify.proofs.items.marked_faults.Given as goal
 

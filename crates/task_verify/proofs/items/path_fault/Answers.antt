@@ -1,9 +1,9 @@
 use Rattle.std.proofs.Common.{false, not, get_or, subst}
 use Rattle.sloth_base.specs.declared.app.Item.{Item}
 use Rattle.sloth_base.specs.declared.refusal.Code.TheVariants as code
-use Rattle.sloth_refusal.specs.Search.{Finds}
-use Rattle.app_rules.specs.WellFormed.{IsUnreached}
-use Rattle.app_rules.proofs.Judged.{decided}
+use Rattle.least_fault.specs.Search.{Finds}
+use Rattle.code_rules.specs.WellFormed.{IsUnreached}
+use Rattle.code_rules.proofs.Judged.{decided}
 use Rattle.task_verify.specs.Cases.{Case}
 use Rattle.task_verify.proofs.Lists.{item_is}
 use Rattle.task_verify.proofs.Paths.{Decides-unreached}

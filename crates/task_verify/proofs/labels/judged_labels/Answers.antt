@@ -1,6 +1,6 @@
 use Rattle.std.proofs.Common.{◌<◌, ◌≤◌, List, length, subst}
 use Rattle.sloth_base.specs.declared.app.Label.{Label}
-use Rattle.app_rules.proofs.Judged.{judged_more, judged_end}
+use Rattle.code_rules.proofs.Judged.{judged_more, judged_end}
 use Rattle.task_verify.specs.Cases.{LabelFault}
 use Rattle.task_verify.proofs.labels.judged_labels.Goals as goal
 

@@ -1,5 +1,5 @@
 use Rattle.std.proofs.Common.{length}
-use Rattle.app_rules.proofs.Judged.{Judged}
+use Rattle.code_rules.proofs.Judged.{Judged}
 use Rattle.task_verify.specs.Cases.{LabelFault}
 use Rattle.task_verify.proofs.labels.judged_labels.Given as goal
 

@@ -1,5 +1,5 @@
 use Rattle.std.proofs.Common.{◌≡◌, ℕ, Some, length, subst, sym, ◌∙◌}
-use Rattle.sloth_refusal.proofs.Kept.{finds_same}
+use Rattle.least_fault.proofs.Kept.{finds_same}
 use Rattle.task_verify.specs.Cases.{FallsOther, FallFault}
 use Rattle.task_verify.specs.Labels.{first_below}
 use Rattle.task_verify.proofs.Labelled.{first_is}

@@ -1,11 +1,11 @@
 use Rattle.std.proofs.Common.{◌⊎◌, sym, subst}
 use Rattle.sloth_base.specs.declared.app.Item.{Item}
 use Rattle.sloth_base.specs.declared.refusal.Code.TheVariants as code
-use Rattle.sloth_refusal.specs.Search.{Finds}
-use Rattle.sloth_refusal.proofs.Kept.{both_are}
-use Rattle.app_rules.specs.WellFormed.{HoldsOther, ReleasesOther, TakesHeld, LeavesHolding}
-use Rattle.app_rules.specs.AppRange.{IsOp}
-use Rattle.app_rules.proofs.Judged.{decided}
+use Rattle.least_fault.specs.Search.{Finds}
+use Rattle.least_fault.proofs.Kept.{both_are}
+use Rattle.code_rules.specs.WellFormed.{HoldsOther, ReleasesOther, TakesHeld, LeavesHolding}
+use Rattle.code_rules.specs.AppRange.{IsOp}
+use Rattle.code_rules.proofs.Judged.{decided}
 use Rattle.task_verify.proofs.Tested.{tested}
 use Rattle.task_verify.specs.Cases.{Case, HeldFault}
 use Rattle.task_verify.specs.Tests.{releases_other, takes_held, leaves_holding}

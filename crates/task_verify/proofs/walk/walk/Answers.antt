@@ -1,10 +1,10 @@
 use Rattle.std.proofs.Common.{ℕ, ◌<◌, ◌≤◌, List, length, ap, sym, subst, ◌∙◌, add-one, arith}
 use Rattle.sloth_base.specs.declared.app.Item.{Item}
-use Rattle.sloth_refusal.specs.Search.{Finds}
-use Rattle.sloth_refusal.proofs.Kept.{both_are}
+use Rattle.least_fault.specs.Search.{Finds}
+use Rattle.least_fault.proofs.Kept.{both_are}
 use Rattle.sloth_base.specs.Named.{item_of}
-use Rattle.app_rules.specs.Code.{fallen, held_after}
-use Rattle.app_rules.proofs.Judged.{Below, judged_more, judged_end}
+use Rattle.code_rules.specs.Code.{held_fallen_into, held_after}
+use Rattle.code_rules.proofs.Judged.{Below, judged_more, judged_end}
 use Rattle.task_verify.specs.Labels.{last_below, list_of}
 use Rattle.task_verify.specs.Cases.{FallFault, HeldFault, HeldFaultAt, PlaceFault}
 use Rattle.task_verify.proofs.Labelled.{last_inside, held_is}
@@ -38,7 +38,7 @@ loop-number-preserved c =
       finds = judged_more (PlaceFault app f) (length f.items) i c.loop-number.least c.merge.result c.merge-least.result inside
           (both_are (FallFault f i) (HeldFaultAt app f i) c.fall_fault-falling.result found c.merge.result c.fall_fault-falling.ensures here c.merge.ensures)
           c.merge-least.ensures c.loop-number.invariant.finds;
-      held = c.in_ok-held.ensures ∙ ap (λ (y : Item). held_after y.op entered) same ∙ ap (λ h. held_after o h) held_now ∙ ap (fallen f) (sym (add-one i));
+      held = c.in_ok-held.ensures ∙ ap (λ (y : Item). held_after y.op entered) same ∙ ap (λ h. held_after o h) held_now ∙ ap (held_fallen_into f) (sym (add-one i));
     }
 
 pub returns : goal.returns

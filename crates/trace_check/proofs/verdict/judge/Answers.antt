@@ -2,7 +2,7 @@ use Rattle.std.proofs.Common.{◌≡◌, ◌∙◌, ℕ, ◌+◌, ◌++◌, ◌�
 use Rattle.std.specs.Bool.{Decides}
 use Rattle.std.proofs.lemmas.Bool.{false≢true}
 use Rattle.sloth_base.specs.declared.event.Stamped.{Stamped}
-use Rattle.osek_machine.specs.InTime.{InTime}
+use Rattle.osek_scheduler.specs.InTime.{InTime}
 use Rattle.trace_check.specs.TraceText.{Begins, HasRead}
 use Rattle.trace_check.specs.Verdicts.{func_names}
 use Rattle.trace_check.proofs.TraceText.{reads_more}

@@ -1,7 +1,7 @@
 use Rattle.std.proofs.Common.{◌≡◌, true, get_or}
 use Rattle.std.specs.Prelude.{◌==◌, ◌||◌, not, ltb}
 use Rattle.std.specs.Int.{bit_at}
-use Rattle.osek_machine.specs.Next.{all_below}
+use Rattle.osek_scheduler.specs.Next.{all_below}
 use Rattle.trace_check.proofs.walk.all_later.Given as goal
 
 abbrev pub invariant-loop-line : goal.invariant-loop-line

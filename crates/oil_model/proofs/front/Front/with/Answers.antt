@@ -4,7 +4,7 @@ use Rattle.std.specs.Borrow.{Bor}
 use Rattle.std.specs.List.{list_any}
 use Rattle.std.specs.Str.{bytes_eq}
 use Rattle.oil_parse.specs.declared.tree.OilObject.{OilObject}
-use Rattle.oil_model.specs.Objects.{is_of_kind, declares}
+use Rattle.oil_model.specs.Objects.{is_of_kind, is_declaration}
 use Rattle.oil_model.specs.TaskFaults.{has_priority}
 use Rattle.oil_model.specs.Fronts.{IsFront}
 use Rattle.text_pieces.proofs.Tests.{any_push}
@@ -24,7 +24,7 @@ invariant_of-result c =
           ∙ named_more i.names.keys c.bytes.result c.bytes-2.result kind name
           ∙ ap (λ (w : List ℕ). list_any (λ y. bytes_eq y.0.now kind && bytes_eq y.1.now name) i.names.keys || (bytes_eq w kind && bytes_eq c.bytes-2.result.now name)) c.bytes.ensures
           ∙ ap (λ (w : List ℕ). list_any (λ y. bytes_eq y.0.now kind && bytes_eq y.1.now name) i.names.keys || (bytes_eq x.kind kind && bytes_eq w name)) c.bytes-2.ensures
-          ∙ ap (λ b. b || declares kind name x) (k.named kind name) ∙ sym (any_push (declares kind name) i.objects.now x);
+          ∙ ap (λ b. b || is_declaration kind name x) (k.named kind name) ∙ sym (any_push (is_declaration kind name) i.objects.now x);
       taken = λ priority. c.in_ok-add_priority.ensures priority ∙ ap (λ b. b || has_priority priority x) (k.taken priority) ∙ sym (any_push (has_priority priority) i.objects.now x);
       task_count = c.more.ensures ∙ count_push (is_of_kind (codes "TASK")) i.objects.now x i.tasks k.task_count;
       resource_count = c.more-2.ensures ∙ count_push (is_of_kind (codes "RESOURCE")) i.objects.now x i.resources k.resource_count;

@@ -1,7 +1,7 @@
 use Rattle.std.proofs.Common.{◌∙◌, ap, List, ℕ, Option}
 use Rattle.std.specs.Prelude.{codes, is_some}
 use Rattle.oil_parse.specs.declared.tree.OilObject.{OilObject}
-use Rattle.oil_model.specs.Objects.{has}
+use Rattle.oil_model.specs.Objects.{is_declared}
 use Rattle.oil_model.proofs.Names.{numbered}
 use Rattle.oil_model.proofs.object_table.ObjectTable.has_resource.Goals as goal
 
@@ -10,4 +10,4 @@ returns c =
     let i = c.self.inside in
     let word = c.args.word.now in
     c.is_some.ensures ∙ ap (λ (x : Option ℕ). is_some x) c.number.ensures ∙ numbered (codes "RESOURCE") word i.objects.now i.resources.now c.self.invariant.0
-    ∙ ap (λ (x : List OilObject). has x (codes "RESOURCE") word) c.self.view_is
+    ∙ ap (λ (x : List OilObject). is_declared x (codes "RESOURCE") word) c.self.view_is

@@ -1,6 +1,6 @@
 use Rattle.std.proofs.Common.{◌≡◌, ◌∙◌, ap, sym, Some, None}
 use Rattle.rv32_instr.specs.Table.{Decode}
-use Rattle.rv32_instr.specs.Execute.{Going, Stopped, fetched}
+use Rattle.rv32_instr.specs.Execute.{Going, Stopped, word_at_pc}
 use Rattle.rv32_instr.specs.declared.stop.Stop.TheVariants as stop
 use Rattle.rv32_machine.specs.State.{state}
 use Rattle.rv32_machine.proofs.Fetching.{step_fetch, step_illegal, executed, touched_executed}
@@ -13,7 +13,7 @@ returns-in-Err-clause-err g c =
 pub returns-in-None-clause-err : goal.returns-in-None-clause-err
 returns-in-None-clause-err g c =
     let w = c.in-Ok.ensures.ok.1 in
-    let d : Decode (fetched (state g.B.Bus.memory c.args.self.now)) ≡ None = ap Decode (sym w) ∙ sym c.in-None.ensures.is in
+    let d : Decode (word_at_pc (state g.B.Bus.memory c.args.self.now)) ≡ None = ap Decode (sym w) ∙ sym c.in-None.ensures.is in
     step_illegal (state g.B.Bus.memory c.args.self.now) c.in-Ok.ensures.ok.0 d
     ∙ ap (λ v. Stopped (stop.Illegal v)) (sym w)
 

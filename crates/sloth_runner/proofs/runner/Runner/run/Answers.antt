@@ -1,8 +1,8 @@
 use Rattle.std.proofs.Common.{◌≡◌, ◌+◌, arith, ◌∙◌, ap, refl}
 use Rattle.std.proofs.lemmas.Result.{err_from_is_err_and}
-use Rattle.sloth_io.specs.Sink.{gains}
+use Rattle.sloth_io.specs.Sink.{output_with}
 use Rattle.sloth_runner.proofs.Running.{running-init, running-on, stopped-text, stopped-end, whole-end, broken-text}
-use Rattle.sloth_runner.specs.Runner.{Went, run_end, run_text, image_of, given, count_of}
+use Rattle.sloth_runner.specs.Runner.{Went, run_end, run_text, image_of, given_arrivals, count_of}
 use Rattle.sloth_runner.proofs.runner.Runner.run.Goals as goal
 
 pub loop-self-init : goal.loop-self-init
@@ -40,10 +40,10 @@ pub returns-clause-text : goal.returns-clause-text
 returns-clause-text g c =
     let all : count_of c.loop-self.self ≡ c.args.n = omega arith in
     c.loop-self.invariant.0.taken
-    ∙ ap (λ k. gains (g.S.Sink.seen c.args.out.now) (run_text (image_of c.args.self.now) (given c.args.self.now) c.args.form k)) all
+    ∙ ap (λ k. output_with (g.S.Sink.seen c.args.out.now) (run_text (image_of c.args.self.now) (given_arrivals c.args.self.now) c.args.form k)) all
 
 pub returns-clause-end : goal.returns-clause-end
 returns-clause-end g c =
     let all : count_of c.loop-self.self ≡ c.args.n = omega arith in
     whole-end c.args.self.now c.loop-self.self (count_of c.loop-self.self) c.loop-self.invariant.0.ran
-    ∙ ap (run_end (image_of c.args.self.now) (given c.args.self.now)) all
+    ∙ ap (run_end (image_of c.args.self.now) (given_arrivals c.args.self.now)) all

@@ -8,7 +8,7 @@ use Rattle.sloth_base.specs.Take.{entered}
 use Rattle.sloth_base.specs.declared.image.Image.{Image}
 use Rattle.sloth_runner.specs.declared.runner.Runner.{Runner}
 use Rattle.sloth_runner.specs.declared.sight.Seen.{Seen}
-use Rattle.sloth_runner.specs.Runner.{HasRun, HasArrived, HasExecuted, image_of, given, count_of, sloth_state}
+use Rattle.sloth_runner.specs.Runner.{HasRun, HasArrived, HasExecuted, image_of, given_arrivals, count_of, sloth_state}
 use Rattle.sloth_runner.specs.Sight.{IsLast, IsSight, seen_at, sight_of}
 use Rattle.sloth_runner.proofs.Turning.{moment-is, machine-more}
 use Rattle.sloth_runner.proofs.Sighted.{last-behind, sight-stopped, sight-behind}
@@ -33,7 +33,7 @@ returns-in-Err c =
     let m : State = sloth_state r.machine in
     let looked = subst (HasArrived r) (sym c.look.ensures.same) c.arrive_now.ensures.arrived in
     let halt = c.in-Err.ensures.err in
-    sight-stopped (image_of c.args.self.now) (given c.args.self.now) k c.args.k c.in-Err.halt.pc m c.in-Err.halt.stop (omega arith)
+    sight-stopped (image_of c.args.self.now) (given_arrivals c.args.self.now) k c.args.k c.in-Err.halt.pc m c.in-Err.halt.stop (omega arith)
     (ap (λ A. state_after k A (start (image_of c.args.self.now))) (sym h.arrivals) ∙ h.ran.after)
     (ap (λ A. moment A k m) (sym h.arrivals) ∙ moment-is r c.look.new.self (Halts c.in-Err.halt.stop) h.ran.executed looked halt.halts)
     (halt.pc ∙ ap (λ (x : State). (entered x).pc) looked.state ∙ ap (λ A. (entered (arrived A k m)).pc) h.arrivals)
@@ -45,7 +45,7 @@ loop-self-preserved c =
     let q = c.execute.new.self in
     let h = c.loop-self.invariant in
     let image : Image = image_of c.args.self.now in
-    let A = given c.args.self.now in
+    let A = given_arrivals c.args.self.now in
     let k : ℕ = count_of r in
     let m : State = sloth_state r.machine in
     let looked = subst (HasArrived r) (sym c.look.ensures.same) c.arrive_now.ensures.arrived in
@@ -72,11 +72,11 @@ loop-self-preserved c =
 pub returns-in-Some : goal.returns-in-Some
 returns-in-Some c =
     let h = c.loop-self.invariant in
-    let S : Option Seen → Type 0 = λ last. IsSight (image_of c.args.self.now) (given c.args.self.now) c.args.k (sight_of last) in
+    let S : Option Seen → Type 0 = λ last. IsSight (image_of c.args.self.now) (given_arrivals c.args.self.now) c.args.k (sight_of last) in
     subst S c.in-Some.is (sight-behind c.args.self.now c.loop-self.self c.args.k c.loop-self.last h.ran h.arrivals h.last (omega arith))
 
 pub returns-in-None : goal.returns-in-None
 returns-in-None c =
     let h = c.loop-self.invariant in
-    let S : Option Seen → Type 0 = λ last. IsSight (image_of c.args.self.now) (given c.args.self.now) c.args.k (sight_of last) in
+    let S : Option Seen → Type 0 = λ last. IsSight (image_of c.args.self.now) (given_arrivals c.args.self.now) c.args.k (sight_of last) in
     subst S c.in-None.is (sight-behind c.args.self.now c.loop-self.self c.args.k c.loop-self.last h.ran h.arrivals h.last (omega arith))

@@ -1,5 +1,5 @@
 use Rattle.std.proofs.Common.{◌≡◌, ◌≤◌, ◌+◌, ◌-◌}
-use Rattle.sloth_runner.specs.Runner.{HasRun, image_of, given, count_of}
+use Rattle.sloth_runner.specs.Runner.{HasRun, image_of, given_arrivals, count_of}
 use Rattle.sloth_runner.specs.Sight.{IsLast}
 use Rattle.sloth_runner.proofs.runner.Runner.state_at.Given as goal
 
@@ -7,8 +7,8 @@ abbrev pub invariant-loop-self : goal.invariant-loop-self
 invariant-loop-self l = record {
   ran : HasRun l.self (image_of l.fn.self) (count_of l.self);
   image : image_of l.self ≡ image_of l.fn.self;
-  arrivals : given l.self ≡ given l.fn.self;
-  last : IsLast (image_of l.fn.self) (given l.fn.self) (count_of l.self) l.last;
+  arrivals : given_arrivals l.self ≡ given_arrivals l.fn.self;
+  last : IsLast (image_of l.fn.self) (given_arrivals l.fn.self) (count_of l.self) l.last;
   few : count_of l.self ≤ l.fn.k + 1;
 }
 

@@ -3,8 +3,8 @@ use Rattle.std.specs.List.{All}
 use Rattle.observe.specs.Progress.{remaining}
 use Rattle.sim_induction.specs.Sound.{events_of}
 use Rattle.trace_text.specs.Summary.{counts_of}
-use Rattle.sloth_runner.specs.Runner.{Advanced, Ran, image_of, given, count_of, run_end}
-use Rattle.sloth_runner.specs.Tally.{counted}
+use Rattle.sloth_runner.specs.Runner.{Advanced, Ran, image_of, given_arrivals, count_of, run_end}
+use Rattle.sloth_runner.specs.Tally.{counts_with}
 use Rattle.sloth_runner.specs.declared.runner.Runner.{Runner}
 use Rattle.sloth_runner.proofs.Running.{ran-more, stopped-events, stopped-end, whole-end, nothing-yet}
 use Rattle.sloth_runner.proofs.Turning.{running-behind}
@@ -18,7 +18,7 @@ loop-self-init c =
     record {
       ran = record { running = c.requires.fresh.0; count = refl; image = refl; arrivals = refl };
       few = omega (arith, none);
-      counts = sym (ap (λ k. counts_of (events_of (image_of r) (given r) k)) none ∙ ap counts_of (nothing-yet (image_of r) (given r)));
+      counts = sym (ap (λ k. counts_of (events_of (image_of r) (given_arrivals r) k)) none ∙ ap counts_of (nothing-yet (image_of r) (given_arrivals r)));
     }
 
 pub returns-in-Some-clause-counts : goal.returns-in-Some-clause-counts
@@ -54,18 +54,18 @@ loop-self-preserved c =
     record {
       ran = subst P (sym more) (ran-more r0 r q (count_of r) c.loop-self.invariant.ran running more c.advance.ensures.image (c.count_events.ensures.arrivals ∙ c.advance.ensures.arrivals));
       few = omega (arith, more);
-      counts = c.count_events.ensures.counts ∙ ap (λ x. counted x (remaining p.observer)) c.loop-self.invariant.counts
+      counts = c.count_events.ensures.counts ∙ ap (λ x. counts_with x (remaining p.observer)) c.loop-self.invariant.counts
           ∙ counts-behind r0 r p (count_of r) c.loop-self.invariant.ran advanced c.advance.ensures.arrivals
-          ∙ ap (λ k. counts_of (events_of (image_of r0) (given r0) k)) (sym more);
+          ∙ ap (λ k. counts_of (events_of (image_of r0) (given_arrivals r0) k)) (sym more);
     }
 
 pub returns-clause-counts : goal.returns-clause-counts
 returns-clause-counts c =
     let all : count_of c.loop-self.self ≡ c.args.n = omega arith in
-    c.loop-self.invariant.counts ∙ ap (λ k. counts_of (events_of (image_of c.args.self.now) (given c.args.self.now) k)) all
+    c.loop-self.invariant.counts ∙ ap (λ k. counts_of (events_of (image_of c.args.self.now) (given_arrivals c.args.self.now) k)) all
 
 pub returns-clause-end : goal.returns-clause-end
 returns-clause-end c =
     let all : count_of c.loop-self.self ≡ c.args.n = omega arith in
     whole-end c.args.self.now c.loop-self.self (count_of c.loop-self.self) c.loop-self.invariant.ran
-    ∙ ap (run_end (image_of c.args.self.now) (given c.args.self.now)) all
+    ∙ ap (run_end (image_of c.args.self.now) (given_arrivals c.args.self.now)) all

@@ -1,7 +1,7 @@
 use Rattle.std.proofs.Common.{◌∙◌, ap, refl, subst}
 use Rattle.std.proofs.lemmas.Result.{err_from_is_err_and}
 use Rattle.sloth_base.specs.declared.image.Image.{Image}
-use Rattle.sloth_io.specs.Sink.{gains, GainsPart}
+use Rattle.sloth_io.specs.Sink.{output_with, GainsPart}
 use Rattle.trace_text.specs.Texts.{text_after}
 use Rattle.observe.specs.Progress.{remaining}
 use Rattle.sloth_runner.specs.Runner.{Advanced}
@@ -31,6 +31,6 @@ returns-clause-went g c =
       count = advanced.ran.count;
       events = events;
       adds = advanced-adds r c.advance.new.self c.requires.running advanced c.advance.ensures.arrivals;
-      taken = c.in_ok-drain.ensures.ok ∙ ap (λ i. gains (g.S.Sink.seen c.args.out.now) (text_after i c.args.printer.now.form c.args.printer.now.after_idle events)) c.requires.printer;
+      taken = c.in_ok-drain.ensures.ok ∙ ap (λ i. output_with (g.S.Sink.seen c.args.out.now) (text_after i c.args.printer.now.form c.args.printer.now.after_idle events)) c.requires.printer;
       idle = c.in_ok-drain.ensures.after_idle;
     }

@@ -4,7 +4,7 @@ use Rattle.std.specs.Bool.{Decides}
 use Rattle.sloth_base.specs.Arrivals.{NeverFalls}
 use Rattle.sloth_base.specs.declared.event.Arrival.{Arrival}
 use Rattle.sloth_base.specs.declared.event.Stamped.{Stamped}
-use Rattle.osek_machine.specs.InTime.{InTime}
+use Rattle.osek_scheduler.specs.InTime.{InTime}
 use Rattle.trace_time.specs.Counts.{AreSmall, SameCounts, arrival_number, last_moment, may_leave}
 use Rattle.trace_time.specs.Timed.{Kept, TimedBy, is_late}
 use Rattle.trace_time.proofs.Decided.{late_in_time, others_in_time, decided}

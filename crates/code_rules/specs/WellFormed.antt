@@ -1,0 +1,164 @@
+-- Well-formed task code: the faults V1 to V12, and when a configuration and its task code have none.
+use Rattle.std.specs.Prelude.{ℕ, ◌+◌, ◌<◌, ◌≤◌, ◌≡◌, ◌≢◌, ◌⊎◌, ◌%◌, List, [], true, false, length, Some, None, bit_and}
+use Rattle.sloth_base.specs.declared.config.Config.{Config}
+use Rattle.sloth_base.specs.declared.config.TaskDecl.{TaskDecl}
+use Rattle.sloth_base.specs.declared.app.App.{App}
+use Rattle.sloth_base.specs.declared.app.Func.{Func}
+use Rattle.sloth_base.specs.declared.app.Op.{Op}
+use Rattle.sloth_base.specs.declared.app.Op.TheVariants as op
+use Rattle.sloth_base.specs.declared.refusal.Code.{Code}
+use Rattle.sloth_base.specs.declared.refusal.Code.TheVariants as code
+use Rattle.sloth_base.specs.declared.refusal.Part.TheVariants as part
+use Rattle.sloth_base.specs.declared.refusal.Refusal.{Refusal}
+use Rattle.sloth_base.specs.declared.service.Service.{Service}
+use Rattle.sloth_base.specs.declared.service.Service.TheVariants as service
+use Rattle.least_fault.specs.Order.{NoFault}
+use Rattle.sloth_base.specs.Named.{declaration, function, item_of, operation, label_of, symbol_size}
+use Rattle.code_rules.specs.AppRange.{AppInRange}
+use Rattle.code_rules.specs.Code.{CallChain, TaskReaches, Pauses, Ends, ReachesTaking, ReachesPause, way, GoesOn, Path, is_in, is_last, held_at, is_entered, held_entering}
+use Rattle.sloth_base.specs.Arithmetic.{size_of}
+use Rattle.sloth_base.specs.ConfigRange.{scheduler_number}
+
+-- ---- what an operation does against a rule
+
+-- V2: an access past the frame, or a direct access past its symbol
+abbrev pub AccessesPast : App → Func → Op → Type 0
+AccessesPast app f (op.FrameLoad rd word) = f.frame_words ≤ word
+AccessesPast app f (op.FrameStore rs word) = f.frame_words ≤ word
+AccessesPast app f (op.Load w rd y offset) = symbol_size app y < offset + size_of w
+AccessesPast app f (op.Store w rs y offset) = symbol_size app y < offset + size_of w
+AccessesPast app f _ = ⊥
+
+-- V3: a direct offset or a mask that is no multiple of the access size
+abbrev pub IsUneven : Op → Type 0
+IsUneven (op.Load w rd y offset) = offset % size_of w ≢ 0
+IsUneven (op.Store w rs y offset) = offset % size_of w ≢ 0
+IsUneven (op.LoadAt w rd y index mask) = mask % size_of w ≢ 0
+IsUneven (op.StoreAt w rs y index mask) = mask % size_of w ≢ 0
+IsUneven _ = ⊥
+
+-- V4: a mask above 32,767, or mask plus access size above the symbol's size
+abbrev pub MasksPast : App → Op → Type 0
+MasksPast app (op.LoadAt w rd y index mask) = (32767 < mask) ⊎ (symbol_size app y < mask + size_of w)
+MasksPast app (op.StoreAt w rs y index mask) = (32767 < mask) ⊎ (symbol_size app y < mask + size_of w)
+MasksPast app _ = ⊥
+
+-- V5: an item that can go on past the last item
+abbrev pub RunsOut : Func → ℕ → Type 0
+RunsOut f i = (j : ℕ) × GoesOn f i j × (length f.items ≤ j)
+
+-- V6: an item that no path from the body's first item reaches
+abbrev pub IsUnreached : Func → ℕ → Type 0
+IsUnreached f i = (between : List ℕ) → ¬ (Path f 0 between i)
+
+-- V7: a jump or branch to a label whose list is not the held one
+abbrev pub HoldsOther : Func → List ℕ → Op → Type 0
+HoldsOther f held o = (k : ℕ) × (way o ≡ Some k) × ((label_of f k).holds ≢ held)
+
+-- V8: a release of a resource that is not the last of the held list
+abbrev pub ReleasesOther : List ℕ → Op → Type 0
+ReleasesOther held (op.Serve call) = (call.service ≡ service.ReleaseResource) × (is_last call.object held ≡ false)
+ReleasesOther held _ = ⊥
+
+-- V9: taking a resource of the held list; a call of a function that reaches taking one
+abbrev pub TakesHeld : App → List ℕ → Op → Type 0
+TakesHeld app held (op.Serve call) = (call.service ≡ service.GetResource) × (is_in call.object held ≡ true)
+TakesHeld app held (op.Invoke g) = (r : ℕ) × ReachesTaking app g r × (is_in r held ≡ true)
+TakesHeld app held _ = ⊥
+
+-- V10: TerminateTask, ChainTask, WaitEvent, Schedule or `ret` with a held list that is not empty;
+-- a call, with such a list, of a function that reaches WaitEvent or Schedule
+abbrev pub LeavesHolding : App → List ℕ → Op → Type 0
+LeavesHolding app held (op.Serve call) = (Ends call.service ⊎ Pauses call.service) × (held ≢ [])
+LeavesHolding app held op.Return = held ≢ []
+LeavesHolding app held (op.Invoke g) = ReachesPause app g × (held ≢ [])
+LeavesHolding app held _ = ⊥
+
+-- V11: TerminateTask or ChainTask in the body of a function, `ret` in that of a task
+abbrev pub LeavesWrongly : Func → Op → Type 0
+LeavesWrongly f (op.Serve call) = Ends call.service × (f.task ≡ None)
+LeavesWrongly f op.Return = (t : ℕ) × (f.task ≡ Some t)
+LeavesWrongly f _ = ⊥
+
+-- a task lists a resource
+abbrev pub Lists : TaskDecl → ℕ → Type 0
+Lists task r = is_in r task.resources ≡ true
+
+-- the task has these events
+abbrev pub HasEvents : TaskDecl → ℕ → Type 0
+HasEvents task mask = bit_and mask task.events ≡ mask
+
+-- some task that reaches function f does not list resource r, which is not RES_SCHEDULER
+abbrev pub IsUnlisted : Config → App → ℕ → ℕ → Type 0
+IsUnlisted config app f r = (r ≢ scheduler_number) × ((t : ℕ) × TaskReaches app t f × ¬ (Lists (declaration config t) r))
+
+-- some task that reaches function f lacks one of these events
+abbrev pub IsLacked : Config → App → ℕ → ℕ → Type 0
+IsLacked config app f mask = (t : ℕ) × TaskReaches app t f × ¬ (HasEvents (declaration config t) mask)
+
+-- a function uses a service with what its tasks do not have
+abbrev pub Misuses : Config → App → ℕ → Service → (object mask : ℕ) → Type 0
+Misuses config app f service.GetResource r mask = IsUnlisted config app f r
+Misuses config app f service.ReleaseResource r mask = IsUnlisted config app f r
+Misuses config app f service.ClearEvent object mask = IsLacked config app f mask
+Misuses config app f service.WaitEvent object mask = IsLacked config app f mask
+Misuses config app f service.SetEvent t mask = ¬ (HasEvents (declaration config t) mask)
+Misuses config app f service.GetEvent t mask = (declaration config t).extended ≡ false
+Misuses config app f _ object mask = ⊥
+
+-- V12: GetResource or ReleaseResource of a resource, RES_SCHEDULER excepted, that some task which reaches the item does not list;
+-- ClearEvent or WaitEvent of an event that such a task lacks; SetEvent of one that the named task lacks; GetEvent of a basic task
+abbrev pub UsesUndeclared : Config → App → ℕ → Op → Type 0
+UsesUndeclared config app f (op.Serve call) = Misuses config app f call.service call.object call.mask
+UsesUndeclared config app f _ = ⊥
+
+-- ---- faults
+
+-- the resources that are held before an item
+abbrev pub held_before : App → ℕ → ℕ → List ℕ
+held_before app f i = held_at (function app f) i
+
+-- the rules that item i of body f breaks
+pub data Breaks (config : Config) (app : App) (f i : ℕ) : Code → Type 0 where
+  accesses_past : AccessesPast app (function app f) (operation app f i) → Breaks config app f i code.V2
+  is_uneven : IsUneven (operation app f i) → Breaks config app f i code.V3
+  masks_past : MasksPast app (operation app f i) → Breaks config app f i code.V4
+  runs_out : RunsOut (function app f) i → Breaks config app f i code.V5
+  is_unreached : IsUnreached (function app f) i → Breaks config app f i code.V6
+  holds_other : HoldsOther (function app f) (held_before app f i) (operation app f i) → Breaks config app f i code.V7
+  releases_other : ReleasesOther (held_before app f i) (operation app f i) → Breaks config app f i code.V8
+  takes_held : TakesHeld app (held_before app f i) (operation app f i) → Breaks config app f i code.V9
+  leaves_holding : LeavesHolding app (held_before app f i) (operation app f i) → Breaks config app f i code.V10
+  leaves_wrongly : LeavesWrongly (function app f) (operation app f i) → Breaks config app f i code.V11
+  uses_undeclared : UsesUndeclared config app f (operation app f i) → Breaks config app f i code.V12
+
+-- V7 at label k: it is fallen into with another list, or it stands before the first item with a list that is not empty
+pub data Differs (f : Func) (k : ℕ) : Type 0 where
+  falling_in : is_entered f k ≡ true → (label_of f k).holds ≢ held_entering f k → Differs f k
+  at_begin : (label_of f k).item ≡ 0 → (label_of f k).holds ≢ [] → Differs f k
+
+-- a fault of the task source on a line
+abbrev pub at_line : ℕ → Code → Refusal
+at_line line c = record { part = part.Src; line = line; code = c }
+
+-- V2 to V12 of body f
+pub data BodyFault (config : Config) (app : App) (f : ℕ) : Refusal → Type 0 where
+  at_header : length (function app f).items ≡ 0 → BodyFault config app f (at_line (function app f).line code.V5)
+  at_label : (k : ℕ) → k < length (function app f).labels → Differs (function app f) k
+      → BodyFault config app f (at_line (label_of (function app f) k).line code.V7)
+  at_item : (i : ℕ) (c : Code) → i < length (function app f).items → Breaks config app f i c
+      → BodyFault config app f (at_line (item_of (function app f) i).line c)
+
+-- V2 to V12
+abbrev pub RuleFault : Config → App → Refusal → Type 0
+RuleFault config app r = (f : ℕ) × (f < length app.funcs) × BodyFault config app f r
+
+-- V1: functions that lie on a cycle of calls, each at its header
+pub data CycleFault (app : App) : Refusal → Type 0 where
+  on_cycle : (f : ℕ) (between : List ℕ) → CallChain app f between f → CycleFault app (at_line (function app f).line code.V1)
+
+-- task code that keeps every rule
+pub record WellFormed (config : Config) (app : App) : Type 0 where
+  pub in_range : AppInRange config app
+  pub no_cycle : NoFault (CycleFault app)
+  pub no_fault : NoFault (RuleFault config app)

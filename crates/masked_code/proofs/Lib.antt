@@ -1,0 +1,13 @@
+pub mod Arrivals
+pub mod Words
+pub mod Masked
+pub mod Machine
+pub mod Perform
+pub mod Longest
+pub mod Sound
+pub mod Routines
+pub mod Spread
+pub mod Runs
+pub mod OneMore
+pub mod Parts
+pub mod Leave

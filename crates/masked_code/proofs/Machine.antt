@@ -1,0 +1,123 @@
+-- The machine's step at an offset in RAM, and what loads and stores do at the places that routines use.
+use Rattle.std.proofs.Common.{◌≡◌, ℕ, ◌+◌, ◌-◌, ◌%◌, ◌<◌, ◌≤◌, List, get_or, ap, arith, Some, None}
+use Rattle.std.specs.Prelude.{true, false, set}
+use Rattle.std.proofs.lemmas.Bool.{le-leb, and_from, eq-eqb, lt-ltb, lt-leb, le-ltb, and_left}
+use Rattle.sloth_base.specs.declared.app.Width.TheVariants as width
+use Rattle.sloth_base.specs.Machine.{Core}
+use Rattle.sloth_base.specs.Lines.{controller_byte, with_controller_byte, flag_of}
+use Rattle.rv32_instr.specs.declared.InstrKind.{InstrKind}
+use Rattle.rv32_instr.specs.Encode.{Encode}
+use Rattle.rv32_instr.specs.Table.{Decode}
+use Rattle.rv32_instr.specs.Ram.{word_at, with_word}
+use Rattle.rv32_instr.specs.Memory.{in_ram, in_controller, memory_of, with_memory, refusal, loaded_number, stored_memory}
+use Rattle.rv32_instr.specs.Effect.{effect}
+use Rattle.rv32_instr.specs.Execute.{Going, step, execute, perform, touched, touched_by, goes_on, jumps}
+use Rattle.masked_code.specs.Place.{at}
+
+-- an instruction stands at an offset
+abbrev pub Here : List ℕ → ℕ → InstrKind → Type 0
+Here ram o kind = (Decode (word_at ram o) ≡ Some kind) × (o + 4 ≤ 0x20_0000)
+
+pub in_ram_at : (a n : ℕ) → 0x8000_0000 ≤ a → a + n ≤ 0x8020_0000 → in_ram a n ≡ true
+in_ram_at a n h l = and_from _ _ (le-leb 0x8000_0000 a h) (le-leb (a + n) 0x8020_0000 l)
+
+pub not_ram : (a n : ℕ) → a < 0x8000_0000 → in_ram a n ≡ false
+not_ram a n h = and_left _ _ (lt-leb 0x8000_0000 a h)
+
+pub line_in : (k : ℕ) → k < 96 → in_controller (0x1000_0000 + k) ≡ true
+line_in k h = and_from _ _ (le-leb 0x1000_0000 (0x1000_0000 + k) (omega arith)) (lt-ltb (0x1000_0000 + k) 0x1000_0060 (omega arith))
+
+pub step_at : (o : ℕ) (c : Core) (kind : InstrKind) → Here c.ram o kind → step (at o c) ≡ perform (effect kind (0x8000_0000 + o) c.registers) (Encode kind) (0x8000_0000 + o) c
+unfolding step execute
+step_at o c kind h =
+    let e : 0x8000_0000 + o - 0x8000_0000 ≡ o = omega arith in
+    let f = in_ram_at (0x8000_0000 + o) 4 (omega arith) (omega arith) in
+    rw (f, e, h.0)
+
+pub touched_at : (o : ℕ) (c : Core) (kind : InstrKind) → Decode (word_at c.ram o) ≡ Some kind → touched (at o c) ≡ touched_by (effect kind (0x8000_0000 + o) c.registers)
+unfolding touched
+touched_at o c kind h =
+    let e : 0x8000_0000 + o - 0x8000_0000 ≡ o = omega arith in
+    rw (e, h)
+
+pub next_at : (o : ℕ) (c : Core) → o + 4 ≤ 0x20_0000 → goes_on (0x8000_0000 + o) c ≡ Going (at (o + 4) c)
+next_at o c h =
+    let e : (0x8000_0000 + o + 4) % 4294967296 ≡ 0x8000_0000 + (o + 4) = omega arith in
+    ap (λ p. Going (record { pc = p; core = c })) e
+
+pub jump_at : (o : ℕ) (c : Core) → o % 4 ≡ 0 → jumps (0x8000_0000 + o) c ≡ Going (at o c)
+jump_at o c al =
+    let g : (0x8000_0000 + o) % 4 ≡ 0 = omega arith in
+    rw (eq-eqb ((0x8000_0000 + o) % 4) 0 g)
+
+-- words of RAM
+pub word_allowed : (c : Core) (place : ℕ) → place % 4 ≡ 0 → place + 4 ≤ 0x20_0000 → refusal (memory_of c) (0x8000_0000 + place) width.Word ≡ None
+unfolding refusal
+word_allowed c place al h =
+    let g : (0x8000_0000 + place) % 4 ≡ 0 = omega arith in
+    rw (eq-eqb ((0x8000_0000 + place) % 4) 0 g, in_ram_at (0x8000_0000 + place) 4 (omega arith) (omega arith))
+
+pub word_loaded : (c : Core) (place : ℕ) → loaded_number (memory_of c) (0x8000_0000 + place) width.Word ≡ word_at c.ram place
+unfolding loaded_number
+word_loaded c place =
+    let e : 0x8000_0000 + place - 0x8000_0000 ≡ place = omega arith in
+    ap (word_at c.ram) e
+
+pub word_stored : (c : Core) (place v : ℕ) → with_memory c (stored_memory (memory_of c) (0x8000_0000 + place) width.Word v) ≡ record c { ram = with_word c.ram place v }
+unfolding stored_memory
+word_stored c place v =
+    let e : 0x8000_0000 + place - 0x8000_0000 ≡ place = omega arith in
+    ap (λ p. record c { ram = with_word c.ram p v }) e
+
+-- bytes of the controller
+pub byte_allowed : (c : Core) (k : ℕ) → c.controller ≡ true → k < 96 → refusal (memory_of c) (0x1000_0000 + k) width.ByteU ≡ None
+unfolding refusal
+byte_allowed c k there h =
+    let g : (0x1000_0000 + k) % 1 ≡ 0 = omega arith in
+    rw (eq-eqb ((0x1000_0000 + k) % 1) 0 g, not_ram (0x1000_0000 + k) 1 (omega arith), there, line_in k h)
+
+pub store_allowed : (c : Core) (k : ℕ) → c.controller ≡ true → k < 96 → refusal (memory_of c) (0x1000_0000 + k) width.Byte ≡ None
+unfolding refusal
+store_allowed c k there h =
+    let g : (0x1000_0000 + k) % 1 ≡ 0 = omega arith in
+    rw (eq-eqb ((0x1000_0000 + k) % 1) 0 g, not_ram (0x1000_0000 + k) 1 (omega arith), there, line_in k h)
+
+pub pending_loaded : (c : Core) (l : ℕ) → l < 32 → loaded_number (memory_of c) (0x1000_0000 + l) width.ByteU ≡ get_or c.pending l 0
+unfolding loaded_number controller_byte
+pending_loaded c l h =
+    let e : 0x1000_0000 + l - 0x1000_0000 ≡ l = omega arith in
+    rw (not_ram (0x1000_0000 + l) 1 (omega arith), e, lt-ltb l 32 h)
+
+pub enabled_loaded : (c : Core) (l : ℕ) → l < 32 → loaded_number (memory_of c) (0x1000_0000 + (32 + l)) width.ByteU ≡ get_or c.enabled l 0
+unfolding loaded_number controller_byte
+enabled_loaded c l h =
+    let e : 0x1000_0000 + (32 + l) - 0x1000_0000 ≡ 32 + l = omega arith in
+    let f : 32 + l - 32 ≡ l = omega arith in
+    rw (not_ram (0x1000_0000 + (32 + l)) 1 (omega arith), e, le-ltb (32 + l) 32 (omega arith), lt-ltb (32 + l) 64 (omega arith), f)
+
+pub level_loaded : (c : Core) (l : ℕ) → l < 32 → loaded_number (memory_of c) (0x1000_0000 + (64 + l)) width.ByteU ≡ get_or c.levels l 0
+unfolding loaded_number controller_byte
+level_loaded c l h =
+    let e : 0x1000_0000 + (64 + l) - 0x1000_0000 ≡ 64 + l = omega arith in
+    let f : 64 + l - 64 ≡ l = omega arith in
+    rw (not_ram (0x1000_0000 + (64 + l)) 1 (omega arith), e, le-ltb (64 + l) 32 (omega arith), le-ltb (64 + l) 64 (omega arith), f)
+
+pub pending_stored : (c : Core) (l v : ℕ) → l < 32 → with_memory c (stored_memory (memory_of c) (0x1000_0000 + l) width.Byte v) ≡ record c { pending = set c.pending l (flag_of (v % 256)) }
+unfolding stored_memory with_controller_byte
+pending_stored c l v h =
+    let e : 0x1000_0000 + l - 0x1000_0000 ≡ l = omega arith in
+    rw (not_ram (0x1000_0000 + l) 1 (omega arith), e, lt-ltb l 32 h)
+
+pub enabled_stored : (c : Core) (l v : ℕ) → l < 32 → with_memory c (stored_memory (memory_of c) (0x1000_0000 + (32 + l)) width.Byte v) ≡ record c { enabled = set c.enabled l (flag_of (v % 256)) }
+unfolding stored_memory with_controller_byte
+enabled_stored c l v h =
+    let e : 0x1000_0000 + (32 + l) - 0x1000_0000 ≡ 32 + l = omega arith in
+    let f : 32 + l - 32 ≡ l = omega arith in
+    rw (not_ram (0x1000_0000 + (32 + l)) 1 (omega arith), e, le-ltb (32 + l) 32 (omega arith), lt-ltb (32 + l) 64 (omega arith), f)
+
+pub level_stored : (c : Core) (l v : ℕ) → l < 32 → with_memory c (stored_memory (memory_of c) (0x1000_0000 + (64 + l)) width.Byte v) ≡ record c { levels = set c.levels l (v % 256) }
+unfolding stored_memory with_controller_byte
+level_stored c l v h =
+    let e : 0x1000_0000 + (64 + l) - 0x1000_0000 ≡ 64 + l = omega arith in
+    let f : 64 + l - 64 ≡ l = omega arith in
+    rw (not_ram (0x1000_0000 + (64 + l)) 1 (omega arith), e, le-ltb (64 + l) 32 (omega arith), le-ltb (64 + l) 64 (omega arith), f)

@@ -1,0 +1,74 @@
+-- The code that ends a stretch by going back to what runs below, and the state that this leaves.
+use Rattle.std.specs.Prelude.{ℕ, ◌+◌, ◌*◌, ◌%◌, ◌≡◌, ◌<◌, ◌≤◌, true, pos, List, [], ◌∷◌, ◌++◌, length, slice_index}
+use Rattle.sloth_base.specs.Machine.{Core, State}
+use Rattle.sloth_region.specs.Layout.{cur, below_word, idle_context, context_bytes, context_pc, context_level, context_cur, context_below}
+use Rattle.rv32_instr.specs.declared.csr.TheConstants.{MSTATUS, MEPC, PLEVEL}
+use Rattle.rv32_instr.specs.declared.InstrKind.{InstrKind}
+use Rattle.rv32_instr.specs.declared.InstrKind.TheVariants.{Addi, Lw, Sw, Csrrw, Csrrci, Mret}
+use Rattle.rv32_instr.specs.Ram.{word_at, with_word}
+use Rattle.masked_code.specs.Place.{InPlace}
+use Rattle.masked_code.specs.Pieces.{restoring_code}
+
+-- the code at an offset can run: it stands behind the service words, and the machine is whole
+pub record CanRun (offset : ℕ) (code : List InstrKind) (core : Core) : Type 0 where
+  pub controller : core.controller ≡ true
+  pub registers : length core.registers ≡ 32
+  pub zero : slice_index core.registers 0 ≡ 0
+  pub lines : length core.pending ≡ 32
+  pub aligned : offset % 4 ≡ 0
+  pub behind : 1024 ≤ offset
+  pub inside : offset + 4 * length code ≤ 0x20_0000
+  pub placed : InPlace core.ram offset code
+
+-- the context of what runs below stands at this offset
+pub record IsBelow (place : ℕ) (core : Core) : Type 0 where
+  pub is : word_at core.ram below_word ≡ 0x8000_0000 + place
+  pub aligned : place % 4 ≡ 0
+  pub behind : idle_context ≤ place
+  pub inside : place + context_bytes ≤ 0x20_0000
+  pub returns : word_at core.ram place % 4 ≡ 0
+  pub level : word_at core.ram (place + context_level) < 256
+
+-- the instruction that masks interrupts
+abbrev pub masking : InstrKind
+masking = Csrrci 0 8 MSTATUS
+
+-- x1 := the address of the context of what runs below; what it says goes to mepc, plevel, the service words and x2
+abbrev pub takes_up : List InstrKind
+takes_up =
+    Lw 1 4 (pos below_word) ∷ Lw 3 1 (pos context_pc) ∷ Csrrw 0 3 MEPC ∷ Lw 3 1 (pos context_level) ∷ Csrrw 0 3 PLEVEL
+    ∷ Lw 3 1 (pos context_cur) ∷ Sw 4 3 (pos cur) ∷ Lw 3 1 (pos context_below) ∷ Sw 4 3 (pos below_word)
+    ∷ Addi 2 1 (pos context_bytes) ∷ []
+
+-- x4 holds the base of memory
+abbrev pub leaving_code : List InstrKind
+leaving_code = takes_up ++ (restoring_code 27 5 1 ++ Mret ∷ [])
+
+-- The machine is left as in this core, with interrupts open; of the registers, mepc and plevel it says nothing but that x0 is zero.
+pub record LeftAs (core end : Core) : Type 0 where
+  pub zero : slice_index end.registers 0 ≡ 0
+  pub registers : length end.registers ≡ 32
+  pub opened : end.mie ≡ true
+  pub previous : end.mpie ≡ true
+  pub running : end.ilevel ≡ core.ilevel
+  pub pending : end.pending ≡ core.pending
+  pub enabled : end.enabled ≡ core.enabled
+  pub levels : end.levels ≡ core.levels
+  pub ram : end.ram ≡ core.ram
+  pub scratch : end.mscratch ≡ core.mscratch
+  pub controller : end.controller ≡ core.controller
+
+-- the core in which what is below runs, by the words of its context
+abbrev pub below_again : ℕ → Core → Core
+below_again place core =
+    record core {
+      ilevel = word_at core.ram (place + context_level);
+      ram = with_word (with_word core.ram cur (word_at core.ram (place + context_cur))) below_word (word_at core.ram (place + context_below));
+    }
+
+-- the state after it, where MPIE was 1: all is as the context says
+pub record HasLeft (place : ℕ) (core : Core) (end : State) : Type 0 where
+  pub left : LeftAs (below_again place core) end.core
+  pub pc : end.pc ≡ word_at core.ram place
+  pub x2 : slice_index end.core.registers 2 ≡ 0x8000_0000 + (place + context_bytes)
+  pub loaded : (i : ℕ) → 5 ≤ i → i < 32 → slice_index end.core.registers i ≡ word_at core.ram (place + 4 * i)

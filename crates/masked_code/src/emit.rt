@@ -1,0 +1,90 @@
+//! Instructions, added to the code of a block.
+ghost use Rattle.std.specs.Prelude.{◌≡◌, ◌≤◌, ◌<◌, ◌+◌, ◌-◌, ◌*◌, ◌++◌, ◌∷◌, [], OnOk, pos};
+ghost use Rattle.rv32_instr.specs.Range.{InRange, AreInRange, Signed};
+ghost use Rattle.masked_code.specs.Pieces.{saving_code, restoring_code, clearing_code, clears_words};
+
+use rv32_instr::asm::{ZERO, addi, lw, sw};
+use rv32_instr::{Instr, InstrKind};
+use sloth_base::numbers::Reg;
+use std::alloc::AllocError;
+
+/// The bytes of so many words.
+fn offset_of(words: u32) -> i32
+    requires { words < 500 }
+    ensures is { result ≡ pos (4 * words) }
+    ensures fits { Signed 12 result }
+{
+    4 * words as i32
+}
+
+/// How far a branch goes that passes so many instructions.
+pub fn past(instructions: u32) -> i32
+    requires { instructions < 500 }
+    ensures { result ≡ pos (4 + 4 * instructions) }
+{
+    4 + 4 * instructions as i32
+}
+
+/// Adds one instruction.
+fn put(code: &mut Vec<Instr>, kind: InstrKind) -> Result<(), AllocError>
+    requires { InRange kind }
+    ensures { OnOk result (code.new.items ≡ code.old.items ++ kind ∷ []) }
+{
+    code.push(Instr::of(kind))?;
+    Ok(())
+}
+
+/// Adds these instructions.
+pub fn emit(code: &mut Vec<Instr>, kinds: &[InstrKind]) -> Result<(), AllocError>
+    requires { AreInRange kinds.now }
+    ensures { OnOk result (code.new.items ≡ code.old.items ++ kinds.now) }
+{
+    for kind in kinds {
+        put(code, *kind)?;
+    }
+    Ok(())
+}
+
+/// Stores the registers from `first` on, below `end`, each at four times its number behind the address in `base`.
+pub fn save(code: &mut Vec<Instr>, first: u8, end: u8, base: Reg) -> Result<(), AllocError>
+    requires { (first ≤ end) × (end ≤ 32) × (base < 32) }
+    ensures { OnOk result (code.new.items ≡ code.old.items ++ saving_code (end - first) first base) }
+{
+    for number in first..end {
+        put(code, sw(Reg(number), base, offset_of(number as u32)))?;
+    }
+    Ok(())
+}
+
+/// Loads them from there.
+pub fn restore(code: &mut Vec<Instr>, first: u8, end: u8, base: Reg) -> Result<(), AllocError>
+    requires { (first ≤ end) × (end ≤ 32) × (base < 32) }
+    ensures { OnOk result (code.new.items ≡ code.old.items ++ restoring_code (end - first) first base) }
+{
+    for number in first..end {
+        put(code, lw(Reg(number), base, offset_of(number as u32)))?;
+    }
+    Ok(())
+}
+
+/// Sets them to zero.
+pub fn clear(code: &mut Vec<Instr>, first: u8, end: u8) -> Result<(), AllocError>
+    requires { (first ≤ end) × (end ≤ 32) }
+    ensures { OnOk result (code.new.items ≡ code.old.items ++ clearing_code (end - first) first) }
+{
+    for number in first..end {
+        put(code, addi(Reg(number), ZERO, 0))?;
+    }
+    Ok(())
+}
+
+/// Stores zero to `count` words from the address in `base` on.
+pub fn clear_words(code: &mut Vec<Instr>, count: u32, base: Reg) -> Result<(), AllocError>
+    requires { (count ≤ 500) × (base < 32) }
+    ensures { OnOk result (code.new.items ≡ code.old.items ++ clears_words count 0 base) }
+{
+    for number in 0..count {
+        put(code, sw(ZERO, base, offset_of(number)))?;
+    }
+    Ok(())
+}

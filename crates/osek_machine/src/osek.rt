@@ -1,0 +1,201 @@
+//! The abstract scheduler.
+ghost use Rattle.std.specs.Prelude.{◌≡◌, ◌<◌, ℕ, cond, IfOk, IfSome, OnOk, OnErr, Some, None, length};
+ghost use Rattle.std.specs.Int.{bit_at};
+ghost use Rattle.code_rules.specs.WellFormed.{WellFormed};
+ghost use Rattle.osek_scheduler.specs.State.{System, opening, task as task_of};
+ghost use Rattle.osek_scheduler.specs.Steps.{OsekStep};
+ghost use Rattle.osek_scheduler.specs.Next.{next_state};
+ghost use Rattle.sloth_base.specs.declared.app.App.{App as AnyApp};
+ghost use Rattle.sloth_base.specs.declared.event.Event.TheVariants as event;
+ghost use Rattle.osek_scheduler.specs.declared.state.TaskState.TheVariants as mode;
+ghost use Rattle.osek_machine.specs.Above.{is_above};
+ghost use Rattle.osek_machine.specs.Plans.{HasRoom};
+ghost use Rattle.osek_machine.specs.Steps.{IsSound, Machine, followed_state};
+
+use crate::above::lines_above;
+use crate::events::{answer_plan, back_plan, entry_plan, leave_plan, running_plan};
+use crate::priority::is_idle;
+use crate::store::Store;
+use osek_scheduler::plan::Plan;
+use osek_scheduler::state::TaskState;
+use sloth_base::app::App;
+use sloth_base::config::Config;
+use sloth_base::event::Event;
+use sloth_base::memory::NoMemory;
+use sloth_base::numbers::TaskId;
+use std::alloc::Global;
+use std::marker::Model;
+use thiserror::Error;
+
+/// The event has no next state.
+#[derive(Clone, Copy, Debug, PartialEq, Eq, Error)]
+#[error("not a run")]
+pub struct NotARun;
+
+/// The abstract scheduler of a configuration and its task code. Contracts see these and the system as it stands.
+#[derive(Drop)]
+pub struct Osek {
+    config: Config,
+    app: App,
+    store: Store,
+}
+
+impl Model for Osek {
+    ghost use Rattle.osek_machine.specs.Steps.{IsSound, Machine};
+
+    ghost Value = { Machine };
+
+    ghost view = { λ o. record { config = o.config; app = o.app; system = o.store } };
+
+    ghost invariant = { λ o. IsSound o.config o.app o.store };
+}
+
+// Carries out a plan of a task, if there is one.
+fn act(store: &mut Store, t: u32, plan: Option<Plan>) -> Result<(), NotARun>
+    requires { IfSome plan (λ p. HasRoom t p store.old) }
+    ensures next { OnOk result (followed_state t store.old plan ≡ Some store.new) }
+    ensures none { OnErr result (followed_state t store.old plan ≡ None) }
+    ensures same { OnErr result (store.new ≡ store.old) }
+{
+    let Some(plan) = plan else {
+        return Err(NotARun);
+    };
+    store.carry_out(t, &plan);
+    store.settle();
+    Ok(())
+}
+
+// The system starts.
+fn boot(config: &Config, store: &mut Store) -> Result<(), NotARun>
+    requires { length config.now.tasks ≡ length store.old.tasks }
+    ensures next { OnOk result ((app : AnyApp) → next_state config.now app event.Boot store.old ≡ Some store.new) }
+    ensures none { OnErr result ((app : AnyApp) → next_state config.now app event.Boot store.old ≡ None) }
+    ensures same { OnErr result (store.new ≡ store.old) }
+{
+    if store.booted() {
+        return Err(NotARun);
+    }
+    store.boot(config);
+    Ok(())
+}
+
+// An arrival activates a task.
+fn admit(config: &Config, store: &mut Store, t: u32) -> Result<(), NotARun>
+    requires count { length store.old.tasks ≡ length config.now.tasks }
+    requires room { t < length store.old.tasks → (task_of store.old t).state ≡ mode.Suspended → length store.old.fresh < 30 }
+    ensures next { OnOk result ((app : AnyApp) → next_state config.now app (event.Admit t) store.old ≡ Some store.new) }
+    ensures none { OnErr result ((app : AnyApp) → next_state config.now app (event.Admit t) store.old ≡ None) }
+    ensures same { OnErr result (store.new ≡ store.old) }
+{
+    if !store.booted() || t as usize >= config.tasks.items().len() {
+        return Err(NotARun);
+    }
+    store.admit(t);
+    Ok(())
+}
+
+// No task is due.
+fn idle(config: &Config, store: &mut Store) -> Result<(), NotARun>
+    requires { length store.old.tasks ≡ length config.now.tasks }
+    ensures next { OnOk result ((app : AnyApp) → next_state config.now app event.Idle store.old ≡ Some store.new) }
+    ensures none { OnErr result ((app : AnyApp) → next_state config.now app event.Idle store.old ≡ None) }
+    ensures same { OnErr result (store.new ≡ store.old) }
+{
+    if !store.booted() || !is_idle(config, store) {
+        return Err(NotARun);
+    }
+    store.settle();
+    Ok(())
+}
+
+// One event.
+fn step(config: &Config, app: &App, store: &mut Store, event: &Event) -> Result<(), NotARun>
+    requires { IsSound config.now app.now store.old }
+    ensures next { OnOk result (next_state config.now app.now event.now store.old ≡ Some store.new) }
+    ensures none { OnErr result (next_state config.now app.now event.now store.old ≡ None) }
+    ensures same { OnErr result (store.new ≡ store.old) }
+{
+    match *event {
+        Event::Boot => boot(config, store),
+        Event::Admit(task) => admit(config, store, task),
+        Event::Enter(task) => {
+            let plan = entry_plan(config, app, store, task);
+            act(store, task, plan)
+        }
+        Event::Run {
+            task,
+            func,
+            item,
+            result,
+        } => {
+            let plan = running_plan(config, app, store, task, func, item, result);
+            act(store, task, plan)
+        }
+        Event::Call {
+            task,
+            service,
+            status,
+        } => {
+            let plan = answer_plan(config, app, store, task, service, status);
+            act(store, task, plan)
+        }
+        Event::Left { task, service } => {
+            let plan = leave_plan(config, app, store, task, service);
+            act(store, task, plan)
+        }
+        Event::Back(task) => {
+            let plan = back_plan(config, store, task);
+            act(store, task, plan)
+        }
+        Event::Idle => idle(config, store),
+        Event::Stray => Err(NotARun),
+    }
+}
+
+impl Osek {
+    /// The scheduler before the system has started. All memory of later steps is taken here.
+    pub fn boot(alloc: Global, config: &Config, app: &App) -> Result<Osek, NoMemory>
+        requires { WellFormed config.now app.now }
+        ensures { IfOk result (λ o. o ≡ record { config = config.now; app = app.now; system = opening config.now app.now }) }
+    {
+        Ok(Osek {
+            config: config.copy(alloc)?,
+            app: app.copy(alloc)?,
+            store: Store::opening(alloc, config, app)?,
+        })
+    }
+
+    /// One event. Where it has no next state, nothing has changed. Takes no memory.
+    pub fn step(&mut self, event: &Event) -> Result<(), NotARun>
+        ensures next { OnOk result (OsekStep self.old.config self.old.app event.now self.old.system self.new.system) }
+        ensures config { self.new.config ≡ self.old.config }
+        ensures app { self.new.app ≡ self.old.app }
+        ensures none { OnErr result ((next : System) → OsekStep self.old.config self.old.app event.now self.old.system next → ⊥) }
+        ensures same { OnErr result (self.new ≡ self.old) }
+    {
+        step(&self.config, &self.app, &mut self.store, event)
+    }
+
+    /// The state of a task of the configuration. Takes no memory.
+    pub fn state(&self, task: TaskId) -> TaskState
+        requires { task < length self.now.config.tasks }
+        ensures { result ≡ (task_of self.now.system task).state }
+    {
+        self.store.task(task.0 as usize).state()
+    }
+
+    /// The Ready tasks that stand above a task of the configuration, a bit for each line. Takes no memory.
+    pub fn above(&self, task: TaskId) -> u32
+        requires { task < length self.now.config.tasks }
+        ensures { (u : ℕ) → bit_at result u ≡ cond (is_above self.now.config self.now.system task u) 1 0 }
+    {
+        lines_above(&self.config, &self.store, task.0)
+    }
+
+    /// How many tasks the configuration has. Takes no memory.
+    pub fn task_count(&self) -> usize
+        ensures { result ≡ length self.now.config.tasks }
+    {
+        self.config.tasks.items().len()
+    }
+}

@@ -1,0 +1,184 @@
+//! Priorities, and the task that is due.
+ghost use Rattle.std.specs.Prelude.{◌≡◌, ◌<◌, ◌≤◌, not, true, length, map, filter};
+ghost use Rattle.osek_scheduler.specs.Priority.{ceiling, current_priority, greatest, highest_priority, is_active, is_in, rank};
+ghost use Rattle.osek_scheduler.specs.Next.{all_below, is_due, is_ready, is_top, yields_to};
+
+use crate::room::TaskRoom;
+use crate::store::Store;
+use osek_scheduler::state::TaskState;
+use sloth_base::config::{Config, TaskDecl};
+use sloth_base::numbers::{RES_SCHEDULER, ResId};
+
+/// Whether a task in this state is Ready.
+pub fn is_ready(state: TaskState) -> bool
+    ensures { result ≡ is_ready state }
+{
+    match state {
+        TaskState::Ready => true,
+        TaskState::Suspended | TaskState::Active | TaskState::Waiting(_) => false,
+    }
+}
+
+/// Whether a task in this state is Active.
+pub fn is_active(state: TaskState) -> bool
+    ensures { result ≡ is_active state }
+{
+    match state {
+        TaskState::Active => true,
+        TaskState::Suspended | TaskState::Ready | TaskState::Waiting(_) => false,
+    }
+}
+
+// Whether a number is among others.
+fn is_in(number: u32, numbers: &[u32]) -> bool
+    ensures { result ≡ is_in number numbers.now }
+{
+    for other in numbers {
+        if *other == number {
+            return true;
+        }
+    }
+    false
+}
+
+// Whether a task lists a resource.
+fn lists(task: &TaskDecl, resource: u32) -> bool
+    ensures { result ≡ is_in resource task.now.resources }
+{
+    for other in task.resources.items() {
+        if *other == ResId(resource) {
+            return true;
+        }
+    }
+    false
+}
+
+// The highest task priority.
+fn highest(config: &Config) -> u32
+    ensures { result ≡ highest_priority config.now }
+{
+    let mut top = 0;
+    for task in config.tasks.items() {
+        top = task.priority.max(top);
+    }
+    top
+}
+
+// The highest priority of the tasks that list a resource.
+fn highest_user(config: &Config, resource: u32) -> u32
+    ensures { result ≡ greatest (map (λ d. d.priority) (filter (λ d. is_in resource d.resources) config.now.tasks)) }
+{
+    let mut top = 0;
+    for task in config.tasks.items() {
+        if lists(task, resource) {
+            top = task.priority.max(top);
+        }
+    }
+    top
+}
+
+// The ceiling of a resource.
+fn ceiling(config: &Config, resource: u32) -> u32
+    ensures { result ≡ ceiling config.now resource }
+{
+    if resource == RES_SCHEDULER {
+        return highest(config);
+    }
+    highest_user(config, resource)
+}
+
+// The greatest ceiling of these resources.
+fn highest_ceiling(config: &Config, held: &[u32]) -> u32
+    ensures { result ≡ greatest (map (ceiling config.now) held.now) }
+{
+    let mut top = 0;
+    for resource in held {
+        top = ceiling(config, *resource).max(top);
+    }
+    top
+}
+
+// The priority of a task as it stands.
+fn current_priority(config: &Config, declared: &TaskDecl, task: &TaskRoom) -> u32
+    ensures { result ≡ current_priority config.now declared.now task.now }
+{
+    let held = highest_ceiling(config, task.held());
+    let raised = if task.raised() { highest(config) } else { 0 };
+    declared.priority.max(held.max(raised))
+}
+
+/// The place of a task in the order of the tasks that are due.
+pub(crate) fn rank(config: &Config, store: &Store, t: usize) -> u64
+    requires declared { t < length config.now.tasks }
+    requires there { t < length store.now.tasks }
+    ensures { result ≡ rank config.now store.now t }
+{
+    let declared = &config.tasks.items()[t];
+    let task = store.task(t);
+    if is_active(task.state()) {
+        return 2 * u64::from(current_priority(config, declared, task)) + 1;
+    }
+    2 * u64::from(declared.priority)
+}
+
+// Whether a task is Ready or Active.
+fn is_due(store: &Store, t: usize) -> bool
+    requires { t < length store.now.tasks }
+    ensures { result ≡ is_due store.now t }
+{
+    let state = store.task(t).state();
+    is_ready(state) || is_active(state)
+}
+
+// Whether a task is not due, or left out, or of no greater rank than another.
+fn yields_to(config: &Config, store: &Store, others: &[u32], t: usize, u: usize) -> bool
+    requires count { length store.now.tasks ≡ length config.now.tasks }
+    requires first { t < length config.now.tasks }
+    requires second { u < length config.now.tasks }
+    requires small { u < 4294967296 }
+    ensures { result ≡ yields_to config.now store.now others.now t u }
+{
+    !is_due(store, u) || is_in(u as u32, others) || rank(config, store, u) <= rank(config, store, t)
+}
+
+// Whether all tasks yield to one.
+fn is_greatest(config: &Config, store: &Store, others: &[u32], t: usize) -> bool
+    requires count { length store.now.tasks ≡ length config.now.tasks }
+    requires few { length config.now.tasks ≤ 30 }
+    requires declared { t < length config.now.tasks }
+    ensures { result ≡ all_below (length config.now.tasks) (yields_to config.now store.now others.now t) }
+{
+    for u in 0..config.tasks.items().len() {
+        if !yields_to(config, store, others, t, u) {
+            return false;
+        }
+    }
+    true
+}
+
+/// Whether a task is the greatest of those that are due and not left out.
+pub fn is_top(config: &Config, store: &Store, others: &[u32], t: u32) -> bool
+    requires count { length store.now.tasks ≡ length config.now.tasks }
+    requires few { length config.now.tasks ≤ 30 }
+    ensures top { result ≡ is_top config.now store.now others.now t }
+    ensures declared { result ≡ true → t < length config.now.tasks }
+{
+    let place = t as usize;
+    place < config.tasks.items().len()
+        && is_due(store, place)
+        && !is_in(t, others)
+        && is_greatest(config, store, others, place)
+}
+
+/// Whether no task is due.
+pub fn is_idle(config: &Config, store: &Store) -> bool
+    requires { length store.now.tasks ≡ length config.now.tasks }
+    ensures { result ≡ all_below (length config.now.tasks) (λ t. not (is_due store.now t)) }
+{
+    for t in 0..config.tasks.items().len() {
+        if is_due(store, t) {
+            return false;
+        }
+    }
+    true
+}

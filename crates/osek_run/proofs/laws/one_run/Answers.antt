@@ -1,5 +1,0 @@
-use Rattle.osek_run.proofs.laws.one_run.Goals as goal
-use Rattle.osek_run.proofs.Only.{one_run}
-
-pub returns : goal.returns
-returns c = one_run

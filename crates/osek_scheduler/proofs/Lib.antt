@@ -1,0 +1,5 @@
+pub mod Tests
+pub mod Next
+pub mod Leading
+pub mod Examples
+pub mod Outcomes

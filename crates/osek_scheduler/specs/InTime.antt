@@ -1,0 +1,99 @@
+-- When arrivals are admitted: at their moment, or when the stretch that is running then ends.
+use Rattle.std.specs.Prelude.{ℕ, ◌-◌, ◌<◌, ◌≤◌, ◌≡◌, ◌⊎◌, ◌==◌, ◌&&◌, not, List, [], ◌∷◌, ◌++◌, Bool, true, false, cond, map, filter, count_by, All, AllPairs, IsTrue, is_some, Option, Some, None}
+use Rattle.sloth_base.specs.Options.{is_number}
+use Rattle.sloth_base.specs.declared.event.Arrival.{Arrival}
+use Rattle.sloth_base.specs.declared.event.Event.{Event}
+use Rattle.sloth_base.specs.declared.event.Stamp.{Stamp}
+use Rattle.sloth_base.specs.declared.event.Stamped.{Stamped}
+use Rattle.sloth_base.specs.declared.config.Config.{Config}
+use Rattle.sloth_base.specs.Stretches.{Boots, stretch_limit, longest_stretch}
+pub use Rattle.sloth_base.specs.Events.{admitted_line, is_boot}
+use Rattle.sloth_base.specs.Events.{is_single}
+
+-- an event is an arrival's activation
+abbrev pub is_admit : Stamped → Bool
+is_admit e = is_some (admitted_line e.event)
+
+-- the events that are no admits
+abbrev pub others : List Stamped → List Stamped
+others events = filter (λ e. not (is_admit e)) events
+
+-- how many admits of a task a moment has
+abbrev pub admits_at : ℕ → ℕ → List Stamped → ℕ
+admits_at k t events = count_by (λ e. is_number t (admitted_line e.event) && (e.stamp.at == k)) events
+
+-- how many arrivals of a task's line a moment has
+abbrev pub arrivals_at : ℕ → ℕ → List Arrival → ℕ
+arrivals_at k t arrivals = count_by (λ a. (a.line == t) && (a.at == k)) arrivals
+
+-- ---- stamps
+
+-- one instruction alone is seen in these events
+abbrev pub IsAlone : Stamped → Type 0
+IsAlone e = e.stamp.from ≡ e.stamp.at
+
+-- how many counts an event spans: one, or any number
+abbrev pub Spans : (single : Bool) → Stamped → Type 0
+Spans true e = IsAlone e
+Spans false e = Unit {0}
+
+abbrev pub SpansFor : Event → Stamped → Type 0
+SpansFor kind e = Spans (is_single kind) e
+
+-- the stamp of an event of the first `n` instructions
+pub record IsStamped (n : ℕ) (e : Stamped) : Type 0 where
+  pub ordered : e.stamp.from ≤ e.stamp.at
+  pub spans : SpansFor e.event e
+  pub below : e.stamp.at < n
+
+-- ---- the arrivals that the end of the run leaves out
+
+-- none: each arrival of a moment below n is admitted
+abbrev pub AdmitsAll : ℕ → List Arrival → List Stamped → Type 0
+AdmitsAll n arrivals events = (k t : ℕ) → k < n → admits_at k t events ≡ arrivals_at k t arrivals
+
+-- the longest stretch that the end may cut off: boot before there is a `boot`
+abbrev pub longest_cut_off : Config → List Stamped → ℕ
+longest_cut_off config [] = stretch_limit config Boots
+longest_cut_off config (e ∷ events) = cond (is_boot e.event) (longest_stretch config) (longest_cut_off config events)
+
+-- those from moment k on, which fall into the stretch that the end cuts off
+pub record LeavesOut (config : Config) (n : ℕ) (arrivals : List Arrival) (events : List Stamped) (k : ℕ) : Type 0 where
+  pub admits : AdmitsAll k arrivals events
+  pub leaves : (moment t : ℕ) → k ≤ moment → admits_at moment t events ≡ 0
+  pub first : (t : ℕ) × (0 < arrivals_at k t arrivals)
+  pub inside : k < n
+  pub behind : All (λ e. e.stamp.at < k) (others events)
+  pub short : n - k < longest_cut_off config events
+
+-- ---- where an admit stands
+
+-- what the stamps of an event and of one behind it owe, by which of the two are admits
+abbrev pub StandsBefore : Bool → Bool → Stamp → Stamp → Type 0
+StandsBefore false false earlier later = earlier.at < later.from
+StandsBefore true false admit later = admit.at ≤ later.at
+StandsBefore false true earlier admit = earlier.from < admit.at
+StandsBefore true true admit other = Unit {0}
+
+-- an event's stamp may stand before that of a later event
+abbrev pub IsOrdered : Stamped → Stamped → Type 0
+IsOrdered earlier later = StandsBefore (is_admit earlier) (is_admit later) earlier.stamp later.stamp
+
+-- the first list is the second with some items left out
+abbrev pub IsSubsequence : List (ℕ × Option ℕ) → List (ℕ × Option ℕ) → Type 0
+IsSubsequence [] ys = Unit {0}
+IsSubsequence (x ∷ xs) [] = ⊥
+IsSubsequence (x ∷ xs) (y ∷ ys) = ((x ≡ y) × IsSubsequence xs ys) ⊎ IsSubsequence (x ∷ xs) ys
+
+-- admits with no other event between them keep the order of the arrivals
+abbrev pub KeepsOrder : List Arrival → List Stamped → Type 0
+KeepsOrder arrivals events =
+    (before group behind : List Stamped) → events ≡ before ++ (group ++ behind) → All (λ e. IsTrue (is_admit e)) group
+    → IsSubsequence (map (λ e. (e.stamp.at, admitted_line e.event)) group) (map (λ a. (a.at, Some a.line)) arrivals)
+
+-- the events of `n` instructions stand where the arrivals allow
+pub record InTime (config : Config) (n : ℕ) (arrivals : List Arrival) (events : List Stamped) : Type 0 where
+  pub stamped : All (IsStamped n) events
+  pub placed : AllPairs IsOrdered events
+  pub in_order : KeepsOrder arrivals events
+  pub admitted : AdmitsAll n arrivals events ⊎ ((k : ℕ) × LeavesOut config n arrivals events k)

@@ -1,0 +1,11 @@
+pub mod State
+pub mod Priority
+pub mod Meaning
+pub mod Services
+pub mod Changes
+pub mod Outcomes
+pub mod Steps
+pub mod Runs
+pub mod InTime
+pub mod Next
+pub mod StepsDecided

@@ -1,0 +1,113 @@
+-- What each service does: a plan, and then its changes (OSEK OS 2.2.3, sections 13.2 to 13.5).
+use Rattle.std.specs.Prelude.{ℕ, ◌≡◌, ◌==◌, ◌&&◌, Bool, true, false, cond, List, [], get_or, set, bit_and, Option, Some, None}
+use Rattle.sloth_base.specs.Status.{E_OK, E_OS_LIMIT, E_OS_STATE}
+use Rattle.sloth_base.specs.declared.config.Config.{Config}
+use Rattle.sloth_base.specs.declared.service.Service.{Service}
+use Rattle.sloth_base.specs.declared.service.Service.TheVariants as service
+use Rattle.osek_scheduler.specs.declared.change.TaskChange.{TaskChange}
+use Rattle.osek_scheduler.specs.declared.change.TaskChange.TheVariants as change
+use Rattle.osek_scheduler.specs.declared.plan.Other.{Other}
+use Rattle.osek_scheduler.specs.declared.plan.Other.TheVariants as other
+use Rattle.osek_scheduler.specs.declared.plan.Plan.{Plan}
+use Rattle.osek_scheduler.specs.declared.state.TaskState.TheVariants as mode
+use Rattle.osek_scheduler.specs.State.{System, task}
+use Rattle.osek_scheduler.specs.Meaning.{bytes_after_store}
+use Rattle.osek_scheduler.specs.Services.{if_suspended, activated_state, set_events, state_number, Outcome, GoesOn, Leaves}
+use Rattle.osek_scheduler.specs.Changes.{with_change}
+
+-- a plan
+abbrev pub plan : Option ℕ → TaskChange → Other → Plan
+plan answer c o = record { answer = answer; change = c; other = o }
+
+-- the system after what an event does besides
+abbrev pub with_other : Other → System → System
+with_other other.Nothing s = s
+with_other (other.Activate t) s = activated_state s t
+with_other (other.AddEvents t mask) s = set_events t mask s
+with_other (other.Store y w offset value) s = record s { symbols = set s.symbols y (bytes_after_store w (get_or s.symbols y []) offset value) }
+
+-- the system after a plan of task t
+abbrev pub carried_out : ℕ → Plan → System → System
+carried_out t p s = with_other p.other (with_change t p.change s)
+
+-- the outcome that shows this status, or that the caller leaves
+abbrev pub shown : Option ℕ → System → Outcome
+shown (Some status) s = GoesOn status s
+shown None s = Leaves s
+
+-- ---- decisions
+
+-- one of several plans, by tests
+pub data Decision : Type 0 where
+  Does : Plan → Decision
+  IfSuspended : (t : ℕ) → Decision → Decision → Decision
+  If : Bool → Decision → Decision → Decision
+
+-- the plan that is taken in a state
+abbrev pub plan_in : System → Decision → Plan
+plan_in s (Does p) = p
+plan_in s (IfSuspended t first second) = if_suspended (task s t).state (plan_in s first) (plan_in s second)
+plan_in s (If test first second) = cond test (plan_in s first) (plan_in s second)
+
+-- the outcome of a decision of task t
+abbrev pub outcome_of : ℕ → System → Decision → Outcome
+outcome_of t s (Does p) = shown p.answer (carried_out t p s)
+outcome_of t s (IfSuspended u first second) = if_suspended (task s u).state (outcome_of t s first) (outcome_of t s second)
+outcome_of t s (If test first second) = cond test (outcome_of t s first) (outcome_of t s second)
+
+-- a fact on each plan that may be taken in a state
+abbrev pub OnPlans : System → (Plan → Type 0) → Decision → Type 0
+OnPlans s P (Does p) = P p
+OnPlans s P (IfSuspended t first second) =
+    ((task s t).state ≡ mode.Suspended → OnPlans s P first) × (((task s t).state ≡ mode.Suspended → ⊥) → OnPlans s P second)
+OnPlans s P (If test first second) = (test ≡ true → OnPlans s P first) × (test ≡ false → OnPlans s P second)
+
+-- a test of all plans
+abbrev pub all_plans : (Plan → Bool) → Decision → Bool
+all_plans test (Does p) = test p
+all_plans test (IfSuspended t first second) = all_plans test first && all_plans test second
+all_plans test (If b first second) = all_plans test first && all_plans test second
+
+-- ---- services
+
+-- the caller goes on with a status alone
+abbrev pub answers_alone : ℕ → Decision
+answers_alone status = Does (plan (Some status) (change.Answer status) other.Nothing)
+
+-- the caller goes on with E_OK and a value
+abbrev pub tells : ℕ → Decision
+tells value = Does (plan (Some E_OK) (change.AnswerWith value) other.Nothing)
+
+-- the caller goes on with E_OK, and this is done besides
+abbrev pub answers_after : Other → Decision
+answers_after o = Does (plan (Some E_OK) (change.Answer E_OK) o)
+
+-- the caller goes on with E_OK behind this change
+abbrev pub goes_on : TaskChange → Decision
+goes_on c = Does (plan (Some E_OK) c other.Nothing)
+
+-- the caller leaves
+abbrev pub leaves : TaskChange → Other → Decision
+leaves c o = Does (plan None c o)
+
+-- what a service does; `object` is its task or resource, `mask` that of its events
+abbrev pub decision : Config → Service → (object mask caller : ℕ) → System → Decision
+decision config service.ActivateTask t mask caller s = IfSuspended t (answers_after (other.Activate t)) (answers_alone E_OS_LIMIT)
+decision config service.TerminateTask object mask caller s = leaves change.End other.Nothing
+decision config service.ChainTask t mask caller s =
+    If (t == caller) (leaves change.End (other.Activate caller))
+    (IfSuspended t (leaves change.End (other.Activate t)) (answers_alone E_OS_LIMIT))
+decision config service.Schedule object mask caller s = goes_on change.Pause
+decision config service.GetTaskID object mask caller s = tells caller
+decision config service.GetTaskState t mask caller s = tells (state_number caller t (task s t).state)
+decision config service.GetResource r mask caller s = goes_on (change.Take r)
+decision config service.ReleaseResource r mask caller s = goes_on change.Release
+decision config service.SetEvent t mask caller s = IfSuspended t (answers_alone E_OS_STATE) (answers_after (other.AddEvents t mask))
+decision config service.ClearEvent object mask caller s = goes_on (change.ClearEvents mask)
+decision config service.GetEvent t mask caller s = IfSuspended t (answers_alone E_OS_STATE) (tells (task s t).events)
+decision config service.WaitEvent object mask caller s =
+    If (bit_and (task s caller).events mask == 0) (leaves (change.Wait mask) other.Nothing) (answers_alone E_OK)
+
+-- the outcome of a call of a service by a task
+abbrev pub outcome : Config → Service → (object mask caller : ℕ) → System → Outcome
+outcome config s object mask caller before = outcome_of caller before (decision config s object mask caller before)

@@ -1,6 +1,0 @@
-use Rattle.std.proofs.Common.{◌≡◌, ◌++◌, ◌-◌}
-use Rattle.rv32_routine.specs.Pieces.{clears_words}
-use Rattle.rv32_routine.proofs.emit.clear_words.Given as goal
-
-abbrev pub invariant-loop-number : goal.invariant-loop-number
-invariant-loop-number l = l.code.items ++ clears_words (l.count - l.number) l.number l.base ≡ l.initial.code.items ++ clears_words l.count 0 l.base

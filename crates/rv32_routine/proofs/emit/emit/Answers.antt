@@ -1,7 +1,0 @@
-use Rattle.std.proofs.Common.{sym, subst}
-use Rattle.rv32_instr.specs.Range.{InRange}
-use Rattle.rv32_routine.proofs.OneMore.{in_range_at}
-use Rattle.rv32_routine.proofs.emit.emit.Goals as goal
-
-pub put-requires : goal.put-requires
-put-requires c = subst InRange (sym c.kind-item.is) (in_range_at c.args.kinds.now c.loop-kind.kind-index _ c.loop-kind-test.true c.requires)

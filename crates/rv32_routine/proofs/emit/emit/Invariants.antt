@@ -1,5 +1,0 @@
-use Rattle.std.proofs.Common.{◌≡◌, ◌++◌, drop}
-use Rattle.rv32_routine.proofs.emit.emit.Given as goal
-
-abbrev pub invariant-loop-kind : goal.invariant-loop-kind
-invariant-loop-kind l = l.code.items ++ drop l.kind-index l.kinds ≡ l.initial.code.items ++ l.kinds

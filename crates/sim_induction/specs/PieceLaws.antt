@@ -1,0 +1,96 @@
+-- What is asked of a piece of generated code, for each kind of piece of a run.
+use Rattle.std.specs.Prelude.{ℕ, suc, ◌+◌, ◌==◌, ◌<◌, ◌≤◌, ◌≡◌, List, [], ◌∷◌, ◌++◌, map, length, true, false, cond, slice_index, Contains}
+use Rattle.std.specs.List.{AllByRecursion}
+use Rattle.sloth_base.specs.declared.event.Event.{Event}
+use Rattle.sloth_base.specs.declared.event.Event.TheVariants as event
+use Rattle.sloth_base.specs.declared.event.Stamped.{Stamped}
+use Rattle.sloth_base.specs.declared.service.Service.{Service}
+use Rattle.sloth_base.specs.declared.step.Step.{Step}
+use Rattle.sloth_base.specs.Machine.{State}
+use Rattle.sloth_base.specs.Stretches.{Beginning, Boots, later_beginning, stretch_limit, touch_limit}
+use Rattle.sloth_base.specs.Take.{entered, line_to_take}
+use Rattle.rv32_instr.specs.Ram.{word_at}
+use Rattle.rv32_instr.specs.Execute.{Going, step}
+use Rattle.rv32_machine.specs.Advance.{seen_step}
+use Rattle.rv32_machine.specs.Run.{arrived}
+use Rattle.masked_code.specs.Masked.{Steps}
+use Rattle.masked_code.specs.Trace.{Trace, touched_lines, early, late}
+use Rattle.observe.specs.Pieces.{begins}
+use Rattle.observe.specs.Observe.{stretch_event, outside_events, mark_at}
+use Rattle.osek_scheduler.specs.State.{System, opening}
+use Rattle.osek_scheduler.specs.Steps.{OsekStep}
+use Rattle.osek_scheduler.specs.Runs.{Leads, PassesOverArrivals}
+use Rattle.sim_induction.specs.Short.{TouchesOnly}
+use Rattle.sim_induction.specs.Admits.{Setting, lines_at, with_admits, admit_event, before_event}
+
+-- what is seen of the instruction of a count that leads from this state to the next
+abbrev pub seen_at : Setting → ℕ → State → State → Step
+seen_at given count state next = seen_step count (arrived given.arrivals count state) next
+
+-- how a stretch behind boot begins at a count
+abbrev pub beginning_at : Setting → ℕ → State → Beginning
+beginning_at given count state = later_beginning (line_to_take (arrived given.arrivals count state))
+
+-- the event of a service: a call with the status in a0, where its caller still runs; else the caller left
+abbrev pub served_event : (task : ℕ) → Service → State → Event
+served_event t served end =
+    cond (t + 1 == word_at end.core.ram 0) (event.Call t served (slice_index end.core.registers 10)) (event.Left t served)
+
+-- A stretch that begins at a count which finds MIE 1: its first instruction, which leads to `next`, and the masked ones behind it,
+-- which lead on to `end`. Its event is a step from the system with the arrivals of the count and the early ones, and the states at
+-- its end are related with the late ones.
+pub record StretchLaw (given : Setting) (R : State → System → Type 0) (count : ℕ) (state : State) (s : System)
+    (next : State) (trace : Trace) (end : State) : Type 0 where
+  pub finds : state.core.mie ≡ true
+  pub goes : step (entered (arrived given.arrivals count state)) ≡ Going next
+  pub starts : begins (seen_at given count state next) ≡ true
+  pub more : ℕ
+  pub few : suc more ≤ stretch_limit given.config (beginning_at given count state)
+  pub steps : Steps more (count + 1) (lines_at given.arrivals) next trace end
+  pub ends : end.core.mie ≡ true
+  -- the lines that it may touch
+  pub lines : List ℕ
+  pub few_lines : length lines ≤ touch_limit given.config (beginning_at given count state)
+  pub touches_first : TouchesOnly lines (seen_at given count state next)
+  pub touches : AllByRecursion (Contains lines) (touched_lines trace)
+  pub what : Event
+  pub what_is : (last : Step) → last.regs ≡ end.core.registers → last.cur_after ≡ word_at end.core.ram 0
+      → stretch_event given.view (seen_at given count state next) last ≡ what
+  pub after : System
+  pub step_is : OsekStep given.config given.app what (with_admits (early trace) (with_admits (lines_at given.arrivals count) s)) after
+  pub passes : (past : List Stamped) → Leads given.config given.app past (opening given.config given.app) (with_admits (lines_at given.arrivals count) s)
+      → PassesOverArrivals given.config given.app (past ++ map admit_event (before_event (count + 1) trace))
+      (with_admits (early trace) (with_admits (lines_at given.arrivals count) s)) count what
+  pub related : R end (with_admits (late trace) after)
+
+-- what an instruction outside the stretches shows: nothing, or one event, which is a step
+abbrev pub Shows : Setting → List Event → System → System → Type 0
+Shows given [] s after = after ≡ s
+Shows given (what ∷ []) s after = OsekStep given.config given.app what s after
+Shows given (what ∷ other ∷ more) s after = ⊥
+
+-- an instruction outside the stretches, at a count that finds MIE 1; where it shows nothing, it makes progress
+pub record OutsideLaw (given : Setting) (R : State → System → Type 0) (progress : State → System → ℕ)
+    (count : ℕ) (state : State) (s : System) (next : State) : Type 0 where
+  pub goes : step (entered (arrived given.arrivals count state)) ≡ Going next
+  pub outside : begins (seen_at given count state next) ≡ false
+  pub untouched : TouchesOnly [] (seen_at given count state next)
+  pub whats : List Event
+  pub whats_are : outside_events (mark_at given.view (seen_at given count state next).pc) given.view (seen_at given count state next) ≡ whats
+  pub after : System
+  pub shows : Shows given whats (with_admits (lines_at given.arrivals count) s) after
+  pub progresses : whats ≡ [] → progress state s < progress next after
+  pub related : R next after
+
+-- The first stretch, from count 0 on, touches no line, and its event is Boot.
+pub record BootLaw (given : Setting) (R : State → System → Type 0) (state : State) : Type 0 where
+  pub more : ℕ
+  pub few : suc more ≤ stretch_limit given.config Boots
+  pub trace : Trace
+  pub end : State
+  pub steps : Steps (suc more) 0 (lines_at given.arrivals) state trace end
+  pub ends : end.core.mie ≡ true
+  pub untouched : touched_lines trace ≡ []
+  pub after : System
+  pub step_is : OsekStep given.config given.app event.Boot (opening given.config given.app) after
+  pub related : R end (with_admits (late trace) after)

@@ -1,0 +1,156 @@
+-- Every run of a kernel in place is one of the abstract scheduler.
+use Rattle.std.proofs.Common.{◌≡◌, ℕ, ◌+◌, ◌-◌, ◌*◌, ◌/◌, ◌<◌, ◌≤◌, Bool, List, [], ◌∷◌, length, sym, ◌∙◌, subst, arith, true, false, ⊎_elim, filter, Some}
+use Rattle.std.specs.Prelude.{◌&&◌, map, replicate, nat_le, nat_lt, if◌then◌else◌}
+use Rattle.std.proofs.lemmas.Bool.{cases_lt, le-ltb}
+use Rattle.sloth_base.specs.declared.event.Arrival.{Arrival}
+use Rattle.sloth_base.specs.declared.image.Image.{Image}
+use Rattle.sloth_base.specs.Owners.{owners_in}
+use Rattle.sloth_base.specs.Arrivals.{moments, AreArrivals}
+use Rattle.sloth_base.specs.Machine.{State}
+use Rattle.sloth_region.specs.Layout.{cur}
+use Rattle.rv32_instr.specs.Ram.{word_at}
+use Rattle.rv32_machine.specs.Start.{start}
+use Rattle.rv32_machine.specs.Run.{state_after, arrived}
+use Rattle.masked_code.specs.Trace.{late}
+use Rattle.rv32_expand.proofs.Counts.{size_is, size_few}
+use Rattle.rv32_expand.proofs.InRangeOf.{frame_of}
+use Rattle.rv32_expand.specs.Expansion.{item_address, is_long, expansion}
+use Rattle.sloth_base.specs.Named.{operation}
+use Rattle.observe.specs.Observe.{View, view_of_image}
+use Rattle.osek_scheduler.specs.State.{Frame, System, task, opening}
+use Rattle.osek_scheduler.specs.Runs.{Leads}
+use Rattle.sim_induction.specs.Sound.{Sound, events_of, stands_before}
+use Rattle.sim_induction.specs.Admits.{IsSetting, lines_at, with_admits, admit_event}
+use Rattle.sim_induction.specs.PieceLaws.{BootLaw}
+use Rattle.sim_induction.specs.Related.{IsSimulation}
+use Rattle.sim_induction.proofs.Boot.{whole_run}
+use Rattle.sim_induction.proofs.Follow.{booted_admits, leads_admits}
+use Rattle.sim_induction.proofs.Invariants.{With, along_events, simulation_with, boot_with}
+use Rattle.sim_induction.proofs.Schedule.{owned_at}
+use Rattle.sim_induction.proofs.Simulated.{sound, is_setting}
+use Rattle.sim_relation.specs.Bounds.{AreBelow}
+use Rattle.sim_relation.specs.Build.{Build}
+use Rattle.sim_relation.specs.Stands.{Stands}
+use Rattle.sim_relation.proofs.Arrive.{stands_arrived}
+use Rattle.sim_relation.proofs.MirrorOf.{mirror_of}
+use Rattle.sim_entries.proofs.Boot.{ram_at}
+use Rattle.sim_entries.proofs.BootRoute.{boot_stretch}
+use Rattle.sim_entries.proofs.Spot.{zero_at}
+use Rattle.sim_items.specs.Outside.{setting_of}
+use Rattle.sim_items.specs.Progress.{passed_at, passed_in, progress_in}
+use Rattle.sim_laws.specs.Bounded.{IsBounded}
+use Rattle.sim_laws.specs.Kernel.{Kernel}
+use Rattle.sim_laws.specs.Standing.{StandsNested}
+use Rattle.sim_laws.specs.Steady.{IsSteady}
+use Rattle.sim_laws.proofs.Bounded.{arrive_fits, bounds_stay}
+use Rattle.sim_laws.proofs.Steady.{steady_stays, opening_steady}
+use Rattle.sim_laws.proofs.Dispatch.{advance}
+use Rattle.sim_laws.proofs.Nesting.{stack_nested}
+
+-- ---- the measure is at most 40
+
+at_most : (x : Bool) (a b : ℕ) → a ≤ 40 → b ≤ 40 → (if x then a else b) ≤ 40
+at_most true a b h l = h
+at_most false a b h l = l
+
+other_at_most : (x : Bool) (a : ℕ) → (if x && false then a else 40) ≤ 40
+other_at_most true a = omega arith
+other_at_most false a = omega arith
+
+passed_small : (address count pc : ℕ) → count ≤ 40 → passed_at address count pc ≤ 40
+passed_small address count pc l =
+    ⊎_elim
+    (λ (h : pc < address + 4 * count). at_most (nat_le address pc && nat_lt pc (address + 4 * count)) ((pc - address) / 4) 40 (omega arith) (omega arith))
+    (λ (h : address + 4 * count ≤ pc). subst (λ v. (if nat_le address pc && v then (pc - address) / 4 else 40) ≤ 40) (sym (le-ltb pc (address + 4 * count) h)) (other_at_most (nat_le address pc) ((pc - address) / 4)))
+    (cases_lt pc (address + 4 * count))
+
+-- ---- the start
+
+zero_below : (bound n : ℕ) → 0 < bound → AreBelow bound (replicate n 0)
+zero_below bound n h i = let z = zero_at n i in omega arith
+
+start_bounded : (image : Image) → AreBelow 256 image.memory → IsBounded (start image)
+start_bounded image bytes = record {
+  pc = omega arith;
+  core = record {
+    registers = zero_below 4294967296 32 (omega arith);
+    scratch = omega arith;
+    return_address = omega arith;
+    level = omega arith;
+    previous_level = omega arith;
+    bytes = λ i. (let a = ram_at image.memory i in let c = bytes i in omega arith);
+    pending = zero_below 256 32 (omega arith);
+    enabled = zero_below 256 32 (omega arith);
+    levels = zero_below 256 32 (omega arith);
+  };
+}
+
+module _ (b : Build) (image : Image) (kernel : Kernel b image) where
+  abbrev view : View
+  view = view_of_image image
+
+  few : length b.config.tasks ≤ 32
+  few = let f = kernel.fits.few_tasks in omega arith
+
+  few_instructions : (func item : ℕ) → length (expansion b.app b.places func item) ≤ 40
+  few_instructions func item =
+      let long = is_long b.places func item in
+      let o = operation b.app func item in
+      let e = size_is b.app b.places func (item_address b.places func item) long o in
+      let f = size_few b.app (frame_of b.app (b.config, kernel.well_formed.in_range)) long o in
+      omega (arith, e, f.few)
+
+  in_frames : (pc : ℕ) (frames : List Frame) → passed_in b pc frames ≤ 40
+  in_frames pc [] = omega arith
+  in_frames pc (frame ∷ outer) =
+      passed_small (item_address b.places frame.func frame.item) (length (expansion b.app b.places frame.func frame.item)) pc (few_instructions frame.func frame.item)
+
+  abbrev R : State → System → Type 0
+  R = With (Stands b) IsBounded (IsSteady b.config b.app)
+
+  module _ (arrivals : List Arrival) (setting : IsSetting (setting_of b view arrivals)) where
+    steady_found : (count : ℕ) (s : System) → s.booted ≡ true → IsSteady b.config b.app s → IsSteady b.config b.app (with_admits (lines_at arrivals count) s)
+    steady_found count s booted h =
+        along_events b.config b.app (IsSteady b.config b.app) (steady_stays b.config b.app kernel.well_formed) (map admit_event (moments count (count + 1) arrivals)) s (with_admits (lines_at arrivals count) s)
+        (leads_admits b.config b.app (moments count (count + 1) arrivals) s booted (owned_at (setting_of b view arrivals) setting count)) h
+
+    simulation : IsSimulation (setting_of b view arrivals) R (progress_in b)
+    simulation =
+        simulation_with (setting_of b view arrivals) setting (Stands b) IsBounded (IsSteady b.config b.app) (progress_in b) (bounds_stay arrivals) (steady_stays b.config b.app kernel.well_formed)
+        (λ count state s positive w.
+        advance b image kernel arrivals setting count positive state s w.base (arrive_fits (lines_at arrivals count) state w.machine) (steady_found count s w.base.tidy.booted w.system))
+        (λ count state s w. stands_arrived b (lines_at arrivals count) state s few (owned_at (setting_of b view arrivals) setting count) w.base)
+        (λ count state h. arrive_fits (lines_at arrivals count) state h)
+        (λ state s w. w.base.tidy.booted)
+        (λ state s w. mirror_of b state s w.base)
+        (λ state s w. in_frames state.pc (task s (word_at state.core.ram cur - 1)).frames)
+
+    booting : BootLaw (setting_of b view arrivals) R (start image)
+    booting =
+        let law = boot_stretch b view arrivals setting image kernel.fits kernel.is_image kernel.boot in
+        boot_with (setting_of b view arrivals) setting (Stands b) IsBounded (IsSteady b.config b.app) (progress_in b) (bounds_stay arrivals) (steady_stays b.config b.app kernel.well_formed)
+        (start image) law (sym (booted_admits (late law.trace) law.after) ∙ law.related.tidy.booted)
+        (start_bounded image kernel.bytes) (opening_steady b.config b.app kernel.well_formed)
+
+  pub sound_kernel : Sound b.config b.app image
+  sound_kernel =
+      sound b.config b.app image R (progress_in b) kernel.tasks
+      (λ arrivals are. let setting = is_setting b.config b.app image arrivals kernel.tasks are in (simulation arrivals setting, booting arrivals setting))
+
+  -- at each count that finds MIE 1 the relation stands
+  pub stands_kernel : (arrivals : List Arrival) (n count : ℕ) (state : State) → AreArrivals (owners_in b.config) arrivals → n ≤ 1000000 → count < n
+      → state_after count arrivals (start image) ≡ Some state → state.core.mie ≡ true
+      → (s : System) × Leads b.config b.app (filter (stands_before count) (events_of image arrivals n)) (opening b.config b.app) s
+      × StandsNested b (arrived arrivals count state) s
+  stands_kernel arrivals n count state are bound before after enabled =
+      let setting = is_setting b.config b.app image arrivals kernel.tasks are in
+      let whole = whole_run (setting_of b view arrivals) setting R (progress_in b) (simulation arrivals setting) (start image) (booting arrivals setting) n in
+      let found = whole.mirrors count before state after enabled in
+      let related = found.2 in (
+        found.0,
+        found.1,
+        record {
+          stands = related.base;
+          nested = stack_nested b found.0 related.system.valid related.system.owing kernel.nested related.base.stack related.base.active.falling;
+        },
+      )

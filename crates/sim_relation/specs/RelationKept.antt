@@ -1,0 +1,83 @@
+-- The laws of the relation.
+use Rattle.std.specs.Prelude.{ℕ, ◌<◌, ◌≤◌, ◌≡◌, List, [], length, Some, None}
+use Rattle.sloth_base.specs.Machine.{State}
+use Rattle.sloth_base.specs.Arrive.{state_arrive}
+use Rattle.sloth_base.specs.Choose.{choose}
+use Rattle.sloth_base.specs.Owners.{owners_in, IsOwned, AreOwned}
+use Rattle.osek_scheduler.specs.declared.state.TaskState.{TaskState}
+use Rattle.osek_scheduler.specs.declared.state.TaskState.TheVariants as mode
+use Rattle.masked_code.specs.Kernel.{IsBelow}
+use Rattle.osek_scheduler.specs.State.{Task, System, task, with_task}
+use Rattle.osek_scheduler.specs.Priority.{IsTop, IsDue}
+use Rattle.osek_scheduler.specs.Steps.{settled_state}
+use Rattle.sim_induction.specs.Admits.{with_admits}
+use Rattle.sim_induction.specs.Mirror.{Mirror, Runs}
+use Rattle.sim_relation.specs.Build.{Build, Fits}
+use Rattle.sim_relation.specs.Stands.{Stands}
+use Rattle.sim_relation.specs.Moves.{moved_to, TaskStep, TaskMove, TaskLeave}
+use Rattle.sim_relation.specs.Changes.{changed_to, TaskChange}
+use Rattle.sim_relation.specs.Entry.{TaskEntry}
+use Rattle.sim_relation.specs.Start.{Starts, started_system}
+
+-- where the relation stands, the interrupt controller mirrors the abstract scheduler
+abbrev pub MirrorOfStands : Type 0
+MirrorOfStands = (b : Build) (state : State) (s : System) → Stands b state s → Mirror b.config state.core s
+
+-- lines with owners that arrive where MIE is 1 are the activations of their tasks
+abbrev pub ArrivalsAreAdmits : Type 0
+ArrivalsAreAdmits = (b : Build) (lines : List ℕ) (state : State) (s : System) → length b.config.tasks ≤ 32
+    → AreOwned (owners_in b.config) lines → Stands b state s → Stands b (state_arrive lines state) (with_admits lines s)
+
+-- the line that is taken has an owner
+abbrev pub TakenIsOwned : Type 0
+TakenIsOwned = (b : Build) (state : State) (s : System) → Stands b state s → (line : ℕ) → choose state.core ≡ Some line → IsOwned (owners_in b.config) line
+
+-- the line of a task that is taken is that of a Ready task, which is the top task
+abbrev pub TakenIsTop : Type 0
+TakenIsTop = (b : Build) (state : State) (s : System) → length b.config.tasks ≤ 32 → Stands b state s
+    → (t : ℕ) → t < length b.config.tasks → choose state.core ≡ Some t → IsTop b.config s [] t × ((task s t).state ≡ mode.Ready)
+
+-- where no line is taken, the running task is the top task, and where none runs none is due
+pub record IsUndisturbed (b : Build) (s : System) : Type 0 where
+  pub running : (t : ℕ) → Runs b.config s t → IsTop b.config s [] t
+  pub idle : ((t : ℕ) → t < length b.config.tasks → ¬ ((task s t).state ≡ mode.Active)) → (t : ℕ) → t < length b.config.tasks → ¬ (IsDue s t)
+
+-- where no line is taken nothing disturbs the running task
+abbrev pub NoneTaken : Type 0
+NoneTaken = (b : Build) (state : State) (s : System) → length b.config.tasks ≤ 32 → Stands b state s → choose state.core ≡ None → IsUndisturbed b s
+
+-- ---- what keeps the relation; t is the running task
+
+-- an instruction of it, and a service that goes back to it
+abbrev pub StepsKeep : Type 0
+StepsKeep = (b : Build) (old now : State) (s : System) (t : ℕ) (own : Task) (symbols : List (List ℕ)) → Fits b → Stands b old s → Runs b.config s t
+    → TaskStep b old now s t own symbols → Stands b now (moved_to s t own symbols)
+
+-- a move of the running task keeps the relation
+abbrev pub MovesKeep : Type 0
+MovesKeep = (b : Build) (old now : State) (s : System) (t : ℕ) (own : Task) (symbols : List (List ℕ)) → Fits b → Stands b old s → Runs b.config s t
+    → TaskMove b old now s t own symbols → Stands b now (moved_to s t own symbols)
+
+-- its end, or its wait
+abbrev pub LeavesKeep : Type 0
+LeavesKeep = (b : Build) (old now : State) (s : System) (t : ℕ) (own : Task) (place : ℕ) → Fits b → Stands b old s → Runs b.config s t
+    → TaskLeave b old now s t own place → Stands b now (settled_state (with_task s t own))
+
+-- a change of any task's events and state, that of the running one or of another
+abbrev pub ChangesKeep : Type 0
+ChangesKeep = (b : Build) (old now : State) (s : System) (t : ℕ) (state : TaskState) (set : ℕ) → Fits b → Stands b old s → t < length b.config.tasks
+    → TaskChange b old now s t state set → Stands b now (changed_to s t state set)
+
+-- the entry of the task whose line is taken
+abbrev pub EntriesKeep : Type 0
+EntriesKeep = (b : Build) (old now : State) (s : System) (t : ℕ) (own : Task) (place : ℕ) → Fits b → Stands b old s → t < length b.config.tasks → choose old.core ≡ Some t
+    → TaskEntry b old now s t own place → Stands b now (settled_state (with_task s t own))
+
+-- the context of what runs below it is where a routine looks for it
+abbrev pub BelowIsFound : Type 0
+BelowIsFound = (b : Build) (state : State) (s : System) (t : ℕ) → Fits b → Stands b state s → Runs b.config s t
+    → (place : ℕ) × IsBelow place state.core
+
+-- it stands where boot has started the system
+abbrev pub StartsStand : Type 0
+StartsStand = (b : Build) (state : State) → Fits b → Starts b state → Stands b state (started_system b)
