@@ -3,7 +3,7 @@ ghost use Rattle.code_rules.specs.AppRange.{IsTaskCode};
 
 use rv32_expand::sizes;
 use sloth_base::app::{App, Func, Label};
-use stack_bounds::stacks::Stacks;
+use sloth_base::places::Bounds;
 
 // Bytes as text, or `?` where they are none.
 fn shown(bytes: &[u8]) -> &str {
@@ -89,9 +89,9 @@ fn list_numbers(rt: &impl Print, name: &str, numbers: &[u32]) -> anyhow::Result<
 }
 
 /// Prints the bytes of each task, the offset of its part in its stack, and the bytes of the shared stack.
-pub fn list_stacks(rt: &impl Print, stacks: &Stacks) -> anyhow::Result<()> {
-    list_numbers(rt, "bytes", stacks.bounds.bytes.items())?;
-    list_numbers(rt, "offsets", stacks.offsets.items())?;
-    println!(rt; "shared {}", stacks.bounds.shared)?;
+pub fn list_stacks(rt: &impl Print, bounds: &Bounds, offsets: &[u32]) -> anyhow::Result<()> {
+    list_numbers(rt, "bytes", bounds.bytes.items())?;
+    list_numbers(rt, "offsets", offsets)?;
+    println!(rt; "shared {}", bounds.shared)?;
     Ok(())
 }

@@ -18,6 +18,7 @@ use sloth_base::app::App;
 use sloth_base::config::Config;
 use sloth_base::refusal::BuildError;
 use sloth_source::read;
+use stack_bounds::offsets;
 use std::alloc::Global;
 use std::io::Read;
 use text_repeats::add_line;
@@ -59,7 +60,10 @@ fn answer_stacks(rt: &(impl Print + AllocGlobal), oil: &[u8], text: &[u8]) -> an
     requires text { length text.now ≤ 16000000 }
 {
     match read(rt.alloc(), oil, text) {
-        Ok(source) => list_stacks(rt, &source.stacks),
+        Ok(source) => {
+            let offsets = offsets(rt.alloc(), &source.config, &source.app, &source.bounds)?;
+            list_stacks(rt, &source.bounds, &offsets)
+        }
         Err(error) => list_error(rt, error),
     }
 }

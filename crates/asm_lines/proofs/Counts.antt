@@ -1,6 +1,5 @@
 -- How many lines a text has.
-use Rattle.std.proofs.Common.{◌≡◌, ℕ, ◌+◌, ◌<◌, ◌≤◌, List, [], ◌∷◌, ◌++◌, map, drop, get_or, length, refl, ap, sym, ◌∙◌, add-one, arith, suc, append_assoc, count_by}
-use Rattle.std.proofs.Math.Seq.{drop-cons}
+use Rattle.std.proofs.Common.{◌≡◌, ℕ, ◌+◌, ◌≤◌, List, [], ◌∷◌, length, refl, ◌∙◌, arith, count_by}
 use Rattle.std.specs.Prelude.{◌==◌}
 use Rattle.asm_lines.specs.Lines.{without_returns, lines}
 use Rattle.asm_lines.specs.SourceLines.{source_line}

@@ -2,30 +2,26 @@
 use Rattle.std.proofs.Common.{◌≡◌, ℕ, ◌+◌, ◌-◌, ◌<◌, Bool, true, false, not, ◌||◌, cond, List, [], ◌∷◌, ◌++◌, length, drop, take, get_or, refl, ap, arith, sym, ◌∙◌, suc, append_assoc, length-append}
 use Rattle.std.specs.Prelude.{◌==◌, slice_index}
 use Rattle.std.specs.List.{list_all, list_any, position_or_len}
-use Rattle.std.proofs.lemmas.Bool.{eqb-true}
+use Rattle.std.proofs.lemmas.Bool.{eqb-true, and_parts, or_parts}
 use Rattle.std.proofs.lemmas.List.Folds.{list_any-append}
 use Rattle.std.proofs.lemmas.List.Sums.{split_at_first, passes_at_first}
 use Rattle.std.proofs.Math.Seq.{take-append_seam, drop-append_seam, split_at}
 use Rattle.std.proofs.Math.ListN.{drop_of_length-le}
 use Rattle.text_pieces.specs.Bytes.{is_byte_of}
 use Rattle.asm_lines.specs.Operands.{before, behind}
-use Rattle.asm_lines.proofs.Trims.{both, run_length}
-
-pub neither : (a b : Bool) → (a || b) ≡ false → (a ≡ false) × (b ≡ false)
-neither true b h = cc
-neither false b h = (refl, h)
+use Rattle.asm_lines.proofs.Trims.{run_length}
 
 -- what passes a test at each byte passes a weaker one
 pub all_weaker : (p q : ℕ → Bool) → ((b : ℕ) → p b ≡ true → q b ≡ true) → (t : List ℕ) → list_all p t ≡ true → list_all q t ≡ true
 all_weaker p q f [] h = refl
-all_weaker p q f (b ∷ t) h = let w = both (p b) (list_all p t) h in rw (f b w.0) (all_weaker p q f t w.1)
+all_weaker p q f (b ∷ t) h = let w = and_parts (p b) (list_all p t) h in rw (f b w.0) (all_weaker p q f t w.1)
 
 -- a text whose bytes pass a test lacks each byte that fails it
 pub lacks : (p : ℕ → Bool) (c : ℕ) → p c ≡ false → (t : List ℕ) → list_all p t ≡ true → is_byte_of c t ≡ false
 unfolding is_byte_of
 lacks p c f [] h = refl
 lacks p c f (b ∷ t) h =
-    let w = both (p b) (list_all p t) h in
+    let w = and_parts (p b) (list_all p t) h in
     let ih = lacks p c f t w.1 in
     let P : Bool → Type 0 = λ v. (b == c) ≡ v → (v || list_any (λ x. x == c) t) ≡ false in
     elim (b == c) as P [
@@ -36,7 +32,7 @@ lacks p c f (b ∷ t) h =
 has_not : (c : ℕ) (t : List ℕ) → is_byte_of c t ≡ false → list_all (λ b. not (b == c)) t ≡ true
 unfolding is_byte_of
 has_not c [] h = refl
-has_not c (b ∷ t) h = let w = neither (b == c) (list_any (λ x. x == c) t) h in rw (w.0) (has_not c t w.1)
+has_not c (b ∷ t) h = let w = or_parts (b == c) (list_any (λ x. x == c) t) h in rw (w.0) (has_not c t w.1)
 
 pub has_here : (c : ℕ) (x y : List ℕ) → (c == c) ≡ true → is_byte_of c (x ++ c ∷ y) ≡ true
 unfolding is_byte_of

@@ -5,7 +5,7 @@ use Rattle.std.specs.List.{list_all}
 use Rattle.std.specs.Char.{is_ascii_digit, is_ascii_hexdigit, is_ascii_alphanumeric}
 use Rattle.std.specs.Str.{bytes_eq}
 use Rattle.std.proofs.lemmas.Slice.Eq.{bytes_eq-Decides}
-use Rattle.std.proofs.lemmas.Bool.{eqb-true}
+use Rattle.std.proofs.lemmas.Bool.{eqb-true, and_parts, or_left}
 use Rattle.sloth_base.specs.ImageRange.{continues_word}
 use Rattle.text_pieces.specs.Bytes.{is_name, begins_name}
 use Rattle.asm_lines.specs.Bytes.{is_blank}
@@ -13,7 +13,7 @@ use Rattle.text_pieces.specs.Digits.{capped_value, value_from}
 use Rattle.asm_lines.specs.Numbers.{number, magnitude, signed_number, is_hexadecimal, all_some}
 use Rattle.asm_lines.specs.Registers.{register, small_number, lettered_register, lettered_by}
 use Rattle.asm_lines.specs.Grammar.{Bare, starts_bare}
-use Rattle.asm_lines.proofs.Trims.{both, reversed_all}
+use Rattle.asm_lines.proofs.Trims.{reversed_all}
 use Rattle.asm_lines.proofs.Cuts.{all_weaker}
 
 -- hexadecimal digits, x and -
@@ -24,15 +24,11 @@ first : (a b c : Bool) → a ≡ true → ((a || b) || c) ≡ true
 first true b c h = refl
 first false b c h = cc
 
-left : (a b : Bool) → a ≡ true → (a || b) ≡ true
-left true b h = refl
-left false b h = cc
-
 digit_is : (b : ℕ) → is_ascii_digit b ≡ true → is_number_byte b ≡ true
-digit_is b h = left (is_ascii_hexdigit b) ((b == 120) || (b == 45)) (first (is_ascii_digit b) _ _ h)
+digit_is b h = or_left (is_ascii_hexdigit b) ((b == 120) || (b == 45)) (first (is_ascii_digit b) _ _ h)
 
 hex_is : (b : ℕ) → is_ascii_hexdigit b ≡ true → is_number_byte b ≡ true
-hex_is b h = left (is_ascii_hexdigit b) ((b == 120) || (b == 45)) h
+hex_is b h = or_left (is_ascii_hexdigit b) ((b == 120) || (b == 45)) h
 
 some_if : {A : Type 0} (b : Bool) (x y : A) → cond b (Some x) None ≡ Some y → b ≡ true
 some_if true x y h = refl
@@ -44,10 +40,10 @@ signed_some b (Some n) z h = (n, refl)
 
 hex_bytes : (t : List ℕ) → is_hexadecimal t ≡ true → all_some is_ascii_hexdigit (drop 2 t) ≡ true → list_all is_number_byte t ≡ true
 hex_bytes [] e g = cc
-hex_bytes (a ∷ []) e g = let w = both (a == 48) false e in let x = w.1 in cc
+hex_bytes (a ∷ []) e g = let w = and_parts (a == 48) false e in let x = w.1 in cc
 hex_bytes (a ∷ b ∷ d) e g =
-    let w = both (a == 48) (b == 120) e in
-    let all = all_weaker is_ascii_hexdigit is_number_byte hex_is d (both (not (length d == 0)) (list_all is_ascii_hexdigit d) g).1 in
+    let w = and_parts (a == 48) (b == 120) e in
+    let all = all_weaker is_ascii_hexdigit is_number_byte hex_is d (and_parts (not (length d == 0)) (list_all is_ascii_hexdigit d) g).1 in
     subst (λ (x : ℕ). list_all is_number_byte (x ∷ b ∷ d) ≡ true) (sym (eqb-true a 48 w.0))
     (subst (λ (y : ℕ). list_all is_number_byte (48 ∷ y ∷ d) ≡ true) (sym (eqb-true b 120 w.1)) all)
 
@@ -60,7 +56,7 @@ magnitude_bytes t n h =
     elim (is_hexadecimal t) as P [
       | true ↦ λ e g. hex_bytes t e (some_if (all_some is_ascii_hexdigit (drop 2 t)) (capped_value (value_from 16 0 (drop 2 t))) n g)
       | false ↦ λ e g. all_weaker is_ascii_digit is_number_byte digit_is t
-          (both (not (length t == 0)) (list_all is_ascii_digit t) (some_if (all_some is_ascii_digit t) (capped_value (value_from 10 0 t)) n g)).1
+          (and_parts (not (length t == 0)) (list_all is_ascii_digit t) (some_if (all_some is_ascii_digit t) (capped_value (value_from 10 0 t)) n g)).1
     ] refl h
 
 negative_bytes : (t : List ℕ) (z : ℤ) → (slice_index t 0 == 45) ≡ true → signed_number true (magnitude (drop 1 t)) ≡ Some z → list_all is_number_byte t ≡ true
@@ -92,7 +88,7 @@ not_blank p s t b h =
 
 starts : (t : List ℕ) → list_all (λ b. not (is_blank b)) t ≡ true → starts_bare t ≡ true
 starts [] h = refl
-starts (b ∷ t) h = (both (not (is_blank b)) (list_all (λ x. not (is_blank x)) t) h).0
+starts (b ∷ t) h = (and_parts (not (is_blank b)) (list_all (λ x. not (is_blank x)) t) h).0
 
 pub bare_of : (p : ℕ → Bool) → p 32 ≡ false → p 9 ≡ false → (t : List ℕ) → list_all p t ≡ true → Bare t
 bare_of p s u t h =
@@ -101,7 +97,7 @@ bare_of p s u t h =
 
 pub name_bytes : (n : List ℕ) → is_name n ≡ true → list_all continues_word n ≡ true
 unfolding is_name
-name_bytes n h = (both (begins_name n) (list_all continues_word n) h).1
+name_bytes n h = (and_parts (begins_name n) (list_all continues_word n) h).1
 
 letter_is : (b n x : ℕ) → lettered_register b n ≡ Some x → continues_word b ≡ true
 letter_is b n x h =
@@ -145,16 +141,16 @@ small_digits d n h =
     let two : Option ℕ = cond ((length d == 2) && (i0 && (z && i1))) (Some ((slice_index d 0 - 48) * 10 + (slice_index d 1 - 48))) None in
     let P : Bool → Type 0 = λ v. ((length d == 1) && i0) ≡ v → cond v (Some (slice_index d 0 - 48)) two ≡ Some n → list_all is_ascii_digit d ≡ true in
     elim ((length d == 1) && i0) as P [
-      | true ↦ λ e g. let w = both (length d == 1) i0 e in one_digit d w.0 w.1
+      | true ↦ λ e g. let w = and_parts (length d == 1) i0 e in one_digit d w.0 w.1
       | false ↦ λ e g.
           let t = some_if ((length d == 2) && (i0 && (z && i1))) ((slice_index d 0 - 48) * 10 + (slice_index d 1 - 48)) n g in
-          let w = both (length d == 2) (i0 && (z && i1)) t in
-          let y = both i0 (z && i1) w.1 in
-          two_digits d w.0 y.0 (both z i1 y.1).1
+          let w = and_parts (length d == 2) (i0 && (z && i1)) t in
+          let y = and_parts i0 (z && i1) w.1 in
+          two_digits d w.0 y.0 (and_parts z i1 y.1).1
     ] refl h
 
 digit_continues : (b : ℕ) → is_ascii_digit b ≡ true → continues_word b ≡ true
-digit_continues b h = left (is_ascii_alphanumeric b) (b == 95) (first (is_ascii_digit b) _ _ h)
+digit_continues b h = or_left (is_ascii_alphanumeric b) (b == 95) (first (is_ascii_digit b) _ _ h)
 
 lettered_some : (b : ℕ) (o : Option ℕ) (x : ℕ) → lettered_by b o ≡ Some x → (n : ℕ) × (o ≡ Some n) × (lettered_register b n ≡ Some x)
 lettered_some b None x h = cc

@@ -15,7 +15,7 @@ use Rattle.asm_lines.proofs.Trims.{trim_is}
 use Rattle.asm_lines.proofs.Cuts.{lacks, has_here, has_in, before_is, behind_is, last_is, but_last}
 use Rattle.asm_lines.proofs.Parts.{is_number_byte, name_bytes, number_bytes, number_some, register_bytes, register_some, bare_of}
 
-name_bare : (n : List ℕ) → is_name n ≡ true → Bare n
+pub name_bare : (n : List ℕ) → is_name n ≡ true → Bare n
 name_bare n h = bare_of continues_word refl refl n (name_bytes n h)
 
 number_bare : (k : List ℕ) (z : ℤ) → number k ≡ Some z → Bare k
@@ -79,7 +79,7 @@ front_on : (x y : List ℕ) → 0 < length x → starts_bare x ≡ true → star
 front_on [] y l h = absurd (omega arith)
 front_on (b ∷ x) y l h = h
 
-end_on : (y x : List ℕ) → 0 < length x → starts_bare (reverse x) ≡ true → starts_bare (reverse (y ++ x)) ≡ true
+pub end_on : (y x : List ℕ) → 0 < length x → starts_bare (reverse x) ≡ true → starts_bare (reverse (y ++ x)) ≡ true
 end_on y x l h = let n = length-reverse x in ap starts_bare (reverse-append y x) ∙ front_on (reverse x) (reverse y) (omega (arith, n)) h
 
 long : (y x : List ℕ) → 0 < length x → 0 < length (y ++ x)

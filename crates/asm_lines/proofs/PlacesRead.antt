@@ -6,6 +6,7 @@ use Rattle.std.specs.Str.{bytes_eq}
 use Rattle.std.proofs.lemmas.Slice.Eq.{bytes_eq-Decides}
 use Rattle.std.proofs.lemmas.List.{append-nil, reverse-append, reverse-reverse}
 use Rattle.std.proofs.lemmas.List.Folds.{list_all-append}
+use Rattle.std.proofs.lemmas.Bool.{and_parts}
 use Rattle.asm_lines.specs.declared.operands.Operand.{Operand}
 use Rattle.asm_lines.specs.declared.operands.Operand.TheVariants.{Wrong, Direct}
 use Rattle.asm_lines.specs.declared.operands.Small.TheVariants.{Is}
@@ -16,7 +17,7 @@ use Rattle.asm_lines.specs.Registers.{register}
 use Rattle.asm_lines.specs.Operands.{before, behind, small_of, direct_operand, direct_at, indexed_operand, indexed_at, frame_operand, in_brackets, bracketed_operand, place}
 use Rattle.asm_lines.specs.Faults.{is_wrong}
 use Rattle.asm_lines.specs.Grammar.{Blanks, starts_bare, Bare, IsPlace, is_alone, is_offset, is_indexed, is_frame}
-use Rattle.asm_lines.proofs.Trims.{both, trimmed, reversed_all}
+use Rattle.asm_lines.proofs.Trims.{trimmed, reversed_all}
 use Rattle.asm_lines.proofs.Cuts.{cut_there, ends_there}
 
 blanks_both : (a b : List ℕ) → Blanks a → Blanks b → Blanks (a ++ b)
@@ -25,7 +26,7 @@ blanks_both a b h g = list_all-append is_blank a b ∙ rw (h, g) refl
 -- blanks in front of a text that has none there are nothing
 none_before : (a y : List ℕ) → Blanks a → starts_bare (a ++ y) ≡ true → a ≡ []
 none_before [] y h s = refl
-none_before (b ∷ a) y h s = let w = (both (is_blank b) (list_all is_blank a) h).0 in let q : not true ≡ true = ap not (sym w) ∙ s in cc
+none_before (b ∷ a) y h s = let w = (and_parts (is_blank b) (list_all is_blank a) h).0 in let q : not true ≡ true = ap not (sym w) ∙ s in cc
 
 none_behind : (y b : List ℕ) → Blanks b → starts_bare (reverse (y ++ b)) ≡ true → b ≡ []
 none_behind y b h s =
@@ -108,7 +109,7 @@ frame_read f t n a y d o e ha hd g w =
     let P : Bool → Type 0 = λ v. (f && bytes_eq n (codes "frame")) ≡ v → cond v (frame_operand (small_of (number y))) Wrong ≡ o → IsPlace f t o in
     elim (f && bytes_eq n (codes "frame")) as P [
       | true ↦ λ h k.
-          let b = both f (bytes_eq n (codes "frame")) h in
+          let b = and_parts f (bytes_eq n (codes "frame")) h in
           let name = (bytes_eq-Decides n (codes "frame")).0 b.1 in
           let whole : t ≡ codes "frame" ++ 91 ∷ (a ++ (y ++ (d ++ 93 ∷ []))) = e ∙ ap (λ v. v ++ 91 ∷ (a ++ (y ++ (d ++ 93 ∷ [])))) name in
           elim (number y) as Q [

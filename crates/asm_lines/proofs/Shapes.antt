@@ -3,7 +3,7 @@ use Rattle.std.proofs.Common.{◌≡◌, ℕ, ◌+◌, ◌<◌, ◌≤◌, Bool,
 use Rattle.std.specs.Prelude.{◌==◌}
 use Rattle.std.specs.Char.{is_ascii_alphabetic}
 use Rattle.std.specs.List.{list_all, list_any, slice_split, prefix_len, onto_first, position_or_len}
-use Rattle.std.proofs.lemmas.Bool.{eqb-true}
+use Rattle.std.proofs.lemmas.Bool.{eqb-true, and_parts, or_parts}
 use Rattle.std.proofs.lemmas.List.{take-append-drop}
 use Rattle.std.proofs.lemmas.List.Folds.{length-prefix_len}
 use Rattle.std.proofs.lemmas.List.Splits.{slice_split_first}
@@ -18,8 +18,8 @@ use Rattle.asm_lines.specs.Table.{mnemonic_of}
 use Rattle.asm_lines.specs.Operands.{before, behind}
 use Rattle.asm_lines.specs.SourceLines.{stands_apart, begins_statement, has_empty, known_statement, statement, statement_of}
 use Rattle.asm_lines.specs.Grammar.{IsRemains, is_whole, is_commented, IsOperands, is_last, is_more, IsTail, is_nothing, is_something, IsShape, is_shapeless}
-use Rattle.asm_lines.proofs.Trims.{both, stops, run_length, run_front, trim_is, trimmed}
-use Rattle.asm_lines.proofs.Cuts.{neither, has_here, before_is, behind_is, cut_there, has_some}
+use Rattle.asm_lines.proofs.Trims.{stops, run_length, run_front, trim_is, trimmed}
+use Rattle.asm_lines.proofs.Cuts.{has_here, before_is, behind_is, cut_there, has_some}
 
 comma : ℕ → Bool
 comma b = b == 44
@@ -27,7 +27,7 @@ comma b = b == 44
 split_none : (t : List ℕ) → is_byte_of 44 t ≡ false → slice_split (λ b. b == 44) t ≡ t ∷ []
 unfolding is_byte_of
 split_none [] h = refl
-split_none (b ∷ t) h = let w = neither (b == 44) (list_any (λ x. x == 44) t) h in rw (w.0) (ap (onto_first b) (split_none t w.1))
+split_none (b ∷ t) h = let w = or_parts (b == 44) (list_any (λ x. x == 44) t) h in rw (w.0) (ap (onto_first b) (split_none t w.1))
 
 split_more : (x y : List ℕ) → is_byte_of 44 x ≡ false → slice_split (λ b. b == 44) (x ++ 44 ∷ y) ≡ x ∷ slice_split (λ b. b == 44) y
 split_more x y h =
@@ -79,7 +79,7 @@ before_all : (c : ℕ) (t : List ℕ) → is_byte_of c t ≡ false → before c 
 unfolding is_byte_of
 before_all c [] h = refl
 before_all c (b ∷ t) h =
-    let w = neither (b == c) (list_any (λ x. x == c) t) h in
+    let w = or_parts (b == c) (list_any (λ x. x == c) t) h in
     let e : 1 + position_or_len (λ x. x == c) t ≡ suc (position_or_len (λ x. x == c) t) = omega arith in
     rw (w.0) (rw e (ap (λ y. b ∷ y) (before_all c t w.1)))
 
@@ -172,8 +172,8 @@ shape_read t s g h =
       | true ↦ λ b k. elim (has_empty ts) as Q [
         | true ↦ λ e m b. wrong m
         | false ↦ λ e m b.
-            let x = both (list_all is_shown t) (is_letter t && stands_apart r) b in
-            let y = both (is_letter t) (stands_apart r) x.1 in
+            let x = and_parts (list_all is_shown t) (is_letter t && stands_apart r) b in
+            let y = and_parts (is_letter t) (stands_apart r) x.1 in
             let text : t ≡ w ++ r = sym (take-append-drop (prefix_len continues_word t) t) ∙ ap (λ n. w ++ drop n t) (sym (length-prefix_len continues_word t)) in
             let shape : IsShape t w ts = record {
               rest = r;

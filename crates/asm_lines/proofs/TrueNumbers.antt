@@ -3,12 +3,13 @@ use Rattle.std.proofs.Common.{◌≡◌, ℕ, ℤ, pos, negsuc, neg_ℤ, ◌+◌
 use Rattle.std.specs.Prelude.{◌==◌, slice_index, int_lt}
 use Rattle.std.specs.List.{list_all}
 use Rattle.std.specs.Char.{is_ascii_digit, is_ascii_hexdigit}
-use Rattle.std.proofs.lemmas.Bool.{eqb-true, cases_lt, lt-ltb}
+use Rattle.std.proofs.lemmas.Bool.{eqb-true, cases_lt, lt-ltb, and_parts}
+use Rattle.std.proofs.lemmas.Option.{cond_some}
+use mathlib.Core.Bool.{and-false}
 use Rattle.text_pieces.specs.Digits.{capped_value, value_from}
 use Rattle.asm_lines.specs.Numbers.{number, magnitude, signed_number, is_hexadecimal, all_some, is_within}
 use Rattle.asm_lines.specs.Grammar.{IsNumber, is_decimal, is_hex, is_minus, is_minus_hex, cut, is_near}
 use borrow.Author.Tests.{ltb-true}
-use Rattle.asm_lines.proofs.Trims.{both}
 
 neg_capped : (n : ℕ) → neg_ℤ (pos (capped_value n)) ≡ cut (neg_ℤ (pos n))
 neg_capped zero = refl
@@ -18,8 +19,8 @@ not_hex : (d : List ℕ) → list_all is_ascii_digit d ≡ true → is_hexadecim
 not_hex [] h = refl
 not_hex (a ∷ []) h = elim (a == 48) as (λ v. (v && false) ≡ false) [ true ↦ refl | false ↦ refl ]
 not_hex (a ∷ b ∷ d) h =
-    let w = both (is_ascii_digit a) (is_ascii_digit b && list_all is_ascii_digit d) h in
-    let y = (both (is_ascii_digit b) (list_all is_ascii_digit d) w.1).0 in
+    let w = and_parts (is_ascii_digit a) (is_ascii_digit b && list_all is_ascii_digit d) h in
+    let y = (and_parts (is_ascii_digit b) (list_all is_ascii_digit d) w.1).0 in
     let P : Bool → Type 0 = λ v. (b == 120) ≡ v → ((a == 48) && v) ≡ false in
     let Q : Bool → Type 0 = λ v. (v && false) ≡ false in
     elim (b == 120) as P [
@@ -30,7 +31,7 @@ not_hex (a ∷ b ∷ d) h =
 not_minus : (d : List ℕ) → list_all is_ascii_digit d ≡ true → (slice_index d 0 == 45) ≡ false
 not_minus [] h = refl
 not_minus (a ∷ d) h =
-    let y = (both (is_ascii_digit a) (list_all is_ascii_digit d) h).0 in
+    let y = (and_parts (is_ascii_digit a) (list_all is_ascii_digit d) h).0 in
     let P : Bool → Type 0 = λ v. (a == 45) ≡ v → v ≡ false in
     elim (a == 45) as P [
       | true ↦ λ e. let q : is_ascii_digit a ≡ is_ascii_digit 45 = ap is_ascii_digit (eqb-true a 45 e) in cc
@@ -39,7 +40,7 @@ not_minus (a ∷ d) h =
 
 decimal_magnitude : (d : List ℕ) → all_some is_ascii_digit d ≡ true → magnitude d ≡ Some (capped_value (value_from 10 0 d))
 unfolding magnitude
-decimal_magnitude d h = let n = not_hex d (both (not (length d == 0)) (list_all is_ascii_digit d) h).1 in rw (n, h) refl
+decimal_magnitude d h = let n = not_hex d (and_parts (not (length d == 0)) (list_all is_ascii_digit d) h).1 in rw (n, h) refl
 
 hex_magnitude : (d : List ℕ) → all_some is_ascii_hexdigit d ≡ true → magnitude (48 ∷ 120 ∷ d) ≡ Some (capped_value (value_from 16 0 d))
 unfolding magnitude
@@ -55,21 +56,17 @@ minus t n m = rw m refl
 
 pub number_made : (t : List ℕ) (z : ℤ) → IsNumber t z → number t ≡ Some (cut z)
 number_made t z (is_decimal d h) =
-    plain d (capped_value (value_from 10 0 d)) (not_minus d (both (not (length d == 0)) (list_all is_ascii_digit d) h).1) (decimal_magnitude d h)
+    plain d (capped_value (value_from 10 0 d)) (not_minus d (and_parts (not (length d == 0)) (list_all is_ascii_digit d) h).1) (decimal_magnitude d h)
 number_made t z (is_hex d h) = plain (48 ∷ 120 ∷ d) (capped_value (value_from 16 0 d)) refl (hex_magnitude d h)
 number_made t z (is_minus d h) = minus d (capped_value (value_from 10 0 d)) (decimal_magnitude d h) ∙ ap Some (neg_capped (value_from 10 0 d))
 number_made t z (is_minus_hex d h) = minus (48 ∷ 120 ∷ d) (capped_value (value_from 16 0 d)) (hex_magnitude d h) ∙ ap Some (neg_capped (value_from 16 0 d))
-
-no_and : (b : Bool) → (b && false) ≡ false
-no_and true = refl
-no_and false = refl
 
 above : (low high : ℤ) (n : ℕ) → 4294967296 ≤ n → is_near high ≡ true → is_within low high (pos n) ≡ false
 above low (pos h) n g k =
     let l : h < 4294967296 = ltb-true _ _ k in
     let e : ltb h n ≡ true = lt-ltb h n (omega (arith, l)) in
-    ap (λ v. not (int_lt (pos n) low) && not v) e ∙ no_and (not (int_lt (pos n) low))
-above low (negsuc h) n g k = no_and (not (int_lt (pos n) low))
+    ap (λ v. not (int_lt (pos n) low) && not v) e ∙ and-false (not (int_lt (pos n) low))
+above low (negsuc h) n g k = and-false (not (int_lt (pos n) low))
 
 below : (low high : ℤ) (n : ℕ) → 4294967295 ≤ n → is_near low ≡ true → is_within low high (negsuc n) ≡ false
 below (pos l) high n g k = refl
@@ -96,10 +93,6 @@ cut_within low high (negsuc n) l h = elim (cases_lt (n + 1) 4294967296) [
 abbrev pub Reads : List ℕ → ℤ → Type 0
 Reads t w = (z : ℤ) × IsNumber t z × (w ≡ cut z)
 
-some_is : {A : Type 0} (b : Bool) (x y : A) → cond b (Some x) None ≡ Some y → (b ≡ true) × (x ≡ y)
-some_is true x y h = (refl, cc)
-some_is false x y h = cc
-
 -- the digits of a magnitude
 abbrev Digits : List ℕ → ℕ → Type 0
 Digits t n = ((all_some is_ascii_digit t ≡ true) × (capped_value (value_from 10 0 t) ≡ n))
@@ -107,8 +100,8 @@ Digits t n = ((all_some is_ascii_digit t ≡ true) × (capped_value (value_from 
 
 prefix_is : (t : List ℕ) → is_hexadecimal t ≡ true → t ≡ 48 ∷ 120 ∷ drop 2 t
 prefix_is [] e = cc
-prefix_is (a ∷ []) e = let w = both (a == 48) false e in let x = w.1 in cc
-prefix_is (a ∷ b ∷ d) e = let w = both (a == 48) (b == 120) e in ap (λ x. x ∷ b ∷ d) (eqb-true a 48 w.0) ∙ ap (λ y. 48 ∷ y ∷ d) (eqb-true b 120 w.1)
+prefix_is (a ∷ []) e = let w = and_parts (a == 48) false e in let x = w.1 in cc
+prefix_is (a ∷ b ∷ d) e = let w = and_parts (a == 48) (b == 120) e in ap (λ x. x ∷ b ∷ d) (eqb-true a 48 w.0) ∙ ap (λ y. 48 ∷ y ∷ d) (eqb-true b 120 w.1)
 
 digits_of : (t : List ℕ) (n : ℕ) → magnitude t ≡ Some n → Digits t n
 unfolding magnitude
@@ -117,8 +110,8 @@ digits_of t n h =
     let dec : Option ℕ = cond (all_some is_ascii_digit t) (Some (capped_value (value_from 10 0 t))) None in
     let P : Bool → Type 0 = λ v. is_hexadecimal t ≡ v → cond v hex dec ≡ Some n → Digits t n in
     elim (is_hexadecimal t) as P [
-      | true ↦ λ e g. let s = some_is (all_some is_ascii_hexdigit (drop 2 t)) (capped_value (value_from 16 0 (drop 2 t))) n g in inr (drop 2 t, prefix_is t e, s.0, s.1)
-      | false ↦ λ e g. inl (some_is (all_some is_ascii_digit t) (capped_value (value_from 10 0 t)) n g)
+      | true ↦ λ e g. let s = cond_some (all_some is_ascii_hexdigit (drop 2 t)) (capped_value (value_from 16 0 (drop 2 t))) n g in inr (drop 2 t, prefix_is t e, s.0, s.1)
+      | false ↦ λ e g. inl (cond_some (all_some is_ascii_digit t) (capped_value (value_from 10 0 t)) n g)
     ] refl h
 
 plain_read : (t : List ℕ) (n : ℕ) → Digits t n → Reads t (pos n)

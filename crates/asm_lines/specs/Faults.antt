@@ -1,5 +1,5 @@
 -- The faults of the lines of task source.
-use Rattle.std.specs.Prelude.{◌≡◌, ℕ, ◌+◌, Bool, true, false, ◌||◌, ◌&&◌, not, ◌⊎◌, List, ◌∷◌, length, map, int_lt, pos}
+use Rattle.std.specs.Prelude.{ℕ, ◌+◌, Bool, true, false, ◌||◌, ◌&&◌, not, ◌⊎◌, List, ◌∷◌, length, map, int_lt, pos}
 use Rattle.std.specs.List.{list_any, fold}
 use Rattle.sloth_base.specs.declared.refusal.Part.TheVariants.{Src}
 use Rattle.sloth_base.specs.declared.refusal.Code.{Code}

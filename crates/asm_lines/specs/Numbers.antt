@@ -1,5 +1,5 @@
 -- Numbers of task source: decimal digits, or `0x` and hexadecimal digits, with an optional `-` before them.
-use Rattle.std.specs.Prelude.{ℕ, ℤ, pos, neg_ℤ, int_lt, true, false, ◌+◌, ◌-◌, ◌*◌, Bool, if◌then◌else◌, ◌&&◌, ◌==◌, not, nat_le, min, List, [], ◌∷◌, slice_index, drop, length, Option, Some, None}
+use Rattle.std.specs.Prelude.{ℕ, ℤ, pos, neg_ℤ, int_lt, true, false, Bool, if◌then◌else◌, ◌&&◌, ◌==◌, not, List, slice_index, drop, length, Option, Some, None}
 use Rattle.std.specs.List.{list_all}
 use Rattle.text_pieces.specs.Digits.{value_from, capped_value}
 use Rattle.std.specs.Char.{is_ascii_digit, is_ascii_hexdigit}

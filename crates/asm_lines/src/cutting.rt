@@ -1,5 +1,5 @@
 //! A text cut at its line ends, and operands cut at their commas.
-ghost use Rattle.std.specs.Prelude.{◌≡◌, ◌==◌, IfOk, map, length};
+ghost use Rattle.std.specs.Prelude.{◌≡◌, ◌==◌, IfOk, map};
 ghost use Rattle.std.specs.List.{slice_split};
 ghost use Rattle.std.specs.Str.Lines.{strip_carriage_return};
 ghost use Rattle.text_pieces.specs.Names.{now};

@@ -1,8 +1,7 @@
 //! Numbers of task source.
-ghost use Rattle.std.specs.Prelude.{◌≡◌, ◌<◌, ◌≤◌, ◌^◌, ℕ, ℤ, pos, ◌==◌, slice_index, length, IfSome, IsTrue};
+ghost use Rattle.std.specs.Prelude.{◌≡◌, ◌<◌, ◌≤◌, ◌==◌, slice_index, IfSome};
 ghost use Rattle.std.specs.List.{list_all};
 ghost use Rattle.std.specs.Char.{is_ascii_digit, is_ascii_hexdigit};
-ghost use Rattle.text_pieces.specs.Digits.{digit_value, value_from, capped_value};
 ghost use Rattle.asm_lines.specs.Numbers.{is_hexadecimal, magnitude, signed_number, number, is_within};
 
 use text_pieces::bytes::after;

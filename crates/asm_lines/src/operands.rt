@@ -1,5 +1,5 @@
 //! Operands by their forms.
-ghost use Rattle.std.specs.Prelude.{◌≡◌, ◌==◌, IfOk};
+ghost use Rattle.std.specs.Prelude.{◌≡◌, IfOk};
 ghost use Rattle.asm_lines.specs.Operands.{small_of, register_operand, number_operand, frame_operand, name_operand, direct_operand, indexed_operand, in_brackets, bracketed_operand, place, bytes_operand, read_operand};
 ghost use Rattle.hex.specs.Hex.{decode_of};
 

@@ -1,10 +1,10 @@
 //! Reads task source.
-ghost use Rattle.std.specs.Prelude.{◌≡◌, ◌<◌, ◌≤◌, ◌+◌, length, map, IfOk, IfErr, OnOk};
+ghost use Rattle.std.specs.Prelude.{◌≡◌, ◌<◌, ◌+◌, length, map, IfOk, IfErr, OnOk};
 ghost use Rattle.least_fault.specs.Order.{ErrorIs, NoFault};
 ghost use Rattle.text_pieces.specs.Names.{now};
 ghost use Rattle.asm_lines.specs.Lines.{without_returns};
 ghost use Rattle.asm_lines.specs.SourceLines.{source_line};
-ghost use Rattle.asm_lines.specs.Faults.{source_lines, SourceFault, TextFault};
+ghost use Rattle.asm_lines.specs.Faults.{source_lines, TextFault};
 
 use crate::cutting::{line_of, split};
 use crate::rules::source_fault;
@@ -46,10 +46,7 @@ pub fn read(alloc: Global, text: &[u8]) -> Result<List<SourceLine>, BuildError>
     ensures none { OnOk result (NoFault (TextFault text.now)) }
     ensures refused { IfErr result (λ error. ErrorIs (TextFault text.now) error) }
 {
-    let read = match read_lines(alloc, text) {
-        Ok(read) => read,
-        Err(_) => return Err(BuildError::Memory),
-    };
+    let read = read_lines(alloc, text)?;
     match source_fault(read.items()) {
         None => Ok(read),
         Some(fault) => Err(BuildError::Refused(fault)),

@@ -1,6 +1,5 @@
 //! What a line of task source is.
-ghost use Rattle.std.specs.Prelude.{◌≡◌, ◌==◌, IfOk, length, map};
-ghost use Rattle.std.specs.List.{list_any};
+ghost use Rattle.std.specs.Prelude.{◌≡◌, IfOk, map};
 ghost use Rattle.asm_lines.specs.Bytes.{word_of, is_blank};
 ghost use Rattle.text_pieces.specs.Names.{now};
 ghost use Rattle.asm_lines.specs.Lines.{operands_of};

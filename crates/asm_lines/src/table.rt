@@ -1,6 +1,5 @@
 //! The statements of task source: their words, and the forms of their operands.
 ghost use Rattle.std.specs.Prelude.{◌≡◌};
-ghost use Rattle.std.specs.Str.{bytes_eq};
 ghost use Rattle.asm_lines.specs.Table.{alu_of, imm_of, shift_of, load_of, store_of, branch_of, plain_of, mnemonic_of, object_operands, service_takes, is_operand_count, place_form, form_of, is_outer, is_body_start, is_body_end};
 
 use sloth_base::app::{AluKind, BranchKind, ImmKind, Width};

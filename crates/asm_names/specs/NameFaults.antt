@@ -1,5 +1,5 @@
 -- The faults of names and of limits: A5 to A7.
-use Rattle.std.specs.Prelude.{ℕ, ◌+◌, ◌==◌, Bool, false, ◌⊎◌, ◌&&◌, ◌||◌, not, nat_lt, if◌then◌else◌, List, length, map, count_by, codes, Option, Some, None}
+use Rattle.std.specs.Prelude.{ℕ, ◌+◌, ◌==◌, Bool, false, ◌⊎◌, ◌&&◌, ◌||◌, not, nat_lt, if◌then◌else◌, List, length, count_by, codes, Option, Some, None}
 use Rattle.std.specs.List.{list_any, sum_by}
 use Rattle.std.specs.Str.{bytes_eq}
 use Rattle.sloth_base.specs.declared.config.Config.{Config}
@@ -7,7 +7,6 @@ use Rattle.sloth_base.specs.declared.config.TaskDecl.{TaskDecl}
 use Rattle.sloth_base.specs.declared.refusal.Code.TheVariants.{A5, A6, A7}
 use Rattle.sloth_base.specs.declared.refusal.Refusal.{Refusal}
 use Rattle.least_fault.specs.Search.{Somewhere}
-use Rattle.asm_lines.specs.declared.operands.Operand.{Operand}
 use Rattle.asm_lines.specs.declared.source_line.SourceLine.{SourceLine}
 use Rattle.asm_lines.specs.declared.source_line.SourceLine.TheVariants.{Statement}
 use Rattle.asm_lines.specs.Faults.{Case}

@@ -1,9 +1,8 @@
 //! A5 to A7 of bodies.
-ghost use Rattle.std.specs.Prelude.{◌≡◌, ◌+◌, ◌<◌, ◌≤◌, ◌^◌, take, length, ◌⊎◌, All, IfOk, bytes_eq};
-ghost use Rattle.std.specs.List.{list_any};
+ghost use Rattle.std.specs.Prelude.{◌≡◌, ◌+◌, ◌<◌, ◌^◌, take, length, ◌⊎◌, All, IfOk};
 ghost use Rattle.least_fault.specs.Search.{Finds, Somewhere};
 ghost use Rattle.asm_names.specs.Said.{label_names};
-ghost use Rattle.asm_names.specs.Bodies.{BodyText, function_names};
+ghost use Rattle.asm_names.specs.Bodies.{function_names};
 ghost use Rattle.asm_names.specs.NameFaults.{is_too_great, is_strange, is_misnamed, is_beyond, HeaderFault, InnerFault, LineFault, BodyFault};
 
 use crate::body::Body;

@@ -1,5 +1,5 @@
 //! A5 and A6 of symbols.
-ghost use Rattle.std.specs.Prelude.{◌≡◌, ◌<◌, ◌≤◌, ◌^◌, take, length};
+ghost use Rattle.std.specs.Prelude.{◌≡◌, ◌<◌, ◌^◌, take, length};
 ghost use Rattle.least_fault.specs.Search.{Finds, Somewhere};
 ghost use Rattle.asm_names.specs.Said.{symbol_names};
 ghost use Rattle.asm_names.specs.NameFaults.{is_taken, is_too_much, SymbolFault, DataFault};

@@ -1,5 +1,6 @@
 //! The names of a configuration and of bodies.
 ghost use Rattle.std.specs.Prelude.{◌≡◌, IfOk};
+ghost use Rattle.asm_names.specs.Said.{symbol_names};
 ghost use Rattle.asm_names.specs.Scopes.{task_names, event_names, scope_of};
 ghost use Rattle.asm_names.specs.Bodies.{function_names, called_names, task_body_names};
 
@@ -77,6 +78,56 @@ pub fn task_body_names<'t>(alloc: Global, bodies: &[Body<'t>]) -> Result<Names<'
     Ok(names)
 }
 
+/// The names of a configuration.
+#[derive(Drop)]
+struct ConfigNames<'t> {
+    tasks: Names<'t>,
+    resources: Names<'t>,
+    events: Names<'t>,
+}
+
+fn names_of_config<'t>(alloc: Global, config: &'t Config) -> Result<ConfigNames<'t>, NoMemory>
+    ensures tasks { IfOk result (λ names. names.tasks ≡ task_names config.now) }
+    ensures resources { IfOk result (λ names. names.resources ≡ config.now.resources) }
+    ensures events { IfOk result (λ names. names.events ≡ event_names config.now) }
+{
+    let tasks = task_names(alloc, config)?;
+    let resources = resource_names(alloc, config)?;
+    let events = event_names(alloc, config)?;
+    Ok(ConfigNames {
+        tasks,
+        resources,
+        events,
+    })
+}
+
+/// The names that lines and bodies give.
+#[derive(Drop)]
+struct SourceNames<'t> {
+    symbols: Names<'t>,
+    functions: Names<'t>,
+    called: Names<'t>,
+}
+
+fn names_of_source<'t>(
+    alloc: Global,
+    lines: &'t [SourceLine],
+    bodies: &[Body<'t>],
+) -> Result<SourceNames<'t>, NoMemory>
+    ensures symbols { IfOk result (λ names. names.symbols ≡ symbol_names lines.now) }
+    ensures functions { IfOk result (λ names. names.functions ≡ function_names bodies.now) }
+    ensures called { IfOk result (λ names. names.called ≡ called_names bodies.now) }
+{
+    let symbols = symbol_names(alloc, lines)?;
+    let functions = function_names(alloc, bodies)?;
+    let called = called_names(alloc, bodies)?;
+    Ok(SourceNames {
+        symbols,
+        functions,
+        called,
+    })
+}
+
 /// The names that a source with these lines and bodies may use.
 pub fn scope_of<'t>(
     alloc: Global,
@@ -86,19 +137,15 @@ pub fn scope_of<'t>(
 ) -> Result<Scope<'t>, NoMemory>
     ensures { IfOk result (λ scope. scope ≡ scope_of config.now lines.now bodies.now) }
 {
-    let tasks = task_names(alloc, config)?;
-    let resources = resource_names(alloc, config)?;
-    let events = event_names(alloc, config)?;
-    let symbols = symbol_names(alloc, lines)?;
-    let functions = function_names(alloc, bodies)?;
-    let called = called_names(alloc, bodies)?;
+    let declared = names_of_config(alloc, config)?;
+    let given = names_of_source(alloc, lines, bodies)?;
     Ok(Scope {
-        tasks,
-        resources,
-        events,
+        tasks: declared.tasks,
+        resources: declared.resources,
+        events: declared.events,
         has_scheduler: config.res_scheduler,
-        symbols,
-        functions,
-        called,
+        symbols: given.symbols,
+        functions: given.functions,
+        called: given.called,
     })
 }

@@ -3,9 +3,8 @@ use Rattle.std.proofs.Common.{◌≡◌, ◌∙◌, ap, sym, refl, subst, ⊎_el
 use Rattle.std.specs.Prelude.{◌==◌, ◌&&◌, nat_lt, if◌then◌else◌, All}
 use Rattle.std.specs.List.{list_any, take_while, prefix_len, sum_by}
 use Rattle.std.specs.Str.{bytes_eq}
-use Rattle.std.proofs.lemmas.Bool.{eqb-false, ltb-false, cases_lt}
+use Rattle.std.proofs.lemmas.Bool.{eqb-false, ltb-false, cases_lt, or_parts}
 use Rattle.std.proofs.lemmas.List.Elements.{All-nil, All-cons, All-head, All-tail, All-take}
-use Rattle.text_pieces.proofs.Tests.{or_left, or_right}
 use Rattle.sloth_base.specs.declared.refusal.Code.TheVariants.{A5, A6}
 use Rattle.sloth_base.specs.declared.refusal.Part.TheVariants.{Src}
 use Rattle.least_fault.specs.Order.{NoFault}
@@ -64,19 +63,19 @@ module _ (scope : Scope) (bodies : List BodyText)
 
   pub few_bodies : length bodies ≤ 64
   few_bodies = ⊎_elim
-      (λ l. absurd (let t = length-take 64 bodies in eqb-false (length (take 64 bodies)) 64 (or_left (length (take 64 bodies) == 64) _ (not_great 64 l)) (omega (arith, t, l))))
+      (λ l. absurd (let t = length-take 64 bodies in eqb-false (length (take 64 bodies)) 64 (or_parts (length (take 64 bodies) == 64) _ (not_great 64 l)).0 (omega (arith, t, l))))
       (λ l. l)
       (cases_lt 64 (length bodies))
 
   pub few_words : (i : ℕ) → i < length bodies → number_of (body_at bodies i).header ≤ 32
   few_words i h =
       let header = (body_at bodies i).header in
-      ltb-false 32 (number_of header) (or_left (nat_lt 32 (number_of header)) (has_long header) (or_right (length (take i bodies) == 64) _ (not_great i h)))
+      ltb-false 32 (number_of header) (or_parts (nat_lt 32 (number_of header)) (has_long header) (or_parts (length (take i bodies) == 64) _ (not_great i h)).1).0
 
   pub short_name : (i : ℕ) → i < length bodies → has_long (body_at bodies i).header ≡ false
   short_name i h =
       let header = (body_at bodies i).header in
-      or_right (nat_lt 32 (number_of header)) (has_long header) (or_right (length (take i bodies) == 64) _ (not_great i h))
+      (or_parts (nat_lt 32 (number_of header)) (has_long header) (or_parts (length (take i bodies) == 64) _ (not_great i h)).1).1
 
   -- ---- lines
 
@@ -103,23 +102,23 @@ module _ (scope : Scope) (bodies : List BodyText)
     pub known_at : (j : ℕ) → j < length body.lines → has_unknown scope (label_names body.lines) (line_at body j) ≡ false
     known_at j l =
         let x = line_at body j in
-        or_right (is_label x && list_any (bytes_eq (name_of x)) (label_names (take j body.lines))) (has_unknown scope (label_names body.lines) x) (well_named j l)
+        (or_parts (is_label x && list_any (bytes_eq (name_of x)) (label_names (take j body.lines))) (has_unknown scope (label_names body.lines) x) (well_named j l)).1
 
     pub short_at : (j : ℕ) → j < length body.lines → has_long (line_at body j) ≡ false
     short_at j l =
-        let x = line_at body j in or_right (is_item x && (before + count_by is_item (take j body.lines) == 4096)) (has_long x) (not_beyond j l)
+        let x = line_at body j in (or_parts (is_item x && (before + count_by is_item (take j body.lines) == 4096)) (has_long x) (not_beyond j l)).1
 
     pub labels_apart : Apart (label_names body.lines)
     labels_apart = kept_apart is_label name_of body.lines Empty
         (λ j l t.
         let x = line_at body j in
         let new = list_any (bytes_eq (name_of x)) (label_names (take j body.lines)) in
-        ap (λ b. b && new) (sym t) ∙ or_left (is_label x && new) (has_unknown scope (label_names body.lines) x) (well_named j l))
+        ap (λ b. b && new) (sym t) ∙ (or_parts (is_label x && new) (has_unknown scope (label_names body.lines) x) (well_named j l)).0)
 
     next_item : (j : ℕ) → j < length body.lines → before + count_by is_item (take j body.lines) ≤ 4096
         → before + count_by is_item (take j body.lines) + cond (is_item (line_at body j)) 1 0 ≤ 4096
     next_item j l few =
-        by (is_item (line_at body j)) (or_left (is_item (line_at body j) && (before + count_by is_item (take j body.lines) == 4096)) (has_long (line_at body j)) (not_beyond j l))
+        by (is_item (line_at body j)) (or_parts (is_item (line_at body j) && (before + count_by is_item (take j body.lines) == 4096)) (has_long (line_at body j)) (not_beyond j l)).0
       where
         by : (b : Bool) → (b && (before + count_by is_item (take j body.lines) == 4096)) ≡ false → before + count_by is_item (take j body.lines) + cond b 1 0 ≤ 4096
         by true e = ⊎_elim (λ t. omega (arith, t)) (λ t. absurd (eqb-false (before + count_by is_item (take j body.lines)) 4096 e (omega (arith, t, few)))) (cases_lt (before + count_by is_item (take j body.lines)) 4096)

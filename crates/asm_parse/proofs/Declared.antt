@@ -2,10 +2,9 @@
 use Rattle.std.proofs.Common.{◌≡◌, ◌∙◌, sym, refl, subst, ⊎_elim, ℕ, ℤ, pos, negsuc, ◌-◌, ◌<◌, ◌≤◌, true, false, List, [], ◌∷◌, length, true≢false, arith}
 use Rattle.std.specs.Prelude.{◌==◌, ◌||◌, not, nat_le, nat_lt, int_lt, if◌then◌else◌, replicate}
 use Rattle.std.specs.List.{list_any}
-use Rattle.std.proofs.lemmas.Bool.{leb-true, ltb-false, le-ltb}
+use Rattle.std.proofs.lemmas.Bool.{leb-true, ltb-false, le-ltb, not-true, or_cases, or_parts, and_parts}
 use Rattle.std.proofs.lemmas.Bool.Decides.{leb_tells, eqb_tells}
 use Rattle.std.proofs.lemmas.List.{length-append, length-replicate}
-use Rattle.text_pieces.proofs.Tests.{or_left, and_left, or_split}
 use Rattle.sloth_base.specs.ImageRange.{IsName}
 use Rattle.asm_lines.specs.declared.operands.Operand.{Operand}
 use Rattle.asm_lines.specs.declared.operands.Operand.TheVariants.{Wrong, Outside, Register, Number, Name, Frame, Direct, Indexed, Bytes}
@@ -22,62 +21,27 @@ use Rattle.asm_names.specs.NameFaults.{writes_long, has_long}
 use Rattle.asm_parse.specs.Apps.{third_bytes, bytes_with}
 use Rattle.asm_parse.proofs.Fit.{FitsBytes, Fits, AllFit}
 use Rattle.asm_parse.proofs.Operands.{name_case, number_case, some_of, two_of, three_of}
-use Rattle.asm_parse.proofs.OpsRange.{at_most, not_true}
+use Rattle.asm_parse.proofs.OpsRange.{at_most}
 use Rattle.asm_parse.proofs.Read.{IsRead}
 
 -- ---- cases
 
 -- a `data`, or another line
 pub data_or : (P : SourceLine → Type 0) → ((os : List Operand) → P (Statement m.Data os)) → ((l : SourceLine) → is_data l ≡ false → P l) → (l : SourceLine) → P l
-data_or P f g Empty = g Empty refl
-data_or P f g Shapeless = g Shapeless refl
-data_or P f g Unknown = g Unknown refl
 data_or P f g (Statement m.Data os) = f os
-data_or P f g (Statement m.Task os) = g (Statement m.Task os) refl
-data_or P f g (Statement m.Func os) = g (Statement m.Func os) refl
-data_or P f g (Statement m.End os) = g (Statement m.End os) refl
-data_or P f g (Statement m.Label os) = g (Statement m.Label os) refl
-data_or P f g (Statement (m.Alu k) os) = g (Statement (m.Alu k) os) refl
-data_or P f g (Statement (m.Imm k) os) = g (Statement (m.Imm k) os) refl
-data_or P f g (Statement (m.Shift k) os) = g (Statement (m.Shift k) os) refl
-data_or P f g (Statement m.Lui os) = g (Statement m.Lui os) refl
-data_or P f g (Statement m.Li os) = g (Statement m.Li os) refl
-data_or P f g (Statement m.Move os) = g (Statement m.Move os) refl
-data_or P f g (Statement m.Nop os) = g (Statement m.Nop os) refl
-data_or P f g (Statement (m.Load w) os) = g (Statement (m.Load w) os) refl
-data_or P f g (Statement (m.Store w) os) = g (Statement (m.Store w) os) refl
-data_or P f g (Statement (m.Branch k) os) = g (Statement (m.Branch k) os) refl
-data_or P f g (Statement m.Jump os) = g (Statement m.Jump os) refl
-data_or P f g (Statement m.Invoke os) = g (Statement m.Invoke os) refl
-data_or P f g (Statement m.Return os) = g (Statement m.Return os) refl
-data_or P f g (Statement (m.Serve s) os) = g (Statement (m.Serve s) os) refl
+data_or P f g (Statement k os) = g (Statement k os) refl
+data_or P f g l = g l refl
 
 -- a mnemonic that opens a body
 opening : (P : Mnemonic → Type 0) → P m.Task → P m.Func → (m : Mnemonic) → is_body_start m ≡ true → P m
-opening P f g m.Data e = absurd (true≢false (sym e))
 opening P f g m.Task e = f
 opening P f g m.Func e = g
-opening P f g m.End e = absurd (true≢false (sym e))
-opening P f g m.Label e = absurd (true≢false (sym e))
-opening P f g (m.Alu k) e = absurd (true≢false (sym e))
-opening P f g (m.Imm k) e = absurd (true≢false (sym e))
-opening P f g (m.Shift k) e = absurd (true≢false (sym e))
-opening P f g m.Lui e = absurd (true≢false (sym e))
-opening P f g m.Li e = absurd (true≢false (sym e))
-opening P f g m.Move e = absurd (true≢false (sym e))
-opening P f g m.Nop e = absurd (true≢false (sym e))
-opening P f g (m.Load w) e = absurd (true≢false (sym e))
-opening P f g (m.Store w) e = absurd (true≢false (sym e))
-opening P f g (m.Branch k) e = absurd (true≢false (sym e))
-opening P f g m.Jump e = absurd (true≢false (sym e))
-opening P f g m.Invoke e = absurd (true≢false (sym e))
-opening P f g m.Return e = absurd (true≢false (sym e))
-opening P f g (m.Serve s) e = absurd (true≢false (sym e))
+opening P f g k e = absurd (true≢false (sym e))
 
 -- ---- names
 
 either_some : (n k j : ℕ) → 1 ≤ k → 1 ≤ j → ((n == k) || (n == j)) ≡ true → 1 ≤ n
-either_some n k j a b e = ⊎_elim (λ t. same k a t) (λ t. same j b t) (or_split (n == k) (n == j) e)
+either_some n k j a b e = ⊎_elim (λ t. same k a t) (λ t. same j b t) (or_cases (n == k) (n == j) e)
   where
     same : (k : ℕ) → 1 ≤ k → (n == k) ≡ true → 1 ≤ n
     same k a t = ⊎_elim (λ u. let e = u.1 in omega (arith, e, a)) (λ u. absurd (true≢false (sym t ∙ u.0))) (eqb_tells n k)
@@ -88,7 +52,7 @@ declares m os is_name some h s =
     some_of (λ os. AllFit m 0 os → has_long (Statement m os) ≡ false → IsName (first_name os))
     (λ a os h s.
     name_case (λ a. has_long (Statement m (a ∷ os)) ≡ false → IsName (first_name (a ∷ os)))
-    (λ n w s. record { word = w; short = ltb-false 64 (length n) (or_left (nat_lt 64 (length n)) (list_any (λ x. writes_long (written_name x)) os) s) })
+    (λ n w s. record { word = w; short = ltb-false 64 (length n) (or_parts (nat_lt 64 (length n)) (list_any (λ x. writes_long (written_name x)) os) s).0 })
     a (subst (λ F. Fits F a) is_name h.0) s)
     os some h s
 
@@ -115,7 +79,7 @@ abbrev HasSize : List Operand → Type 0
 HasSize os = (length (bytes_with (third_bytes os) (second_number os)) ≡ second_number os) × (0 < second_number os)
 
 at_least : (k n : ℕ) (high : ℤ) → is_within (pos k) high (pos n) ≡ true → k ≤ n
-at_least k n high e = ltb-false n k (not_true (nat_lt n k) (and_left (not (nat_lt n k)) (not (int_lt high (pos n))) e))
+at_least k n high e = ltb-false n k (not-true (nat_lt n k) (and_parts (not (nat_lt n k)) (not (int_lt high (pos n))) e).0)
 
 filled : (bytes : List ℕ) (size : ℕ) → length bytes ≤ size → length (bytes_with bytes size) ≡ size
 filled bytes size h =
@@ -141,14 +105,7 @@ two_sized a b h = number_case (pos 1) (pos 65535) (λ b. HasSize (a ∷ b ∷ []
 
 bytes_case : (P : Operand → Type 0) → ((bs : List ℕ) → P (Bytes bs)) → (o : Operand) → FitsBytes o → P o
 bytes_case P f (Bytes bs) h = f bs
-bytes_case P f (Register r) h = absurd h
-bytes_case P f (Name n) h = absurd h
-bytes_case P f (Number n) h = absurd h
-bytes_case P f Wrong h = absurd h
-bytes_case P f Outside h = absurd h
-bytes_case P f (Frame k) h = absurd h
-bytes_case P f (Direct n k) h = absurd h
-bytes_case P f (Indexed n r k) h = absurd h
+bytes_case P f o h = absurd h
 
 three_sized : (a b c : Operand) → AllFit m.Data 0 (a ∷ b ∷ c ∷ []) → is_long (a ∷ b ∷ c ∷ []) ≡ false → HasSize (a ∷ b ∷ c ∷ [])
 three_sized a b c h = number_case (pos 1) (pos 65535) (λ b. is_long (a ∷ b ∷ c ∷ []) ≡ false → HasSize (a ∷ b ∷ c ∷ []))
@@ -159,7 +116,7 @@ pub data_size : (os : List Operand) → IsRead (Statement m.Data os) → HasSize
 data_size os h = ⊎_elim
     (λ t. two_of (λ os. AllFit m.Data 0 os → HasSize os) (λ a b h. two_sized a b h) os (is 2 t) h.1)
     (λ t. three_of (λ os. AllFit m.Data 0 os → is_long os ≡ false → HasSize os) (λ a b c h s. three_sized a b c h s) os (is 3 t) h.1 h.3)
-    (or_split (length os == 2) (length os == 3) h.0)
+    (or_cases (length os == 2) (length os == 3) h.0)
   where
     is : (k : ℕ) → (length os == k) ≡ true → length os ≡ k
     is k t = ⊎_elim (λ u. u.1) (λ u. absurd (true≢false (sym t ∙ u.0))) (eqb_tells (length os) k)

@@ -12,10 +12,6 @@ use Rattle.std.proofs.lemmas.Slice.Eq.{bytes_eq-Decides}
 use Rattle.std.proofs.Math.Seq.{take-length}
 use Rattle.text_pieces.proofs.Tests.{none_pass}
 
-pub map_map : {X Y Z : Type 0} (g : Y → Z) (f : X → Y) (xs : List X) → map g (map f xs) ≡ map (λ x. g (f x)) xs
-map_map g f [] = refl
-map_map g f (x ∷ xs) = ap (λ ys. g (f x) ∷ ys) (map_map g f xs)
-
 -- ---- sums
 
 module _ {X : Type 0} (w : X → ℕ) (base limit : ℕ) (xs : List X) (d : X)

@@ -2,12 +2,11 @@
 use Rattle.std.proofs.Common.{suc, ◌≡◌, ◌∙◌, ap, sym, refl, subst, ⊎_elim, ◌⊎◌, inl, inr, ℕ, ◌+◌, ◌≤◌, Bool, true, false, cond, List, [], ◌∷◌, ◌++◌, length, map, Option, Some, None, arith, count_by}
 use Rattle.std.specs.Prelude.{◌==◌, if◌then◌else◌, All, filter}
 use Rattle.std.specs.List.{AllByRecursion}
-use Rattle.std.proofs.lemmas.Bool.{leb-true}
+use Rattle.std.proofs.lemmas.Bool.{leb-true, or_parts}
 use Rattle.std.proofs.lemmas.Bool.Decides.{eqb_tells}
 use Rattle.std.proofs.lemmas.List.{length-append}
 use Rattle.std.proofs.lemmas.List.Elements.{All-nil, All-cons, All-append}
 use Rattle.std.proofs.lemmas.List.Sums.{sum_by-cons}
-use Rattle.text_pieces.proofs.Tests.{or_right}
 use Rattle.sloth_base.specs.declared.app.App.{App}
 use Rattle.sloth_base.specs.declared.app.Func.{Func}
 use Rattle.sloth_base.specs.declared.app.Item.{Item}
@@ -32,28 +31,9 @@ use Rattle.asm_parse.proofs.OpsRange.{ranged}
 
 -- a label, or another line
 pub label_or : (P : SourceLine → Type 0) → ((os : List Operand) → P (Statement m.Label os)) → ((l : SourceLine) → is_label l ≡ false → P l) → (l : SourceLine) → P l
-label_or P f g Empty = g Empty refl
-label_or P f g Shapeless = g Shapeless refl
-label_or P f g Unknown = g Unknown refl
 label_or P f g (Statement m.Label os) = f os
-label_or P f g (Statement m.Data os) = g (Statement m.Data os) refl
-label_or P f g (Statement m.Task os) = g (Statement m.Task os) refl
-label_or P f g (Statement m.Func os) = g (Statement m.Func os) refl
-label_or P f g (Statement m.End os) = g (Statement m.End os) refl
-label_or P f g (Statement (m.Alu k) os) = g (Statement (m.Alu k) os) refl
-label_or P f g (Statement (m.Imm k) os) = g (Statement (m.Imm k) os) refl
-label_or P f g (Statement (m.Shift k) os) = g (Statement (m.Shift k) os) refl
-label_or P f g (Statement m.Lui os) = g (Statement m.Lui os) refl
-label_or P f g (Statement m.Li os) = g (Statement m.Li os) refl
-label_or P f g (Statement m.Move os) = g (Statement m.Move os) refl
-label_or P f g (Statement m.Nop os) = g (Statement m.Nop os) refl
-label_or P f g (Statement (m.Load w) os) = g (Statement (m.Load w) os) refl
-label_or P f g (Statement (m.Store w) os) = g (Statement (m.Store w) os) refl
-label_or P f g (Statement (m.Branch k) os) = g (Statement (m.Branch k) os) refl
-label_or P f g (Statement m.Jump os) = g (Statement m.Jump os) refl
-label_or P f g (Statement m.Invoke os) = g (Statement m.Invoke os) refl
-label_or P f g (Statement m.Return os) = g (Statement m.Return os) refl
-label_or P f g (Statement (m.Serve s) os) = g (Statement (m.Serve s) os) refl
+label_or P f g (Statement k os) = g (Statement k os) refl
+label_or P f g l = g l refl
 
 not_first : (j : ℕ) → 1 ≤ j → (if j == 0 then kind.Declared else kind.Resource) ≡ kind.Resource
 not_first j h = ⊎_elim (λ t. absurd (let e = t.1 in omega (arith, e, h))) (λ t. rw t.0 refl) (eqb_tells j 0)
@@ -94,28 +74,13 @@ module _ (config : Config) (app : App) (f : Func) (scope : Scope) (labels : List
   IsOpOf l = ((is_item l ≡ true) × OpIn l) ⊎ ((is_item l ≡ false) × (op_of config scope labels l ≡ None))
 
   op_range : (l : SourceLine) → IsSound l → IsOpOf l
-  op_range Empty h = inr (refl, refl)
-  op_range Shapeless h = inr (refl, refl)
-  op_range Unknown h = inr (refl, refl)
   op_range (Statement m.Data os) h = inr (refl, refl)
   op_range (Statement m.Task os) h = inr (refl, refl)
   op_range (Statement m.Func os) h = inr (refl, refl)
   op_range (Statement m.End os) h = inr (refl, refl)
   op_range (Statement m.Label os) h = inr (refl, refl)
-  op_range (Statement (m.Alu k) os) h = inl (refl, ranged config app f scope labels known (m.Alu k) os refl h.0.0 h.0.2 h.0.1 h.1)
-  op_range (Statement (m.Imm k) os) h = inl (refl, ranged config app f scope labels known (m.Imm k) os refl h.0.0 h.0.2 h.0.1 h.1)
-  op_range (Statement (m.Shift k) os) h = inl (refl, ranged config app f scope labels known (m.Shift k) os refl h.0.0 h.0.2 h.0.1 h.1)
-  op_range (Statement m.Lui os) h = inl (refl, ranged config app f scope labels known m.Lui os refl h.0.0 h.0.2 h.0.1 h.1)
-  op_range (Statement m.Li os) h = inl (refl, ranged config app f scope labels known m.Li os refl h.0.0 h.0.2 h.0.1 h.1)
-  op_range (Statement m.Move os) h = inl (refl, ranged config app f scope labels known m.Move os refl h.0.0 h.0.2 h.0.1 h.1)
-  op_range (Statement m.Nop os) h = inl (refl, ranged config app f scope labels known m.Nop os refl h.0.0 h.0.2 h.0.1 h.1)
-  op_range (Statement (m.Load w) os) h = inl (refl, ranged config app f scope labels known (m.Load w) os refl h.0.0 h.0.2 h.0.1 h.1)
-  op_range (Statement (m.Store w) os) h = inl (refl, ranged config app f scope labels known (m.Store w) os refl h.0.0 h.0.2 h.0.1 h.1)
-  op_range (Statement (m.Branch k) os) h = inl (refl, ranged config app f scope labels known (m.Branch k) os refl h.0.0 h.0.2 h.0.1 h.1)
-  op_range (Statement m.Jump os) h = inl (refl, ranged config app f scope labels known m.Jump os refl h.0.0 h.0.2 h.0.1 h.1)
-  op_range (Statement m.Invoke os) h = inl (refl, ranged config app f scope labels known m.Invoke os refl h.0.0 h.0.2 h.0.1 h.1)
-  op_range (Statement m.Return os) h = inl (refl, ranged config app f scope labels known m.Return os refl h.0.0 h.0.2 h.0.1 h.1)
-  op_range (Statement (m.Serve s) os) h = inl (refl, ranged config app f scope labels known (m.Serve s) os refl h.0.0 h.0.2 h.0.1 h.1)
+  op_range (Statement k os) h = inl (refl, ranged config app f scope labels known k os refl h.0.0 h.0.2 h.0.1 h.1)
+  op_range l h = inr (refl, refl)
 
   -- items in range, as many as these lines say
   abbrev Ranges : List Item → List SourceLine → Type 0
@@ -147,7 +112,7 @@ module _ (config : Config) (app : App) (f : Func) (scope : Scope) (labels : List
   label_range : (os : List Operand) → IsSound (Statement m.Label os) → All (IsResource config) (holds_of scope (behind_first os))
   label_range os h = some_of (λ os. IsSound (Statement m.Label os) → All (IsResource config) (holds_of scope (behind_first os)))
       (λ a os h. holds_range os (all_names scope labels kind.Resource m.Label 1 os (λ j l. (refl, not_first j l)) h.0.1.1
-      (or_right (is_lacking scope labels kind.Declared (written_name a)) (any_unknown scope labels m.Label 1 os) h.1)))
+      (or_parts (is_lacking scope labels kind.Declared (written_name a)) (any_unknown scope labels m.Label 1 os) h.1).1))
       os (leb-true 1 (length os) h.0.0) h
 
   -- a label before an item, or behind the last of so many

@@ -1,15 +1,12 @@
 -- A mnemonic of a text has a width or kind of its group.
-use Rattle.std.proofs.Common.{ℕ, Bool, true, false, List, Option, Some, None}
-use Rattle.std.specs.Prelude.{if◌then◌else◌, codes}
+use Rattle.std.proofs.Common.{ℕ, Bool, true, false, List, [], ◌∷◌, Option, Some, None}
+use Rattle.std.specs.Prelude.{if◌then◌else◌}
+use Rattle.std.specs.List.{AllByRecursion}
 use Rattle.std.specs.Str.{bytes_eq}
-use Rattle.sloth_base.specs.declared.app.ImmKind.{ImmKind}
-use Rattle.sloth_base.specs.declared.app.ImmKind.TheVariants as imm
 use Rattle.sloth_base.specs.ServiceCodes.{service_named}
-use Rattle.sloth_base.specs.declared.app.Width.{Width}
-use Rattle.sloth_base.specs.declared.app.Width.TheVariants as width
 use Rattle.asm_lines.specs.declared.table.Mnemonic.{Mnemonic}
 use Rattle.asm_lines.specs.declared.table.Mnemonic.TheVariants as m
-use Rattle.asm_lines.specs.Table.{alu_of, imm_of, shift_of, load_of, store_of, branch_of, plain_of, or_else, mnemonic_of}
+use Rattle.asm_lines.specs.Table.{kind_named, alu_of, imm_words, imm_of, shift_words, shift_of, load_of, store_words, store_of, branch_of, plain_words, plain_of, or_else, mnemonic_of}
 use Rattle.asm_parse.proofs.MnemonicKinds.{HasKind}
 
 -- what is there is of a kind of this group
@@ -25,49 +22,28 @@ or : {K : Type 0} (P : Option K → Type 0) (b : Bool) (x y : Option K) → P x 
 or P true x y p q = p
 or P false x y p q = q
 
+-- what rows name is as each of them is
+named : {K : Type 0} (P : Option K → Type 0) → P None → (rows : List (List ℕ × K)) → AllByRecursion (λ row. P (Some row.1)) rows → (word : List ℕ)
+    → P (kind_named rows word)
+named P none [] h word = none
+named P none (row ∷ rest) h word = or P (bytes_eq word row.0) (Some row.1) (kind_named rest word) h.0 (named P none rest h.1 word)
+
 module _ (word : List ℕ) where
   imm_kind : KindIf m.Imm (imm_of word)
   unfolding imm_of
-  imm_kind =
-      let P : Option ImmKind → Type 0 = KindIf m.Imm in
-      or P (bytes_eq word (codes "addi")) (Some imm.Addi) _ (λ n h. h)
-      (or P (bytes_eq word (codes "slti")) (Some imm.Slti) _ (λ n h. h)
-      (or P (bytes_eq word (codes "sltiu")) (Some imm.Sltiu) _ (λ n h. h)
-      (or P (bytes_eq word (codes "xori")) (Some imm.Xori) _ (λ n h. h)
-      (or P (bytes_eq word (codes "ori")) (Some imm.Ori) _ (λ n h. h)
-      (or P (bytes_eq word (codes "andi")) (Some imm.Andi) None (λ n h. h) tt)))))
+  imm_kind = named (KindIf m.Imm) tt imm_words (λ n h. h, (λ n h. h, (λ n h. h, (λ n h. h, (λ n h. h, (λ n h. h, tt)))))) word
 
   shift_kind : KindIf m.Shift (shift_of word)
   unfolding shift_of
-  shift_kind =
-      let P : Option ImmKind → Type 0 = KindIf m.Shift in
-      or P (bytes_eq word (codes "slli")) (Some imm.Slli) _ (λ n h. h)
-      (or P (bytes_eq word (codes "srli")) (Some imm.Srli) _ (λ n h. h)
-      (or P (bytes_eq word (codes "srai")) (Some imm.Srai) None (λ n h. h) tt))
+  shift_kind = named (KindIf m.Shift) tt shift_words (λ n h. h, (λ n h. h, (λ n h. h, tt))) word
 
   store_kind : KindIf m.Store (store_of word)
   unfolding store_of
-  store_kind =
-      let P : Option Width → Type 0 = KindIf m.Store in
-      or P (bytes_eq word (codes "sb")) (Some width.Byte) _ tt
-      (or P (bytes_eq word (codes "sh")) (Some width.Half) _ tt
-      (or P (bytes_eq word (codes "sw")) (Some width.Word) None tt tt))
+  store_kind = named (KindIf m.Store) tt store_words (tt, (tt, (tt, tt))) word
 
   plain_kind : HasKindIf (plain_of word)
   unfolding plain_of
-  plain_kind =
-      or HasKindIf (bytes_eq word (codes "data")) (Some m.Data) _ tt
-      (or HasKindIf (bytes_eq word (codes "task")) (Some m.Task) _ tt
-      (or HasKindIf (bytes_eq word (codes "func")) (Some m.Func) _ tt
-      (or HasKindIf (bytes_eq word (codes "end")) (Some m.End) _ tt
-      (or HasKindIf (bytes_eq word (codes "label")) (Some m.Label) _ tt
-      (or HasKindIf (bytes_eq word (codes "lui")) (Some m.Lui) _ tt
-      (or HasKindIf (bytes_eq word (codes "li")) (Some m.Li) _ tt
-      (or HasKindIf (bytes_eq word (codes "mv")) (Some m.Move) _ tt
-      (or HasKindIf (bytes_eq word (codes "nop")) (Some m.Nop) _ tt
-      (or HasKindIf (bytes_eq word (codes "j")) (Some m.Jump) _ tt
-      (or HasKindIf (bytes_eq word (codes "call")) (Some m.Invoke) _ tt
-      (or HasKindIf (bytes_eq word (codes "ret")) (Some m.Return) None tt tt)))))))))))
+  plain_kind = named HasKindIf tt plain_words (tt, (tt, (tt, (tt, (tt, (tt, (tt, (tt, (tt, (tt, (tt, (tt, tt)))))))))))) word
 
 any_kind : {K : Type 0} (f : K → Mnemonic) (o : Option K) → ((k : K) → HasKind (f k)) → KindIf f o
 any_kind f None h = tt

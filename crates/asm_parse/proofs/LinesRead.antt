@@ -3,11 +3,11 @@ use Rattle.std.proofs.Common.{◌≡◌, inl, inr, ℕ, Bool, true, false, List,
 use Rattle.std.specs.Prelude.{if◌then◌else◌, All, not, ◌==◌}
 use Rattle.std.proofs.lemmas.List.Elements.{All-nil, All-cons}
 use Rattle.std.specs.List.{list_any}
+use Rattle.std.proofs.lemmas.Bool.{not-false, or_parts}
 use Rattle.sloth_base.specs.declared.refusal.Code.TheVariants as code
 use Rattle.sloth_base.specs.declared.refusal.Part.TheVariants.{Src}
 use Rattle.least_fault.specs.Order.{NoFault}
 use Rattle.least_fault.proofs.Nowhere.{nowhere, case_false}
-use Rattle.text_pieces.proofs.Tests.{or_left, or_right}
 use Rattle.asm_lines.specs.declared.source_line.SourceLine.{SourceLine}
 use Rattle.asm_lines.specs.declared.source_line.SourceLine.TheVariants.{Empty, Shapeless}
 use Rattle.asm_lines.specs.declared.table.Mnemonic.{Mnemonic}
@@ -17,7 +17,6 @@ use Rattle.asm_lines.specs.Table.{is_operand_count, mnemonic_of}
 use Rattle.asm_lines.specs.Operands.{before}
 use Rattle.asm_lines.specs.SourceLines.{read_operands, known_statement, statement_of, source_line, has_empty, begins_statement}
 use Rattle.asm_lines.specs.Faults.{is_wrong, is_outside, is_long, is_a3, is_a4, FaultAt, source_lines, TextFault}
-use Rattle.asm_parse.proofs.Operands.{was_true}
 use Rattle.asm_parse.proofs.Read.{IsRead}
 use Rattle.asm_parse.proofs.ReadFits.{all_fit}
 use Rattle.asm_parse.proofs.KindsRead.{HasKindIf, has_kind}
@@ -30,11 +29,11 @@ known_sound : (o : Option Mnemonic) (ts : List (List ℕ)) → HasKindIf o → I
 known_sound None ts h w x = tt
 known_sound (Some m) ts h w x =
     let os = read_operands m 0 ts in
-    let t = was_true (is_operand_count m (length os)) (or_left (not (is_operand_count m (length os))) (list_any is_wrong os) w) in (
+    let t = not-false (is_operand_count m (length os)) (or_parts (not (is_operand_count m (length os))) (list_any is_wrong os) w).0 in (
       t,
-      all_fit m 0 ts (or_right (not (is_operand_count m (length os))) (list_any is_wrong os) w) (or_left (list_any is_outside os) (is_long os) x),
+      all_fit m 0 ts (or_parts (not (is_operand_count m (length os))) (list_any is_wrong os) w).1 (or_parts (list_any is_outside os) (is_long os) x).0,
       h,
-      or_right (list_any is_outside os) (is_long os) x,
+      (or_parts (list_any is_outside os) (is_long os) x).1,
     )
 
 choose : (b : Bool) (x y : SourceLine) → IsSound x → IsSound y → IsSound (if b then x else y)

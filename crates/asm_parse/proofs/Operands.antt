@@ -2,7 +2,7 @@
 use Rattle.std.proofs.Common.{◌≡◌, refl, subst, ℕ, ℤ, ◌+◌, ◌≤◌, Bool, true, false, List, [], ◌∷◌, length, arith}
 use Rattle.std.specs.Prelude.{◌||◌, not}
 use Rattle.std.specs.List.{AllByRecursion}
-use Rattle.text_pieces.proofs.Tests.{or_left, or_right}
+use Rattle.std.proofs.lemmas.Bool.{not-false, or_parts}
 use Rattle.asm_lines.specs.declared.operands.Operand.{Operand}
 use Rattle.asm_lines.specs.declared.operands.Operand.TheVariants.{Wrong, Outside, Register, Number, Name, Frame, Direct, Indexed, Bytes}
 use Rattle.asm_lines.specs.declared.table.Form.TheVariants as form
@@ -21,36 +21,15 @@ use Rattle.asm_parse.proofs.Fit.{Fits, FitsRegister, FitsName, AllFit}
 
 pub register_case : (P : Operand → Type 0) → ((r : ℕ) → IsRegister r → P (Register r)) → (o : Operand) → FitsRegister o → P o
 register_case P f (Register r) h = f r h
-register_case P f Wrong h = absurd h
-register_case P f Outside h = absurd h
-register_case P f (Number n) h = absurd h
-register_case P f (Name n) h = absurd h
-register_case P f (Frame k) h = absurd h
-register_case P f (Direct n k) h = absurd h
-register_case P f (Indexed n r k) h = absurd h
-register_case P f (Bytes b) h = absurd h
+register_case P f o h = absurd h
 
 pub name_case : (P : Operand → Type 0) → ((n : List ℕ) → IsWord n → P (Name n)) → (o : Operand) → FitsName o → P o
 name_case P f (Name n) h = f n h
-name_case P f (Register r) h = absurd h
-name_case P f Wrong h = absurd h
-name_case P f Outside h = absurd h
-name_case P f (Number n) h = absurd h
-name_case P f (Frame k) h = absurd h
-name_case P f (Direct n k) h = absurd h
-name_case P f (Indexed n r k) h = absurd h
-name_case P f (Bytes b) h = absurd h
+name_case P f o h = absurd h
 
 pub number_case : (low high : ℤ) (P : Operand → Type 0) → ((n : ℤ) → is_within low high n ≡ true → P (Number n)) → (o : Operand) → Fits (form.Number low high) o → P o
 number_case low high P f (Number n) h = f n h
-number_case low high P f (Name n) h = absurd h
-number_case low high P f (Register r) h = absurd h
-number_case low high P f Wrong h = absurd h
-number_case low high P f Outside h = absurd h
-number_case low high P f (Frame k) h = absurd h
-number_case low high P f (Direct n k) h = absurd h
-number_case low high P f (Indexed n r k) h = absurd h
-number_case low high P f (Bytes b) h = absurd h
+number_case low high P f o h = absurd h
 
 -- ---- by their number
 
@@ -87,10 +66,6 @@ some_two_of P f (a ∷ b ∷ os) e = f a b os
 
 -- ---- the names that they write
 
-pub was_true : (b : Bool) → not b ≡ false → b ≡ true
-was_true true e = refl
-was_true false e = cc
-
 -- what is not lacking exists
 pub does_exist : (b rest : Bool) → (not b || rest) ≡ false → b ≡ true
 does_exist true rest e = refl
@@ -102,7 +77,7 @@ module _ (scope : Scope) (labels : List (List ℕ)) (K : Kind) where
   Names x = (name : List ℕ) × (x ≡ Name name) × (is_named scope labels K name ≡ true)
 
   names : (x : Operand) → FitsName x → is_lacking scope labels K (written_name x) ≡ false → Names x
-  names x h = name_case (λ x. is_lacking scope labels K (written_name x) ≡ false → Names x) (λ n w e. (n, refl, was_true (is_named scope labels K n) e)) x h
+  names x h = name_case (λ x. is_lacking scope labels K (written_name x) ≡ false → Names x) (λ n w e. (n, refl, not-false (is_named scope labels K n) e)) x h
 
   -- Each operand from place i on does, where all of these places are to.
   pub all_names : (m : Mnemonic) (i : ℕ) (os : List Operand) → ((j : ℕ) → i ≤ j → (form_of m j ≡ form.Name) × (kind_of m j ≡ K)) → AllFit m i os
@@ -112,6 +87,6 @@ module _ (scope : Scope) (labels : List (List ℕ)) (K : Kind) where
       let k = kind_of m i in
       let lacks = is_lacking scope labels k (written_name x) in (
         names x (subst (λ F. Fits F x) (f i (omega arith)).0 h.0)
-            (subst (λ k. is_lacking scope labels k (written_name x) ≡ false) (f i (omega arith)).1 (or_left lacks (any_unknown scope labels m (i + 1) os) u)),
-        all_names m (i + 1) os (λ j l. f j (omega (arith, l))) h.1 (or_right lacks (any_unknown scope labels m (i + 1) os) u),
+            (subst (λ k. is_lacking scope labels k (written_name x) ≡ false) (f i (omega arith)).1 (or_parts lacks (any_unknown scope labels m (i + 1) os) u).0),
+        all_names m (i + 1) os (λ j l. f j (omega (arith, l))) h.1 (or_parts lacks (any_unknown scope labels m (i + 1) os) u).1,
       )

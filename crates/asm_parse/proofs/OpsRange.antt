@@ -1,9 +1,8 @@
 -- A statement that was read, whose names are known, is an operation in range.
 use Rattle.std.proofs.Common.{true≢false, ◌≡◌, sym, refl, ⊎_elim, inl, ℕ, ℤ, pos, negsuc, ◌-◌, ◌≤◌, Bool, true, false, List, [], ◌∷◌, length, Some, arith}
 use Rattle.std.specs.Prelude.{◌==◌, not, nat_le, nat_lt, int_lt, if◌then◌else◌}
-use Rattle.std.proofs.lemmas.Bool.{eqb-true, leb-true, ltb-false}
+use Rattle.std.proofs.lemmas.Bool.{eqb-true, leb-true, ltb-false, not-true, or_parts, and_parts}
 use Rattle.std.proofs.lemmas.Bool.Decides.{leb_tells, eqb_tells}
-use Rattle.text_pieces.proofs.Tests.{or_right, and_left, and_right}
 use Rattle.sloth_base.specs.declared.app.App.{App}
 use Rattle.sloth_base.specs.declared.app.Func.{Func}
 use Rattle.sloth_base.specs.declared.app.Op.{Op}
@@ -37,20 +36,16 @@ use Rattle.asm_parse.proofs.MasksRange.{is_mask}
 
 -- ---- numbers
 
-pub not_true : (b : Bool) → not b ≡ true → b ≡ false
-not_true true e = cc
-not_true false e = refl
-
 -- a natural number from low to high is at most high
 pub at_most : (low : ℤ) (k n : ℕ) → is_within low (pos k) (pos n) ≡ true → n ≤ k
-at_most low k n e = ltb-false k n (not_true (nat_lt k n) (and_right (not (int_lt (pos n) low)) (not (nat_lt k n)) e))
+at_most low k n e = ltb-false k n (not-true (nat_lt k n) (and_parts (not (int_lt (pos n) low)) (not (nat_lt k n)) e).1)
 
 is_short : (n : ℤ) → IsShort (as_short n)
 is_short n = by n (is_within (negsuc 2047) (pos 2047) n) refl
   where
     by : (n : ℤ) (b : Bool) → is_within (negsuc 2047) (pos 2047) n ≡ b → IsShort (if b then n else pos 0)
     by (pos n) true e = at_most (negsuc 2047) 2047 n e
-    by (negsuc n) true e = ltb-false 2047 n (not_true (nat_lt 2047 n) (and_left (not (nat_lt 2047 n)) _ e))
+    by (negsuc n) true e = ltb-false 2047 n (not-true (nat_lt 2047 n) (and_parts (not (nat_lt 2047 n)) _ e).0)
     by n false e = omega arith
 
 small : (b : Bool) (n k : ℕ) → n ≤ k → (if b then n else 0) ≤ k
@@ -150,25 +145,14 @@ module _ (config : Config) (app : App) (f : Func) (scope : Scope) (labels : List
       by width.Word = refl
       by width.ByteU = refl
       by width.HalfU = refl
-  store_place w s Wrong d r h u = absurd h
-  store_place w s Outside d r h u = absurd h
-  store_place w s (Register x) d r h u = absurd h
-  store_place w s (Number x) d r h u = absurd h
-  store_place w s (Name x) d r h u = absurd h
-  store_place w s (Frame x) d r h u = absurd h
-  store_place w s (Bytes x) d r h u = absurd h
+  store_place w s o d r h u = absurd h
 
   store_word : (s : ℕ) (p : Operand) → IsRegister s → FitsWord p → any_unknown scope labels (m.Store width.Word) 0 (Register s ∷ p ∷ []) ≡ false
       → Ranged (m.Store width.Word) (Register s ∷ p ∷ [])
   store_word s (Frame k) r h u = (op.FrameStore s k, refl, (r, h))
   store_word s (Direct name k) r h u = store_place width.Word s (Direct name k) tt r h u
   store_word s (Indexed name i k) r h u = store_place width.Word s (Indexed name i k) tt r h u
-  store_word s Wrong r h u = absurd h
-  store_word s Outside r h u = absurd h
-  store_word s (Register x) r h u = absurd h
-  store_word s (Number x) r h u = absurd h
-  store_word s (Name x) r h u = absurd h
-  store_word s (Bytes x) r h u = absurd h
+  store_word s o r h u = absurd h
 
   store_range : (w : Width) → HasKind (m.Store w) → (a b : Operand) → Ranges (m.Store w) (a ∷ b ∷ [])
   store_range w g a b h = register_case (λ a. any_unknown scope labels (m.Store w) 0 (a ∷ b ∷ []) ≡ false → Ranged (m.Store w) (a ∷ b ∷ [])) (λ s x. by w s x g h.1) a h.0
@@ -201,25 +185,14 @@ module _ (config : Config) (app : App) (f : Func) (scope : Scope) (labels : List
       by width.Word = refl
       by width.ByteU = refl
       by width.HalfU = refl
-  load_place w s Wrong r h u = absurd h
-  load_place w s Outside r h u = absurd h
-  load_place w s (Register x) r h u = absurd h
-  load_place w s (Number x) r h u = absurd h
-  load_place w s (Name x) r h u = absurd h
-  load_place w s (Frame x) r h u = absurd h
-  load_place w s (Bytes x) r h u = absurd h
+  load_place w s o r h u = absurd h
 
   load_word : (s : ℕ) (p : Operand) → IsRegister s → FitsWord p → any_unknown scope labels (m.Load width.Word) 0 (Register s ∷ p ∷ []) ≡ false
       → Ranged (m.Load width.Word) (Register s ∷ p ∷ [])
   load_word s (Frame k) r h u = (op.FrameLoad s k, refl, (r, h))
   load_word s (Direct name k) r h u = load_place width.Word s (Direct name k) r h u
   load_word s (Indexed name i k) r h u = load_place width.Word s (Indexed name i k) r h u
-  load_word s Wrong r h u = absurd h
-  load_word s Outside r h u = absurd h
-  load_word s (Register x) r h u = absurd h
-  load_word s (Number x) r h u = absurd h
-  load_word s (Name x) r h u = absurd h
-  load_word s (Bytes x) r h u = absurd h
+  load_word s o r h u = absurd h
 
   load_range : (w : Width) (a b : Operand) → Ranges (m.Load w) (a ∷ b ∷ [])
   load_range w a b h = register_case (λ a. any_unknown scope labels (m.Load w) 0 (a ∷ b ∷ []) ≡ false → Ranged (m.Load w) (a ∷ b ∷ [])) (λ s x. by w s x h.1) a h.0
@@ -302,7 +275,7 @@ module _ (config : Config) (app : App) (f : Func) (scope : Scope) (labels : List
         (
           known.task n (does_exist (is_named scope labels kind.Task n) rest v),
           is_mask config scope labels known.event b os
-              (all_names scope labels kind.Event (m.Serve service.SetEvent) 1 (b ∷ os) (λ j l. (refl, not_first j l)) h.1 (or_right (not (is_named scope labels kind.Task n)) rest v)),
+              (all_names scope labels kind.Event (m.Serve service.SetEvent) 1 (b ∷ os) (λ j l. (refl, not_first j l)) h.1 (or_parts (not (is_named scope labels kind.Task n)) rest v).1),
         ),
       ))
       a h.0)

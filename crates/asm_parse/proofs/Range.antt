@@ -8,7 +8,9 @@ use Rattle.std.proofs.lemmas.List.Elements.{All-weaker, All-map, recursion_from_
 use Rattle.std.proofs.lemmas.List.Sums.{length-filter, sum-map}
 use Rattle.std.proofs.lemmas.Option.{slice_get-get_or}
 use Rattle.std.proofs.lemmas.Slice.Eq.{bytes_eq-Decides}
-use Rattle.text_pieces.proofs.Tests.{and_left, none_pass, All-kept}
+use Rattle.std.proofs.lemmas.Bool.{not-false, not-true, and_parts}
+use mathlib.Core.List.{map-map}
+use Rattle.text_pieces.proofs.Tests.{none_pass, All-kept}
 use Rattle.text_pieces.proofs.Places.{position_at}
 use Rattle.sloth_base.specs.ConfigRange.{InRange}
 use Rattle.sloth_base.specs.ImageRange.{IsName, AreNames}
@@ -38,12 +40,10 @@ use Rattle.asm_parse.specs.AppTexts.{AppText, SourceTextFault}
 use Rattle.code_rules.specs.AppRange.{IsResource, IsCallable, IsPlaced, IsBody, HasBodies, IsWithinLimits, AppInRange, no_event}
 use Rattle.asm_parse.proofs.BodiesRead.{IsReadBody, bodies_read, no_body, body_at, line_at, names_apart, few_bodies, few_words, short_name, known_at, short_at, labels_apart, few_items}
 use Rattle.asm_parse.proofs.Declared.{header_name, label_name}
-use Rattle.asm_parse.proofs.Growth.{map_map, Apart, same_place, sum_mapped}
+use Rattle.asm_parse.proofs.Growth.{Apart, same_place, sum_mapped}
 use Rattle.asm_parse.proofs.ItemsRange.{label_or, names_of_labels, IsSound, items_range, IsPlacedIn, labels_range}
 use Rattle.asm_parse.proofs.Known.{IsKnown, IsEvent}
 use Rattle.asm_parse.proofs.LinesRead.{all_read}
-use Rattle.asm_parse.proofs.Operands.{was_true}
-use Rattle.asm_parse.proofs.OpsRange.{not_true}
 use Rattle.asm_parse.proofs.Places.{place_of, stands, number_is, number_below, found_kept}
 use Rattle.asm_parse.proofs.Read.{IsRead}
 use Rattle.asm_parse.proofs.SymbolsRange.{names, few_symbols, few_bytes, some_bytes}
@@ -55,7 +55,7 @@ resource_range : (config : Config) (scope : Scope) (name : List ℕ) → scope.r
 resource_range config scope name same has e = by (is_scheduler scope name) refl
   where
     by : (b : Bool) → is_scheduler scope name ≡ b → IsResource config (resource_number scope name)
-    by true t = rw t (inr (refl, sym has ∙ and_left scope.has_scheduler (bytes_eq name (codes "RES_SCHEDULER")) t))
+    by true t = rw t (inr (refl, sym has ∙ (and_parts scope.has_scheduler (bytes_eq name (codes "RES_SCHEDULER")) t).0))
     by false t =
         let n = number_below scope.resources name (ap (λ b. b || list_any (bytes_eq name) scope.resources) (sym t) ∙ e) in
         rw t (inl (subst (λ (names : List (List ℕ)). number_in scope.resources name < length names) same n))
@@ -147,7 +147,7 @@ module _ (config : Config) (ls : List SourceLine) (range : InRange config) (read
   has_body t h =
       let lacks = none_pass (λ (t : TaskDecl). not (list_any (bytes_eq t.name) (task_body_names bodies))) config.tasks (case_false Src (lacks_body config bodies) 1 A7 (λ r x. none r (inr (inr x)))) in
       let name = (get_or config.tasks t no_task).name in
-      let k = found_kept is_task_body body_name (bytes_eq name) bodies (was_true (list_any (bytes_eq name) (task_body_names bodies)) (lacks t no_task h)) in
+      let k = found_kept is_task_body body_name (bytes_eq name) bodies (not-false (list_any (bytes_eq name) (task_body_names bodies)) (lacks t no_task h)) in
       let same : name ≡ body_name (body_at bodies k.place) = (bytes_eq-Decides name (body_name (body_at bodies k.place))).0 (k.found no_body) in
       let l = length_tasks in
       let inside : t < length (task_names config) = omega (arith, h, l) in
@@ -185,7 +185,7 @@ module _ (config : Config) (ls : List SourceLine) (range : InRange config) (read
       subst (IsCallable app) (sym (number_is (function_names bodies) name k.place place)) (
         let f = length_funcs in omega (arith, w, f),
         ap (λ (g : Func). g.task) (function_is k.place k.within)
-            ∙ ap (λ b. cond b (position (bytes_eq (body_name (body_at bodies k.place))) (task_names config)) None) (not_true (is_task (body_at bodies k.place).header) (k.passes no_body)),
+            ∙ ap (λ b. cond b (position (bytes_eq (body_name (body_at bodies k.place))) (task_names config)) None) (not-true (is_task (body_at bodies k.place).header) (k.passes no_body)),
       )
 
   known : (i : ℕ) → i < length bodies → IsKnown config app (func_of config scope (body_at bodies i)) scope (label_names (body_at bodies i).lines)
@@ -277,10 +277,10 @@ module _ (config : Config) (ls : List SourceLine) (range : InRange config) (read
       }
 
   same_names : map (λ (f : Func). f.name) app.funcs ≡ function_names bodies
-  same_names = map_map (λ (f : Func). f.name) (func_of config scope) bodies
+  same_names = map-map (λ (f : Func). f.name) (func_of config scope) bodies
 
   same_symbols : map (λ (y : Symbol). y.name) app.symbols ≡ symbol_names ls
-  same_symbols = map_map (λ (y : Symbol). y.name) symbol_of (filter is_data ls)
+  same_symbols = map-map (λ (y : Symbol). y.name) symbol_of (filter is_data ls)
 
   pub in_range : AppInRange config app
   in_range = record {

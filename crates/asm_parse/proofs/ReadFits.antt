@@ -8,10 +8,10 @@ use Rattle.asm_lines.specs.Table.{form_of}
 use Rattle.asm_lines.specs.declared.table.Mnemonic.{Mnemonic}
 use Rattle.std.specs.Str.{bytes_eq}
 use Rattle.std.proofs.lemmas.Bool.Decides.{eqb_tells, leb_tells}
+use Rattle.std.proofs.lemmas.Bool.{or_parts, and_parts}
 use Rattle.hex.specs.declared.error.FromHexError.{FromHexError}
 use Rattle.hex.specs.Hex.{decode_of}
 use Rattle.text_pieces.specs.Bytes.{is_name, is_byte_of}
-use Rattle.text_pieces.proofs.Tests.{and_left, and_right, or_left, or_right}
 use Rattle.sloth_base.specs.ImageRange.{IsWord, begins_word, continues_word}
 use Rattle.asm_lines.specs.declared.operands.Operand.{Operand}
 use Rattle.asm_lines.specs.declared.operands.Operand.TheVariants.{Wrong, Outside, Register, Number, Name, Frame, Direct, Indexed, Bytes}
@@ -76,10 +76,10 @@ is_register t =
 pub is_word : (t : List ℕ) → is_name t ≡ true → IsWord t
 unfolding is_name
 is_word [] e = cc
-is_word (b ∷ bs) e = (and_left (begins_word b) (list_all continues_word (b ∷ bs)) e, rest)
+is_word (b ∷ bs) e = ((and_parts (begins_word b) (list_all continues_word (b ∷ bs)) e).0, rest)
   where
     rest : AllPass continues_word bs
-    rest = AllPass-from_list_all continues_word bs (and_right (continues_word b) (list_all continues_word bs) (and_right (begins_word b) (list_all continues_word (b ∷ bs)) e))
+    rest = AllPass-from_list_all continues_word bs (and_parts (continues_word b) (list_all continues_word bs) (and_parts (begins_word b) (list_all continues_word (b ∷ bs)) e).1).1
 
 -- ---- operands
 
@@ -196,6 +196,6 @@ all_fit m i [] w x = tt
 all_fit m i (t ∷ ts) w x =
     let o = read_operand (form_of m i) t in
     let os = read_operands m (i + 1) ts in (
-      read_fits (form_of m i) t (or_left (is_wrong o) (list_any is_wrong os) w) (or_left (is_outside o) (list_any is_outside os) x),
-      all_fit m (i + 1) ts (or_right (is_wrong o) (list_any is_wrong os) w) (or_right (is_outside o) (list_any is_outside os) x),
+      read_fits (form_of m i) t (or_parts (is_wrong o) (list_any is_wrong os) w).0 (or_parts (is_outside o) (list_any is_outside os) x).0,
+      all_fit m (i + 1) ts (or_parts (is_wrong o) (list_any is_wrong os) w).1 (or_parts (is_outside o) (list_any is_outside os) x).1,
     )

@@ -3,10 +3,10 @@ use Rattle.std.proofs.Common.{◌≡◌, ◌∙◌, ap, sym, refl, ⊎_elim, inl
 use Rattle.std.specs.Prelude.{◌==◌, ◌||◌, ◌&&◌, nat_lt, if◌then◌else◌, codes, All, filter, sum}
 use Rattle.std.specs.List.{list_any, sum_by}
 use Rattle.std.specs.Str.{bytes_eq}
-use Rattle.std.proofs.lemmas.Bool.{eqb-false, ltb-false, cases_lt}
+use Rattle.std.proofs.lemmas.Bool.{eqb-false, ltb-false, cases_lt, or_parts}
 use Rattle.std.proofs.lemmas.List.{get_or_default}
 use Rattle.std.proofs.lemmas.List.Sums.{sum-map}
-use Rattle.text_pieces.proofs.Tests.{or_left, or_right, All-kept}
+use Rattle.text_pieces.proofs.Tests.{All-kept}
 use Rattle.sloth_base.specs.ImageRange.{IsName, AreNames}
 use Rattle.sloth_base.specs.declared.app.Symbol.{Symbol}
 use Rattle.sloth_base.specs.declared.refusal.Code.TheVariants.{A5, A6}
@@ -49,7 +49,7 @@ module _ (ls : List SourceLine) (read : All IsRead ls) (none : NoFault (Somewher
   apart = kept_apart is_data name_of ls Empty
       (λ i h t.
       let new = list_any (bytes_eq (name_of (at i))) (symbol_names (take i ls)) in
-      or_left new (bytes_eq (name_of (at i)) (codes "frame")) (ap (λ b. b && (new || bytes_eq (name_of (at i)) (codes "frame"))) (sym t) ∙ not_taken i h))
+      (or_parts new (bytes_eq (name_of (at i)) (codes "frame")) (ap (λ b. b && (new || bytes_eq (name_of (at i)) (codes "frame"))) (sym t) ∙ not_taken i h)).0)
 
   -- the test of a `data` alone
   of_data : (i : ℕ) → i < length ls → is_data (at i) ≡ true
@@ -59,7 +59,7 @@ module _ (ls : List SourceLine) (read : All IsRead ls) (none : NoFault (Somewher
 
   is_short : (i : ℕ) → i < length ls → is_data (at i) ≡ true → has_long (at i) ≡ false
   is_short i h t =
-      or_right (nat_lt 32768 (sum_by bytes_of (take i ls) + number_of (at i))) (has_long (at i)) (or_right (count_by is_data (take i ls) == 256) _ (of_data i h t))
+      (or_parts (nat_lt 32768 (sum_by bytes_of (take i ls) + number_of (at i))) (has_long (at i)) (or_parts (count_by is_data (take i ls) == 256) _ (of_data i h t)).1).1
 
   each : All IsName (symbol_names ls)
   each = All-kept is_data name_of IsName ls (λ i d h. by i d h (read i d h))
@@ -86,7 +86,7 @@ module _ (ls : List SourceLine) (read : All IsRead ls) (none : NoFault (Somewher
     where
       by : (i : ℕ) → i < length ls → 0 + count_by is_data (take i ls) ≤ 256 → (b : Bool) → is_data (at i) ≡ b → 0 + count_by is_data (take i ls) + cond (is_data (at i)) 1 0 ≤ 256
       by i h few true t =
-          let n = eqb-false (count_by is_data (take i ls)) 256 (or_left (count_by is_data (take i ls) == 256) _ (of_data i h t)) in
+          let n = eqb-false (count_by is_data (take i ls)) 256 (or_parts (count_by is_data (take i ls) == 256) _ (of_data i h t)).0 in
           rw t (⊎_elim (λ l. omega (arith, l)) (λ l. absurd (n (omega (arith, l, few)))) (cases_lt (count_by is_data (take i ls)) 256))
       by i h few false t = rw t (omega (arith, few))
 
@@ -96,7 +96,7 @@ module _ (ls : List SourceLine) (read : All IsRead ls) (none : NoFault (Somewher
       by : (i : ℕ) → i < length ls → 0 + sum_by bytes_of (take i ls) ≤ 32768 → (b : Bool) → is_data (at i) ≡ b → 0 + sum_by bytes_of (take i ls) + bytes_of (at i) ≤ 32768
       by i h few true t =
           let n = ltb-false 32768 (sum_by bytes_of (take i ls) + number_of (at i))
-          (or_left (nat_lt 32768 (sum_by bytes_of (take i ls) + number_of (at i))) (has_long (at i)) (or_right (count_by is_data (take i ls) == 256) _ (of_data i h t))) in
+          (or_parts (nat_lt 32768 (sum_by bytes_of (take i ls) + number_of (at i))) (has_long (at i)) (or_parts (count_by is_data (take i ls) == 256) _ (of_data i h t)).1).0 in
           rw t (omega (arith, n))
       by i h few false t = rw t (omega (arith, few))
 

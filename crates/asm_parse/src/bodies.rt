@@ -157,16 +157,40 @@ fn task_of(scope: &Scope, body: &Body) -> Option<TaskId>
     }
 }
 
+/// The items and the labels of a body.
+#[derive(Drop)]
+struct Content {
+    items: Vec<Item>,
+    labels: Vec<Label>,
+}
+
+fn content_of(
+    alloc: Global,
+    config: &Config,
+    scope: &Scope,
+    body: &Body,
+) -> Result<Content, NoMemory>
+    requires few { body.now.line + length body.now.lines < 2 ^ 32 }
+    requires numbered { IsNumbered scope.now }
+    ensures items { IfOk result (λ content. content.items.items
+        ≡ items_from config.now scope.now (label_names body.now.lines) (body.now.line + 1) body.now.lines) }
+    ensures labels { IfOk result (λ content. content.labels.items
+        ≡ labels_from config.now scope.now (label_names body.now.lines) (body.now.line + 1) 0 body.now.lines) }
+{
+    let names = label_names(alloc, body.lines())?;
+    let items = items_of(alloc, config, scope, &names, body.line(), body.lines())?;
+    let labels = labels_of(alloc, config, scope, &names, body.line(), body.lines())?;
+    Ok(Content { items, labels })
+}
+
 /// The function that a body is.
 pub fn func_of(alloc: Global, config: &Config, scope: &Scope, body: &Body) -> Result<Func, NoMemory>
     requires few { body.now.line + length body.now.lines < 2 ^ 32 }
     requires numbered { IsNumbered scope.now }
     ensures { IfOk result (λ func. func ≡ func_of config.now scope.now body.now) }
 {
-    let names = label_names(alloc, body.lines())?;
     let name = Name::new(alloc, body.name())?;
-    let items = items_of(alloc, config, scope, &names, body.line(), body.lines())?;
-    let labels = labels_of(alloc, config, scope, &names, body.line(), body.lines())?;
+    let Content { items, labels } = content_of(alloc, config, scope, body)?;
     Ok(Func {
         name,
         line: body.line(),

@@ -4,10 +4,11 @@ use Rattle.std.specs.Prelude.{bit_or, bit_xor, cond}
 use Rattle.std.proofs.lemmas.Bool.{cases_Bool}
 use Rattle.sloth_base.specs.Machine.{Core, State}
 use Rattle.sloth_base.specs.Arrive.{arrive}
+use Rattle.sloth_base.specs.MemoryMap.{memory_base}
 use Rattle.sloth_region.specs.Layout.{active, controller_base}
 use Rattle.rv32_instr.specs.declared.InstrKind.{InstrKind}
 use Rattle.rv32_instr.specs.Ram.{word_at}
-use Rattle.masked_code.specs.Owes.{AreOf, Owes, Pending, Enabled}
+use Rattle.masked_code.specs.Owes.{◌▸◌, writes, loads, loads_byte, AreOf, Owes, Pending, Enabled}
 use Rattle.masked_code.proofs.Arrivals.{has, byte_after}
 use Rattle.masked_code.specs.Place.{at}
 use Rattle.masked_code.proofs.Leave.{behind}
@@ -58,40 +59,19 @@ module _ (offset to task : ℕ) (E : List ℕ → State → State → Type 0) (r
   pub looks_owe : (o x1 x3 : ℕ)
       → ((lines : List ℕ) (v : ℕ) → AreOf task lines → Finds task (record c { pending = arrive lines c.pending }) v
       → Owes offset to (behind 7 o) rest 0 (λ touched. E (task ∷ touched)) (at offset (record (spread c) { pending = arrive lines c.pending }))
-      (record (masked (spread c)) { registers = 0 ∷ word_at c.ram (active task) ∷ x2 ∷ v ∷ 0x8000_0000 ∷ tail; pending = arrive lines c.pending }))
-      → Owes offset to o (busy task 3 1 ++ rest) 0 E (at offset (spread c)) (record (masked (spread c)) { registers = 0 ∷ x1 ∷ x2 ∷ x3 ∷ 0x8000_0000 ∷ tail })
+      (record (masked (spread c)) { registers = 0 ∷ word_at c.ram (active task) ∷ x2 ∷ v ∷ memory_base ∷ tail; pending = arrive lines c.pending }))
+      → Owes offset to o (busy task 3 1 ++ rest) 0 E (at offset (spread c)) (record (masked (spread c)) { registers = 0 ∷ x1 ∷ x2 ∷ x3 ∷ memory_base ∷ tail })
   looks_owe o x1 x3 go =
       let e = get_or c.enabled task 0 in
-      let a = word_at c.ram (active task) in (
-        controller_base,
-        refl,
-        (
-          Enabled task,
-          (omega arith, omega arith),
-          (
-            bit_xor e 1,
-            refl,
-            (
-              Pending task,
-              (omega arith, omega arith),
-              λ lines only.
-                  let q = get_or (arrive lines c.pending) task 0 in (
-                    bit_or (bit_xor e 1) q,
-                    refl,
-                    (
-                      active task,
-                      record { is = omega arith; aligned = omega arith; inside = omega arith },
-                      a,
-                      refl,
-                      (
-                        busy_of e q a,
-                        refl,
-                        go lines (busy_of e q a) only
-                            (busies e q a enabled_bit (bit_arrives lines c.pending task (omega arith) pending_bit) active_bit),
-                      ),
-                    ),
-                  ),
-            ),
-          ),
-        ),
-      )
+      let a = word_at c.ram (active task) in
+      writes controller_base refl
+      ▸ loads_byte (Enabled task) (omega arith, omega arith)
+      ▸ writes (bit_xor e 1) refl
+      ▸ loads_byte (Pending task) (omega arith, omega arith)
+      ▸ λ lines only.
+      let q = get_or (arrive lines c.pending) task 0 in
+      writes (bit_or (bit_xor e 1) q) refl
+      ▸ loads (active task) (record { is = omega arith; aligned = omega arith; inside = omega arith }) a refl
+      ▸ writes (busy_of e q a) refl
+      ▸ go lines (busy_of e q a) only
+      (busies e q a enabled_bit (bit_arrives lines c.pending task (omega arith) pending_bit) active_bit)

@@ -51,9 +51,12 @@ fn store(
     MemStore::new(alloc, &[arr, img, oil, src], fails)
 }
 
-// The words of a line.
+// The words of a line; an empty line has none.
 fn words(alloc: Global, line: &str) -> anyhow::Result<Vec<String>> {
     let mut words = Vec::new(alloc);
+    if line.is_empty() {
+        return Ok(words);
+    }
     for word in line.split(' ') {
         words.push(String::from_str(alloc, word)?)?;
     }
@@ -186,6 +189,32 @@ pub fn run_cut(rt: &(impl Print + AllocGlobal), line: &str, texts: &Texts) -> an
             print!(rt; "{size} bytes\n{}", answer.text)?;
             last = answer.text;
         }
+    }
+    Ok(())
+}
+
+/// Runs the command of a line with 0, 1, 2, .. line feeds behind each text, up to a number: `600 order oil src arr img 300`. Where the answer is
+/// another one than with a line feed less, prints how many there are and the answer.
+pub fn run_lengthened(
+    rt: &(impl Print + AllocGlobal),
+    asked: &str,
+    texts: &mut Texts,
+) -> anyhow::Result<()> {
+    let Some((number, line)) = asked.split_once(' ') else {
+        return Ok(());
+    };
+    let none = Faults::none(rt.alloc());
+    let mut last = String::new(rt.alloc());
+    for more in 0..=number.parse::<u32>().unwrap_or(0) {
+        if !texts.are_short() {
+            return Ok(());
+        }
+        let answer = answer(rt.alloc(), line, texts, &texts.img, LITTLE, &none)?;
+        if answer.text != last {
+            print!(rt; "{more} more\n{}", answer.text)?;
+            last = answer.text;
+        }
+        texts.lengthen()?;
     }
     Ok(())
 }

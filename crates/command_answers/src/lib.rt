@@ -1,10 +1,12 @@
 //! Runs commands of the program on files in memory, and prints what they print and how they end. A text ends before a line `=== oil`,
-//! `=== src` or `=== arr`, which says what it is; it stays until the next one of its kind. A line
+//! `=== src`, `=== arr` or `=== img`, which says what it is; it stays until the next one of its kind. A line
 //! `%repeat N TEXT` in it stands for copies (`text_repeats`). Other lines behind `=== `:
 //! - `image HEX` makes the image file of these bytes, `change AT HEX` writes bytes over those from a place on, or behind the end, and
 //!   `exchange AT AT` exchanges two marks; `-AT` counts back from the end;
 //! - `text` prints the image file as a text;
 //! - `cut`, and a command such as `exec img arr 10`: it is run with the image file cut to each length, and each new answer is printed;
+//! - `lengthened`, and a number and a command, such as `600 order oil src arr img 300`: it is run with 0 to 600 line feeds more behind each text,
+//!   and each new answer is printed;
 //! - `keep`, and a command: what it prints stands in the place of the image file; `drop 2` takes line 2 out of that, `shorten` its last byte;
 //! - `both`, and two commands with ` / ` between them: they are run one after the other, and it is printed whether they answer alike;
 //! - `failing`, and calls of the store, calls of the sink and a command with ` / ` between them, such as `3 4 / 2:1 / build oil src img`:
@@ -14,6 +16,7 @@
 //! - `sweep`, and words such as `1 400 High / run oil src arr img 3000 / once enter High / each run High High 0 / last`: the command is run
 //!   once for each of the moments, with one arrival of the task then, and what the questions ask of the lines of all runs is printed;
 //! - a command, such as `order oil src arr img 5000`: it is run on the files of these names. The image file that it leaves is kept.
+//!   Nothing behind `=== ` is a command without words.
 #![tactic(auto)]
 
 mod commands;
@@ -21,7 +24,9 @@ mod faults;
 mod sweeps;
 mod texts;
 
-use crate::commands::{run, run_both, run_cut, run_failing, run_kept, run_summed, show};
+use crate::commands::{
+    run, run_both, run_cut, run_failing, run_kept, run_lengthened, run_summed, show,
+};
 use crate::sweeps::run_sweep;
 use crate::texts::Texts;
 use sloth_base::memory::NoMemory;
@@ -64,6 +69,9 @@ fn obey(
     }
     if let Some(command) = asked.strip_prefix("keep ") {
         return run_kept(rt, command, texts);
+    }
+    if let Some(words) = asked.strip_prefix("lengthened ") {
+        return run_lengthened(rt, words, texts);
     }
     if let Some(words) = asked.strip_prefix("failing ") {
         return run_failing(rt, words, texts);

@@ -40,7 +40,7 @@ impl Texts {
             && self.img.len() <= LONGEST
     }
 
-    /// Puts lines in the place of the text of this name, if there is one.
+    /// Puts lines in the place of the file of this name, if there is one.
     pub fn replace(&mut self, name: &[u8], lines: &[u8]) -> Result<bool, NoMemory> {
         let text = if name == b"oil".as_slice() {
             &mut self.oil
@@ -48,12 +48,22 @@ impl Texts {
             &mut self.src
         } else if name == b"arr".as_slice() {
             &mut self.arr
+        } else if name == b"img".as_slice() {
+            &mut self.img
         } else {
             return Ok(false);
         };
         text.clear();
         text.extend_from_slice(lines).map_err(|_| NoMemory)?;
         Ok(true)
+    }
+
+    /// Puts a line feed behind each text.
+    pub fn lengthen(&mut self) -> Result<(), NoMemory> {
+        self.oil.push(b'\n').map_err(|_| NoMemory)?;
+        self.src.push(b'\n').map_err(|_| NoMemory)?;
+        self.arr.push(b'\n').map_err(|_| NoMemory)?;
+        Ok(())
     }
 
     /// Takes a line out of the image file, by its number from 1.

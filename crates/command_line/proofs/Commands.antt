@@ -86,7 +86,9 @@ tool-apart tool.Elf = refl
 tool-apart tool.Unelf = refl
 tool-apart tool.Infer = refl
 tool-apart tool.At = refl
+tool-apart tool.Wave = refl
 tool-apart tool.Check = refl
+tool-apart tool.Bounds = refl
 
 apart : (t : Tool) (word : List ℕ) → stands word ≡ true → tool_word t ≡ word → ⊥
 apart t word stood e = let not : stands word ≡ false = subst (λ w. stands w ≡ false) e (tool-apart t) in true≢false (sym stood ∙ not)

@@ -1,17 +1,18 @@
 -- The words of a tool are those of one use.
-use Rattle.std.proofs.Common.{◌≡◌, ◌≤◌, ◌+◌, ◌∙◌, ℕ, List, [], ◌∷◌, ◌++◌, Option, None, Some, refl, sym, ap, subst, get_or, arith, length, take, drop}
-use Rattle.std.specs.Prelude.{decimal, Bool, true, false, if◌then◌else◌}
+use Rattle.std.proofs.Common.{Global, ◌≡◌, ◌≤◌, ◌+◌, ◌∙◌, ℕ, List, [], ◌∷◌, ◌++◌, Option, None, Some, refl, sym, ap, subst, get_or, arith, length, take, drop}
+use Rattle.std.specs.Prelude.{decimal, Bool, true, false, if◌then◌else◌, IfNone, slice_get, string_bytes, String}
 use Rattle.std.specs.Str.{bytes_eq}
 use Rattle.std.proofs.Math.Seq.{take-append_seam, drop-append_seam}
-use Rattle.std.proofs.lemmas.List.{length-append}
+use Rattle.std.proofs.lemmas.List.{length-append, drop-map}
 use Rattle.std.proofs.lemmas.Fmt.{decimal_injective}
 use Rattle.command_line.specs.declared.tool.Tool.{Tool}
 use Rattle.command_line.specs.declared.tool.Tool.TheVariants as tool
+use Rattle.command_line.specs.Command.{NoTool, words_of}
 use Rattle.command_line.specs.Tools.{ToolUse, tool_word, tool_words, input_count, number_limit, writes_file, number_words, output_words, IsNumber, IsOutput, IsToolUse}
 
 -- the tools
 abbrev all_tools : List Tool
-all_tools = tool.Elf ∷ tool.Unelf ∷ tool.Infer ∷ tool.At ∷ tool.Check ∷ []
+all_tools = tool.Elf ∷ tool.Unelf ∷ tool.Infer ∷ tool.At ∷ tool.Wave ∷ tool.Check ∷ tool.Bounds ∷ []
 
 -- the first of these that has a word
 abbrev first_with : List ℕ → List Tool → Option Tool
@@ -23,7 +24,9 @@ found tool.Elf = refl
 found tool.Unelf = refl
 found tool.Infer = refl
 found tool.At = refl
+found tool.Wave = refl
 found tool.Check = refl
+found tool.Bounds = refl
 
 pub same-tool : (t u : Tool) → tool_word t ≡ tool_word u → t ≡ u
 same-tool t u e = let both : Some t ≡ Some u = sym (found t) ∙ (ap (λ w. first_with w all_tools) e ∙ found u) in cc
@@ -38,7 +41,9 @@ word-limit tool.Elf = tt
 word-limit tool.Unelf = tt
 word-limit tool.Infer = tt
 word-limit tool.At = omega arith
+word-limit tool.Wave = omega arith
 word-limit tool.Check = omega arith
+word-limit tool.Bounds = tt
 
 -- two lists of one length in front of others
 fronts : (xs ys : List (List ℕ)) (r s : List (List ℕ)) → length xs ≡ length ys → xs ++ r ≡ ys ++ s → (xs ≡ ys) × (r ≡ s)
@@ -118,3 +123,35 @@ behind-inputs words t u first e is =
       rest = ap (λ w. drop (input_count t + 1) w) e ∙ ap (λ k. drop k ((tool_word u.tool ∷ u.inputs) ++ rest)) n
           ∙ drop-append_seam (tool_word u.tool ∷ u.inputs) rest;
     }
+
+-- words behind which no number stands that the tool takes are no tool's
+pub without-number : (words : List (List ℕ)) (t : Tool) → get_or words 0 [] ≡ tool_word t
+    → ((n : Option ℕ) (rest : List (List ℕ)) → IsNumber (number_limit t) n → drop (input_count t + 1) words ≡ number_words n ++ rest → ⊥) → NoTool words
+without-number words t first none used h =
+    let b = behind-inputs words t used first h.0 h.1 in
+    let N : Tool → Type 0 = λ x. IsNumber (number_limit x) used.number in
+    none used.number (output_words used.output) (subst N b.tool_is h.1.number) b.rest
+
+-- nor are those behind which no file stands that it writes
+pub without-output : (words : List (List ℕ)) (t : Tool) (n : Option ℕ) (behind : List (List ℕ)) → get_or words 0 [] ≡ tool_word t → IsNumber (number_limit t) n
+    → drop (input_count t + 1) words ≡ number_words n ++ behind → ((o : Option (List ℕ)) → IsOutput (writes_file t) o → behind ≡ output_words o → ⊥) → NoTool words
+without-output words t n behind first number e none used h =
+    let b = behind-inputs words t used first h.0 h.1 in
+    let N : Tool → Type 0 = λ x. IsNumber (number_limit x) used.number in
+    let O : Tool → Type 0 = λ x. IsOutput (writes_file x) used.output in
+    let same = same-behind (number_limit t) n used.number behind (output_words used.output) (word-limit t) number (subst N b.tool_is h.1.number) (sym e ∙ b.rest) in
+    none used.output (subst O b.tool_is h.1.output) same.1
+
+-- what holds anyway
+pub if-none : {X : Type 0} (x : Option X) (P : Type 0) → P → IfNone x P
+if-none None P p = p
+if-none (Some x) P p = tt
+
+-- the first word
+pub first-word : (words : List (String Global)) (word : String Global) → Some word ≡ slice_get words 0 → get_or (words_of words) 0 [] ≡ string_bytes word
+first-word [] word e = absurd cc
+first-word (x ∷ xs) word e = let same : word ≡ x = cc in ap (λ (w : String Global). string_bytes w) (sym same)
+
+-- the words behind others
+pub behind-words : (words rest : List (String Global)) (n : ℕ) → rest ≡ drop n words → words_of rest ≡ drop n (words_of words)
+behind-words words rest n e = ap words_of e ∙ sym (drop-map (λ (w : String Global). string_bytes w) n words)

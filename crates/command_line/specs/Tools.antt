@@ -9,7 +9,9 @@ tool_word tool.Elf = codes "elf"
 tool_word tool.Unelf = codes "unelf"
 tool_word tool.Infer = codes "infer"
 tool_word tool.At = codes "at"
+tool_word tool.Wave = codes "wave"
 tool_word tool.Check = codes "check"
+tool_word tool.Bounds = codes "bounds"
 
 -- how many files it reads; their names are the next words
 abbrev pub input_count : Tool → ℕ
@@ -17,7 +19,9 @@ input_count tool.Elf = 1
 input_count tool.Unelf = 1
 input_count tool.Infer = 2
 input_count tool.At = 2
+input_count tool.Wave = 2
 input_count tool.Check = 4
+input_count tool.Bounds = 2
 
 -- the greatest number that it takes as its next word, if it takes one
 abbrev pub number_limit : Tool → Option ℕ
@@ -25,7 +29,9 @@ number_limit tool.Elf = None
 number_limit tool.Unelf = None
 number_limit tool.Infer = None
 number_limit tool.At = Some 999999
+number_limit tool.Wave = Some 1000000
 number_limit tool.Check = Some 1000000
+number_limit tool.Bounds = None
 
 -- whether its last word names a file that it writes
 abbrev pub writes_file : Tool → Bool
@@ -33,7 +39,9 @@ writes_file tool.Elf = true
 writes_file tool.Unelf = true
 writes_file tool.Infer = true
 writes_file tool.At = false
+writes_file tool.Wave = true
 writes_file tool.Check = false
+writes_file tool.Bounds = false
 
 -- a tool with the files that it reads, its number and the file that it writes, if it has them
 pub record ToolUse : Type 0 where

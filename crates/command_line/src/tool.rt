@@ -15,8 +15,12 @@ pub enum Tool {
     Infer,
     /// `at IMG ARR K`: the states of the tasks at a count of a run of an image file.
     At,
+    /// `wave IMG ARR N OUT`: the waves of a run of an image file.
+    Wave,
     /// `check OIL SRC ARR TRACE N`: whether a text of events is that of a run.
     Check,
+    /// `bounds OIL SRC`: how much work of lower tasks may stand before each task.
+    Bounds,
 }
 
 impl Tool {
@@ -29,7 +33,9 @@ impl Tool {
             Tool::Unelf => 1,
             Tool::Infer => 2,
             Tool::At => 2,
+            Tool::Wave => 2,
             Tool::Check => 4,
+            Tool::Bounds => 2,
         }
     }
 
@@ -42,7 +48,9 @@ impl Tool {
             Tool::Unelf => None,
             Tool::Infer => None,
             Tool::At => Some(999_999),
+            Tool::Wave => Some(1_000_000),
             Tool::Check => Some(1_000_000),
+            Tool::Bounds => None,
         }
     }
 
@@ -55,7 +63,9 @@ impl Tool {
             Tool::Unelf => true,
             Tool::Infer => true,
             Tool::At => false,
+            Tool::Wave => true,
             Tool::Check => false,
+            Tool::Bounds => false,
         }
     }
 }
@@ -86,8 +96,14 @@ pub fn tool_named(word: &str) -> Option<Tool>
     if word == "at" {
         return Some(Tool::At);
     }
+    if word == "wave" {
+        return Some(Tool::Wave);
+    }
     if word == "check" {
         return Some(Tool::Check);
+    }
+    if word == "bounds" {
+        return Some(Tool::Bounds);
     }
     None
 }

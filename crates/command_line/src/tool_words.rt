@@ -1,5 +1,5 @@
 //! The words of tools.
-ghost use Rattle.std.specs.Prelude.{◌≡◌, ◌++◌, ℕ, List, IfSome, IfNone, Bool, Option, length};
+ghost use Rattle.std.specs.Prelude.{◌≡◌, ◌≤◌, ◌++◌, ℕ, List, IfSome, IfNone, Bool, Option, length, drop};
 ghost use Rattle.std.specs.Option.{option_map};
 ghost use Rattle.command_line.specs.Tools.{ToolUse, IsNumber, IsOutput, number_words, output_words};
 ghost use Rattle.command_line.specs.Command.{IsCommand, NoTool, Uses, words_of};
@@ -49,6 +49,14 @@ fn output_word(writes: bool, words: &[String]) -> Option<Option<&str>>
     if words.is_empty() { Some(None) } else { None }
 }
 
+// The words behind the first ones, so many of them.
+fn words_behind(words: &[String], count: usize) -> &[String]
+    requires { count ≤ length words.now }
+    ensures { result.now ≡ drop count words.now }
+{
+    &words[count..]
+}
+
 /// The tool of these words, if they are one's.
 pub fn tool_command(words: &[String]) -> Option<ToolWords<'_>>
     ensures some { IfSome result (λ t. IsCommand (words_of words.now) (Uses (use_of t))) }
@@ -59,7 +67,7 @@ pub fn tool_command(words: &[String]) -> Option<ToolWords<'_>>
     if words.len() < behind {
         return None;
     }
-    let counted = number_and_rest(tool.number_limit(), &words[behind..])?;
+    let counted = number_and_rest(tool.number_limit(), words_behind(words, behind))?;
     let output = output_word(tool.writes_file(), counted.rest)?;
     Some(ToolWords {
         tool,

@@ -2,6 +2,7 @@
 -- (System V ABI, chapters 4 and 5: the ELF header, program headers, notes.)
 use Rattle.std.specs.Prelude.{◌≡◌, ◌+◌, ◌-◌, ◌%◌, ℕ, List, [], ◌∷◌, ◌++◌, length, take, codes}
 use Rattle.std.specs.List.{flat_map}
+use Rattle.sloth_base.specs.MemoryMap.{memory_base, boot_base}
 use Rattle.sloth_base.specs.ImageRange.{InFormat}
 use Rattle.sloth_base.specs.declared.image.Image.{Image}
 use Rattle.image_file.specs.ImageText.{four_bytes, two_bytes, name_bytes, mark_bytes}
@@ -14,9 +15,9 @@ elf_magic = 127 ∷ codes "ELF"
 abbrev pub elf_class : List ℕ
 elf_class = 1 ∷ 1 ∷ 1 ∷ 0 ∷ 0 ∷ 0 ∷ 0 ∷ 0 ∷ 0 ∷ 0 ∷ 0 ∷ 0 ∷ []
 
--- an executable (2) for RISC-V (243) of version 1, which begins at 0x80000480; program headers at 52, no section headers, no flags
+-- an executable (2) for RISC-V (243) of version 1, which begins with boot; program headers at 52, no section headers, no flags
 abbrev pub elf_words : List ℕ
-elf_words = two_bytes 2 ++ (two_bytes 243 ++ flat_map four_bytes (1 ∷ 0x80000480 ∷ 52 ∷ 0 ∷ 0 ∷ []))
+elf_words = two_bytes 2 ++ (two_bytes 243 ++ flat_map four_bytes (1 ∷ boot_base ∷ 52 ∷ 0 ∷ 0 ∷ []))
 
 -- the sizes of this header and of a program header, two program headers, and no section headers
 abbrev pub elf_sizes : List ℕ
@@ -26,10 +27,10 @@ elf_sizes = flat_map two_bytes (52 ∷ 32 ∷ 2 ∷ 0 ∷ 0 ∷ 0 ∷ [])
 unfoldable pub elf_header : List ℕ
 elf_header = elf_magic ++ (elf_class ++ (elf_words ++ elf_sizes))
 
--- The program header of the memory, 32 bytes: it is loaded (1) from place 116 of the file to 0x80000000, so many bytes of 2,097,152, which may
+-- The program header of the memory, 32 bytes: it is loaded (1) from place 116 of the file to the base of memory, so many bytes of 2,097,152, which may
 -- be read, written and executed (7), aligned to 4.
 abbrev pub load_header : ℕ → List ℕ
-load_header size = flat_map four_bytes (1 ∷ 116 ∷ 0x80000000 ∷ 0x80000000 ∷ size ∷ 2097152 ∷ 7 ∷ 4 ∷ [])
+load_header size = flat_map four_bytes (1 ∷ 116 ∷ memory_base ∷ memory_base ∷ size ∷ 2097152 ∷ 7 ∷ 4 ∷ [])
 
 -- the program header of the note (4), which stands behind the memory and is read (4), aligned to 4
 abbrev pub note_header : ℕ → ℕ → List ℕ

@@ -6,6 +6,7 @@ ghost use Rattle.elf_image.specs.ElfText.{elf_header, load_header, note_header};
 
 use image_file::write::put_u32;
 use sloth_base::memory::NoMemory;
+use sloth_base::memory_map::MEMORY_BASE;
 
 /// The length of the ELF header, in bytes.
 pub const ELF_HEADER: usize = 52;
@@ -48,7 +49,7 @@ pub fn put_load_header(file: &mut Vec<u8>, size: u32) -> Result<(), NoMemory>
 {
     put_words(
         file,
-        &[1, 116, 0x8000_0000, 0x8000_0000, size, MEMORY, 7, 4],
+        &[1, 116, MEMORY_BASE, MEMORY_BASE, size, MEMORY, 7, 4],
     )
 }
 

@@ -1,3 +1,5 @@
+pub mod Finding
+pub mod Refusing
 pub mod Clearing
 pub mod Getting
 pub mod Setting

@@ -1,10 +1,11 @@
 -- The code of SetEvent has its effect.
-use Rattle.std.proofs.Common.{◌≡◌, ℕ, ◌+◌, ◌<◌, ◌≤◌, List, ◌∷◌, ◌++◌, length, get_or, refl, ap, arith, inl, inr, ⊎_elim}
-use Rattle.std.specs.Prelude.{false, set, bit_and, eqb}
+use Rattle.std.proofs.Common.{◌≡◌, ℕ, ◌+◌, ◌<◌, ◌≤◌, List, ◌∷◌, ◌++◌, length, get_or, refl, arith, inl, inr, ⊎_elim}
+use Rattle.std.specs.Prelude.{set, bit_and}
 use Rattle.std.proofs.lemmas.Bool.{eq-eqb, cases_eq, ne_eqb}
 use Rattle.sloth_base.specs.Machine.{Core, State}
 use Rattle.sloth_base.specs.Arrive.{arrive}
-use Rattle.sloth_base.specs.Status.{E_OK, E_OS_STATE}
+use Rattle.sloth_base.specs.Status.{E_OK}
+use Rattle.sloth_base.specs.MemoryMap.{memory_base}
 use Rattle.sloth_region.specs.Layout.{active, events, wait, words_high, controller_base}
 use Rattle.rv32_instr.specs.declared.InstrKind.{InstrKind}
 use Rattle.rv32_instr.specs.declared.InstrKind.TheVariants.{Lui}
@@ -12,7 +13,7 @@ use Rattle.rv32_instr.specs.Ram.{word_at, with_word}
 use Rattle.masked_code.specs.Place.{at}
 use Rattle.masked_code.specs.Masked.{FromOpening}
 use Rattle.masked_code.specs.Kernel.{masking}
-use Rattle.masked_code.specs.Owes.{Owes, Pending, Enabled}
+use Rattle.masked_code.specs.Owes.{◌▸◌, writes, loads, stores, raises, sets_enabled, Owes}
 use Rattle.masked_code.proofs.Words.{word_at-other}
 use Rattle.masked_code.proofs.Spread.{spread, spread_from}
 use Rattle.masked_code.proofs.Routines.{masked}
@@ -24,6 +25,7 @@ use Rattle.block_parts.proofs.Serving.{opens}
 use Rattle.block_parts.specs.Looks.{LooksSuspended}
 use Rattle.block_parts.specs.Back.{CanGoBack}
 use Rattle.block_parts.specs.Pieces.{busy, raising_code, back}
+use Rattle.event_gen.proofs.Refusing.{refuses_owe}
 use Rattle.event_gen.specs.Pieces.{refusal_code, adds_events, asks_awaited, enabling_code}
 use Rattle.event_gen.specs.SetEvent.{MaySet, EventsSet, SetsEvents, with_mask}
 
@@ -66,122 +68,78 @@ module _ (offset task : ℕ) (c : Core) (h : MaySet offset task (masking ∷ bod
   -- the look at the awaited events
   asked_owe : (o : ℕ) (p : List ℕ) → o + 8 ≤ 0x20_0000 → (LooksSuspended task (record c { pending = p }) → ⊥)
       → Owes offset (offset + 4 + 100) o (asks_awaited task ++ (raising_code task ++ (enabling_code task ++ back))) 0 (λ u. EventsSet task (task ∷ u)) (st p)
-      (record (masked (spread c)) { registers = 0 ∷ word ∷ x2 ∷ grown ∷ 0x8000_0000 ∷ set tail 5 E_OK; pending = p; ram = ram })
+      (record (masked (spread c)) { registers = 0 ∷ word ∷ x2 ∷ grown ∷ memory_base ∷ set tail 5 E_OK; pending = p; ram = ram })
   asked_owe o p small not_suspended =
       let few = h.is_task in
       let line : task < 32 = omega arith in
-      let v = bit_and grown waits_for in (
-        wait task,
-        record { is = omega arith; aligned = omega arith; inside = omega arith },
-        waits_for,
-        word_at-other c.ram (events task) grown (wait task) (inr (omega arith)),
-        (
-          v,
-          refl,
-          record {
-            passed = 4;
-            lands = lands (o + 4 + 4) 20 4 (omega arith) (omega arith) refl;
-            when_taken = λ t. ⊎_elim
-                (λ none. goes_back offset (masking ∷ body task) c h.goes_back (λ u. EventsSet task (task ∷ u)) waits_for v E_OK p p ram h.level
-                (λ last is went. record {
-                  touches = refl;
-                  done = inr (inl (record { not_suspended = not_suspended; none_awaited = none; status = is; back = went }));
-                }))
-                (λ some. let f = ne_eqb v 0 some in absurd (cc))
-                (cases_eq v 0);
-            when_not = λ n. ⊎_elim
-                (λ none. absurd (n (eq-eqb v 0 none)))
-                (λ some. (
-                  controller_base,
-                  refl,
-                  (
-                    1,
-                    refl,
-                    (
-                      Pending task,
-                      (omega arith, line),
-                      inl (
-                        (λ z. absurd (cc)),
-                        (
-                          Enabled task,
-                          (omega arith, line),
-                          goes_back offset (masking ∷ body task) (record c { enabled = set c.enabled task 1 }) (enabled_too (set c.enabled task 1))
-                              (λ u s last. EventsSet task (task ∷ u) (st p) last) controller_base 1 E_OK p (set p task 1) ram h.level
-                              (λ last is went. record {
-                                touches = refl;
-                                done = inr (inr (record {
-                                  not_suspended = not_suspended;
-                                  one_awaited = some;
-                                  status = is;
-                                  back = record { left = went.left; pc = went.pc; x2 = went.x2; kept = went.kept };
-                                }));
-                              }),
-                        ),
-                      ),
-                    ),
-                  ),
-                ))
-                (cases_eq v 0);
-          },
-        ),
-      )
+      let v = bit_and grown waits_for in
+      loads (wait task) (record { is = omega arith; aligned = omega arith; inside = omega arith }) waits_for (word_at-other c.ram (events task) grown (wait task) (inr (omega arith)))
+      ▸ writes v refl
+      ▸ record {
+        passed = 4;
+        lands = lands (o + 4 + 4) 20 4 (omega arith) (omega arith) refl;
+        when_taken = λ t. ⊎_elim
+            (λ none. goes_back offset (masking ∷ body task) c h.goes_back (λ u. EventsSet task (task ∷ u)) waits_for v E_OK p p ram h.level
+            (λ last is went. record {
+              touches = refl;
+              done = inr (inl (record { not_suspended = not_suspended; none_awaited = none; status = is; back = went }));
+            }))
+            (λ some. let f = ne_eqb v 0 some in absurd (cc))
+            (cases_eq v 0);
+        when_not = λ n. ⊎_elim
+            (λ none. absurd (n (eq-eqb v 0 none)))
+            (λ some.
+            writes controller_base refl
+            ▸ writes 1 refl
+            ▸ raises task (omega arith, line) (λ z. absurd (cc))
+            ▸ sets_enabled task (omega arith, line)
+            ▸ goes_back offset (masking ∷ body task) (record c { enabled = set c.enabled task 1 }) (enabled_too (set c.enabled task 1))
+            (λ u s last. EventsSet task (task ∷ u) (st p) last) controller_base 1 E_OK p (set p task 1) ram h.level
+            (λ last is went. record {
+              touches = refl;
+              done = inr (inr (record {
+                not_suspended = not_suspended;
+                one_awaited = some;
+                status = is;
+                back = record { left = went.left; pc = went.pc; x2 = went.x2; kept = went.kept };
+              }));
+            }))
+            (cases_eq v 0);
+      }
+
+  -- what is passed where the task is Suspended
+  abbrev passed_code : List InstrKind
+  passed_code = adds_events task ++ (asks_awaited task ++ (raising_code task ++ enabling_code task))
 
   -- the code behind the look at the task
   abbrev further : List InstrKind
-  further = refusal_code 11 ++ (adds_events task ++ (asks_awaited task ++ (raising_code task ++ (enabling_code task ++ back))))
+  further = refusal_code 11 ++ (passed_code ++ back)
 
   -- behind the look, which found v
   looked_owe : (o : ℕ) (p : List ℕ) (v : ℕ) → o + 40 ≤ 0x20_0000 → Finds task (record c { pending = p }) v
       → Owes offset (offset + 4 + 100) o further 0 (λ u. EventsSet task (task ∷ u)) (st p)
-      (record (masked (spread c)) { registers = 0 ∷ word ∷ x2 ∷ v ∷ 0x8000_0000 ∷ tail; pending = p })
+      (record (masked (spread c)) { registers = 0 ∷ word ∷ x2 ∷ v ∷ memory_base ∷ tail; pending = p })
   looked_owe o p v small found =
       let few = h.is_task in
-      let low = h.goes_back.can_run.behind in (
-        E_OS_STATE,
-        refl,
-        record {
-          passed = 11;
-          lands = lands (o + 4) 48 11 (omega arith) (omega arith) refl;
-          when_taken = λ t. ⊎_elim
-              (λ s. goes_back offset (masking ∷ body task) c h.goes_back (λ u. EventsSet task (task ∷ u)) word v E_OS_STATE p p c.ram h.level
-              (λ last is went. record { touches = refl; done = inl (record { suspended = s.0; status = is; back = went }) }))
-              (λ s. let f : eqb v 0 ≡ false = ap (λ x. eqb x 0) s.1 in absurd (cc))
-              found;
-          when_not = λ n. ⊎_elim
-              (λ s. absurd (n (eq-eqb v 0 s.1)))
-              (λ s. (
-                E_OK,
-                refl,
-                (
-                  events task,
-                  record { is = omega arith; aligned = omega arith; inside = omega arith },
-                  word_at c.ram (events task),
-                  refl,
-                  (
-                    grown,
-                    refl,
-                    (
-                      events task,
-                      record { is = omega arith; aligned = omega arith; inside = omega arith },
-                      inl (omega arith),
-                      asked_owe (behind 6 o) p (omega arith) s.0,
-                    ),
-                  ),
-                ),
-              ))
-              found;
-        },
-      )
+      let low = h.goes_back.can_run.behind in
+      let n : length passed_code ≡ 11 = refl in
+      refuses_owe offset (offset + 4 + 100) task (masking ∷ body task) c h.goes_back h.level (λ u. EventsSet task (task ∷ u)) passed_code o p word v
+      (omega arith) (omega arith) found
+      (λ is_suspended end is went. record { touches = refl; done = inl (record { suspended = is_suspended; status = is; back = went }) })
+      (λ not_suspended.
+      writes E_OK refl
+      ▸ loads (events task) (record { is = omega arith; aligned = omega arith; inside = omega arith }) (word_at c.ram (events task)) refl
+      ▸ writes grown refl
+      ▸ stores (events task) (record { is = omega arith; aligned = omega arith; inside = omega arith }) (inl (omega arith))
+      ▸ asked_owe (behind 6 o) p (omega arith) not_suspended)
 
   body_owes : Owes offset (offset + 4 + 100) (offset + 4) (body task) 0 (EventsSet task) (at offset (spread c)) (masked (spread c))
   body_owes =
-      let fits = h.goes_back.can_run.inside in (
-        0x8000_0000,
-        refl,
-        looks_owe offset (offset + 4 + 100) task (EventsSet task) further c h.is_task h.goes_back.can_run.lines
-            h.active_bit h.pending_bit h.enabled_bit (offset + 4 + 4) (get_or c.registers 1 0) (get_or c.registers 3 0)
-            (λ lines v only found. looked_owe (behind 8 (offset + 4)) (arrive lines c.pending) v (omega arith) found),
-      )
+      let fits = h.goes_back.can_run.inside in
+      writes memory_base refl
+      ▸ looks_owe offset (offset + 4 + 100) task (EventsSet task) further c h.is_task h.goes_back.can_run.lines
+      h.active_bit h.pending_bit h.enabled_bit (offset + 4 + 4) (get_or c.registers 1 0) (get_or c.registers 3 0)
+      (λ lines v only found. looked_owe (behind 8 (offset + 4)) (arrive lines c.pending) v (omega arith) found)
 
   runs_it : FromOpening 25 (at offset c) (EventsSet task)
   runs_it = opens offset 25 (body task) c (EventsSet task) h.goes_back.can_run (omega arith) body_owes

@@ -5,6 +5,7 @@ use Rattle.std.proofs.lemmas.Bool.{eq-eqb, cases_eq, ne_eqb}
 use Rattle.sloth_base.specs.Machine.{Core, State}
 use Rattle.sloth_base.specs.Arithmetic.{plus}
 use Rattle.sloth_base.specs.Status.{E_OK}
+use Rattle.sloth_base.specs.MemoryMap.{memory_base}
 use Rattle.sloth_region.specs.Layout.{cur, active, events, wait, resume, below_word, idle_context, context_bytes, context_level, context_cur, context_below, words_high, controller_base}
 use Rattle.rv32_instr.specs.declared.InstrKind.{InstrKind}
 use Rattle.rv32_instr.specs.declared.InstrKind.TheVariants.{Lui, Addi}
@@ -13,7 +14,7 @@ use Rattle.masked_code.specs.Place.{at}
 use Rattle.masked_code.specs.Masked.{FromOpening}
 use Rattle.masked_code.specs.Pieces.{saving_code, registers_from}
 use Rattle.masked_code.specs.Kernel.{IsBelow, HasLeft, leaving_code, masking}
-use Rattle.masked_code.specs.Owes.{IsApart, Owes, Enabled}
+use Rattle.masked_code.specs.Owes.{◌▸◌, writes, loads, stores, sets_enabled, IsApart, Owes}
 use Rattle.masked_code.proofs.Words.{word_at-other, word_at-others}
 use Rattle.masked_code.proofs.Spread.{spread, spread_from}
 use Rattle.masked_code.proofs.Runs.{saves_owes}
@@ -23,6 +24,7 @@ use Rattle.block_parts.proofs.Returning.{goes_back}
 use Rattle.block_parts.proofs.Landing.{lands}
 use Rattle.block_parts.proofs.Serving.{opens_within}
 use Rattle.block_parts.specs.Pieces.{back}
+use Rattle.event_gen.proofs.Finding.{own_end, finds_owe}
 use Rattle.event_gen.specs.Pieces.{finds_own, asks_set, answers_set, goes_to_rest, keeping_code, disabling_code}
 use Rattle.event_gen.specs.WaitEvent.{MayWait, Waited, HasWaited, Waits, set_of, rested_ram, kept_ram}
 
@@ -41,7 +43,7 @@ module _ (offset task place own : ℕ) (c : Core) (h : MayWait offset task place
   sp = get_or c.registers 2 0
 
   abbrev at_own : ℕ
-  at_own = 0x8000_0000 + own
+  at_own = memory_base + own
 
   abbrev tail : List ℕ
   tail = spread_from 27 5 c.registers
@@ -142,7 +144,9 @@ module _ (offset task place own : ℕ) (c : Core) (h : MayWait offset task place
       }
 
   -- behind the saved registers
-  kept_owe : (o : ℕ) → found ≡ 0 → Owes offset end o (keeping_code ++ (disabling_code ++ leaving_code)) 0 (Waited task place own) st (record (masked (spread c)) { registers = 0 ∷ at_own ∷ sp ∷ (0x8000_0000 + 12 * (task + 1)) ∷ 0x8000_0000 ∷ tail; ram = with_words (rested_ram (spread c) task) (own + 4 * 5) (registers_from 27 5 (spread c).registers) })
+  kept_owe : (o : ℕ) → found ≡ 0
+      → Owes offset end o (keeping_code ++ (disabling_code ++ leaving_code)) 0 (Waited task place own) st
+      (record (masked (spread c)) { registers = 0 ∷ at_own ∷ sp ∷ (own_end task) ∷ memory_base ∷ tail; ram = with_words (rested_ram (spread c) task) (own + 4 * 5) (registers_from 27 5 (spread c).registers) })
   kept_owe o none =
       let small = h.is_task in
       let al = h.aligned in
@@ -158,132 +162,72 @@ module _ (offset task place own : ℕ) (c : Core) (h : MayWait offset task place
       ∙ word_at-other (with_word c.ram (active task) 0) (wait task) (get_or c.registers 30 0) cur (inl (omega arith))
       ∙ word_at-other c.ram (active task) 0 cur (inl (omega arith))
       ∙ h.runs
-      in (
-        own,
-        record { is = omega arith; aligned = al; inside = omega arith },
-        apart_by own (omega arith) (omega arith),
-        (
-          cur,
-          record { is = refl; aligned = refl; inside = omega arith },
-          task + 1,
-          runs_on,
-          (
-            4 * (task + 1),
-            omega arith,
-            (
-              0x8000_0000 + 4 * (task + 1),
-              omega arith,
-              (
-                resume task,
-                record { is = omega arith; aligned = omega arith; inside = omega arith },
-                inl (omega arith),
-                (
-                  controller_base,
-                  refl,
-                  (
-                    controller_base + (task + 1),
-                    omega arith,
-                    (
-                      Enabled task,
-                      (omega arith, omega arith),
-                      leave_owes offset end (Waited task place own) st place d at_own sp (task + 1) (set tail 25 (controller_base + (task + 1))) refl refl h.goes_back.previous still_below low (behind 8 o)
-                          (λ last left. record { touches = refl; done = inr (has_waited last none left) }),
-                    ),
-                  ),
-                ),
-              ),
-            ),
-          ),
-        ),
-      )
+      in
+      stores own (record { is = omega arith; aligned = al; inside = omega arith }) (apart_by own (omega arith) (omega arith))
+      ▸ loads cur (record { is = refl; aligned = refl; inside = omega arith }) (task + 1) runs_on
+      ▸ writes (4 * (task + 1)) (omega arith)
+      ▸ writes (memory_base + 4 * (task + 1)) (omega arith)
+      ▸ stores (resume task) (record { is = omega arith; aligned = omega arith; inside = omega arith }) (inl (omega arith))
+      ▸ writes controller_base refl
+      ▸ writes (controller_base + (task + 1)) (omega arith)
+      ▸ sets_enabled task (omega arith, omega arith)
+      ▸ leave_owes offset end (Waited task place own) st place d at_own sp (task + 1) (set tail 25 (controller_base + (task + 1))) refl refl h.goes_back.previous still_below low (behind 8 o)
+      (λ last left. record { touches = refl; done = inr (has_waited last none left) })
 
   -- the registers are saved; whatever stands behind
-  saved_owe : (rest : List InstrKind) (E : List ℕ → State → State → Type 0) (o x1 x3 : ℕ) (before : List ℕ) → Owes offset end (behind 1 o + 108) rest 0 E st (record (masked (spread c)) { registers = 0 ∷ at_own ∷ sp ∷ x3 ∷ 0x8000_0000 ∷ tail; ram = with_words before (own + 4 * 5) (registers_from 27 5 (spread c).registers) }) → Owes offset end o (saved_first rest) 0 E st (record (masked (spread c)) { registers = 0 ∷ x1 ∷ sp ∷ x3 ∷ 0x8000_0000 ∷ tail; ram = before })
-  saved_owe rest E o x1 x3 before go = (
-    at_own,
-    own_is,
-    saves_owes offset end E st rest own h.aligned 27 5 1 (behind 1 o) (behind 1 o + 108) (record (masked (spread c)) { registers = 0 ∷ at_own ∷ sp ∷ x3 ∷ 0x8000_0000 ∷ tail; ram = before }) refl refl own_fits own_apart go,
-  )
+  saved_owe : (rest : List InstrKind) (E : List ℕ → State → State → Type 0) (o x1 x3 : ℕ) (before : List ℕ)
+      → Owes offset end (behind 1 o + 108) rest 0 E st
+      (record (masked (spread c)) { registers = 0 ∷ at_own ∷ sp ∷ x3 ∷ memory_base ∷ tail; ram = with_words before (own + 4 * 5) (registers_from 27 5 (spread c).registers) })
+      → Owes offset end o (saved_first rest) 0 E st (record (masked (spread c)) { registers = 0 ∷ x1 ∷ sp ∷ x3 ∷ memory_base ∷ tail; ram = before })
+  saved_owe rest E o x1 x3 before go =
+      writes at_own own_is
+      ▸ saves_owes offset end E st rest own h.aligned 27 5 1 (behind 1 o) (behind 1 o + 108) (record (masked (spread c)) { registers = 0 ∷ at_own ∷ sp ∷ x3 ∷ memory_base ∷ tail; ram = before }) refl refl own_fits own_apart go
 
   -- the task goes to rest; whatever stands behind
-  rested_owe : (rest : List InstrKind) (E : List ℕ → State → State → Type 0) (o : ℕ) → Owes offset end (behind 2 o) rest 0 E st (record (masked (spread c)) { registers = 0 ∷ found ∷ sp ∷ (0x8000_0000 + 12 * (task + 1)) ∷ 0x8000_0000 ∷ tail; ram = rested_ram (spread c) task }) → Owes offset end o (goes_to_rest ++ rest) 0 E st (record (masked (spread c)) { registers = 0 ∷ found ∷ sp ∷ (0x8000_0000 + 12 * (task + 1)) ∷ 0x8000_0000 ∷ tail })
+  rested_owe : (rest : List InstrKind) (E : List ℕ → State → State → Type 0) (o : ℕ)
+      → Owes offset end (behind 2 o) rest 0 E st
+      (record (masked (spread c)) { registers = 0 ∷ found ∷ sp ∷ (own_end task) ∷ memory_base ∷ tail; ram = rested_ram (spread c) task })
+      → Owes offset end o (goes_to_rest ++ rest) 0 E st (record (masked (spread c)) { registers = 0 ∷ found ∷ sp ∷ (own_end task) ∷ memory_base ∷ tail })
   rested_owe rest E o go =
       let small = h.is_task in
-      let under = low in (
-        active task,
-        record { is = omega arith; aligned = omega arith; inside = omega arith },
-        inl (omega arith),
-        (
-          wait task,
-          record { is = omega arith; aligned = omega arith; inside = omega arith },
-          inl (omega arith),
-          go,
-        ),
-      )
+      let under = low in
+      stores (active task) (record { is = omega arith; aligned = omega arith; inside = omega arith }) (inl (omega arith))
+      ▸ stores (wait task) (record { is = omega arith; aligned = omega arith; inside = omega arith }) (inl (omega arith))
+      ▸ go
 
   -- the look at the events; whatever stands behind the way back
-  looked_owe : (rest : List InstrKind) → (found ≡ 0 → Owes offset end (behind 14 (offset + 4)) rest 0 (Waited task place own) st (record (masked (spread c)) { registers = 0 ∷ found ∷ sp ∷ (0x8000_0000 + 12 * (task + 1)) ∷ 0x8000_0000 ∷ tail })) → Owes offset end (offset + 4) (Lui 4 words_high ∷ (finds_own ++ (asks_set ++ (answers_set ++ (back ++ rest))))) 0 (Waited task place own) st (masked (spread c))
+  looked_owe : (rest : List InstrKind)
+      → (found ≡ 0 → Owes offset end (behind 14 (offset + 4)) rest 0 (Waited task place own) st (record (masked (spread c)) { registers = 0 ∷ found ∷ sp ∷ (own_end task) ∷ memory_base ∷ tail }))
+      → Owes offset end (offset + 4) (Lui 4 words_high ∷ (finds_own ++ (asks_set ++ (answers_set ++ (back ++ rest))))) 0 (Waited task place own) st (masked (spread c))
   looked_owe rest go =
       let small = h.is_task in
-      let fits = h.goes_back.can_run.inside in (
-        0x8000_0000,
-        refl,
-        (
-          cur,
-          record { is = refl; aligned = refl; inside = omega arith },
-          task + 1,
-          h.runs,
-          (
-            8 * (task + 1),
-            omega arith,
-            (
-              4 * (task + 1),
-              omega arith,
-              (
-                12 * (task + 1),
-                omega arith,
-                (
-                  0x8000_0000 + 12 * (task + 1),
-                  omega arith,
-                  (
-                    events task,
-                    record { is = omega arith; aligned = omega arith; inside = omega arith },
-                    word_at c.ram (events task),
-                    refl,
-                    (
-                      found,
-                      refl,
-                      record {
-                        passed = 5;
-                        lands = lands (behind 8 (offset + 4)) 24 5 (omega arith) (omega arith) refl;
-                        when_taken = λ t. ⊎_elim
-                            (λ none. go none)
-                            (λ some. let f = ne_eqb found 0 some in absurd (cc))
-                            (cases_eq found 0);
-                        when_not = λ n. ⊎_elim
-                            (λ none. absurd (n (eq-eqb found 0 none)))
-                            (λ some. (
-                              E_OK,
-                              refl,
-                              goes_back offset (masking ∷ body) c h.goes_back (Waited task place own) found (0x8000_0000 + 12 * (task + 1)) E_OK
-                                  c.pending c.pending c.ram h.level (λ last is went. record { touches = refl; done = inl (record { one_set = some; status = is; back = went }) }),
-                            ))
-                            (cases_eq found 0);
-                      },
-                    ),
-                  ),
-                ),
-              ),
-            ),
-          ),
-        ),
-      )
+      let fits = h.goes_back.can_run.inside in
+      writes memory_base refl
+      ▸ finds_owe offset end task (Waited task place own) st (asks_set ++ (answers_set ++ (back ++ rest))) (masked (spread c)) (get_or c.registers 1 0) sp
+      (get_or c.registers 3 0) tail small h.runs (offset + 4 + 4) (
+      loads (events task) (record { is = omega arith; aligned = omega arith; inside = omega arith }) (word_at c.ram (events task)) refl
+      ▸ writes found refl
+      ▸ record {
+        passed = 5;
+        lands = lands (behind 8 (offset + 4)) 24 5 (omega arith) (omega arith) refl;
+        when_taken = λ t. ⊎_elim
+            (λ none. go none)
+            (λ some. let f = ne_eqb found 0 some in absurd (cc))
+            (cases_eq found 0);
+        when_not = λ n. ⊎_elim
+            (λ none. absurd (n (eq-eqb found 0 none)))
+            (λ some.
+            writes E_OK refl
+            ▸ goes_back offset (masking ∷ body) c h.goes_back (Waited task place own) found (own_end task) E_OK
+            c.pending c.pending c.ram h.level (λ last is went. record { touches = refl; done = inl (record { one_set = some; status = is; back = went }) }))
+            (cases_eq found 0);
+      })
 
   body_owes : Owes offset end (offset + 4) body 0 (Waited task place own) st (masked (spread c))
   body_owes =
       looked_owe (goes_to_rest ++ saved_first (keeping_code ++ (disabling_code ++ leaving_code)))
       (λ none. rested_owe (saved_first (keeping_code ++ (disabling_code ++ leaving_code))) (Waited task place own) (behind 14 (offset + 4))
-      (saved_owe (keeping_code ++ (disabling_code ++ leaving_code)) (Waited task place own) (behind 2 (behind 14 (offset + 4))) found (0x8000_0000 + 12 * (task + 1)) (rested_ram (spread c) task)
+      (saved_owe (keeping_code ++ (disabling_code ++ leaving_code)) (Waited task place own) (behind 2 (behind 14 (offset + 4))) found (own_end task) (rested_ram (spread c) task)
       (kept_owe (behind 3 (behind 14 (offset + 4)) + 108) none)))
 
   runs_it : FromOpening 85 (at offset c) (Waited task place own)

@@ -1,5 +1,6 @@
 -- Blocks of services on events.
-use Rattle.std.specs.Prelude.{ℕ, not, List}
+use Rattle.std.specs.Prelude.{ℕ, not, List, []}
+use Rattle.sloth_base.specs.declared.image.Mark.{Mark}
 use Rattle.sloth_base.specs.declared.service.Service.{Service}
 use Rattle.sloth_base.specs.declared.service.Service.TheVariants.{SetEvent, ClearEvent, GetEvent, WaitEvent}
 use Rattle.sloth_base.specs.ServiceCodes.{object_kind}
@@ -13,6 +14,10 @@ use Rattle.event_gen.specs.WaitEvent.{Waits}
 -- the services on events; the object is a task, or 0 where there is none
 abbrev pub HasEventBlock : Service → ℕ → Type 0
 HasEventBlock service object = HasBlockUnless (not (is_on_events service)) (object_kind service) object
+
+-- no mark follows the opening
+abbrev pub no_marks : ℕ → List Mark
+no_marks at = []
 
 -- the code of a service with its object has the service's effect
 abbrev pub ServesEvent : Service → ℕ → List InstrKind → Type 0

@@ -1,5 +1,5 @@
 -- ClearEvent (OSEK OS 2.2.3, section 13.5.3.2).
-use Rattle.std.specs.Prelude.{ℕ, ◌+◌, ◌-◌, ◌^◌, ◌≡◌, ◌<◌, ◌≤◌, List, [], ◌∷◌, length, slice_index, bit_and}
+use Rattle.std.specs.Prelude.{ℕ, ◌+◌, ◌-◌, ◌^◌, ◌≡◌, ◌<◌, List, [], slice_index, bit_and}
 use Rattle.sloth_base.specs.Machine.{Core, State}
 use Rattle.sloth_base.specs.Status.{E_OK}
 use Rattle.sloth_region.specs.Layout.{cur, events}
@@ -7,7 +7,7 @@ use Rattle.rv32_instr.specs.declared.InstrKind.{InstrKind}
 use Rattle.rv32_instr.specs.Ram.{word_at, with_word}
 use Rattle.masked_code.specs.Masked.{FromOpening}
 use Rattle.masked_code.specs.Place.{at}
-use Rattle.masked_code.specs.Kernel.{masking}
+use Rattle.block_parts.specs.ServiceCode.{IsServiceCode}
 use Rattle.block_parts.specs.Back.{CanGoBack, WentBack, a0}
 
 -- the register of the mask of a service's events
@@ -32,8 +32,7 @@ pub record EventsCleared (task : ℕ) (touched : List ℕ) (start end : State) :
   pub status : slice_index end.core.registers a0 ≡ E_OK
   pub back : WentBack a0 (record start.core { ram = cleared_ram start.core.ram task (slice_index start.core.registers mask_register) }) start end
 
--- Code of ClearEvent: its first instruction masks, and at most 15 more lead to its effect, whatever lines arrive.
-pub record ClearsEvents (code : List InstrKind) : Type 0 where
-  pub size : length code ≤ 16
-  pub masks : (rest : List InstrKind) × (code ≡ masking ∷ rest)
-  pub runs : (offset task : ℕ) (core : Core) → MayClear offset task code core → FromOpening 15 (at offset core) (EventsCleared task)
+-- Code of ClearEvent: behind its first instruction at most 15 more lead to its effect, whatever lines arrive.
+abbrev pub ClearsEvents : List InstrKind → Type 0
+ClearsEvents code =
+    IsServiceCode 16 code ((offset task : ℕ) (core : Core) → MayClear offset task code core → FromOpening 15 (at offset core) (EventsCleared task))

@@ -1,5 +1,5 @@
 -- GetEvent (OSEK OS 2.2.3, section 13.5.3.3).
-use Rattle.std.specs.Prelude.{ℕ, ◌≡◌, ◌<◌, ◌≤◌, ◌⊎◌, List, [], ◌∷◌, length, slice_index}
+use Rattle.std.specs.Prelude.{ℕ, ◌≡◌, ◌<◌, ◌⊎◌, List, [], ◌∷◌, slice_index}
 use Rattle.sloth_base.specs.Machine.{Core, State}
 use Rattle.sloth_base.specs.Status.{E_OK, E_OS_STATE}
 use Rattle.sloth_region.specs.Layout.{active, events}
@@ -7,7 +7,7 @@ use Rattle.rv32_instr.specs.declared.InstrKind.{InstrKind}
 use Rattle.rv32_instr.specs.Ram.{word_at}
 use Rattle.masked_code.specs.Masked.{FromOpening}
 use Rattle.masked_code.specs.Place.{at}
-use Rattle.masked_code.specs.Kernel.{masking}
+use Rattle.block_parts.specs.ServiceCode.{IsServiceCode}
 use Rattle.block_parts.specs.Back.{CanGoBack, WentBack, a0, a1}
 use Rattle.block_parts.specs.Looks.{LooksSuspended}
 
@@ -38,8 +38,7 @@ pub record EventsTold (task : ℕ) (touched : List ℕ) (start end : State) : Ty
   pub touches : touched ≡ task ∷ []
   pub told : HasNotTold task start end ⊎ HasTold task start end
 
--- Code of GetEvent: its first instruction masks, and at most 16 more lead to its effect, whatever lines arrive.
-pub record TellsEvents (task : ℕ) (code : List InstrKind) : Type 0 where
-  pub size : length code ≤ 17
-  pub masks : (rest : List InstrKind) × (code ≡ masking ∷ rest)
-  pub runs : (offset : ℕ) (core : Core) → MayGet offset task code core → FromOpening 16 (at offset core) (EventsTold task)
+-- Code of GetEvent: behind its first instruction at most 16 more lead to its effect, whatever lines arrive.
+abbrev pub TellsEvents : ℕ → List InstrKind → Type 0
+TellsEvents task code =
+    IsServiceCode 17 code ((offset : ℕ) (core : Core) → MayGet offset task code core → FromOpening 16 (at offset core) (EventsTold task))

@@ -1,5 +1,5 @@
 -- SetEvent (OSEK OS 2.2.3, section 13.5.3.1).
-use Rattle.std.specs.Prelude.{ℕ, ◌≡◌, ◌≢◌, ◌<◌, ◌≤◌, ◌⊎◌, List, [], ◌∷◌, length, slice_index, slice_set, bit_and, bit_or}
+use Rattle.std.specs.Prelude.{ℕ, ◌≡◌, ◌≢◌, ◌<◌, ◌⊎◌, List, [], ◌∷◌, slice_index, slice_set, bit_and, bit_or}
 use Rattle.sloth_base.specs.Machine.{Core, State}
 use Rattle.sloth_base.specs.Status.{E_OK, E_OS_STATE}
 use Rattle.sloth_region.specs.Layout.{active, events, wait}
@@ -7,7 +7,7 @@ use Rattle.rv32_instr.specs.declared.InstrKind.{InstrKind}
 use Rattle.rv32_instr.specs.Ram.{word_at, with_word}
 use Rattle.masked_code.specs.Masked.{FromOpening}
 use Rattle.masked_code.specs.Place.{at}
-use Rattle.masked_code.specs.Kernel.{masking}
+use Rattle.block_parts.specs.ServiceCode.{IsServiceCode}
 use Rattle.block_parts.specs.Back.{CanGoBack, WentBack, a0}
 use Rattle.block_parts.specs.Looks.{LooksSuspended}
 use Rattle.event_gen.specs.ClearEvent.{mask_register}
@@ -62,8 +62,7 @@ pub record EventsSet (task : ℕ) (touched : List ℕ) (start end : State) : Typ
   pub touches : touched ≡ task ∷ []
   pub done : HasNotSet task start end ⊎ (HasSet task start end ⊎ HasWoken task start end)
 
--- Code of SetEvent: its first instruction masks, and at most 25 more lead to its effect, whatever lines arrive.
-pub record SetsEvents (task : ℕ) (code : List InstrKind) : Type 0 where
-  pub size : length code ≤ 26
-  pub masks : (rest : List InstrKind) × (code ≡ masking ∷ rest)
-  pub runs : (offset : ℕ) (core : Core) → MaySet offset task code core → FromOpening 25 (at offset core) (EventsSet task)
+-- Code of SetEvent: behind its first instruction at most 25 more lead to its effect, whatever lines arrive.
+abbrev pub SetsEvents : ℕ → List InstrKind → Type 0
+SetsEvents task code =
+    IsServiceCode 26 code ((offset : ℕ) (core : Core) → MaySet offset task code core → FromOpening 25 (at offset core) (EventsSet task))

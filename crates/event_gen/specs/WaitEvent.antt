@@ -1,5 +1,5 @@
 -- WaitEvent (OSEK OS 2.2.3, section 13.5.3.4).
-use Rattle.std.specs.Prelude.{ℕ, ◌+◌, ◌*◌, ◌%◌, ◌≡◌, ◌≢◌, ◌<◌, ◌≤◌, ◌⊎◌, List, [], ◌∷◌, length, slice_index, slice_set, bit_and}
+use Rattle.std.specs.Prelude.{ℕ, ◌+◌, ◌*◌, ◌%◌, ◌≡◌, ◌≢◌, ◌<◌, ◌≤◌, ◌⊎◌, List, [], length, slice_index, slice_set, bit_and}
 use Rattle.sloth_base.specs.Machine.{Core, State}
 use Rattle.sloth_base.specs.Status.{E_OK}
 use Rattle.sloth_base.specs.MemoryMap.{memory_base}
@@ -9,7 +9,8 @@ use Rattle.rv32_instr.specs.Ram.{word_at, with_word, with_words}
 use Rattle.masked_code.specs.Masked.{FromOpening}
 use Rattle.masked_code.specs.Place.{at}
 use Rattle.masked_code.specs.Pieces.{registers_from}
-use Rattle.masked_code.specs.Kernel.{IsBelow, LeftAs, masking}
+use Rattle.masked_code.specs.Kernel.{IsBelow, LeftAs}
+use Rattle.block_parts.specs.ServiceCode.{IsServiceCode}
 use Rattle.block_parts.specs.Back.{CanGoBack, WentBack, a0}
 use Rattle.event_gen.specs.ClearEvent.{mask_register}
 
@@ -70,8 +71,8 @@ pub record Waited (task place own : ℕ) (touched : List ℕ) (start end : State
   pub touches : touched ≡ []
   pub done : HasNotWaited task start end ⊎ HasWaited task place own start end
 
--- Code of WaitEvent: its first instruction masks, and at most 85 more lead to its effect, whatever lines arrive.
-pub record Waits (code : List InstrKind) : Type 0 where
-  pub size : length code ≤ 91
-  pub masks : (rest : List InstrKind) × (code ≡ masking ∷ rest)
-  pub runs : (offset task place own : ℕ) (core : Core) → MayWait offset task place own code core → FromOpening 85 (at offset core) (Waited task place own)
+-- Code of WaitEvent: behind its first instruction at most 85 more lead to its effect, whatever lines arrive.
+abbrev pub Waits : List InstrKind → Type 0
+Waits code =
+    IsServiceCode 91 code ((offset task place own : ℕ) (core : Core) → MayWait offset task place own code core
+    → FromOpening 85 (at offset core) (Waited task place own))

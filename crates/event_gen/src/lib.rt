@@ -1,11 +1,9 @@
 //! The code of the operating system services on events (OSEK OS 2.2.3, section 13.5).
 #![tactic(auto)]
 
-ghost use Rattle.std.specs.Prelude.{◌≡◌, ◌+◌, ◌*◌, ◌<◌, ◌≤◌, [], ◌∷◌, IfOk, length, slice_index};
-ghost use Rattle.sloth_base.specs.Blocks.{block_number};
-ghost use Rattle.sloth_base.specs.ServiceCodes.{code_of};
-ghost use Rattle.block_parts.specs.Marks.{opening};
-ghost use Rattle.event_gen.specs.Block.{HasEventBlock, ServesEvent};
+ghost use Rattle.std.specs.Prelude.{IfOk};
+ghost use Rattle.block_parts.specs.ServiceBlock.{IsServiceBlock};
+ghost use Rattle.event_gen.specs.Block.{HasEventBlock, ServesEvent, no_marks};
 
 mod clear_event;
 mod get_event;
@@ -35,9 +33,7 @@ pub fn block(
     map: &Map,
 ) -> Result<Block, NoMemory>
     requires { HasEventBlock service object }
-    ensures at { IfOk result (λ block. block.at ≡ slice_index map.now.places.blocks (block_number service object)) }
-    ensures marks { IfOk result (λ block. block.marks ≡ opening block.at (code_of service) ∷ []) }
-    ensures size { IfOk result (λ block. length block.code ≤ 256) }
+    ensures block { IfOk result (IsServiceBlock service object map.now.places.blocks no_marks) }
     ensures effect { IfOk result (λ block. ServesEvent service object block.code) }
 {
     let at = map.places.blocks[block_number(service, object)];

@@ -3,7 +3,7 @@ use Rattle.std.proofs.Common.{◌≡◌, ℕ, zero, suc, ◌-◌, ◌<◌, Bool,
 use Rattle.std.specs.Prelude.{◌==◌, All, slice_index}
 use Rattle.std.specs.List.{list_any, slice_split, onto_first, join_with_byte}
 use Rattle.std.specs.Str.Lines.{strip_carriage_return}
-use Rattle.std.proofs.lemmas.Bool.{true≢false}
+use Rattle.std.proofs.lemmas.Bool.{true≢false, or_parts}
 use Rattle.std.proofs.lemmas.List.{drop_all}
 use Rattle.std.proofs.lemmas.List.Elements.{All-nil, All-cons}
 use Rattle.std.proofs.lemmas.List.Splits.{slice_split_none, slice_split_at}
@@ -15,7 +15,7 @@ use Rattle.asm_lines.specs.declared.source_line.SourceLine.{SourceLine}
 use Rattle.asm_lines.specs.Lines.{line_of, without_returns, lines}
 use Rattle.asm_lines.specs.SourceLines.{source_line}
 use Rattle.asm_lines.specs.Faults.{source_lines}
-use Rattle.asm_lines.proofs.Cuts.{neither, has_in, has_here, last_is, but_last, ends_there}
+use Rattle.asm_lines.proofs.Cuts.{has_in, has_here, last_is, but_last, ends_there}
 use Rattle.asm_names.specs.Said.{is_label, name_of}
 use Rattle.holds_infer.specs.Relabel.{all_holds, resource_names, first_list, other_lists, label_statement, relabel}
 use Rattle.holds_infer.specs.FilledText.{label_text, line_end, lists_behind, filled_parts, filled_text}
@@ -30,7 +30,7 @@ AllLack (p ∷ ps) = (is_byte_of 10 p ≡ false) × AllLack ps
 clean : (x : List ℕ) → is_byte_of 10 x ≡ false → All (λ b. (b == 10) ≡ false) x
 unfolding is_byte_of
 clean [] h = All-nil (λ b. (b == 10) ≡ false)
-clean (b ∷ x) h = let w = neither (b == 10) (list_any (λ y. y == 10) x) h in All-cons (λ b. (b == 10) ≡ false) b x w.0 (clean x w.1)
+clean (b ∷ x) h = let w = or_parts (b == 10) (list_any (λ y. y == 10) x) h in All-cons (λ b. (b == 10) ≡ false) b x w.0 (clean x w.1)
 
 split_joined : (ps : List (List ℕ)) → 0 < length ps → AllLack ps → slice_split (λ b. b == 10) (join_with_byte 10 ps) ≡ ps
 split_joined [] l h = absurd (omega (arith, l))
@@ -69,7 +69,7 @@ drop_lacks : (c k : ℕ) (t : List ℕ) → is_byte_of c t ≡ false → is_byte
 unfolding is_byte_of
 drop_lacks c zero t h = h
 drop_lacks c (suc k) [] h = h
-drop_lacks c (suc k) (b ∷ t) h = drop_lacks c k t (neither (b == c) (list_any (λ y. y == c) t) h).1
+drop_lacks c (suc k) (b ∷ t) h = drop_lacks c k t (or_parts (b == c) (list_any (λ y. y == c) t) h).1
 
 -- ---- line ends
 

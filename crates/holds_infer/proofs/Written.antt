@@ -2,8 +2,7 @@
 use Rattle.std.proofs.Common.{◌≡◌, ℕ, ◌+◌, ◌<◌, Bool, true, false, ◌&&◌, ◌||◌, List, [], ◌∷◌, ◌++◌, length, map, reverse, cond, Some, refl, sym, ap, ◌∙◌, subst, arith, append_assoc, append-nil}
 use Rattle.std.specs.Prelude.{◌==◌, codes}
 use Rattle.std.specs.List.{flat_map, list_all, list_any}
-use Rattle.std.proofs.lemmas.Bool.{false≢true, eqb-true}
-use Rattle.std.proofs.lemmas.List.{reverse-append, length-reverse}
+use Rattle.std.proofs.lemmas.Bool.{false≢true, eqb-true, or_left}
 use Rattle.std.proofs.lemmas.List.Folds.{list_all-append}
 use Rattle.sloth_base.specs.ImageRange.{continues_word}
 use Rattle.text_pieces.specs.Bytes.{is_name, is_byte_of}
@@ -18,7 +17,8 @@ use Rattle.asm_lines.specs.SourceLines.{source_line, statement_of, known_stateme
 use Rattle.asm_lines.specs.Grammar.{starts_bare, Bare, IsTrimmed, is_whole, IsOperands, is_last, is_more, is_something, IsShape}
 use Rattle.asm_lines.proofs.Cuts.{lacks, all_weaker}
 use Rattle.asm_lines.proofs.Shapes.{remains_made, shape_made}
-use Rattle.asm_lines.proofs.Parts.{bare_of, name_bytes}
+use Rattle.asm_lines.proofs.PlacesMade.{name_bare, end_on}
+use Rattle.asm_lines.proofs.Parts.{name_bytes}
 use Rattle.holds_infer.specs.Relabel.{label_statement}
 use Rattle.holds_infer.specs.FilledText.{label_text}
 
@@ -36,10 +36,6 @@ more ns = flat_map (λ r. codes ", " ++ r) ns
 -- letters, digits, `_`, comma and space
 abbrev is_line_byte : ℕ → Bool
 is_line_byte b = continues_word b || ((b == 44) || (b == 32))
-
-or_left : (a b : Bool) → a ≡ true → (a || b) ≡ true
-or_left true b e = refl
-or_left false b e = absurd (false≢true e)
 
 name_line : (n : List ℕ) → is_name n ≡ true → list_all is_line_byte n ≡ true
 name_line n h = all_weaker continues_word is_line_byte (λ b e. or_left (continues_word b) ((b == 44) || (b == 32)) e) n (name_bytes n h)
@@ -69,20 +65,8 @@ unfolding is_name
 some_name [] h = absurd (false≢true h)
 some_name (b ∷ n) h = omega arith
 
-bare_front : (a b : List ℕ) → 0 < length a → starts_bare a ≡ true → starts_bare (a ++ b) ≡ true
-bare_front [] b l h = absurd (omega (arith, l))
-bare_front (x ∷ a) b l h = h
-
-name_bare : (n : List ℕ) → is_name n ≡ true → Bare n
-name_bare n h = bare_of continues_word refl refl n (name_bytes n h)
-
--- x ends with a byte that is no blank, where y does
-ends_bare : (x y : List ℕ) → 0 < length y → starts_bare (reverse y) ≡ true → starts_bare (reverse (x ++ y)) ≡ true
-ends_bare x y l h =
-    ap starts_bare (reverse-append x y) ∙ bare_front (reverse y) (reverse x) (let n = length-reverse y in omega (arith, n, l)) h
-
 ends : (a name : List ℕ) (ns : List (List ℕ)) → is_name name ≡ true → AreWritten ns → starts_bare (reverse (a ++ (name ++ more ns))) ≡ true
-ends a name [] h w = ap (λ x. starts_bare (reverse (a ++ x))) (append-nil name) ∙ ends_bare a name (some_name name h) (name_bare name h).end
+ends a name [] h w = ap (λ x. starts_bare (reverse (a ++ x))) (append-nil name) ∙ end_on a name (some_name name h) (name_bare name h).end
 ends a name (n ∷ ns) h w =
     ap (λ x. starts_bare (reverse (a ++ x))) (sym (append_assoc name (codes ", ") (n ++ more ns)))
     ∙ ap (λ x. starts_bare (reverse x)) (sym (append_assoc a (name ++ codes ", ") (n ++ more ns)))

@@ -1,4 +1,4 @@
--- All code of an image is gathered.
+-- All routines of an image are gathered.
 use Rattle.std.proofs.Common.{◌≡◌, ◌≤◌, ◌<◌, ◌+◌, ◌*◌, ◌/◌, ◌%◌, ℕ, zero, suc, Bool, true, false, Some, List, [], ◌∷◌, ◌++◌, length, get_or, refl, sym, ap, ◌∙◌, subst, inl, inr, arith}
 use Rattle.std.specs.Prelude.{All, Contains, slice_index}
 use Rattle.std.specs.List.{AllZip}
@@ -40,15 +40,20 @@ use Rattle.vector_gen.specs.Boot.{Boots}
 use Rattle.vector_gen.specs.Idle.{Idles, idle_mark}
 use Rattle.vector_gen.specs.Vectors.{AreJumps}
 use Rattle.mem_map.proofs.Bounds.{before_all}
+use Rattle.mem_map.proofs.Wanting.{all_places}
 use Rattle.mem_map.specs.Plan.{boot_bytes, code_extents, idle_bytes}
-use Rattle.sim_image.specs.Generated.{Has, HasCode}
+use Rattle.mem_map.specs.Wanted.{wanted_blocks}
+use Rattle.sim_image.specs.Generated.{Has, HasCode, HasItemBlocks}
 use Rattle.sim_image.specs.Rooms.{FitRooms, FitsRoom}
-use Rattle.sim_image.specs.Standing.{HaveItems, IsOwnMark, MarksAreOfItems, item_block}
 use Rattle.image_gen.specs.Gathered.{MayGenerate, IsGathered, MarksInFormat}
-use Rattle.image_gen.specs.Items.{item_blocks}
+use Rattle.sloth_link.specs.Image.{all_blocks}
+use Rattle.sloth_link.specs.Items.{HaveItems, IsOwnMark, MarksAreOfItems, item_block, item_blocks}
+use Rattle.sloth_link.proofs.ItemBlocks.{item_among, items_own}
+use Rattle.sloth_link.proofs.Joined.{front}
 use Rattle.image_gen.specs.Prologues.{Each, IsPrologue}
 use Rattle.image_gen.specs.Services.{AreServices, IsService, wanted_from}
-use Rattle.image_gen.proofs.Counting.{Located, few_items, located, before_within, block_at, length_blocks}
+use Rattle.image_gen.proofs.Called.{calls, small_code}
+use Rattle.sloth_link.proofs.Counting.{Located, few_items, located, before_within, block_at, length_blocks}
 use Rattle.image_gen.proofs.Each.{zip_append}
 use Rattle.image_gen.proofs.Rooming.{none, plain, marked, prologues_fit, services_fit, items_fit}
 
@@ -86,13 +91,6 @@ even_at (x ∷ xs) (suc k) h = even_at xs k (λ j d l. h (suc j) d (omega (arith
 
 -- ---- marks
 
-of_fact : (k : MarkKind) (Fact : Type 0) → Fact → IsOfItem k Fact
-of_fact kind.Item Fact f = f
-of_fact kind.Jump Fact f = f
-of_fact kind.Opening Fact f = tt
-of_fact kind.Idle Fact f = tt
-of_fact kind.Back Fact f = tt
-
 pub zip_all : {A B : Type 0} (R : A → B → Type 0) (P : B → Type 0) (xs : List A) (ys : List B) → ((x : A) (y : B) → R x y → P y) → AllZip R xs ys → All P ys
 zip_all R P [] [] f h = All-nil P
 zip_all R P [] (y ∷ ys) f h = absurd h
@@ -109,9 +107,6 @@ wanted_long n (false ∷ wanted) = let h = wanted_long (n + 1) wanted in omega (
 small_register : (r : ℕ) → IsRegister r → r < 32
 small_register r (inl e) = omega (arith, e)
 small_register r (inr h) = let a = h.1 in omega (arith, a)
-
-pub small_code : (s : Service) → code_of s ≤ 11
-small_code s = let l = slice_get_within services (code_of s) s (of_code s) in omega (arith, l)
 
 fields_of : (config : Config) (app : App) (f : Func) (o : Op) (functions func index : ℕ) → IsOp config app f o → func < functions → index ≤ 4095
     → AreFields functions (mark_kind o) (mark_number o) func index
@@ -137,11 +132,11 @@ by_further P service.Schedule at back = All-cons P (back_mark (sum32 at way_back
 by_further P service.ActivateTask at back = All-nil P
 by_further P s at back = All-nil P
 
-module _ (config : Config) (app : App) (levels : Levels) (wanted : List Bool) (map : Map) (may : MayGenerate config app levels wanted map) where
+module _ (config : Config) (app : App) (levels : Levels) (map : Map) (may : MayGenerate config app levels map) where
   -- those of services
-  served_format : (served : List Block) → AreServices levels map wanted served → All (MarksInFormat (length app.funcs)) served
+  served_format : (served : List Block) → AreServices levels map (wanted_blocks app) served → All (MarksInFormat (length app.funcs)) served
   served_format served serve = λ k d l.
-      let numbers : List ℕ = wanted_from 0 wanted in
+      let numbers : List ℕ = wanted_from 0 (wanted_blocks app) in
       let long = AllZip-long (IsService levels map) numbers served serve in
       let h = zip_at (IsService levels map) numbers served k 0 d serve (omega (arith, l, long)) in
       let b : Block = get_or served k d in
@@ -165,17 +160,20 @@ pub record IsMade (address : ℕ) (marks : List Mark) (Effect : List InstrKind �
 
 -- All blocks of an image, each made as it should be: the vectors, boot, the idle loop, a prologue for each task, the services that are
 -- called, and the items.
-pub record AreMade (config : Config) (app : App) (levels : Levels) (wanted : List Bool) (map : Map) (vectors boot idle : Block) (starts served own : List Block) : Type 0 where
+pub record AreMade (config : Config) (app : App) (levels : Levels) (map : Map) (vectors boot idle : Block) (starts served own : List Block) : Type 0 where
   pub vectors_made : IsMade 0x8000_0400 [] (AreJumps 32 map.handlers) vectors
   pub boot_made : IsMade 0x8000_0480 [] (Boots config.tasks levels.task map.idle) boot
   pub idle_made : IsMade map.idle (idle_mark map.idle ∷ []) Idles idle
   pub count : length starts ≡ length config.tasks
   pub each : Each (IsPrologue config app levels map) starts
-  pub serve : AreServices levels map wanted served
+  pub serve : AreServices levels map (wanted_blocks app) served
   pub items : own ≡ item_blocks app map.places (length app.funcs)
 
-module _ (config : Config) (app : App) (levels : Levels) (wanted : List Bool) (map : Map) (may : MayGenerate config app levels wanted map)
-    (vectors boot idle : Block) (starts served own : List Block) (made : AreMade config app levels wanted map vectors boot idle starts served own) where
+module _ (config : Config) (app : App) (levels : Levels) (map : Map) (may : MayGenerate config app levels map)
+    (vectors boot idle : Block) (starts served own : List Block) (made : AreMade config app levels map vectors boot idle starts served own) where
+  abbrev wanted : List Bool
+  wanted = wanted_blocks app
+
   abbrev all : List Block
   all = vectors ∷ boot ∷ idle ∷ (starts ++ (served ++ own))
 
@@ -197,7 +195,7 @@ module _ (config : Config) (app : App) (levels : Levels) (wanted : List Bool) (m
       (opening (block_address map.places call.service call.object) (code_of call.service) ∷ further_marks call.service (block_address map.places call.service call.object))
       (ServesCall call.service call.object levels)
   has_service func item call is e =
-      let c = may.calls func item call is e in
+      let c = calls config app may.well_formed func item call is e in
       let number : ℕ = block_number call.service call.object in
       let small = c.0 in
       let r = found (IsService levels map) 0 wanted served number c.1 made.serve in
@@ -233,13 +231,8 @@ module _ (config : Config) (app : App) (levels : Levels) (wanted : List Bool) (m
 
   have_items : HaveItems app map.places all
   have_items func index is =
-      let long = length_blocks app map.places (length app.funcs) in
-      let within = before_within app.funcs (length app.funcs) func index is.declared is.inside in
-      let k : ℕ = items_before app.funcs func + index in
-      let here = Contains-get_or (item_blocks app map.places (length app.funcs)) k none (omega (arith, long, within)) in
-      let there : Contains (item_blocks app map.places (length app.funcs)) (item_block app map.places func index) =
-      subst (Contains (item_blocks app map.places (length app.funcs))) (block_at app map.places (length app.funcs) func index none is.declared is.inside) here in
-      in_own (item_block app map.places func index) (subst (λ bs. Contains bs (item_block app map.places func index)) (sym made.items) there)
+      in_own (item_block app map.places func index)
+      (subst (λ bs. Contains bs (item_block app map.places func index)) (sym made.items) (item_among app map.places func index is))
 
   without : (b : Block) → b.marks ≡ [] → MarksAreOfItems app map.places b
   without b e = subst (All (IsOwnMark app map.places)) (sym e) (All-nil (IsOwnMark app map.places))
@@ -247,31 +240,20 @@ module _ (config : Config) (app : App) (levels : Levels) (wanted : List Bool) (m
   with_one : (b : Block) (m : Mark) → b.marks ≡ m ∷ [] → IsOwnMark app map.places m → MarksAreOfItems app map.places b
   with_one b m e o = subst (All (IsOwnMark app map.places)) (sym e) (All-cons (IsOwnMark app map.places) m [] o (All-nil (IsOwnMark app map.places)))
 
-  items_own : All (MarksAreOfItems app map.places) (item_blocks app map.places (length app.funcs))
-  items_own = λ k d l.
-      let long = length_blocks app map.places (length app.funcs) in
-      let at : Located app.funcs (length app.funcs) k = located app.funcs (length app.funcs) k (omega (arith, l, long)) in
-      let is : IsItem app at.func at.index = record { declared = at.declared; inside = at.inside } in
-      let block : get_or (item_blocks app map.places (length app.funcs)) k d ≡ item_block app map.places at.func at.index =
-      ap (λ j. get_or (item_blocks app map.places (length app.funcs)) j d) at.is ∙ block_at app map.places (length app.funcs) at.func at.index d at.declared at.inside in
-      let m : Mark = item_mark app map.places at.func at.index in
-      subst (MarksAreOfItems app map.places) (sym block)
-      (with_one (item_block app map.places at.func at.index) m refl (of_fact m.kind (IsItem app m.b m.c × (m ≡ item_mark app map.places m.b m.c)) (is, refl)))
-
-  all_blocks : (P : Block → Type 0) → P vectors → P boot → P idle → All P starts → All P served → All P own → All P all
-  all_blocks P v b i s r o =
+  each_block : (P : Block → Type 0) → P vectors → P boot → P idle → All P starts → All P served → All P own → All P all
+  each_block P v b i s r o =
       All-cons P vectors (boot ∷ idle ∷ (starts ++ (served ++ own))) v
       (All-cons P boot (idle ∷ (starts ++ (served ++ own))) b
       (All-cons P idle (starts ++ (served ++ own)) i (All-append P starts (served ++ own) s (All-append P served own r o))))
 
   all_own : All (MarksAreOfItems app map.places) all
   all_own =
-      all_blocks (MarksAreOfItems app map.places) (without vectors made.vectors_made.marks_are) (without boot made.boot_made.marks_are) (with_one idle (idle_mark map.idle) made.idle_made.marks_are tt)
+      each_block (MarksAreOfItems app map.places) (without vectors made.vectors_made.marks_are) (without boot made.boot_made.marks_are) (with_one idle (idle_mark map.idle) made.idle_made.marks_are tt)
       (λ k d l. without (get_or starts k d) (made.each k d l).marks)
       (zip_all (IsService levels map) (MarksAreOfItems app map.places) (wanted_from 0 wanted) served
       (λ n b h. subst (All (IsOwnMark app map.places)) (sym h.marks)
       (All-cons (IsOwnMark app map.places) (opening b.at (block_code n)) (further_marks h.service b.at) tt (by_further (IsOwnMark app map.places) h.service b.at tt))) made.serve)
-      (subst (All (MarksAreOfItems app map.places)) (sym made.items) items_own)
+      (subst (All (MarksAreOfItems app map.places)) (sym made.items) (items_own app map.places))
 
   -- ---- the format of images
 
@@ -304,15 +286,15 @@ module _ (config : Config) (app : App) (levels : Levels) (wanted : List Bool) (m
   all_format : All (MarksInFormat (length app.funcs)) all
   all_format =
       let even = may.planned.zones.idle_aligned in
-      all_blocks (MarksInFormat (length app.funcs)) (no_mark vectors made.vectors_made.marks_are) (no_mark boot made.boot_made.marks_are) (one_mark idle (idle_mark map.idle) made.idle_made.marks_are (even, (refl, refl, refl)))
+      each_block (MarksInFormat (length app.funcs)) (no_mark vectors made.vectors_made.marks_are) (no_mark boot made.boot_made.marks_are) (one_mark idle (idle_mark map.idle) made.idle_made.marks_are (even, (refl, refl, refl)))
       (λ k d l. no_mark (get_or starts k d) (made.each k d l).marks)
-      (served_format config app levels wanted map may served made.serve)
+      (served_format config app levels map may served made.serve)
       (subst (All (MarksInFormat (length app.funcs))) (sym made.items) items_format)
 
   few_blocks : length all ≤ 8192
   few_blocks =
       let few = may.well_formed.in_range.configuration.few_tasks in
-      let numbers = may.planned.all_numbers in
+      let numbers = all_places app in
       let wanted_few = wanted_long 0 wanted in
       let served_long = AllZip-long (IsService levels map) (wanted_from 0 wanted) served made.serve in
       let own_long : length own ≡ items_before app.funcs (length app.funcs) = ap length made.items ∙ length_blocks app map.places (length app.funcs) in
@@ -334,20 +316,26 @@ module _ (config : Config) (app : App) (levels : Levels) (wanted : List Bool) (m
       let second = plain (record { base = 0x8000_0480; len = boot_bytes (length config.tasks) }) boot made.boot_made.at (omega arith) refl (omega (arith, few)) made.boot_made.marks_are in
       let third = marked (record { base = map.idle; len = idle_bytes }) idle (idle_mark map.idle) made.idle_made.at (omega (arith, is)) even (omega (arith, word)) made.idle_made.marks_are
       (omega (arith, made.idle_made.at)) (omega (arith, made.idle_made.at, word)) in
-      let rest = zip_append FitsRoom _ starts _ (served ++ own) (prologues_fit config app levels wanted map may starts made.count made.each)
-      (zip_append FitsRoom _ served _ own (services_fit config app levels wanted map may served made.serve)
-      (subst (FitRooms _) (sym made.items) (items_fit config app levels wanted map may))) in
+      let rest = zip_append FitsRoom _ starts _ (served ++ own) (prologues_fit config app levels map may starts made.count made.each)
+      (zip_append FitsRoom _ served _ own (services_fit config app levels map may served made.serve)
+      (subst (FitRooms _) (sym made.items) (items_fit config app levels map may))) in
       (first, (second, (third, rest)))
 
-  pub gathered : (blocks : List Block) → blocks ≡ ((vectors ∷ boot ∷ idle ∷ starts) ++ served) ++ own → IsGathered config app levels wanted map blocks
+  pub gathered : (blocks : List Block) → blocks ≡ (vectors ∷ boot ∷ idle ∷ starts) ++ served → IsGathered config app levels map blocks
   gathered blocks e =
-      let same : blocks ≡ all = e ∙ append_assoc (vectors ∷ boot ∷ idle ∷ starts) served own in
-      subst (IsGathered config app levels wanted map) (sym same)
-      (record {
-        code = has_code;
-        items = record { well_formed = may.well_formed; agree = may.planned.agree; items = have_items; own = all_own };
+      let items : List Block = item_blocks app map.places (length app.funcs) in
+      let same : all_blocks app map blocks ≡ all =
+      ap (λ (bs : List Block). bs ++ items) e ∙ append_assoc (vectors ∷ boot ∷ idle ∷ starts) served items
+      ∙ ap (λ (bs : List Block). vectors ∷ boot ∷ idle ∷ (starts ++ (served ++ bs))) (sym made.items) in
+      record {
+        code = subst (HasCode config app levels map) (sym same) has_code;
+        items = subst (HasItemBlocks config app map.places) (sym same)
+            (record { well_formed = may.well_formed; agree = may.planned.agree; items = have_items; own = all_own });
+        routines = front (MarksAreOfItems app map.places) blocks items (subst (All (MarksAreOfItems app map.places)) (sym same) all_own);
+        bounds = may.bounds;
+        are_bounds = may.are_bounds;
         planned = may.planned;
-        rooms = rooms;
-        few = few_blocks;
-        format = all_format;
-      })
+        rooms = subst (FitRooms (code_extents map (length config.tasks) wanted may.planned.sizes)) (sym same) rooms;
+        few = subst (λ (bs : List Block). length bs ≤ 8192) (sym same) few_blocks;
+        format = subst (All (MarksInFormat (length app.funcs))) (sym same) all_format;
+      }

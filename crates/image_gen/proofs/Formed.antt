@@ -17,7 +17,7 @@ use Rattle.sloth_region.specs.declared.map.Map.{Map}
 use Rattle.rv32_instr.specs.declared.block.Block.{Block}
 use Rattle.sloth_link.specs.Linked.{IsInside, block_section, datum_section, marks_of}
 use Rattle.sloth_link.proofs.Written.{code_bytes_length, front_of}
-use Rattle.sim_image.proofs.Items.{all_marks}
+use Rattle.sloth_link.proofs.Standing.{all_marks}
 use Rattle.image_gen.specs.Gathered.{MayGenerate, IsImageOf}
 
 -- at most twice as many marks as blocks
@@ -29,7 +29,7 @@ marks_few (b ∷ blocks) h =
     let n = length-append b.marks (marks_of blocks) in
     omega (arith, first, rest, n)
 
-module _ (config : Config) (app : App) (levels : Levels) (wanted : List Bool) (map : Map) (may : MayGenerate config app levels wanted map) (image : Image)
+module _ (config : Config) (app : App) (levels : Levels) (map : Map) (may : MayGenerate config app levels map) (image : Image)
     (h : IsImageOf config app levels map image.memory image.marks) (tasks : image.tasks ≡ prelude.map (λ d. d.name) config.tasks)
     (functions : image.funcs ≡ prelude.map (λ f. f.name) app.funcs) where
   funcs_long : length image.funcs ≡ length app.funcs

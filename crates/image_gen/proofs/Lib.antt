@@ -1,12 +1,11 @@
+pub mod Called
 pub mod Each
 pub mod Numbering
-pub mod Counting
 pub mod Starting
 pub mod Sizing
 pub mod Rooming
 pub mod AllCode
 pub mod Linking
 pub mod Formed
-pub mod Callers
 pub mod Planning
 pub mod Places

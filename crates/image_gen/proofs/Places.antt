@@ -10,6 +10,7 @@ use Rattle.sloth_region.specs.declared.map.Map.{Map}
 use Rattle.rv32_instr.specs.declared.block.Block.{Block}
 use Rattle.service_gen.specs.Block.{further_marks}
 use Rattle.block_parts.specs.Marks.{opening}
+use Rattle.block_parts.specs.ServiceBlock.{IsServiceBlock}
 use Rattle.service_blocks.specs.Calls.{ServesCall}
 use Rattle.image_gen.specs.Services.{IsService}
 
@@ -40,17 +41,15 @@ number_back number s e = let c = code_found (block_code number) s e in omega (ar
 -- what the generator promises of a service is what is asked of the block at its place
 pub served_at : (levels : Levels) (map : Map) (number object : ℕ) (s : Service) (r : Result Block NoMemory) → service_of (block_code number) ≡ Some s
     → object ≡ block_object number
-    → IfOk r (λ block. block.at ≡ slice_index map.places.blocks (block_number s object))
-    → IfOk r (λ block. block.marks ≡ opening block.at (code_of s) ∷ further_marks s block.at)
-    → IfOk r (λ block. length block.code ≤ 256)
+    → IfOk r (IsServiceBlock s object map.places.blocks (further_marks s))
     → IfOk r (λ block. ServesCall s object levels block.code)
     → IfOk r (IsService levels map number)
-served_at levels map number object s (Ok block) e same at marks few serves = record {
+served_at levels map number object s (Ok block) e same is_block serves = record {
   service = s;
   is = e;
-  at = at ∙ ap (slice_index map.places.blocks) (ap (block_number s) same ∙ number_back number s e);
-  marks = marks ∙ ap (λ code. opening block.at code ∷ further_marks s block.at) (code_found (block_code number) s e);
-  few = few;
+  at = is_block.at ∙ ap (slice_index map.places.blocks) (ap (block_number s) same ∙ number_back number s e);
+  marks = is_block.marks ∙ ap (λ code. opening block.at code ∷ further_marks s block.at) (code_found (block_code number) s e);
+  few = is_block.few;
   serves = subst (λ (o : ℕ). ServesCall s o levels block.code) same serves;
 }
-served_at levels map number object s (Err failed) e same at marks few serves = tt
+served_at levels map number object s (Err failed) e same is_block serves = tt

@@ -34,18 +34,19 @@ use Rattle.sloth_base.specs.Arithmetic.{sum32}
 use Rattle.sloth_base.specs.Blocks.{block_count, block_code, block_object}
 use Rattle.mem_map.specs.Plan.{item_bytes, items_at, prologue_extent, service_bytes, service_extents, services_at}
 use Rattle.mem_map.specs.Run.{extents_of, starts}
+use Rattle.mem_map.specs.Wanted.{wanted_blocks}
 use Rattle.mem_map.specs.Zones.{nowhere}
 use Rattle.mem_map.proofs.Starts.{end_above, length_starts, stands}
+use Rattle.mem_map.proofs.Wanting.{all_places}
 use Rattle.sim_image.proofs.Fitting.{end_of_code}
 use Rattle.sim_image.proofs.Serving.{some_code}
 use Rattle.sim_image.specs.Rooms.{FitRooms, FitsRoom, MarksRise}
-use Rattle.sim_image.specs.Standing.{item_block}
 use Rattle.sim_image.proofs.Data.{extent_at, extents_long}
 use Rattle.image_gen.specs.Gathered.{MayGenerate}
-use Rattle.image_gen.specs.Items.{item_blocks}
+use Rattle.sloth_link.specs.Items.{item_block, item_blocks}
 use Rattle.image_gen.specs.Prologues.{Each, IsPrologue}
 use Rattle.image_gen.specs.Services.{IsService, wanted_from}
-use Rattle.image_gen.proofs.Counting.{located, block_at, length_blocks}
+use Rattle.sloth_link.proofs.Counting.{located, block_at, length_blocks}
 use Rattle.image_gen.proofs.Each.{zip_from}
 use Rattle.image_gen.proofs.Sizing.{size_of_item}
 use Rattle.image_gen.proofs.Starting.{first_is, items_long}
@@ -112,7 +113,7 @@ with_back at bytes code room long =
 service_marks : (s : Service) (object : ℕ) (levels : Levels) (code : List InstrKind) (at number : ℕ) → at + 4 * length code < 4294967296
     → ServesCall s object levels code → HasServiceMarks at (4 * length code) (opening at number ∷ further_marks s at)
 service_marks service.Schedule object levels code at number room h =
-    let again = h.masks_again in
+    let again = h.runs.masks_again in
     let long = ap length again.2 ∙ length-append again.0 (masking ∷ again.1) in
     let behind = again.3 in
     with_back at (4 * length code) number room (omega (arith, long, behind))
@@ -130,7 +131,10 @@ short_start config app levels map t code frames e =
     let few = subst P is (frames e.body e.func l) in
     omega (arith, short, few)
 
-module _ (config : Config) (app : App) (levels : Levels) (wanted : List Bool) (map : Map) (may : MayGenerate config app levels wanted map) where
+module _ (config : Config) (app : App) (levels : Levels) (map : Map) (may : MayGenerate config app levels map) where
+  abbrev wanted : List Bool
+  wanted = wanted_blocks app
+
   prologue_room : (k : ℕ) (block : Block) → k < length config.tasks → IsPrologue config app levels map k block → FitsRoom (prologue_extent (slice_index map.handlers k)) block
   prologue_room k block l p =
       let few = may.well_formed.in_range.configuration.few_tasks in
@@ -158,7 +162,7 @@ module _ (config : Config) (app : App) (levels : Levels) (wanted : List Bool) (m
   blocks_long : length map.places.blocks ≡ block_count
   blocks_long =
       ap length may.planned.addresses.blocks ∙ length_starts (services_at (length config.tasks)) (prelude.map service_bytes wanted) ∙ length-map wanted service_bytes
-      ∙ may.planned.all_numbers
+      ∙ all_places app
 
   service_room : (number : ℕ) (block : Block) → number < block_count → IsService levels map number block
       → FitsRoom (record { base = slice_index map.places.blocks number; len = service_bytes true }) block
@@ -168,7 +172,7 @@ module _ (config : Config) (app : App) (levels : Levels) (wanted : List Bool) (m
       let bytes : List ℕ = prelude.map service_bytes wanted in
       let from : ℕ = services_at (length config.tasks) in
       let long = blocks_long in
-      let all = may.planned.all_numbers in
+      let all = all_places app in
       let counted = length-map wanted service_bytes in
       let is : slice_index map.places.blocks number ≡ get_or (starts from bytes) number 0 = ap (λ (blocks : List ℕ). get_or blocks number 0) may.planned.addresses.blocks in
       let stood = stands from bytes number (omega (arith, counted, all, l)) in
@@ -176,7 +180,7 @@ module _ (config : Config) (app : App) (levels : Levels) (wanted : List Bool) (m
       let below = stood.below in
       let end = may.planned.addresses.code_to in
       let items = end_above (items_at (length config.tasks) wanted) (prelude.map item_bytes may.planned.sizes) in
-      let last = end_of_code config app map may.planned.stacks 0 [] may.planned.zones in
+      let last = end_of_code config app map may.bounds 0 [] may.planned.zones in
       let even = may.planned.zones.blocks_aligned number 0 (omega (arith, long, l)) in
       let marks = service_marks h.service (block_object number) levels block.code block.at (block_code number) (omega (arith, at, is, below, few, items, end, last)) h.serves in
       let own = sym h.marks in
@@ -217,7 +221,7 @@ module _ (config : Config) (app : App) (levels : Levels) (wanted : List Bool) (m
   pub services_fit : (blocks : List Block) → AllZip (IsService levels map) (wanted_from 0 wanted) blocks → FitRooms (service_extents map.places.blocks wanted) blocks
   services_fit blocks h =
       let long = blocks_long in
-      let all = may.planned.all_numbers in
+      let all = all_places app in
       services_fit_from 0 map.places.blocks wanted blocks (omega (arith, long, all)) (omega (arith, all))
       (λ k l. let same : k ≡ 0 + k = omega arith in ap (slice_index map.places.blocks) same) h
 
@@ -237,7 +241,7 @@ module _ (config : Config) (app : App) (levels : Levels) (wanted : List Bool) (m
       let sizes : List ℕ = may.planned.sizes in
       let count = may.planned.are_sizes.count in
       let all = length-map sizes item_bytes in
-      let own = items_long config app levels wanted map may in
+      let own = items_long config app levels map may in
       let same : length map.places.items ≡ length (prelude.map item_bytes sizes) = omega (arith, count, all, own) in
       let rooms = extents_long map.places.items (prelude.map item_bytes sizes) same in
       let many = length_blocks app map.places (length app.funcs) in
@@ -252,7 +256,7 @@ module _ (config : Config) (app : App) (levels : Levels) (wanted : List Bool) (m
           let block : get_or (item_blocks app map.places (length app.funcs)) k none ≡ item_block app map.places at.func at.index =
           ap (λ j. get_or (item_blocks app map.places (length app.funcs)) j none) at.is ∙ block_at app map.places (length app.funcs) at.func at.index none at.declared at.inside in
           let base : item_address map.places at.func at.index ≡ get_or map.places.items k 0 =
-          ap (λ n. get_or map.places.items (n + at.index) 0) (first_is config app levels wanted map may at.func at.declared) ∙ ap (λ j. get_or map.places.items j 0) (sym at.is) in
+          ap (λ n. get_or map.places.items (n + at.index) 0) (first_is config app levels map may at.func at.declared) ∙ ap (λ j. get_or map.places.items j 0) (sym at.is) in
           let len : item_bytes (get_or may.planned.sizes (items_before app.funcs at.func + at.index) 0) ≡ get_or (prelude.map item_bytes may.planned.sizes) k 0 =
           ap (λ j. item_bytes (get_or may.planned.sizes j 0)) (sym at.is) ∙ sym (get_or-map item_bytes may.planned.sizes k 0) in
           let room = extent_at map.places.items (prelude.map item_bytes may.planned.sizes) k same m in

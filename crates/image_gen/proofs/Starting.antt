@@ -19,9 +19,10 @@ use Rattle.sim_image.proofs.Fitting.{part_inside, code_from, code_to}
 use Rattle.mem_map.proofs.Starts.{length_starts}
 use Rattle.image_gen.specs.Prologues.{MayStart}
 use Rattle.image_gen.specs.Gathered.{MayGenerate}
-use Rattle.image_gen.proofs.Counting.{count_of, starts_at, before_within}
+use Rattle.image_gen.proofs.Called.{room_for_calls}
+use Rattle.sloth_link.proofs.Counting.{count_of, starts_at, before_within}
 
-module _ (config : Config) (app : App) (levels : Levels) (wanted : List Bool) (map : Map) (may : MayGenerate config app levels wanted map) where
+module _ (config : Config) (app : App) (levels : Levels) (map : Map) (may : MayGenerate config app levels map) where
   -- the number of items
   pub items_long : length map.places.items ≡ items_before app.funcs (length app.funcs)
   items_long =
@@ -48,12 +49,12 @@ module _ (config : Config) (app : App) (levels : Levels) (wanted : List Bool) (m
   tops : All IsTop map.tops
   tops = λ k d l.
       let p = may.planned in
-      let count = p.has_stacks.tops in
+      let count = p.stacks.tops in
       let declared : k < length config.tasks = omega (arith, l, count) in
-      let i = part_inside config app map p.stacks 0 [] p.zones p.has_stacks k declared in
-      let f = code_from config app map p.stacks 0 [] p.zones in
-      let t = code_to config app map p.stacks 0 [] p.zones in
-      let enough = p.calls_fit k declared (body_of app.funcs k) [] refl in
+      let i = part_inside config app map may.bounds 0 [] p.zones p.stacks k declared in
+      let f = code_from config app map may.bounds 0 [] p.zones in
+      let t = code_to config app map may.bounds 0 [] p.zones in
+      let enough = room_for_calls config app may.bounds may.are_bounds k declared (body_of app.funcs k) [] refl in
       let same = get_or_default map.tops k 0 d l in
       (omega (arith, i.0, f, t, enough, same), omega (arith, i.1, same))
 
@@ -66,6 +67,6 @@ module _ (config : Config) (app : App) (levels : Levels) (wanted : List Bool) (m
         let task = b.1.1 in
         (b.0, (b.1.0, λ d. ap (λ (f : Func). f.task) (get_or_default app.funcs b.0 d missing b.1.0) ∙ task));
     frames = λ k d l. (may.well_formed.in_range.bodies k d l).frame;
-    tops = (may.planned.has_stacks.tops, tops);
+    tops = (may.planned.stacks.tops, tops);
     items = (let n = first_long in omega (arith, n), firsts_inside);
   }

@@ -1,31 +1,30 @@
-//! All code of an image.
+//! All routines of an image.
 ghost use Rattle.std.specs.Prelude.{IfOk};
 ghost use Rattle.image_gen.specs.Gathered.{MayGenerate, IsGathered};
 
-use crate::items::items;
 use crate::prologues::{prologues, push};
 use crate::services::services;
+use mem_map::wanted_blocks;
 use rv32_instr::Block;
 use sloth_base::app::App;
 use sloth_base::config::Config;
 use sloth_base::memory::NoMemory;
-use sloth_base::places::{BLOCK_COUNT, Levels};
+use sloth_base::places::Levels;
 use sloth_region::map::Map;
 use std::alloc::Global;
 use vector_gen::{boot, idle, vectors};
 
-/// All blocks in the order of their addresses: the vector words, boot, the idle loop, the prologue of each task, each wanted
-/// service (by its place in the table of blocks), and each item.
+/// All routines in the order of their addresses: the vector words, boot, the idle loop, the prologue of each task, and each service that an
+/// item calls.
 pub fn gather(
     alloc: Global,
     config: &Config,
     app: &App,
     levels: &Levels,
-    wanted: &[bool; BLOCK_COUNT],
     map: &Map,
 ) -> Result<Vec<Block>, NoMemory>
-    requires { MayGenerate config.now app.now levels.now wanted.now map.now }
-    ensures { IfOk result (λ blocks. IsGathered config.now app.now levels.now wanted.now map.now blocks.items) }
+    requires { MayGenerate config.now app.now levels.now map.now }
+    ensures { IfOk result (λ blocks. IsGathered config.now app.now levels.now map.now blocks.items) }
 {
     let mut blocks = Vec::new(alloc);
     push(&mut blocks, vectors(alloc, map)?)?;
@@ -33,9 +32,8 @@ pub fn gather(
     push(&mut blocks, idle(alloc, map)?)?;
     let mut starts = prologues(alloc, config, app, levels, map)?;
     blocks.append(&mut starts)?;
-    let mut served = services(alloc, wanted, config, levels, map)?;
+    let wanted = wanted_blocks(app);
+    let mut served = services(alloc, &wanted, config, levels, map)?;
     blocks.append(&mut served)?;
-    let mut own = items(alloc, app, &map.places)?;
-    blocks.append(&mut own)?;
     Ok(blocks)
 }

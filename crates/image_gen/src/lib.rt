@@ -4,9 +4,5 @@
 pub mod gathering;
 pub mod generating;
 pub mod image;
-pub mod items;
-pub mod names;
 pub mod prologues;
 pub mod services;
-pub mod symbols;
-mod wanted;

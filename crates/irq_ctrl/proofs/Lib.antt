@@ -1,1 +1,2 @@
 mod Choice
+pub mod First

@@ -1,31 +1,37 @@
 //! The interrupt controller of the machine: 32 lines, each with a pending, an enable and a level byte.
 #![tactic(auto)]
 
-ghost use Rattle.std.specs.Prelude.{◌≡◌, ◌<◌, ◌+◌, ◌==◌, slice_set, slice_index};
+ghost use Rattle.std.specs.Prelude.{◌≡◌, ◌<◌, ◌==◌, slice_set, slice_index};
 ghost use Rattle.std.specs.Option.{ForSome};
 
+mod line_bytes;
+
+use line_bytes::LineBytes;
 use sloth_base::numbers::Line;
 use std::marker::Model;
 
 /// The controller. Contracts see its three lists of bytes.
 #[derive(Drop)]
 pub struct Controller {
-    pending: [u8; 32],
-    enabled: [u8; 32],
-    levels: [u8; 32],
+    bytes: LineBytes,
+    // The line to be taken where level 0 runs, so that a choice looks at one line and not at 32.
+    first: Option<Line>,
 }
 
 impl Model for Controller {
     ghost use Rattle.sloth_base.specs.Lines.{Lines};
+    ghost use Rattle.sloth_base.specs.Choose.{IsChosen};
 
     ghost Value = { Lines };
 
-    ghost view = { λ c. record { pending = c.pending; enabled = c.enabled; levels = c.levels } };
+    ghost view = { λ c. c.bytes };
+
+    ghost invariant = { λ c. IsChosen c.bytes 0 c.first };
 }
 
 impl Controller {
     ghost use Rattle.sloth_base.specs.Lines.{controller_byte, with_controller_byte};
-    ghost use Rattle.sloth_base.specs.Choose.{may_take, better_line, choose_line, IsChosen};
+    ghost use Rattle.sloth_base.specs.Choose.{choose_line, IsChosen};
     ghost use Rattle.sloth_base.specs.Take.{without_pending};
     ghost use Rattle.irq_ctrl.specs.Fresh.{fresh_lines};
 
@@ -33,11 +39,9 @@ impl Controller {
     pub fn new() -> Controller
         ensures { result ≡ fresh_lines }
     {
-        Controller {
-            pending: [0; 32],
-            enabled: [0; 32],
-            levels: [0; 32],
-        }
+        let bytes = LineBytes::new();
+        let first = bytes.choose(0);
+        Controller { bytes, first }
     }
 
     /// The line's pending byte becomes 1.
@@ -45,56 +49,36 @@ impl Controller {
         requires { line < 32 }
         ensures { self.new ≡ record self.old { pending = slice_set self.old.pending line 1 } }
     {
-        self.pending[usize::from(line.0)] = 1;
+        self.bytes.arrive(line);
+        self.first = self.bytes.choose(0);
     }
 
     /// The byte at an offset: pending bytes from 0 on, enable bytes from 32 on, level bytes from 64 on.
-    #[tactic(auto, using(std::proofs::lemmas::Bool::Decides::nat_tests), unfolding(sloth_base::specs::Lines::controller_byte))]
     pub fn load(&self, offset: u32) -> u8
         requires { offset < 96 }
         ensures { result ≡ controller_byte self.now offset }
     {
-        let place = offset as usize;
-        if place < 32 {
-            self.pending[place]
-        } else if place < 64 {
-            self.enabled[place - 32]
-        } else {
-            self.levels[place - 64]
-        }
+        self.bytes.load(offset)
     }
 
     /// Writes the byte at an offset. A pending or enable byte keeps 1 for a value that isn't zero.
-    #[tactic(auto, using(std::proofs::lemmas::Bool::Decides::nat_tests), unfolding(sloth_base::specs::Lines::with_controller_byte))]
     pub fn store(&mut self, offset: u32, value: u8)
         requires { offset < 96 }
         ensures { self.new ≡ with_controller_byte self.old offset value }
     {
-        let place = offset as usize;
-        if place < 32 {
-            self.pending[place] = u8::from(value != 0);
-        } else if place < 64 {
-            self.enabled[place - 32] = u8::from(value != 0);
-        } else {
-            self.levels[place - 64] = value;
-        }
+        self.bytes.store(offset, value);
+        self.first = self.bytes.choose(0);
     }
 
     /// The line to be taken where this level runs: of the pending and enabled lines above it the one of highest level,
     /// and of equal levels the one of least number. None where there is none.
-    #[tactic(auto, using(std::proofs::lemmas::Bool::Decides::nat_tests), unfolding(sloth_base::specs::Choose::best_below, sloth_base::specs::Choose::choose_line))]
+    #[tactic(auto, using(crate::proofs::First::chosen_line, crate::proofs::First::chosen_in_range))]
     pub fn choose(&self, level: u8) -> Option<Line>
         ensures is { result ≡ choose_line self.now level }
         ensures chosen { IsChosen self.now level result }
         ensures in_range { ForSome result (λ line. line < 32) }
     {
-        let mut best = None;
-        for line in 0..32 {
-            if self.may_take(level, Line(line)) {
-                best = Some(self.better(best, Line(line)));
-            }
-        }
-        best
+        self.first_above(level)
     }
 
     /// The line is no longer pending.
@@ -102,7 +86,8 @@ impl Controller {
         requires { line < 32 }
         ensures { self.new ≡ without_pending line self.old }
     {
-        self.pending[usize::from(line.0)] = 0;
+        self.bytes.take(line);
+        self.first = self.bytes.choose(0);
     }
 
     /// Whether the line is pending.
@@ -110,7 +95,7 @@ impl Controller {
         requires { line < 32 }
         ensures { result ≡ (slice_index self.now.pending line == 1) }
     {
-        self.pending[usize::from(line.0)] == 1
+        self.bytes.is_pending(line)
     }
 
     /// Whether the line is enabled.
@@ -118,26 +103,16 @@ impl Controller {
         requires { line < 32 }
         ensures { result ≡ (slice_index self.now.enabled line == 1) }
     {
-        self.enabled[usize::from(line.0)] == 1
+        self.bytes.is_enabled(line)
     }
 
-    fn may_take(&self, level: u8, line: Line) -> bool
-        requires { line < 32 }
-        ensures { result ≡ may_take self.now level line }
+    #[tactic(auto, using(crate::proofs::First::first_chosen, crate::proofs::First::none_above, crate::proofs::First::none_at_all, crate::proofs::First::first_in_range))]
+    fn first_above(&self, level: u8) -> Option<Line>
+        ensures { IsChosen self.now level result }
     {
-        self.is_pending(line) && self.is_enabled(line) && self.levels[usize::from(line.0)] > level
-    }
-
-    fn better(&self, best: Option<Line>, line: Line) -> Line
-        requires found { ForSome best (λ b. b < 32) }
-        requires in_range { line < 32 }
-        ensures is { better_line self.now best line ≡ Some result }
-        ensures in_range { result < 32 }
-    {
-        match best {
-            Some(best) if self.levels[usize::from(best.0)] >= self.levels[usize::from(line.0)] =>
-                best,
-            _ => line,
+        match self.first {
+            Some(line) if self.bytes.level(line) > level => Some(line),
+            _ => None,
         }
     }
 }

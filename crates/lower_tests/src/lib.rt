@@ -1,9 +1,7 @@
 //! Tests of the public calls below the builder, with values from outside. A file for each crate: `CRATE_tests`, since a module
-//! may not have the name of a crate that is used. Longer tables are what the programs `oil_answers` and `rv32_words` read and print.
+//! may not have the name of a crate that is used. What a command of the program shows is a row of `top_answers` in place of a test here.
 #![tactic(auto)]
 
-#[cfg(test)]
-mod image_file_tests;
 #[cfg(test)]
 mod images;
 #[cfg(test)]
@@ -14,7 +12,5 @@ mod rv32_machine_tests;
 mod sloth_io_tests;
 #[cfg(test)]
 mod sloth_region_tests;
-#[cfg(test)]
-mod summary_tests;
 #[cfg(test)]
 mod trace_text_tests;

@@ -1,11 +1,13 @@
-// Stops and entries of the machine, from words that an independent assembler writes.
+// Stops of the machine over a flat memory, and what a controller adds. Words are those that an independent assembler writes.
 
 ghost use Rattle.std.specs.Prelude.{◌≡◌, ◌≤◌, ◌<◌, ◌+◌, IfOk};
 
 use crate::images::small_image;
 use rv32_machine::{Bus, FlatBus, Machine, SlothBus, Step, Stop};
 use sloth_base::app::Width;
+use sloth_base::memory::NoMemory;
 use sloth_base::numbers::Line;
+use std::alloc::Global;
 use std::test::Fail;
 
 const NOP: u32 = 0x0000_0013;
@@ -15,8 +17,8 @@ const JUMP_TO_ZERO: u32 = 0x0000_0067;
 const CONTROLLER: u32 = 0x1000_02b7;
 
 const RAM: u32 = 0x8000_02b7;
-
-const MRET: u32 = 0x3020_0073;
+// lbu t1, 5(t0)
+const LOAD: u32 = 0x0052_c303;
 // csrrsi x0, mstatus, 8
 const ENABLE: u32 = 0x3004_6073;
 
@@ -32,9 +34,17 @@ fn second_step<B: Bus + Drop>(bus: B, first: u32, second: u32) -> Result<Step, S
     machine.step()
 }
 
+// How the second of two instructions stops over a flat memory.
+fn stop_over_memory(alloc: Global, first: u32, second: u32) -> Result<Option<Stop>, NoMemory> {
+    let bus = FlatBus::new(alloc, &small_image(alloc)?)?;
+    match second_step(bus, first, second) {
+        Ok(_) => Ok(None),
+        Err(stop) => Ok(Some(stop)),
+    }
+}
+
 #[test]
-fn stops(rt: HostRuntime) -> Result<(), Fail> {
-    let image = small_image(rt.alloc())?;
+fn stops_over_a_flat_memory(rt: HostRuntime) -> Result<(), Fail> {
     let rows = [
         (JUMP_TO_ZERO, NOP, Stop::Fetch(0)),
         (NOP, 0, Stop::Illegal(0)),
@@ -50,74 +60,63 @@ fn stops(rt: HostRuntime) -> Result<(), Fail> {
         // lw t1, 0(t0)
         (NOP, 0x0002_a303, Stop::Access(0)),
         (CONTROLLER, 0x0002_a303, Stop::Access(0x1000_0000)),
+        (CONTROLLER, LOAD, Stop::Access(0x1000_0005)),
     ];
     for (first, second, stop) in rows {
-        let flat = FlatBus::new(rt.alloc(), &image)?;
-        assert_eq!(rt; second_step(flat, first, second), Err(stop));
-        let sloth = SlothBus::new(rt.alloc(), &image)?;
-        assert_eq!(rt; second_step(sloth, first, second), Err(stop));
+        assert!(rt; stop_over_memory(rt.alloc(), first, second)? == Some(stop));
     }
     Ok(())
 }
 
-#[test]
-fn only_the_sloth_bus_has_a_controller(rt: HostRuntime) -> Result<(), Fail> {
-    let image = small_image(rt.alloc())?;
-    // lbu t1, 5(t0)
-    let load = 0x0052_c303;
-    let flat = FlatBus::new(rt.alloc(), &image)?;
-    assert_eq!(rt;
-        second_step(flat, CONTROLLER, load),
-        Err(Stop::Access(0x1000_0005))
-    );
-    let sloth = SlothBus::new(rt.alloc(), &image)?;
-    let touched = second_step(sloth, CONTROLLER, load).map(|step| step.touched);
-    assert_eq!(rt; touched, Ok(Some(Line(5))));
-    Ok(())
+// The line that the second of two instructions touches, which loads a byte of the controller.
+fn touched_line(alloc: Global) -> Result<Option<Line>, NoMemory> {
+    let bus = SlothBus::new(alloc, &small_image(alloc)?)?;
+    match second_step(bus, CONTROLLER, LOAD) {
+        Ok(step) => Ok(step.touched),
+        Err(_) => Ok(None),
+    }
 }
 
-// A machine whose line 3 is enabled at level 2, which is about to enable interrupts, with a word at the line's vector.
-fn waiting(rt: &HostRuntime, vector_word: u32) -> Result<Machine<SlothBus>, Fail>
+// A machine whose line 3 is pending and enabled at level 2, which is about to enable interrupts. No code stands at the line's vector.
+fn waiting(alloc: Global) -> Result<Machine<SlothBus>, NoMemory>
     ensures { IfOk result (λ machine. machine.count ≡ 0) }
 {
-    let image = small_image(rt.alloc())?;
-    let mut bus = SlothBus::new(rt.alloc(), &image)?;
+    let mut bus = SlothBus::new(alloc, &small_image(alloc)?)?;
     let _ = bus.store(0x1000_0023, Width::Byte, 1);
     let _ = bus.store(0x1000_0043, Width::Byte, 2);
-    let _ = bus.store(0x8000_040c, Width::Word, vector_word);
     let _ = bus.store(0x8000_0480, Width::Word, ENABLE);
-    let _ = bus.store(0x8000_0484, Width::Word, NOP);
-    Ok(Machine::new(bus))
+    let mut machine = Machine::new(bus);
+    machine.arrive(Line(3));
+    Ok(machine)
 }
 
-// The address of the next instruction, and the line taken before it.
-fn seen(machine: &mut Machine<SlothBus>) -> Result<(u32, Option<Line>), Stop>
+// How a step stops, if it does.
+fn stop(machine: &mut Machine<SlothBus>) -> Option<Stop>
     requires { machine.old.count < 1000 }
     ensures { machine.new.count ≤ machine.old.count + 1 }
 {
     match machine.step() {
-        Ok(step) => Ok((step.pc, step.entered)),
-        Err(stop) => Err(stop),
+        Ok(_) => None,
+        Err(stop) => Some(stop),
     }
 }
 
-#[test]
-fn a_line_is_taken_before_an_instruction(rt: HostRuntime) -> Result<(), Fail> {
-    let mut machine = waiting(&rt, MRET)?;
-    machine.bus_mut().arrive(Line(3));
-    assert_eq!(rt; seen(&mut machine), Ok((0x8000_0480, None)));
-    assert_eq!(rt; seen(&mut machine), Ok((0x8000_040c, Some(Line(3)))));
-    assert_eq!(rt; seen(&mut machine), Ok((0x8000_0484, None)));
-    Ok(())
+// How the second step of that machine and the next one stop, and the address of the instruction.
+fn stops_at_a_vector(alloc: Global) -> Result<(Option<Stop>, Option<Stop>, u32), NoMemory> {
+    let mut machine = waiting(alloc)?;
+    if stop(&mut machine).is_some() {
+        return Ok((None, None, 0));
+    }
+    let first = stop(&mut machine);
+    let address = machine.next_pc();
+    Ok((first, stop(&mut machine), address))
 }
 
 #[test]
-fn a_stop_undoes_the_entry(rt: HostRuntime) -> Result<(), Fail> {
-    let mut machine = waiting(&rt, 0)?;
-    machine.arrive(Line(3));
-    assert_eq!(rt; seen(&mut machine), Ok((0x8000_0480, None)));
-    assert_eq!(rt; seen(&mut machine), Err(Stop::Illegal(0)));
-    assert_eq!(rt; machine.next_pc(), 0x8000_040c);
-    assert_eq!(rt; seen(&mut machine), Err(Stop::Illegal(0)));
+fn a_controller(rt: HostRuntime) -> Result<(), Fail> {
+    assert!(rt; touched_line(rt.alloc())? == Some(Line(5)));
+    let illegal = Some(Stop::Illegal(0));
+    let (first, second, address) = stops_at_a_vector(rt.alloc())?;
+    assert!(rt; first == illegal && second == illegal && address == 0x8000_040c);
     Ok(())
 }

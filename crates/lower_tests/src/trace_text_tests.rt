@@ -1,15 +1,32 @@
-// Lines of events and of listings.
+// Lines of events and of summaries.
 
 use crate::images::small_image;
 use sloth_base::event::{Event, Stamp, Stamped};
+use sloth_base::memory::NoMemory;
 use sloth_base::service::Service;
+use std::alloc::Global;
 use std::test::Fail;
 use trace_text::print::{Form, print};
-use trace_text::{listing_line, read_line};
+use trace_text::read_line;
+use trace_text::summary::kind_line;
+
+// Whether an event has this line, behind its counts in the counted form, which is read back as that event.
+fn has_line(alloc: Global, event: Event, line: &[u8]) -> Result<bool, NoMemory> {
+    let image = small_image(alloc)?;
+    let stamp = Stamp {
+        from: 9,
+        at: 1_000_000,
+    };
+    let event = Stamped { stamp, event };
+    let bare = print(&event, Form::Bare, &image);
+    let counted = print(&event, Form::Counted, &image);
+    let read = read_line(counted.bytes(), image.tasks.items(), image.funcs.items());
+    let behind = counted.bytes().strip_prefix(b"9 1000000 ");
+    Ok(bare.bytes() == line && behind == Some(line) && read == Some(event))
+}
 
 #[test]
 fn lines_of_events(rt: HostRuntime) -> Result<(), Fail> {
-    let image = small_image(rt.alloc())?;
     let none = 4_294_967_295;
     let run = Event::Run {
         task: 0,
@@ -38,49 +55,25 @@ fn lines_of_events(rt: HostRuntime) -> Result<(), Fail> {
         (Event::Stray, b"stray".as_slice()),
     ];
     for (event, line) in rows {
-        let stamp = Stamp {
-            from: 9,
-            at: 1000000,
-        };
-        let event = Stamped { stamp, event };
-        assert_eq!(rt; print(&event, Form::Bare, &image).bytes(), line);
-        let counted = print(&event, Form::Counted, &image);
-        assert_eq!(rt; counted.bytes().strip_prefix(b"9 1000000 "), Some(line));
-        let read = read_line(counted.bytes(), image.tasks.items(), image.funcs.items());
-        assert_eq!(rt; read, Some(event));
+        assert!(rt; has_line(rt.alloc(), event, line)?);
     }
     Ok(())
 }
 
-#[test]
-fn texts_that_are_no_event_lines(rt: HostRuntime) -> Result<(), Fail> {
-    let image = small_image(rt.alloc())?;
-    let rows = [
-        b"".as_slice(),
-        b"idle".as_slice(),
-        b"9 10 idle ".as_slice(),
-        b"09 10 idle".as_slice(),
-        b"9  10 idle".as_slice(),
-        b"9 4294967296 idle".as_slice(),
-        b"9 10 admit main".as_slice(),
-        b"9 10 run Main - 0 0".as_slice(),
-        b"9 10 call Main activateTask 0".as_slice(),
-    ];
-    for text in rows {
-        assert_eq!(rt;
-            read_line(text, image.tasks.items(), image.funcs.items()),
-            None
-        );
+// The text of a summary.
+fn summary(alloc: Global, counts: &[u32; 9]) -> Result<Vec<u8>, Fail> {
+    let mut text = Vec::new(alloc);
+    for kind in 0..9 {
+        text.extend_from_slice(kind_line(counts, kind).bytes())?;
     }
-    Ok(())
+    Ok(text)
 }
 
 #[test]
-fn lines_of_a_listing(rt: HostRuntime) -> Result<(), Fail> {
-    let image = small_image(rt.alloc())?;
-    let sizes = b"tasks 1 functions 1 bytes 4 marks 1".as_slice();
-    assert_eq!(rt; listing_line(&image, 0).bytes(), sizes);
-    let word = b"80000000 04030201 item step 7".as_slice();
-    assert_eq!(rt; listing_line(&image, 1).bytes(), word);
+fn nine_lines(rt: HostRuntime) -> Result<(), Fail> {
+    let text = summary(rt.alloc(), &[1, 20, 300, 4, 0, 6, 70, 4_294_967_295, 0])?;
+    let lines =
+        b"boot 1\nadmit 20\nenter 300\nrun 4\ncall 0\nleft 6\nback 70\nidle 4294967295\nstray 0\n";
+    assert!(rt; text.as_slice() == lines.as_slice());
     Ok(())
 }

@@ -3,6 +3,7 @@ use Rattle.std.proofs.Common.{◌≡◌, ℕ, zero, suc, ◌+◌, ◌-◌, ◌*�
 use Rattle.std.specs.Prelude.{ℤ, pos, negsuc, Bool, true, false, max, nat_le}
 use Rattle.std.proofs.lemmas.Bool.{leb-true}
 use Rattle.sloth_base.specs.Arithmetic.{plus}
+use Rattle.sloth_base.specs.MemoryMap.{memory_base}
 use Rattle.rv32_instr.specs.declared.effect.Effect.{Effect}
 use Rattle.rv32_instr.specs.declared.effect.Effect.TheVariants.{Branch, Return}
 use Rattle.rv32_instr.specs.declared.InstrKind.{InstrKind}
@@ -59,13 +60,13 @@ longest_le (kind ∷ code) zero = by (following kind) (longest_le code 0) (λ pa
 
 -- Behind an instruction with this effect at an offset at most `n` more follow.
 abbrev pub LeavesFew : (n o : ℕ) (code : List InstrKind) → Effect → Type 0
-LeavesFew n o code (Branch taken target) = (longest code 0 ≤ n) × ((passed : ℕ) → target ≡ 0x8000_0000 + (o + 4 + 4 * passed) → longest code passed ≤ n)
+LeavesFew n o code (Branch taken target) = (longest code 0 ≤ n) × ((passed : ℕ) → target ≡ memory_base + (o + 4 + 4 * passed) → longest code passed ≤ n)
 LeavesFew n o code Return = Unit {0}
 LeavesFew n o code e = longest code 0 ≤ n
 
 module _ (n o : ℕ) (code : List InstrKind) (inside : o + 4 ≤ 0x20_0000) where
   branch_leaves : (imm : ℤ) (taken : Bool) → suc (most_behind (past imm) (longest code 0) (λ passed. longest code passed) (length code)) ≤ suc n
-      → LeavesFew n o code (Branch taken (plus (0x8000_0000 + o) imm))
+      → LeavesFew n o code (Branch taken (plus (memory_base + o) imm))
   branch_leaves (negsuc k) taken h =
       let first = longest_le code 0 in
       (omega (arith, h, first), λ passed e. let all = longest_le code passed in omega (arith, h, all))
@@ -73,7 +74,7 @@ module _ (n o : ℕ) (code : List InstrKind) (inside : o + 4 ≤ 0x20_0000) wher
     where
       by : (b : Bool) → nat_le k 2097152 ≡ b
           → suc (most_behind (cond b (Past ((k - 4) / 4)) Any) (longest code 0) (λ passed. longest code passed) (length code)) ≤ suc n
-          → LeavesFew n o code (Branch taken (plus (0x8000_0000 + o) (pos k)))
+          → LeavesFew n o code (Branch taken (plus (memory_base + o) (pos k)))
       by true small l =
           let few : k ≤ 2097152 = leb-true k 2097152 small in (
             omega (arith, l),
@@ -85,7 +86,7 @@ module _ (n o : ℕ) (code : List InstrKind) (inside : o + 4 ≤ 0x20_0000) wher
           let first = longest_le code 0 in
           (omega (arith, l, first), λ passed e. let all = longest_le code passed in omega (arith, l, all))
 
-  pub leaves_few : (kind : InstrKind) (x : List ℕ) → longest (kind ∷ code) 0 ≤ suc n → LeavesFew n o code (effect kind (0x8000_0000 + o) x)
+  pub leaves_few : (kind : InstrKind) (x : List ℕ) → longest (kind ∷ code) 0 ≤ suc n → LeavesFew n o code (effect kind (memory_base + o) x)
   leaves_few (Beq rs1 rs2 imm) x h = branch_leaves imm true h
   leaves_few (Bne rs1 rs2 imm) x h = branch_leaves imm true h
   leaves_few (Blt rs1 rs2 imm) x h = branch_leaves imm true h

@@ -5,6 +5,7 @@ use Rattle.std.proofs.lemmas.Bool.{le-leb, and_from, eq-eqb, lt-ltb, lt-leb, le-
 use Rattle.sloth_base.specs.declared.app.Width.TheVariants as width
 use Rattle.sloth_base.specs.Machine.{Core}
 use Rattle.sloth_base.specs.Lines.{controller_byte, with_controller_byte, flag_of}
+use Rattle.sloth_base.specs.MemoryMap.{memory_base, memory_end}
 use Rattle.rv32_instr.specs.declared.InstrKind.{InstrKind}
 use Rattle.rv32_instr.specs.Encode.{Encode}
 use Rattle.rv32_instr.specs.Table.{Decode}
@@ -18,55 +19,55 @@ use Rattle.masked_code.specs.Place.{at}
 abbrev pub Here : List ℕ → ℕ → InstrKind → Type 0
 Here ram o kind = (Decode (word_at ram o) ≡ Some kind) × (o + 4 ≤ 0x20_0000)
 
-pub in_ram_at : (a n : ℕ) → 0x8000_0000 ≤ a → a + n ≤ 0x8020_0000 → in_ram a n ≡ true
-in_ram_at a n h l = and_from _ _ (le-leb 0x8000_0000 a h) (le-leb (a + n) 0x8020_0000 l)
+pub in_ram_at : (a n : ℕ) → memory_base ≤ a → a + n ≤ memory_end → in_ram a n ≡ true
+in_ram_at a n h l = and_from _ _ (le-leb memory_base a h) (le-leb (a + n) memory_end l)
 
-pub not_ram : (a n : ℕ) → a < 0x8000_0000 → in_ram a n ≡ false
-not_ram a n h = and_left _ _ (lt-leb 0x8000_0000 a h)
+pub not_ram : (a n : ℕ) → a < memory_base → in_ram a n ≡ false
+not_ram a n h = and_left _ _ (lt-leb memory_base a h)
 
 pub line_in : (k : ℕ) → k < 96 → in_controller (0x1000_0000 + k) ≡ true
 line_in k h = and_from _ _ (le-leb 0x1000_0000 (0x1000_0000 + k) (omega arith)) (lt-ltb (0x1000_0000 + k) 0x1000_0060 (omega arith))
 
-pub step_at : (o : ℕ) (c : Core) (kind : InstrKind) → Here c.ram o kind → step (at o c) ≡ perform (effect kind (0x8000_0000 + o) c.registers) (Encode kind) (0x8000_0000 + o) c
+pub step_at : (o : ℕ) (c : Core) (kind : InstrKind) → Here c.ram o kind → step (at o c) ≡ perform (effect kind (memory_base + o) c.registers) (Encode kind) (memory_base + o) c
 unfolding step execute
 step_at o c kind h =
-    let e : 0x8000_0000 + o - 0x8000_0000 ≡ o = omega arith in
-    let f = in_ram_at (0x8000_0000 + o) 4 (omega arith) (omega arith) in
+    let e : memory_base + o - memory_base ≡ o = omega arith in
+    let f = in_ram_at (memory_base + o) 4 (omega arith) (omega arith) in
     rw (f, e, h.0)
 
-pub touched_at : (o : ℕ) (c : Core) (kind : InstrKind) → Decode (word_at c.ram o) ≡ Some kind → touched (at o c) ≡ touched_by (effect kind (0x8000_0000 + o) c.registers)
+pub touched_at : (o : ℕ) (c : Core) (kind : InstrKind) → Decode (word_at c.ram o) ≡ Some kind → touched (at o c) ≡ touched_by (effect kind (memory_base + o) c.registers)
 unfolding touched
 touched_at o c kind h =
-    let e : 0x8000_0000 + o - 0x8000_0000 ≡ o = omega arith in
+    let e : memory_base + o - memory_base ≡ o = omega arith in
     rw (e, h)
 
-pub next_at : (o : ℕ) (c : Core) → o + 4 ≤ 0x20_0000 → goes_on (0x8000_0000 + o) c ≡ Going (at (o + 4) c)
+pub next_at : (o : ℕ) (c : Core) → o + 4 ≤ 0x20_0000 → goes_on (memory_base + o) c ≡ Going (at (o + 4) c)
 next_at o c h =
-    let e : (0x8000_0000 + o + 4) % 4294967296 ≡ 0x8000_0000 + (o + 4) = omega arith in
+    let e : (memory_base + o + 4) % 4294967296 ≡ memory_base + (o + 4) = omega arith in
     ap (λ p. Going (record { pc = p; core = c })) e
 
-pub jump_at : (o : ℕ) (c : Core) → o % 4 ≡ 0 → jumps (0x8000_0000 + o) c ≡ Going (at o c)
+pub jump_at : (o : ℕ) (c : Core) → o % 4 ≡ 0 → jumps (memory_base + o) c ≡ Going (at o c)
 jump_at o c al =
-    let g : (0x8000_0000 + o) % 4 ≡ 0 = omega arith in
-    rw (eq-eqb ((0x8000_0000 + o) % 4) 0 g)
+    let g : (memory_base + o) % 4 ≡ 0 = omega arith in
+    rw (eq-eqb ((memory_base + o) % 4) 0 g)
 
 -- words of RAM
-pub word_allowed : (c : Core) (place : ℕ) → place % 4 ≡ 0 → place + 4 ≤ 0x20_0000 → refusal (memory_of c) (0x8000_0000 + place) width.Word ≡ None
+pub word_allowed : (c : Core) (place : ℕ) → place % 4 ≡ 0 → place + 4 ≤ 0x20_0000 → refusal (memory_of c) (memory_base + place) width.Word ≡ None
 unfolding refusal
 word_allowed c place al h =
-    let g : (0x8000_0000 + place) % 4 ≡ 0 = omega arith in
-    rw (eq-eqb ((0x8000_0000 + place) % 4) 0 g, in_ram_at (0x8000_0000 + place) 4 (omega arith) (omega arith))
+    let g : (memory_base + place) % 4 ≡ 0 = omega arith in
+    rw (eq-eqb ((memory_base + place) % 4) 0 g, in_ram_at (memory_base + place) 4 (omega arith) (omega arith))
 
-pub word_loaded : (c : Core) (place : ℕ) → loaded_number (memory_of c) (0x8000_0000 + place) width.Word ≡ word_at c.ram place
+pub word_loaded : (c : Core) (place : ℕ) → loaded_number (memory_of c) (memory_base + place) width.Word ≡ word_at c.ram place
 unfolding loaded_number
 word_loaded c place =
-    let e : 0x8000_0000 + place - 0x8000_0000 ≡ place = omega arith in
+    let e : memory_base + place - memory_base ≡ place = omega arith in
     ap (word_at c.ram) e
 
-pub word_stored : (c : Core) (place v : ℕ) → with_memory c (stored_memory (memory_of c) (0x8000_0000 + place) width.Word v) ≡ record c { ram = with_word c.ram place v }
+pub word_stored : (c : Core) (place v : ℕ) → with_memory c (stored_memory (memory_of c) (memory_base + place) width.Word v) ≡ record c { ram = with_word c.ram place v }
 unfolding stored_memory
 word_stored c place v =
-    let e : 0x8000_0000 + place - 0x8000_0000 ≡ place = omega arith in
+    let e : memory_base + place - memory_base ≡ place = omega arith in
     ap (λ p. record c { ram = with_word c.ram p v }) e
 
 -- bytes of the controller

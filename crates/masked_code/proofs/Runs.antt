@@ -4,9 +4,10 @@ use Rattle.std.specs.Prelude.{set, replicate}
 use Rattle.std.proofs.lemmas.Bool.{cases_eq}
 use Rattle.std.proofs.lemmas.List.{get_or-set_same, get_or-set_other, length-set}
 use Rattle.sloth_base.specs.Machine.{Core, State}
+use Rattle.sloth_base.specs.MemoryMap.{memory_base}
 use Rattle.rv32_instr.specs.declared.InstrKind.{InstrKind}
 use Rattle.rv32_instr.specs.Ram.{word_at, with_word, with_words}
-use Rattle.masked_code.specs.Owes.{Owes}
+use Rattle.masked_code.specs.Owes.{◌▸◌, writes, loads, stores, Owes}
 use Rattle.masked_code.specs.Pieces.{saving_code, restoring_code, clearing_code, clears_words, registers_from, restored_registers, cleared_registers}
 
 pub length-clears_words : (n k b : ℕ) → length (clears_words n k b) ≡ n
@@ -14,48 +15,38 @@ length-clears_words zero k b = refl
 length-clears_words (suc n) k b = ap suc (length-clears_words n (suc k) b)
 
 module _ (from to : ℕ) (E : List ℕ → State → State → Type 0) (start : State) (code : List InstrKind) (place : ℕ) (aligned : place % 4 ≡ 0) where
-  pub saves_owes : (n r base o o' : ℕ) (c : Core) → get_or c.registers base 0 ≡ 0x8000_0000 + place → o' ≡ o + 4 * n → place + 4 * (r + n) ≤ 0x20_0000 → (place + 4 * (r + n) ≤ from) ⊎ (to ≤ place) → Owes from to o' code 0 E start (record c { ram = with_words c.ram (place + 4 * r) (registers_from n r c.registers) }) → Owes from to o (saving_code n r base ++ code) 0 E start c
+  pub saves_owes : (n r base o o' : ℕ) (c : Core) → get_or c.registers base 0 ≡ memory_base + place → o' ≡ o + 4 * n → place + 4 * (r + n) ≤ 0x20_0000 → (place + 4 * (r + n) ≤ from) ⊎ (to ≤ place) → Owes from to o' code 0 E start (record c { ram = with_words c.ram (place + 4 * r) (registers_from n r c.registers) }) → Owes from to o (saving_code n r base ++ code) 0 E start c
   saves_owes zero r base o o' c e eo fit apart go = let f : o' ≡ o = omega arith in subst (λ x. Owes from to x code 0 E start c) f go
   saves_owes (suc n) r base o o' c e eo fit apart go =
       let p = place + 4 * r in
       let v = get_or c.registers r 0 in
       let d = record c { ram = with_word c.ram p v } in
-      let f : p + 4 ≡ place + 4 * suc r = omega arith in (
-        p,
-        record { is = omega arith; aligned = omega arith; inside = omega arith },
-        grind (arith, apart),
-        saves_owes n (suc r) base (o + 4) o' d e (omega arith) (omega arith) (grind (arith, apart))
-            (subst (λ x. Owes from to o' code 0 E start (record d { ram = with_words d.ram x (registers_from n (suc r) c.registers) })) f go),
-      )
+      let f : p + 4 ≡ place + 4 * suc r = omega arith in
+      stores p (record { is = omega arith; aligned = omega arith; inside = omega arith }) (grind (arith, apart))
+      ▸ saves_owes n (suc r) base (o + 4) o' d e (omega arith) (omega arith) (grind (arith, apart))
+      (subst (λ x. Owes from to o' code 0 E start (record d { ram = with_words d.ram x (registers_from n (suc r) c.registers) })) f go)
 
-  pub restores_owes : (n r base o o' : ℕ) (c : Core) → get_or c.registers base 0 ≡ 0x8000_0000 + place → base < r → o' ≡ o + 4 * n → place + 4 * (r + n) ≤ 0x20_0000 → Owes from to o' code 0 E start (record c { registers = restored_registers n r c.ram place c.registers }) → Owes from to o (restoring_code n r base ++ code) 0 E start c
+  pub restores_owes : (n r base o o' : ℕ) (c : Core) → get_or c.registers base 0 ≡ memory_base + place → base < r → o' ≡ o + 4 * n → place + 4 * (r + n) ≤ 0x20_0000 → Owes from to o' code 0 E start (record c { registers = restored_registers n r c.ram place c.registers }) → Owes from to o (restoring_code n r base ++ code) 0 E start c
   restores_owes zero r base o o' c e b eo fit go = let f : o' ≡ o = omega arith in subst (λ x. Owes from to x code 0 E start c) f go
   restores_owes (suc n) zero base o o' c e b eo fit go = absurd (omega arith)
   restores_owes (suc n) (suc r) base o o' c e b eo fit go =
       let p = place + 4 * suc r in
       let v = word_at c.ram p in
       let d = record c { registers = set c.registers (suc r) v } in
-      let kept : get_or d.registers base 0 ≡ get_or c.registers base 0 = get_or-set_other c.registers (suc r) base v 0 (λ x. absurd (omega arith)) in (
-        p,
-        record { is = omega arith; aligned = omega arith; inside = omega arith },
-        v,
-        refl,
-        restores_owes n (suc (suc r)) base (o + 4) o' d (kept ∙ e) (omega arith) (omega arith) (omega arith) go,
-      )
+      let kept : get_or d.registers base 0 ≡ get_or c.registers base 0 = get_or-set_other c.registers (suc r) base v 0 (λ x. absurd (omega arith)) in
+      loads p (record { is = omega arith; aligned = omega arith; inside = omega arith }) v refl
+      ▸ restores_owes n (suc (suc r)) base (o + 4) o' d (kept ∙ e) (omega arith) (omega arith) (omega arith) go
 
-  pub clears_words_owes : (n k base o o' : ℕ) (c : Core) → get_or c.registers 0 0 ≡ 0 → get_or c.registers base 0 ≡ 0x8000_0000 + place → o' ≡ o + 4 * n → place + 4 * (k + n) ≤ 0x20_0000 → (place + 4 * (k + n) ≤ from) ⊎ (to ≤ place) → Owes from to o' code 0 E start (record c { ram = with_words c.ram (place + 4 * k) (replicate n 0) }) → Owes from to o (clears_words n k base ++ code) 0 E start c
+  pub clears_words_owes : (n k base o o' : ℕ) (c : Core) → get_or c.registers 0 0 ≡ 0 → get_or c.registers base 0 ≡ memory_base + place → o' ≡ o + 4 * n → place + 4 * (k + n) ≤ 0x20_0000 → (place + 4 * (k + n) ≤ from) ⊎ (to ≤ place) → Owes from to o' code 0 E start (record c { ram = with_words c.ram (place + 4 * k) (replicate n 0) }) → Owes from to o (clears_words n k base ++ code) 0 E start c
   clears_words_owes zero k base o o' c z e eo fit apart go = let f : o' ≡ o = omega arith in subst (λ x. Owes from to x code 0 E start c) f go
   clears_words_owes (suc n) k base o o' c z e eo fit apart go =
       let p = place + 4 * k in
       let d = record c { ram = with_word c.ram p (get_or c.registers 0 0) } in
       let f : p + 4 ≡ place + 4 * suc k = omega arith in
       let g = subst (λ x. Owes from to o' code 0 E start (record c { ram = with_words (with_word c.ram p 0) x (replicate n 0) })) f go in
-      let g0 = subst (λ v. Owes from to o' code 0 E start (record c { ram = with_words (with_word c.ram p v) (place + 4 * suc k) (replicate n 0) })) (sym z) g in (
-        p,
-        record { is = omega arith; aligned = omega arith; inside = omega arith },
-        grind (arith, apart),
-        clears_words_owes n (suc k) base (o + 4) o' d z e (omega arith) (omega arith) (grind (arith, apart)) g0,
-      )
+      let g0 = subst (λ v. Owes from to o' code 0 E start (record c { ram = with_words (with_word c.ram p v) (place + 4 * suc k) (replicate n 0) })) (sym z) g in
+      stores p (record { is = omega arith; aligned = omega arith; inside = omega arith }) (grind (arith, apart))
+      ▸ clears_words_owes n (suc k) base (o + 4) o' d z e (omega arith) (omega arith) (grind (arith, apart)) g0
 
 module _ (from to : ℕ) (E : List ℕ → State → State → Type 0) (start : State) (code : List InstrKind) where
   pub clears_owes : (n r o o' : ℕ) (c : Core) → get_or c.registers 0 0 ≡ 0 → 1 ≤ r → o' ≡ o + 4 * n → Owes from to o' code 0 E start (record c { registers = cleared_registers n r c.registers }) → Owes from to o (clearing_code n r ++ code) 0 E start c
@@ -64,7 +55,8 @@ module _ (from to : ℕ) (E : List ℕ → State → State → Type 0) (start : 
   clears_owes (suc n) (suc r) o o' c z b eo go =
       let d = record c { registers = set c.registers (suc r) 0 } in
       let kept : get_or d.registers 0 0 ≡ get_or c.registers 0 0 = get_or-set_other c.registers (suc r) 0 0 0 (λ x. absurd (omega arith)) in
-      (0, omega arith, clears_owes n (suc (suc r)) (o + 4) o' d (kept ∙ z) (omega arith) (omega arith) go)
+      writes 0 (omega arith)
+      ▸ clears_owes n (suc (suc r)) (o + 4) o' d (kept ∙ z) (omega arith) (omega arith) go
 
 -- ---- registers after them
 

@@ -6,6 +6,7 @@ use Rattle.sloth_base.specs.declared.app.Width.TheVariants as width
 use Rattle.sloth_base.specs.Machine.{Core, State}
 use Rattle.sloth_base.specs.Lines.{flag_of}
 use Rattle.sloth_base.specs.Arrive.{core_arrive, state_arrive}
+use Rattle.sloth_base.specs.MemoryMap.{memory_base}
 use Rattle.rv32_instr.specs.declared.effect.Effect.{Effect}
 use Rattle.rv32_instr.specs.declared.effect.Effect.TheVariants.{Nothing, Write, Branch, Jump, Load, Store, Csr, Environment, Return}
 use Rattle.rv32_instr.specs.declared.InstrKind.{InstrKind}
@@ -17,7 +18,7 @@ use Rattle.rv32_instr.specs.Execute.{Next, Going, step, touched, perform, touche
 use Rattle.masked_code.specs.Trace.{Trace, touched_lines}
 use Rattle.masked_code.specs.Masked.{OnGoing, Masked}
 use Rattle.masked_code.specs.Place.{at, InPlace}
-use Rattle.masked_code.specs.Owes.{IsApart, Pending, Enabled, Level, Ways, owes_one, Owes}
+use Rattle.masked_code.specs.Owes.{◌▸◌, IsApart, Pending, Enabled, Level, Raised, Cleared, Switched, Levelled, Ways, owes_one, Owes}
 use Rattle.masked_code.proofs.Arrivals.{arrive-append, arrive-set, length-arrive, of_line, not_line, are_of, parted, found_of_line, stored_parted, taken, left}
 use Rattle.masked_code.proofs.Words.{get_or-with_word, word_at-agree}
 use Rattle.masked_code.proofs.Longest.{longest, LeavesFew, leaves_few}
@@ -94,36 +95,37 @@ module _ (from to : ℕ) (ram : List ℕ) (inside : to ≤ 0x20_0000) where
         subst (λ y. OnGoing y (λ next. Masked n next (λ trace end. Ended E start w ((a, t) ∷ trace) end))) (sym e)
         (subst (λ y. Masked n (at u (core_arrive (w ++ a) d)) (λ trace end. Ended E start w ((a, y) ∷ trace) end)) (sym f) (rest skip u d (w ++ a) E start few eu i h))
 
-    quiet : longest code 0 ≤ n → (d : Core) (x : Next) (t : Option ℕ) → x ≡ goes_on (0x8000_0000 + o) (core_arrive (w ++ a) d) → t ≡ None → Inside d → Owes from to (o + 4) code 0 E start d → OnGoing x (λ next. Masked n next (λ trace end. Ended E start w ((a, t) ∷ trace) end))
+    quiet : longest code 0 ≤ n → (d : Core) (x : Next) (t : Option ℕ) → x ≡ goes_on (memory_base + o) (core_arrive (w ++ a) d) → t ≡ None → Inside d → Owes from to (o + 4) code 0 E start d → OnGoing x (λ next. Masked n next (λ trace end. Ended E start w ((a, t) ∷ trace) end))
     quiet few d x t e f i h = onward 0 (o + 4) d x t few (omega arith) (e ∙ next_at o (core_arrive (w ++ a) d) (omega arith)) f i h
 
     -- an instruction that touches a line
-    touch : longest code 0 ≤ n → (l : ℕ) (d : Core) (x : Next) (t : Option ℕ) → x ≡ goes_on (0x8000_0000 + o) (core_arrive (not_line l (w ++ a)) d) → t ≡ Some l → Inside d → Owes from to (o + 4) code 0 (λ touched. E (l ∷ touched)) (state_arrive (of_line l (w ++ a)) start) d → OnGoing x (λ next. Masked n next (λ trace end. Ended E start w ((a, t) ∷ trace) end))
+    touch : longest code 0 ≤ n → (l : ℕ) (d : Core) (x : Next) (t : Option ℕ) → x ≡ goes_on (memory_base + o) (core_arrive (not_line l (w ++ a)) d) → t ≡ Some l → Inside d → Owes from to (o + 4) code 0 (λ touched. E (l ∷ touched)) (state_arrive (of_line l (w ++ a)) start) d → OnGoing x (λ next. Masked n next (λ trace end. Ended E start w ((a, t) ∷ trace) end))
     touch few l d x t e f i h =
         subst (λ y. OnGoing y (λ next. Masked n next (λ trace end. Ended E start w ((a, t) ∷ trace) end))) (sym (e ∙ next_at o (core_arrive (not_line l (w ++ a)) d) (omega arith)))
         (subst (λ y. Masked n (at (o + 4) (core_arrive (not_line l (w ++ a)) d)) (λ trace end. Ended E start w ((a, y) ∷ trace) end)) (sym f)
         (masked_map n (at (o + 4) (core_arrive (not_line l (w ++ a)) d)) _ _ (touch_before E start (w ++ a) w a l refl)
         (rest 0 (o + 4) d (not_line l (w ++ a)) (λ touched. E (l ∷ touched)) (state_arrive (of_line l (w ++ a)) start) few (omega arith) i h)))
 
-    one : (e : Effect) (word : ℕ) (c : Core) → LeavesFew n o code e → Inside c → owes_one from to o e c (ways o code E start c) → OnGoing (perform e word (0x8000_0000 + o) (core_arrive (w ++ a) c)) (λ next. Masked n next (λ trace end. Ended E start w ((a, touched_by e) ∷ trace) end))
+    one : (e : Effect) (word : ℕ) (c : Core) → LeavesFew n o code e → Inside c → owes_one from to o e c (ways o code E start c) → OnGoing (perform e word (memory_base + o) (core_arrive (w ++ a) c)) (λ next. Masked n next (λ trace end. Ended E start w ((a, touched_by e) ∷ trace) end))
     unfolding perform touched_by
     one Nothing word c few i h = quiet few c _ None refl refl i h
-    one (Write rd value) word c few i h =
-        let pc = 0x8000_0000 + o in
+    one (Write rd value) word c few i (◌▸◌ {named} said h) =
+        let pc = memory_base + o in
         let now = core_arrive (w ++ a) c in
-        quiet few (with_register c rd h.0) _ None (ap (λ v. goes_on pc (with_register now rd v)) h.1 ∙ ap (goes_on pc) (with_register-arrive c rd h.0 (w ++ a))) refl (with_register_inside c rd h.0 i) h.2
+        quiet few (with_register c rd named) _ None (ap (λ v. goes_on pc (with_register now rd v)) said.is ∙ ap (goes_on pc) (with_register-arrive c rd named (w ++ a))) refl (with_register_inside c rd named i) h
     one (Branch true target) word c few i h =
         let u = o + 4 + 4 * h.passed in
         let now = core_arrive (w ++ a) c in
         onward h.passed u c _ None (few.1 h.passed h.lands) refl (ap (λ y. jumps y now) h.lands ∙ jump_at u now (omega arith)) refl i (h.when_taken refl)
     one (Branch false target) word c few i h = quiet few.0 c _ None refl refl i (h.when_not (λ e. absurd (cc)))
     one (Jump rd target) word c few i h = absurd h
-    one (Load width.Word rd address) word c few i h =
-        let pc = 0x8000_0000 + o in
+    one (Load width.Word rd address) word c few i (◌▸◌ {named} said h) =
+        let pc = memory_base + o in
         let now = core_arrive (w ++ a) c in
-        quiet few (with_register c rd h.2) _ _ (load_word now rd address h.0 word pc h.1 ∙ ap (λ v. goes_on pc (with_register now rd v)) h.3 ∙ ap (goes_on pc) (with_register-arrive c rd h.2 (w ++ a))) (load_word_quiet rd address h.0 h.1) (with_register_inside c rd h.2 i) h.4
-    one (Load width.ByteU rd address) word c few i (Pending l, place, h) =
-        let pc = 0x8000_0000 + o in
+        quiet few (with_register c rd named) _ _ (load_word now rd address said.place word pc said.there ∙ ap (λ v. goes_on pc (with_register now rd v)) said.is ∙ ap (goes_on pc) (with_register-arrive c rd named (w ++ a))) (load_word_quiet rd address said.place said.there) (with_register_inside c rd named i) h
+    one (Load width.ByteU rd address) word c few i (◌▸◌ {named = Pending l} said h) =
+        let place = said.there in
+        let pc = memory_base + o in
         let m = w ++ a in
         let now = core_arrive m c in
         let own = core_arrive (of_line l m) c in
@@ -131,14 +133,16 @@ module _ (from to : ℕ) (ram : List ℕ) (inside : to ≤ 0x20_0000) where
         let below = place.1 in
         let long = i.lines in
         touch few l (with_register own rd v) _ _ (load_pending now rd address l word pc i.there place ∙ ap (λ v. goes_on pc (with_register now rd v)) (found_of_line l m c.pending (omega arith)) ∙ ap (λ p. goes_on pc (with_register (record c { pending = p }) rd v)) (sym (parted l m c.pending)) ∙ ap (goes_on pc) (with_register-arrive own rd v (not_line l m))) (load_touches rd address l place) (with_register_inside own rd v (arrive_inside c (of_line l m) i)) (h (of_line l m) (are_of l m))
-    one (Load width.ByteU rd address) word c few i (Enabled l, place, h) =
-        let pc = 0x8000_0000 + o in
+    one (Load width.ByteU rd address) word c few i (◌▸◌ {named = Enabled l} said h) =
+        let place = said.there in
+        let pc = memory_base + o in
         let now = core_arrive (w ++ a) c in
         let v = get_or c.enabled l 0 in
         let e = place.0 in
         quiet few (with_register c rd v) _ _ (load_enabled now rd address l word pc i.there place ∙ ap (goes_on pc) (with_register-arrive c rd v (w ++ a))) (load_quiet rd address (omega arith)) (with_register_inside c rd v i) h
-    one (Load width.ByteU rd address) word c few i (Level l, place, h) =
-        let pc = 0x8000_0000 + o in
+    one (Load width.ByteU rd address) word c few i (◌▸◌ {named = Level l} said h) =
+        let place = said.there in
+        let pc = memory_base + o in
         let now = core_arrive (w ++ a) c in
         let v = get_or c.levels l 0 in
         let e = place.0 in
@@ -146,42 +150,48 @@ module _ (from to : ℕ) (ram : List ℕ) (inside : to ≤ 0x20_0000) where
     one (Load width.Byte rd address) word c few i h = absurd h
     one (Load width.Half rd address) word c few i h = absurd h
     one (Load width.HalfU rd address) word c few i h = absurd h
-    one (Store width.Word address value) word c few i h =
-        let pc = 0x8000_0000 + o in
+    one (Store width.Word address value) word c few i (◌▸◌ {named = place} said h) =
+        let pc = memory_base + o in
         let now = core_arrive (w ++ a) c in
-        quiet few (record c { ram = with_word c.ram h.0 value }) _ _ (store_word now address h.0 value word pc h.1) (store_word_quiet address h.0 value h.1) (stored_inside c h.0 value h.2 i) h.3
-    one (Store width.Byte address value) word c few i (Pending l, place, inl (ne, h)) =
-        let pc = 0x8000_0000 + o in
+        quiet few (record c { ram = with_word c.ram place value }) _ _ (store_word now address place value word pc said.there) (store_word_quiet address place value said.there) (stored_inside c place value said.apart i) h
+    one (Store width.Byte address value) word c few i (◌▸◌ {named = Raised l} said h) =
+        let place = said.there.0 in
+        let ne = said.there.1 in
+        let pc = memory_base + o in
         let m = w ++ a in
         let now = core_arrive m c in
         quiet few (record c { pending = set c.pending l 1 }) _ _ (store_pending now address l value word pc i.there place ∙ ap (λ v. goes_on pc (record now { pending = set now.pending l v })) (flag-other (value % 256) ne) ∙ ap (λ p. goes_on pc (record c { pending = p })) (sym (arrive-set m c.pending l))) (raise_quiet address value ne) (pending_inside c l 1 i) h
-    one (Store width.Byte address value) word c few i (Pending l, place, inr (z, h)) =
-        let pc = 0x8000_0000 + o in
+    one (Store width.Byte address value) word c few i (◌▸◌ {named = Cleared l} said h) =
+        let place = said.there.0 in
+        let z = said.there.1 in
+        let pc = memory_base + o in
         let m = w ++ a in
         let now = core_arrive m c in
         let own = core_arrive (of_line l m) c in
         touch few l (record own { pending = set own.pending l 0 }) _ _ (store_pending now address l value word pc i.there place ∙ ap (λ v. goes_on pc (record now { pending = set now.pending l v })) (flag-zero (value % 256) z) ∙ ap (λ p. goes_on pc (record c { pending = p })) (stored_parted l 0 m c.pending)) (store_touches address l value place z) (pending_inside own l 0 (arrive_inside c (of_line l m) i)) (h (of_line l m) (are_of l m))
-    one (Store width.Byte address value) word c few i (Enabled l, place, h) =
-        let pc = 0x8000_0000 + o in
+    one (Store width.Byte address value) word c few i (◌▸◌ {named = Switched l} said h) =
+        let place = said.there in
+        let pc = memory_base + o in
         let now = core_arrive (w ++ a) c in
         let e = place.0 in
         quiet few (record c { enabled = set c.enabled l (flag_of (value % 256)) }) _ _ (store_enabled now address l value word pc i.there place) (store_quiet address value (omega arith)) (record { masked = i.masked; there = i.there; lines = i.lines; same = i.same }) h
-    one (Store width.Byte address value) word c few i (Level l, place, h) =
-        let pc = 0x8000_0000 + o in
+    one (Store width.Byte address value) word c few i (◌▸◌ {named = Levelled l} said h) =
+        let place = said.there in
+        let pc = memory_base + o in
         let now = core_arrive (w ++ a) c in
         let e = place.0 in
         quiet few (record c { levels = set c.levels l (value % 256) }) _ _ (store_level now address l value word pc i.there place) (store_quiet address value (omega arith)) (record { masked = i.masked; there = i.there; lines = i.lines; same = i.same }) h
     one (Store width.Half address value) word c few i h = absurd h
     one (Store width.ByteU address value) word c few i h = absurd h
     one (Store width.HalfU address value) word c few i h = absurd h
-    one (Csr rd csr change) word c few i h =
-        let pc = 0x8000_0000 + o in
+    one (Csr rd csr change) word c few i (◌▸◌ {named = old} said h) =
+        let pc = memory_base + o in
         let m = w ++ a in
         let now = core_arrive m c in
-        let d = changed_core change csr h.0 c in
-        let ch = changed_changes m c change csr h.0 in
-        let inside_d : Inside d = record { masked = h.2; there = ch.controller_is ∙ i.there; lines = ap length ch.pending_is ∙ i.lines; same = subst (λ r. Agree from to ram r) (sym ch.ram_is) i.same } in
-        quiet few (with_register d rd h.0) _ None (ap (λ y. csr_access y rd change csr word pc now) h.1 ∙ ap (λ y. goes_on pc (with_register y rd h.0)) ch.arrives ∙ ap (goes_on pc) (with_register-arrive d rd h.0 m)) refl (with_register_inside d rd h.0 inside_d) h.3
+        let d = changed_core change csr old c in
+        let ch = changed_changes m c change csr old in
+        let inside_d : Inside d = record { masked = said.masked; there = ch.controller_is ∙ i.there; lines = ap length ch.pending_is ∙ i.lines; same = subst (λ r. Agree from to ram r) (sym ch.ram_is) i.same } in
+        quiet few (with_register d rd old) _ None (ap (λ y. csr_access y rd change csr word pc now) said.is ∙ ap (λ y. goes_on pc (with_register y rd old)) ch.arrives ∙ ap (goes_on pc) (with_register-arrive d rd old m)) refl (with_register_inside d rd old inside_d) h
     one Environment word c few i h = absurd h
     one Return word c few i h =
         let last : State = record { pc = c.mepc; core = record c { ilevel = c.plevel; mie = c.mpie; mpie = true } } in
@@ -206,5 +216,5 @@ module _ (from to : ℕ) (ram : List ℕ) (inside : to ≤ 0x20_0000) where
       let e2 = ap (λ x. step (at o x)) e1 ∙ step_at o (core_arrive m c) kind here in
       let e3 = ap (λ x. touched (at o x)) e1 ∙ touched_at o (core_arrive m c) kind here.0 in
       subst (λ x. OnGoing x (λ next. Masked n1 next (λ trace end. Ended E start w ((a, touched (at o (core_arrive a (core_arrive w c)))) ∷ trace) end))) (sym e2)
-      (subst (λ x. OnGoing (perform (effect kind (0x8000_0000 + o) c.registers) (Encode kind) (0x8000_0000 + o) (core_arrive m c)) (λ next. Masked n1 next (λ trace end. Ended E start w ((a, x) ∷ trace) end))) (sym e3)
-      (one from to ram inside n1 o code al (omega arith) rest E start w a (effect kind (0x8000_0000 + o) c.registers) (Encode kind) c (leaves_few n1 o code (omega arith) kind c.registers (omega arith)) i h)))))
+      (subst (λ x. OnGoing (perform (effect kind (memory_base + o) c.registers) (Encode kind) (memory_base + o) (core_arrive m c)) (λ next. Masked n1 next (λ trace end. Ended E start w ((a, x) ∷ trace) end))) (sym e3)
+      (one from to ram inside n1 o code al (omega arith) rest E start w a (effect kind (memory_base + o) c.registers) (Encode kind) c (leaves_few n1 o code (omega arith) kind c.registers (omega arith)) i h)))))

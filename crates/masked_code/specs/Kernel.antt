@@ -1,6 +1,7 @@
 -- The code that ends a stretch by going back to what runs below, and the state that this leaves.
 use Rattle.std.specs.Prelude.{ℕ, ◌+◌, ◌*◌, ◌%◌, ◌≡◌, ◌<◌, ◌≤◌, true, pos, List, [], ◌∷◌, ◌++◌, length, slice_index}
 use Rattle.sloth_base.specs.Machine.{Core, State}
+use Rattle.sloth_base.specs.MemoryMap.{memory_base}
 use Rattle.sloth_region.specs.Layout.{cur, below_word, idle_context, context_bytes, context_pc, context_level, context_cur, context_below}
 use Rattle.rv32_instr.specs.declared.csr.TheConstants.{MSTATUS, MEPC, PLEVEL}
 use Rattle.rv32_instr.specs.declared.InstrKind.{InstrKind}
@@ -22,7 +23,7 @@ pub record CanRun (offset : ℕ) (code : List InstrKind) (core : Core) : Type 0 
 
 -- the context of what runs below stands at this offset
 pub record IsBelow (place : ℕ) (core : Core) : Type 0 where
-  pub is : word_at core.ram below_word ≡ 0x8000_0000 + place
+  pub is : word_at core.ram below_word ≡ memory_base + place
   pub aligned : place % 4 ≡ 0
   pub behind : idle_context ≤ place
   pub inside : place + context_bytes ≤ 0x20_0000
@@ -70,5 +71,5 @@ below_again place core =
 pub record HasLeft (place : ℕ) (core : Core) (end : State) : Type 0 where
   pub left : LeftAs (below_again place core) end.core
   pub pc : end.pc ≡ word_at core.ram place
-  pub x2 : slice_index end.core.registers 2 ≡ 0x8000_0000 + (place + context_bytes)
+  pub x2 : slice_index end.core.registers 2 ≡ memory_base + (place + context_bytes)
   pub loaded : (i : ℕ) → 5 ≤ i → i < 32 → slice_index end.core.registers i ≡ word_at core.ram (place + 4 * i)

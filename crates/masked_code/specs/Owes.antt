@@ -2,15 +2,22 @@
 use Rattle.std.specs.Prelude.{ℕ, zero, suc, ◌+◌, ◌*◌, ◌%◌, ◌≡◌, ◌≢◌, ◌<◌, ◌≤◌, ◌⊎◌, true, false, List, [], ◌∷◌, Some, slice_index, slice_set}
 use Rattle.sloth_base.specs.declared.app.Width.TheVariants as width
 use Rattle.sloth_base.specs.Machine.{Core, State}
+use Rattle.sloth_base.specs.MemoryMap.{memory_base}
 use Rattle.sloth_base.specs.Lines.{flag_of}
 use Rattle.sloth_base.specs.Arrive.{core_arrive, state_arrive}
 use Rattle.sloth_region.specs.Layout.{controller_base, pending_byte, enabled_byte, level_byte}
+use Rattle.rv32_instr.specs.declared.effect.Change.{Change}
 use Rattle.rv32_instr.specs.declared.effect.Effect.{Effect}
 use Rattle.rv32_instr.specs.declared.effect.Effect.TheVariants.{Nothing, Write, Branch, Jump, Load, Store, Csr, Environment, Return}
 use Rattle.rv32_instr.specs.declared.InstrKind.{InstrKind}
 use Rattle.rv32_instr.specs.Ram.{word_at, with_word}
 use Rattle.rv32_instr.specs.Effect.{effect}
 use Rattle.rv32_instr.specs.Execute.{with_register, csr_value, changed_core}
+
+infixr 1 ◌▸◌
+-- what a proof says of an instruction, naming a value or a place, and then what it owes behind the instruction
+pub data Owed (A : Type 0) (Says Rest : A → Type 0) : Type 0 where
+  ◌▸◌ : {named : A} → Says named → Rest named → Owed A Says Rest
 
 -- a byte of the controller, by the line that it belongs to
 pub data LineByte : Type 0 where
@@ -26,13 +33,90 @@ IsAt address (Level line) = (address ≡ controller_base + level_byte line) × (
 
 -- a word of RAM, given by its offset
 pub record IsWordAt (address offset : ℕ) : Type 0 where
-  pub is : address ≡ 0x8000_0000 + offset
+  pub is : address ≡ memory_base + offset
   pub aligned : offset % 4 ≡ 0
   pub inside : offset + 4 ≤ 0x20_0000
 
 -- a word apart from the bytes from `from` up to `to`
 abbrev pub IsApart : ℕ → ℕ → ℕ → Type 0
 IsApart from to offset = (offset + 4 ≤ from) ⊎ (to ≤ offset)
+
+-- what a store to a byte of the controller does to its line: it is pending, or no longer; is enabled, or not; has another level
+pub data LineChange : Type 0 where
+  Raised : ℕ → LineChange
+  Cleared : ℕ → LineChange
+  Switched : ℕ → LineChange
+  Levelled : ℕ → LineChange
+
+-- the change that a store of a value at an address makes
+abbrev pub IsStoreOf : ℕ → ℕ → LineChange → Type 0
+IsStoreOf address value (Raised line) = IsAt address (Pending line) × (value % 256 ≢ 0)
+IsStoreOf address value (Cleared line) = IsAt address (Pending line) × (value % 256 ≡ 0)
+IsStoreOf address value (Switched line) = IsAt address (Enabled line)
+IsStoreOf address value (Levelled line) = IsAt address (Level line)
+
+-- ---- what a proof says of an instruction
+
+-- the value that goes to a register
+pub record HasValue (value named : ℕ) : Type 0 where
+  pub is : value ≡ named
+
+-- the word of RAM that is loaded has this value
+pub record LoadsWord (core : Core) (address named : ℕ) : Type 0 where
+  pub place : ℕ
+  pub there : IsWordAt address place
+  pub is : word_at core.ram place ≡ named
+
+-- the word of RAM that is stored is at this offset, apart from the code
+pub record StoresWord (from to address place : ℕ) : Type 0 where
+  pub there : IsWordAt address place
+  pub apart : IsApart from to place
+
+-- the byte of the controller that is loaded
+pub record LoadsByte (address : ℕ) (byte : LineByte) : Type 0 where
+  pub there : IsAt address byte
+
+-- the change that is stored in the controller
+pub record StoresByte (address value : ℕ) (change : LineChange) : Type 0 where
+  pub there : IsStoreOf address value change
+
+-- what a CSR held; interrupts stay masked
+pub record AccessesCsr (core : Core) (csr : ℕ) (change : Change) (old : ℕ) : Type 0 where
+  pub is : csr_value core csr ≡ Some old
+  pub masked : (changed_core change csr old core).mie ≡ false
+
+-- ---- the same as steps of a proof, each before what is owed behind its instruction
+
+pub writes : {value : ℕ} (named : ℕ) → value ≡ named → HasValue value named
+writes named is = record { is = is }
+
+pub loads : {core : Core} {address : ℕ} (place : ℕ) → IsWordAt address place → (named : ℕ) → word_at core.ram place ≡ named
+    → LoadsWord core address named
+loads place there named is = record { place = place; there = there; is = is }
+
+pub stores : {from to address : ℕ} (place : ℕ) → IsWordAt address place → IsApart from to place → StoresWord from to address place
+stores place there apart = record { there = there; apart = apart }
+
+pub loads_byte : {address : ℕ} (byte : LineByte) → IsAt address byte → LoadsByte address byte
+loads_byte byte there = record { there = there }
+
+pub raises : {address value : ℕ} (line : ℕ) → IsAt address (Pending line) → value % 256 ≢ 0 → StoresByte address value (Raised line)
+raises line there other = record { there = (there, other) }
+
+pub clears : {address value : ℕ} (line : ℕ) → IsAt address (Pending line) → value % 256 ≡ 0 → StoresByte address value (Cleared line)
+clears line there is_zero = record { there = (there, is_zero) }
+
+pub sets_enabled : {address value : ℕ} (line : ℕ) → IsAt address (Enabled line) → StoresByte address value (Switched line)
+sets_enabled line there = record { there = there }
+
+pub sets_level : {address value : ℕ} (line : ℕ) → IsAt address (Level line) → StoresByte address value (Levelled line)
+sets_level line there = record { there = there }
+
+pub accesses : {core : Core} {csr : ℕ} {change : Change} (old : ℕ) → csr_value core csr ≡ Some old → (changed_core change csr old core).mie ≡ false
+    → AccessesCsr core csr change old
+accesses old is masked = record { is = is; masked = masked }
+
+-- ---- what it owes behind it
 
 -- how a proof goes on
 pub record Ways : Type 1 where
@@ -50,29 +134,29 @@ abbrev pub AreOf : ℕ → List ℕ → Type 0
 AreOf line [] = Unit {0}
 AreOf line (arrived ∷ lines) = (arrived ≡ line) × AreOf line lines
 
--- a load of a controller byte
-abbrev pub owes_load : LineByte → ℕ → Core → Ways → Type 0
-owes_load (Pending line) rd core ways =
+-- behind a load of a controller byte; that of a pending byte is a touch
+abbrev pub owes_load : ℕ → Core → Ways → LineByte → Type 0
+owes_load rd core ways (Pending line) =
     (lines : List ℕ) → AreOf line lines →
     let now = core_arrive lines core in
     ways.touch line lines (with_register now rd (slice_index now.pending line))
-owes_load (Enabled line) rd core ways = ways.next (with_register core rd (slice_index core.enabled line))
-owes_load (Level line) rd core ways = ways.next (with_register core rd (slice_index core.levels line))
+owes_load rd core ways (Enabled line) = ways.next (with_register core rd (slice_index core.enabled line))
+owes_load rd core ways (Level line) = ways.next (with_register core rd (slice_index core.levels line))
 
--- a store of a value's low byte to a controller byte; a pending byte is set, or cleared, which is a touch
-abbrev pub owes_store : LineByte → ℕ → Core → Ways → Type 0
-owes_store (Pending line) value core ways =
-    (value % 256 ≢ 0) × ways.next (record core { pending = slice_set core.pending line 1 })
-    ⊎ (value % 256 ≡ 0) × ((lines : List ℕ) → AreOf line lines →
+-- behind a store of a value's low byte to a controller byte; that a line is no longer pending is a touch
+abbrev pub owes_store : ℕ → Core → Ways → LineChange → Type 0
+owes_store value core ways (Raised line) = ways.next (record core { pending = slice_set core.pending line 1 })
+owes_store value core ways (Cleared line) =
+    (lines : List ℕ) → AreOf line lines →
     let now = core_arrive lines core in
-    ways.touch line lines (record now { pending = slice_set now.pending line 0 }))
-owes_store (Enabled line) value core ways = ways.next (record core { enabled = slice_set core.enabled line (flag_of (value % 256)) })
-owes_store (Level line) value core ways = ways.next (record core { levels = slice_set core.levels line (value % 256) })
+    ways.touch line lines (record now { pending = slice_set now.pending line 0 })
+owes_store value core ways (Switched line) = ways.next (record core { enabled = slice_set core.enabled line (flag_of (value % 256)) })
+owes_store value core ways (Levelled line) = ways.next (record core { levels = slice_set core.levels line (value % 256) })
 
 -- a branch at an offset: where it is taken it passes `passed` instructions
 pub record OwesBranch (offset target : ℕ) (taken next : Type 0) (skip : ℕ → Type 0) : Type 0 where
   pub passed : ℕ
-  pub lands : target ≡ 0x8000_0000 + (offset + 4 + 4 * passed)
+  pub lands : target ≡ memory_base + (offset + 4 + 4 * passed)
   pub when_taken : taken → skip passed
   pub when_not : (taken → ⊥) → next
 
@@ -80,20 +164,18 @@ pub record OwesBranch (offset target : ℕ) (taken next : Type 0) (skip : ℕ �
 -- address and each value that is loaded.
 abbrev pub owes_one : ℕ → ℕ → ℕ → Effect → Core → Ways → Type 0
 owes_one from to offset Nothing core ways = ways.next core
-owes_one from to offset (Write rd value) core ways = (named : ℕ) × (value ≡ named) × ways.next (with_register core rd named)
+owes_one from to offset (Write rd value) core ways = Owed ℕ (HasValue value) (λ named. ways.next (with_register core rd named))
 owes_one from to offset (Branch taken target) core ways = OwesBranch offset target (taken ≡ true) (ways.next core) ways.skip
 owes_one from to offset (Jump rd target) core ways = ⊥
-owes_one from to offset (Load width.Word rd address) core ways =
-    (place : ℕ) × IsWordAt address place × (named : ℕ) × (word_at core.ram place ≡ named) × ways.next (with_register core rd named)
-owes_one from to offset (Load width.ByteU rd address) core ways = (byte : LineByte) × IsAt address byte × owes_load byte rd core ways
+owes_one from to offset (Load width.Word rd address) core ways = Owed ℕ (LoadsWord core address) (λ named. ways.next (with_register core rd named))
+owes_one from to offset (Load width.ByteU rd address) core ways = Owed LineByte (LoadsByte address) (owes_load rd core ways)
 owes_one from to offset (Load width rd address) core ways = ⊥
 owes_one from to offset (Store width.Word address value) core ways =
-    (place : ℕ) × IsWordAt address place × IsApart from to place × ways.next (record core { ram = with_word core.ram place value })
-owes_one from to offset (Store width.Byte address value) core ways = (byte : LineByte) × IsAt address byte × owes_store byte value core ways
+    Owed ℕ (StoresWord from to address) (λ place. ways.next (record core { ram = with_word core.ram place value }))
+owes_one from to offset (Store width.Byte address value) core ways = Owed LineChange (StoresByte address value) (owes_store value core ways)
 owes_one from to offset (Store width address value) core ways = ⊥
 owes_one from to offset (Csr rd csr change) core ways =
-    (old : ℕ) × (csr_value core csr ≡ Some old)
-    × ((changed_core change csr old core).mie ≡ false) × ways.next (with_register (changed_core change csr old core) rd old)
+    Owed ℕ (AccessesCsr core csr change) (λ old. ways.next (with_register (changed_core change csr old core) rd old))
 owes_one from to offset Environment core ways = ⊥
 owes_one from to offset Return core ways = ways.done (record { pc = core.mepc; core = record core { ilevel = core.plevel; mie = core.mpie; mpie = true } })
 
@@ -102,7 +184,7 @@ owes_one from to offset Return core ways = ways.done (record { pc = core.mepc; c
 abbrev pub Owes : ℕ → ℕ → ℕ → List InstrKind → ℕ → (List ℕ → State → State → Type 0) → State → Core → Type 0
 Owes from to offset [] skip Effect start core = ⊥
 Owes from to offset (kind ∷ code) (suc skip) Effect start core = Owes from to (offset + 4) code skip Effect start core
-Owes from to offset (kind ∷ code) zero Effect start core = owes_one from to offset (effect kind (0x8000_0000 + offset) core.registers) core (record {
+Owes from to offset (kind ∷ code) zero Effect start core = owes_one from to offset (effect kind (memory_base + offset) core.registers) core (record {
   next = λ now. Owes from to (offset + 4) code 0 Effect start now;
   touch = λ line lines now. Owes from to (offset + 4) code 0 (λ touched. Effect (line ∷ touched)) (state_arrive lines start) now;
   skip = λ passed. Owes from to (offset + 4) code passed Effect start core;

@@ -1,13 +1,14 @@
 -- Code in place.
 use Rattle.std.specs.Prelude.{ℕ, ◌+◌, ◌≡◌, List, [], ◌∷◌, Some}
 use Rattle.sloth_base.specs.Machine.{Core, State}
+use Rattle.sloth_base.specs.MemoryMap.{memory_base}
 use Rattle.rv32_instr.specs.declared.InstrKind.{InstrKind}
 use Rattle.rv32_instr.specs.Table.{Decode, Encode}
 use Rattle.rv32_instr.specs.Ram.{word_at}
 
 -- the state whose pc is at an offset in RAM
 abbrev pub at : ℕ → Core → State
-at offset core = record { pc = 0x8000_0000 + offset; core = core }
+at offset core = record { pc = memory_base + offset; core = core }
 
 -- the words of RAM from an offset on are these instructions
 abbrev pub InPlace : List ℕ → ℕ → List InstrKind → Type 0

@@ -1,5 +1,5 @@
 -- What arrives before each instruction of a stretch, and which line the instruction touches.
-use Rattle.std.specs.Prelude.{ℕ, ◌==◌, Bool, false, ◌||◌, if◌then◌else◌, List, [], ◌∷◌, ◌++◌, Option, Some, None}
+use Rattle.std.specs.Prelude.{ℕ, Bool, false, ◌||◌, if◌then◌else◌, List, [], ◌∷◌, ◌++◌, Option, Some, None}
 use Rattle.sloth_base.specs.Options.{is_number}
 
 -- the lines that arrive before an instruction, and the line whose pending byte it loads or sets to zero by a store

@@ -1,5 +1,5 @@
 //! Pieces of code that several routines have.
-ghost use Rattle.std.specs.Prelude.{◌≡◌, ◌++◌, ◌∷◌, [], OnOk};
+ghost use Rattle.std.specs.Prelude.{◌≡◌, ◌++◌, OnOk};
 ghost use Rattle.masked_code.specs.Kernel.{leaving_code, takes_up};
 
 use crate::emit::{emit, restore};

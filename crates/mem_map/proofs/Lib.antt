@@ -8,3 +8,5 @@ pub mod Mapped
 pub mod StackNumbers
 pub mod StackLengths
 pub mod StackParts
+pub mod Callers
+pub mod Wanting

@@ -3,17 +3,17 @@ use Rattle.std.proofs.Common.{◌≡◌, ◌≤◌, ◌<◌, ◌+◌, ◌-◌, �
 use Rattle.std.specs.Prelude.{All, map, slice_index}
 use Rattle.sloth_base.specs.declared.app.App.{App}
 use Rattle.sloth_base.specs.declared.config.Config.{Config}
+use Rattle.sloth_base.specs.declared.places.Bounds.{Bounds}
 use Rattle.sloth_base.specs.Blocks.{block_count}
 use Rattle.sloth_region.specs.declared.extent.Extent.{Extent}
 use Rattle.sloth_region.specs.declared.map.Map.{Map}
 use Rattle.sloth_region.specs.Region.{AreApartWithin}
-use Rattle.stack_bounds.specs.declared.stacks.Stacks.{Stacks}
 use Rattle.mem_map.specs.Run.{starts, end_of}
 use Rattle.mem_map.specs.Zones.{code_zone, data_zone, all_stacks, nowhere, HasZones}
 use Rattle.mem_map.specs.Plan.{MayPlan, HasAddresses, idle_at, prologue_at, services_at, items_at, code_end, service_bytes, item_bytes, symbol_bytes}
 use Rattle.mem_map.proofs.Planned.{few_tasks, services_above, items_above, symbols_above, items_all_even, blocks_all_even}
 
-module _ (config : Config) (app : App) (sizes : List ℕ) (wanted : List Bool) (stacks : Stacks) (may : MayPlan config app sizes wanted stacks) (full : length wanted ≡ block_count) (plan : Map) where
+module _ (config : Config) (app : App) (sizes : List ℕ) (wanted : List Bool) (bounds : Bounds) (offsets : List ℕ) (may : MayPlan config app sizes wanted bounds offsets) (full : length wanted ≡ block_count) (plan : Map) where
   abbrev n : ℕ
   n = length config.tasks
 
@@ -49,9 +49,9 @@ module _ (config : Config) (app : App) (sizes : List ℕ) (wanted : List Bool) (
         → plan.places.symbols ≡ starts code_to (map symbol_bytes app.symbols)
         → HasAddresses config app sizes wanted plan
     addressed tasks count idle lines prologues unused blocks items first symbols =
-        let low = services_above config app sizes wanted stacks may full in
-        let mid = items_above config app sizes wanted stacks may full in
-        let high = symbols_above config app sizes wanted stacks may full in
+        let low = services_above config app sizes wanted bounds offsets may full in
+        let mid = items_above config app sizes wanted bounds offsets may full in
+        let high = symbols_above config app sizes wanted bounds offsets may full in
         let c = code_zone_is ∙ has.code_is in
         let d = data_zone_is ∙ has.data_is in
         let code_from = ap (λ (e : Extent). e.base) c in
@@ -88,8 +88,8 @@ module _ (config : Config) (app : App) (sizes : List ℕ) (wanted : List Bool) (
           ∙ ap (λ (l : List Extent). plan.words ∷ code_zone plan ∷ data_zone plan ∷ l) (sym all_stacks_are);
       words = words;
       apart = apart;
-      few_tasks = few_tasks config app sizes wanted stacks may full;
-      items_aligned = items_all_even config app sizes wanted stacks may full plan at;
-      blocks_aligned = blocks_all_even config app sizes wanted stacks may full plan at;
+      few_tasks = few_tasks config app sizes wanted bounds offsets may full;
+      items_aligned = items_all_even config app sizes wanted bounds offsets may full plan at;
+      blocks_aligned = blocks_all_even config app sizes wanted bounds offsets may full plan at;
       idle_aligned = let i = at.idle in omega (arith, i);
     }

@@ -10,11 +10,11 @@ use Rattle.sloth_base.specs.declared.app.App.{App}
 use Rattle.sloth_base.specs.declared.app.Func.{Func}
 use Rattle.sloth_base.specs.declared.app.Symbol.{Symbol}
 use Rattle.sloth_base.specs.declared.config.Config.{Config}
+use Rattle.sloth_base.specs.declared.places.Bounds.{Bounds}
 use Rattle.sloth_base.specs.Blocks.{block_count}
 use Rattle.sloth_region.specs.declared.extent.Extent.{Extent}
 use Rattle.sloth_region.specs.declared.map.Map.{Map}
 use Rattle.sloth_region.specs.Region.{FollowWithin}
-use Rattle.stack_bounds.specs.declared.stacks.Stacks.{Stacks}
 use Rattle.mem_map.specs.Run.{end_of, extents_of}
 use Rattle.mem_map.specs.Plan.{MayPlan, HasAddresses, IsNear, prologue_at, services_at, items_at, code_end, data_end, service_bytes, item_bytes, symbol_bytes, prologue_extent, service_extents, code_extents, data_extents}
 use Rattle.mem_map.proofs.Bounds.{sizes_few, before_all, items_end, symbols_end, services_end, IsSize}
@@ -23,7 +23,7 @@ use Rattle.mem_map.proofs.Starts.{end_above, end_aligned, starts_aligned, follow
 
 -- ---- what is needed before there are addresses
 
-module _ (config : Config) (app : App) (sizes : List ℕ) (wanted : List Bool) (stacks : Stacks) (may : MayPlan config app sizes wanted stacks) (full : length wanted ≡ block_count) where
+module _ (config : Config) (app : App) (sizes : List ℕ) (wanted : List Bool) (bounds : Bounds) (offsets : List ℕ) (may : MayPlan config app sizes wanted bounds offsets) (full : length wanted ≡ block_count) where
   abbrev n : ℕ
   n = length config.tasks
 

@@ -6,7 +6,7 @@ use Rattle.std.proofs.lemmas.List.{get_or_append_left, length-append}
 use Rattle.std.proofs.lemmas.List.Elements.{All-append, All-cons, All-nil}
 use Rattle.std.proofs.Math.Seq.{get_or-append_seam}
 use Rattle.sloth_base.specs.declared.config.TaskDecl.{TaskDecl}
-use Rattle.stack_bounds.specs.declared.stacks.Stacks.{Stacks}
+use Rattle.sloth_base.specs.declared.places.Bounds.{Bounds}
 use Rattle.stack_bounds.specs.Bounds.{bytes_of}
 use Rattle.mem_map.specs.Run.{room_for}
 use Rattle.mem_map.specs.Stacks.{is_extended, own_before, first_own, shared_length, AreLengths}
@@ -16,9 +16,9 @@ room_more : (lengths : List ℕ) (len : ℕ) → room_for 16 (lengths ++ len ∷
 room_more [] len = omega arith
 room_more (l ∷ lengths) len = let r = room_more lengths len in omega (arith, r)
 
-module _ (tasks : List TaskDecl) (stacks : Stacks) (end : ℕ) (lengths : List ℕ) (h : AreLengths tasks stacks end lengths) where
+module _ (tasks : List TaskDecl) (bounds : Bounds) (end : ℕ) (lengths : List ℕ) (h : AreLengths tasks bounds end lengths) where
   -- behind a basic task
-  pub same : is_extended tasks end ≡ false → AreLengths tasks stacks (suc end) lengths
+  pub same : is_extended tasks end ≡ false → AreLengths tasks bounds (suc end) lengths
   same basic =
       let s = skipped tasks end basic in
       let c = h.count in
@@ -35,7 +35,7 @@ module _ (tasks : List TaskDecl) (stacks : Stacks) (end : ℕ) (lengths : List �
       }
 
   -- behind an extended one
-  pub more : (len : ℕ) → is_extended tasks end ≡ true → len ≡ bytes_of stacks end → 1 ≤ len → len ≤ 8572 → AreLengths tasks stacks (suc end) (lengths ++ len ∷ [])
+  pub more : (len : ℕ) → is_extended tasks end ≡ true → len ≡ bytes_of bounds end → 1 ≤ len → len ≤ 8572 → AreLengths tasks bounds (suc end) (lengths ++ len ∷ [])
   more len extended is some small =
       let one_more : own_before tasks (suc end) ≡ own_before tasks end + 1 = counted extended in
       let c = h.count in
@@ -47,8 +47,8 @@ module _ (tasks : List TaskDecl) (stacks : Stacks) (end : ℕ) (lengths : List �
         shared = λ l. get_or_append_left lengths (len ∷ []) 0 0 (omega (arith, c, l)) ∙ h.shared l;
         own = λ t l e. ⊎_elim
             (λ here.
-            let P : ℕ → Type 0 = λ x. get_or (lengths ++ len ∷ []) (first_own tasks + own_before tasks x) 0 ≡ bytes_of stacks x in
-            let Q : ℕ → Type 0 = λ k. get_or (lengths ++ len ∷ []) k 0 ≡ bytes_of stacks end in
+            let P : ℕ → Type 0 = λ x. get_or (lengths ++ len ∷ []) (first_own tasks + own_before tasks x) 0 ≡ bytes_of bounds x in
+            let Q : ℕ → Type 0 = λ k. get_or (lengths ++ len ∷ []) k 0 ≡ bytes_of bounds end in
             subst P (sym here) (subst Q c (get_or-append_seam lengths len [] 0 ∙ is)))
             (λ ne.
             let before : t < end = omega (arith, l, ne) in

@@ -8,10 +8,10 @@ use Rattle.sloth_base.specs.Named.{declaration, body_of}
 use Rattle.sloth_base.specs.declared.app.App.{App}
 use Rattle.sloth_base.specs.declared.config.Config.{Config}
 use Rattle.sloth_base.specs.declared.config.TaskDecl.{TaskDecl}
+use Rattle.sloth_base.specs.declared.places.Bounds.{Bounds}
 use Rattle.sloth_region.specs.declared.extent.Extent.{Extent}
 use Rattle.sloth_region.specs.declared.map.Map.{Map}
 use Rattle.sloth_region.specs.Region.{AreApartWithin, IsBelow}
-use Rattle.stack_bounds.specs.declared.stacks.Stacks.{Stacks}
 use Rattle.stack_bounds.specs.Bounds.{IsBasic, MayBePreempted, MayMeet, bytes_of, offset_of}
 use Rattle.stack_bounds.specs.Bounds.MayMeet.{waits, meets_waiting, is_over, is_under}
 use Rattle.mem_map.specs.Zones.{stack_of, nowhere, all_stacks}
@@ -22,7 +22,7 @@ use Rattle.mem_map.proofs.StackNumbers.{number_own, number_shared, number_below,
 clash : {X : Type 0} → true ≡ false → X
 clash e = cc
 
-module _ (config : Config) (app : App) (stacks : Stacks) (needs : AreNeeds config app stacks) where
+module _ (config : Config) (app : App) (bounds : Bounds) (offsets : List ℕ) (needs : AreNeeds config app bounds offsets) where
   abbrev tasks : List TaskDecl
   tasks = config.tasks
 
@@ -31,19 +31,19 @@ module _ (config : Config) (app : App) (stacks : Stacks) (needs : AreNeeds confi
 
   -- whole words for a context, and no more than its stack has room for
   pub record IsPart (t : ℕ) : Type 0 where
-    pub some : 128 ≤ bytes_of stacks t
-    pub small : bytes_of stacks t ≤ 8572
-    pub words : bytes_of stacks t % 4 ≡ 0
+    pub some : 128 ≤ bytes_of bounds t
+    pub small : bytes_of bounds t ≤ 8572
+    pub words : bytes_of bounds t % 4 ≡ 0
 
   pub part : (t : ℕ) → t < n → IsPart t
   part t l =
-      let count = needs.count in
-      let is = needs.lengths t 0 (omega (arith, l, count)) in
-      let room = needs.room t (body_of app.funcs t) [] l refl in
+      let count = needs.are_bounds.count in
+      let is = needs.are_bounds.lengths t 0 (omega (arith, l, count)) in
+      let room = needs.are_bounds.room t (body_of app.funcs t) [] l refl in
       record { some = omega (arith, room); small = is.0; words = is.1 }
 
   -- the shared stack is there where some task is basic
-  pub shared_some : 0 < first_own tasks → 1 ≤ stacks.bounds.shared
+  pub shared_some : 0 < first_own tasks → 1 ≤ bounds.shared
   shared_some some =
       let has = has_basic config.tasks some in
       let s = (part has.0 has.1).some in
@@ -52,7 +52,7 @@ module _ (config : Config) (app : App) (stacks : Stacks) (needs : AreNeeds confi
 
   -- ---- the stacks, one behind the other
 
-  module _ (from : ℕ) (lengths : List ℕ) (all : List Extent) (are : AreLengths tasks stacks n lengths) (lens : map (λ (e : Extent). e.len) all ≡ lengths)
+  module _ (from : ℕ) (lengths : List ℕ) (all : List Extent) (are : AreLengths tasks bounds n lengths) (lens : map (λ (e : Extent). e.len) all ≡ lengths)
       (apart : AreApartWithin from 0x8020_0000 all) (aligned : All (λ (e : Extent). e.base % 16 ≡ 0) all) where
     count : length all ≡ stack_count tasks
     count = sym (length-map all (λ (e : Extent). e.len)) ∙ ap length lens ∙ are.count
@@ -66,19 +66,19 @@ module _ (config : Config) (app : App) (stacks : Stacks) (needs : AreNeeds confi
     len_is : (k : ℕ) → (get_or all k nowhere).len ≡ get_or lengths k 0
     len_is k = sym (get_or-map (λ (e : Extent). e.len) all k nowhere) ∙ ap (λ (l : List ℕ). get_or l k 0) lens
 
-    shared_len : (t : ℕ) → IsBasic config t → (own t).len ≡ shared_length stacks
+    shared_len : (t : ℕ) → IsBasic config t → (own t).len ≡ shared_length bounds
     shared_len t basic =
         let e = number_shared tasks t basic.1 in
         let s = shares tasks t basic.0 basic.1 in
         len_is (stack_number tasks t) ∙ ap (λ k. get_or lengths k 0) e ∙ are.shared (omega (arith, s))
 
-    own_len : (t : ℕ) → t < n → is_extended tasks t ≡ true → (own t).len ≡ bytes_of stacks t
+    own_len : (t : ℕ) → t < n → is_extended tasks t ≡ true → (own t).len ≡ bytes_of bounds t
     own_len t l e = len_is (stack_number tasks t) ∙ ap (λ k. get_or lengths k 0) (number_own tasks t e) ∙ are.own t l e
 
-    offset_none : (t : ℕ) → is_extended tasks t ≡ true → offset_of stacks t ≡ 0
+    offset_none : (t : ℕ) → is_extended tasks t ≡ true → offset_of offsets t ≡ 0
     offset_none t e = needs.parts.own t e
 
-    fits : (t : ℕ) → t < n → offset_of stacks t + bytes_of stacks t ≤ (own t).len
+    fits : (t : ℕ) → t < n → offset_of offsets t + bytes_of bounds t ≤ (own t).len
     fits t l = ⊎_elim
         (λ yes. let e = own_len t l yes in let o = offset_none t yes in omega (arith, e, o))
         (λ no. let e = shared_len t (l, no) in let i = needs.parts.inside t (l, no) in omega (arith, e, i))
@@ -93,7 +93,7 @@ module _ (config : Config) (app : App) (stacks : Stacks) (needs : AreNeeds confi
     inside : (t : ℕ) → t < n → (from ≤ (own t).base) × ((own t).base + (own t).len ≤ 0x8020_0000)
     inside t l = let i = apart.inside (stack_number tasks t) nowhere (there t l) in (i.0, i.2)
 
-    pub has_stack : (t : ℕ) → t < n → HasStack tasks all stacks.offsets t
+    pub has_stack : (t : ℕ) → t < n → HasStack tasks all offsets t
     has_stack t l =
         let f = fits t l in
         let i = (inside t l).1 in
@@ -107,7 +107,7 @@ module _ (config : Config) (app : App) (stacks : Stacks) (needs : AreNeeds confi
 
     -- ---- a map with these
 
-    module _ (plan : Map) (is : AreOf tasks all stacks.offsets n plan.stacks plan.tops) (all_is : all_stacks plan ≡ all) where
+    module _ (plan : Map) (is : AreOf tasks all offsets n plan.stacks plan.tops) (all_is : all_stacks plan ≡ all) where
       stack_is : (t : ℕ) → t < n → stack_of plan t ≡ own t
       stack_is t l = is.stack t l
 
@@ -117,11 +117,11 @@ module _ (config : Config) (app : App) (stacks : Stacks) (needs : AreNeeds confi
       len_of : (t : ℕ) → t < n → (stack_of plan t).len ≡ (own t).len
       len_of t l = ap (λ (e : Extent). e.len) (stack_is t l)
 
-      top_is : (t : ℕ) → t < n → top_of plan t + offset_of stacks t ≡ (own t).base + (own t).len
+      top_is : (t : ℕ) → t < n → top_of plan t + offset_of offsets t ≡ (own t).base + (own t).len
       top_is t l = is.top t l
 
       -- the parts of tasks in different stacks
-      other : (t u : ℕ) → t < n → u < n → stack_number tasks t ≢ stack_number tasks u → PartsApart stacks plan t u
+      other : (t u : ℕ) → t < n → u < n → stack_number tasks t ≢ stack_number tasks u → PartsApart bounds plan t u
       other t u lt lu ne =
           let ft = fits t lt in
           let fu = fits u lu in
@@ -133,23 +133,23 @@ module _ (config : Config) (app : App) (stacks : Stacks) (needs : AreNeeds confi
           (apart_at (stack_number tasks t) (stack_number tasks u) (there t lt) (there u lu) ne)
 
       -- the same end of both parts' stack
-      same_end : (t u : ℕ) → IsBasic config t → IsBasic config u → top_of plan t + offset_of stacks t ≡ top_of plan u + offset_of stacks u
+      same_end : (t u : ℕ) → IsBasic config t → IsBasic config u → top_of plan t + offset_of offsets t ≡ top_of plan u + offset_of offsets u
       same_end t u bt bu =
           let P : ℕ → Type 0 = λ k. (get_or all (stack_number tasks t) nowhere).base + (get_or all (stack_number tasks t) nowhere).len ≡ (get_or all k nowhere).base + (get_or all k nowhere).len in
           let e : (own t).base + (own t).len ≡ (own u).base + (own u).len = subst P (number_shared tasks t bt.1 ∙ sym (number_shared tasks u bu.1)) refl in
           top_is t bt.0 ∙ e ∙ sym (top_is u bu.0)
 
       over : (t u : ℕ) → IsBasic config t → IsBasic config u → MayBePreempted config app u → (declaration config u).priority < (declaration config t).priority
-          → top_of plan t + bytes_of stacks u ≤ top_of plan u
+          → top_of plan t + bytes_of bounds u ≤ top_of plan u
       over t u bt bu may less =
           let b = needs.parts.below t u bt bu may less in
           let e = same_end t u bt bu in
           omega (arith, b, e)
 
-      meet : (t u : ℕ) → t < n → u < n → t ≢ u → MayMeet config app t u → PartsApart stacks plan t u
+      meet : (t u : ℕ) → t < n → u < n → t ≢ u → MayMeet config app t u → PartsApart bounds plan t u
       meet t u lt lu ne may = by (is_extended tasks t) refl (is_extended tasks u) refl may
         where
-          by : (a : Bool) → is_extended tasks t ≡ a → (b : Bool) → is_extended tasks u ≡ b → MayMeet config app t u → PartsApart stacks plan t u
+          by : (a : Bool) → is_extended tasks t ≡ a → (b : Bool) → is_extended tasks u ≡ b → MayMeet config app t u → PartsApart bounds plan t u
           by true e b f m = other t u lt lu (differ tasks t u lt lu ne e)
           by false e true f m = other t u lt lu (λ same. differ tasks u t lu lt (λ x. ne (sym x)) f (sym same))
           by false e false f (waits x) = clash (sym x ∙ e)
@@ -157,7 +157,7 @@ module _ (config : Config) (app : App) (stacks : Stacks) (needs : AreNeeds confi
           by false e false f (is_over may less) = inl (over t u (lt, e) (lu, f) may less)
           by false e false f (is_under may less) = inr (over u t (lu, f) (lt, e) may less)
 
-      pub has_stacks : HasStacks config app stacks plan
+      pub has_stacks : HasStacks config app bounds plan
       has_stacks = record {
         count = is.stacks_count;
         tops = is.tops_count;
@@ -210,9 +210,9 @@ behind_data from end words code data_extent extents all is apart =
     }
 
 -- what the calls give: the lengths, and the stacks behind the data
-pub record ArePlaced (config : Config) (stacks : Stacks) (declared : List TaskDecl) (lengths : List ℕ) (extents all : List Extent) : Type 0 where
+pub record ArePlaced (config : Config) (bounds : Bounds) (declared : List TaskDecl) (lengths : List ℕ) (extents all : List Extent) : Type 0 where
   pub declared_is : declared ≡ config.tasks
-  pub are : AreLengths declared stacks (length declared) lengths
+  pub are : AreLengths declared bounds (length declared) lengths
   pub words : Extent
   pub code : Extent
   pub data_extent : Extent
@@ -221,10 +221,10 @@ pub record ArePlaced (config : Config) (stacks : Stacks) (declared : List TaskDe
   pub lens : map (λ (e : Extent). e.len) all ≡ lengths
   pub aligned : All (λ (e : Extent). e.base % 16 ≡ 0) all
 
-module _ (config : Config) (app : App) (stacks : Stacks) (needs : AreNeeds config app stacks) (declared : List TaskDecl) (lengths : List ℕ) (extents all : List Extent)
-    (h : ArePlaced config stacks declared lengths extents all) (slice : List Extent) (slice_is : slice ≡ all) (offsets : List ℕ) (offsets_are : offsets ≡ stacks.offsets) where
-  are : AreLengths config.tasks stacks (length config.tasks) lengths
-  are = subst (λ (l : List TaskDecl). AreLengths l stacks (length l) lengths) h.declared_is h.are
+module _ (config : Config) (app : App) (bounds : Bounds) (offsets : List ℕ) (needs : AreNeeds config app bounds offsets) (declared : List TaskDecl) (lengths : List ℕ) (extents all : List Extent)
+    (h : ArePlaced config bounds declared lengths extents all) (slice : List Extent) (slice_is : slice ≡ all) where
+  are : AreLengths config.tasks bounds (length config.tasks) lengths
+  are = subst (λ (l : List TaskDecl). AreLengths l bounds (length l) lengths) h.declared_is h.are
 
   apart : AreApartWithin 0x8000_0004 0x8020_0000 all
   apart = behind_data 0x8000_0004 0x8020_0000 h.words h.code h.data_extent extents all h.extents_are h.apart
@@ -233,13 +233,11 @@ module _ (config : Config) (app : App) (stacks : Stacks) (needs : AreNeeds confi
   fit =
       subst (λ (l : List TaskDecl). (t : ℕ) → t < length l → HasStack l slice offsets t) (sym h.declared_is)
       (subst (λ (x : List Extent). (t : ℕ) → t < length config.tasks → HasStack config.tasks x offsets t) (sym slice_is)
-      (subst (λ (x : List ℕ). (t : ℕ) → t < length config.tasks → HasStack config.tasks all x t) (sym offsets_are)
-      (has_stack config app stacks needs 0x8000_0004 lengths all are h.lens apart h.aligned)))
+      (has_stack config app bounds offsets needs 0x8000_0004 lengths all are h.lens apart h.aligned))
 
-  pub placed : (plan : Map) → AreOf declared slice offsets (length declared) plan.stacks plan.tops → all_stacks plan ≡ all → HasStacks config app stacks plan
+  pub placed : (plan : Map) → AreOf declared slice offsets (length declared) plan.stacks plan.tops → all_stacks plan ≡ all → HasStacks config app bounds plan
   placed plan is all_is =
-      has_stacks config app stacks needs 0x8000_0004 lengths all are h.lens apart h.aligned plan
-      (subst (λ (x : List ℕ). AreOf config.tasks all x (length config.tasks) plan.stacks plan.tops) offsets_are
+      has_stacks config app bounds offsets needs 0x8000_0004 lengths all are h.lens apart h.aligned plan
       (subst (λ (x : List Extent). AreOf config.tasks x offsets (length config.tasks) plan.stacks plan.tops) slice_is
-      (subst (λ (l : List TaskDecl). AreOf l slice offsets (length l) plan.stacks plan.tops) h.declared_is is)))
+      (subst (λ (l : List TaskDecl). AreOf l slice offsets (length l) plan.stacks plan.tops) h.declared_is is))
       all_is

@@ -2,3 +2,5 @@ pub mod Run
 pub mod Zones
 pub mod Stacks
 pub mod Plan
+pub mod Wanted
+pub mod Planned

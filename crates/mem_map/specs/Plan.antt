@@ -4,6 +4,7 @@ use Rattle.std.specs.Prelude as prelude
 use Rattle.sloth_base.specs.declared.app.App.{App}
 use Rattle.sloth_base.specs.declared.app.Symbol.{Symbol}
 use Rattle.sloth_base.specs.declared.config.Config.{Config}
+use Rattle.sloth_base.specs.declared.places.Bounds.{Bounds}
 use Rattle.sloth_base.specs.Blocks.{block_object}
 use Rattle.sloth_base.specs.MemoryMap.{vectors_base, boot_base}
 use Rattle.sloth_base.specs.ConfigRange.{scheduler_number}
@@ -12,8 +13,7 @@ use Rattle.sloth_region.specs.declared.map.Map.{Map}
 use Rattle.sloth_region.specs.Region.{aligned}
 use Rattle.code_rules.specs.AppRange.{AppInRange}
 use Rattle.rv32_expand.specs.Sizes.{AreSizes}
-use Rattle.stack_bounds.specs.declared.stacks.Stacks.{Stacks}
-use Rattle.stack_bounds.specs.Bounds.{AreParts, HaveRoom, IsLength}
+use Rattle.stack_bounds.specs.Bounds.{AreBounds, AreParts}
 use Rattle.mem_map.specs.Run.{starts, end_of, extents_of}
 use Rattle.mem_map.specs.Zones.{code_zone, data_zone}
 
@@ -117,17 +117,15 @@ data_extents map app = extents_of map.places.symbols (prelude.map symbol_bytes a
 
 -- ---- what must be, so that there is room
 
--- What the tasks need of the stacks: whole words for each, enough for all its calls and a context, and a part of the shared stack.
-pub record AreNeeds (config : Config) (app : App) (stacks : Stacks) : Type 0 where
-  pub count : length stacks.bounds.bytes ≡ length config.tasks
-  pub lengths : All IsLength stacks.bounds.bytes
-  pub room : HaveRoom config app stacks.bounds
-  pub parts : AreParts config app stacks
+-- what the tasks need of the stacks: the bytes of each, enough for all its calls and a context, and a part of the shared stack
+pub record AreNeeds (config : Config) (app : App) (bounds : Bounds) (offsets : List ℕ) : Type 0 where
+  pub are_bounds : AreBounds config app bounds
+  pub parts : AreParts config app bounds offsets
 
 -- Task code in range with the sizes of its items, the services that are wanted (by their places), and what the tasks need of the stacks.
-pub record MayPlan (config : Config) (app : App) (sizes : List ℕ) (services : List Bool) (stacks : Stacks) : Type 0 where
+pub record MayPlan (config : Config) (app : App) (sizes : List ℕ) (services : List Bool) (bounds : Bounds) (offsets : List ℕ) : Type 0 where
   pub in_range : AppInRange config app
   pub are_sizes : AreSizes app sizes
   -- the object of a wanted service is a task, a resource or RES_SCHEDULER: at most 32
   pub objects : (number : ℕ) → get_or services number false ≡ true → block_object number ≤ scheduler_number
-  pub needs : AreNeeds config app stacks
+  pub needs : AreNeeds config app bounds offsets

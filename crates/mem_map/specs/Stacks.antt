@@ -4,11 +4,11 @@ use Rattle.sloth_base.specs.Named.{undeclared, declaration}
 use Rattle.sloth_base.specs.declared.app.App.{App}
 use Rattle.sloth_base.specs.declared.config.Config.{Config}
 use Rattle.sloth_base.specs.declared.config.TaskDecl.{TaskDecl}
+use Rattle.sloth_base.specs.declared.places.Bounds.{Bounds}
 use Rattle.sloth_region.specs.declared.extent.Extent.{Extent}
 use Rattle.sloth_region.specs.declared.map.Map.{Map}
 use Rattle.sloth_region.specs.Region.{aligned, IsBelow}
-use Rattle.stack_bounds.specs.declared.stacks.Stacks.{Stacks}
-use Rattle.stack_bounds.specs.Bounds.{IsBasic, MayBePreempted, MayMeet, bytes_of, offset_of}
+use Rattle.stack_bounds.specs.Bounds.{IsBasic, MayBePreempted, MayMeet, bytes_of}
 use Rattle.mem_map.specs.Zones.{data_zone, stack_of, nowhere, all_stacks}
 use Rattle.mem_map.specs.Run.{room_for}
 
@@ -38,14 +38,14 @@ stack_count tasks = first_own tasks + own_before tasks (length tasks)
 -- ---- lengths
 
 -- the shared stack, to the next multiple of 16
-abbrev pub shared_length : Stacks → ℕ
-shared_length stacks = aligned stacks.bounds.shared 16
+abbrev pub shared_length : Bounds → ℕ
+shared_length bounds = aligned bounds.shared 16
 
 -- the lengths of the stacks of the tasks before this one
-pub record AreLengths (tasks : List TaskDecl) (stacks : Stacks) (end : ℕ) (lengths : List ℕ) : Type 0 where
+pub record AreLengths (tasks : List TaskDecl) (bounds : Bounds) (end : ℕ) (lengths : List ℕ) : Type 0 where
   pub count : length lengths ≡ first_own tasks + own_before tasks end
-  pub shared : 0 < first_own tasks → get_or lengths 0 0 ≡ shared_length stacks
-  pub own : (t : ℕ) → t < end → is_extended tasks t ≡ true → get_or lengths (first_own tasks + own_before tasks t) 0 ≡ bytes_of stacks t
+  pub shared : 0 < first_own tasks → get_or lengths 0 0 ≡ shared_length bounds
+  pub own : (t : ℕ) → t < end → is_extended tasks t ≡ true → get_or lengths (first_own tasks + own_before tasks t) 0 ≡ bytes_of bounds t
   pub some : All (λ len. 1 ≤ len) lengths
   pub room : room_for 16 lengths ≤ 269854 + 8587 * end
 
@@ -72,26 +72,26 @@ abbrev pub top_of : Map → ℕ → ℕ
 top_of map t = get_or map.tops t 0
 
 -- the parts of two tasks have no address in common
-abbrev pub PartsApart : Stacks → Map → (t u : ℕ) → Type 0
-PartsApart stacks map t u = (top_of map t + bytes_of stacks u ≤ top_of map u) ⊎ (top_of map u + bytes_of stacks t ≤ top_of map t)
+abbrev pub PartsApart : Bounds → Map → (t u : ℕ) → Type 0
+PartsApart bounds map t u = (top_of map t + bytes_of bounds u ≤ top_of map u) ⊎ (top_of map u + bytes_of bounds t ≤ top_of map t)
 
 -- All basic tasks have one stack, and each extended task one of its own. A task has its bytes below its top, and tasks that may have
 -- something there at once have parts that are apart: of two basic ones, that of the task that may be entered over the other lies below.
-pub record HasStacks (config : Config) (app : App) (stacks : Stacks) (map : Map) : Type 0 where
+pub record HasStacks (config : Config) (app : App) (bounds : Bounds) (map : Map) : Type 0 where
   pub count : length map.stacks ≡ length config.tasks
   pub tops : length map.tops ≡ length config.tasks
   pub shared : (t u : ℕ) → IsBasic config t → IsBasic config u → stack_of map t ≡ stack_of map u
-  pub shared_long : (t : ℕ) → IsBasic config t → (stack_of map t).len ≡ shared_length stacks
-  pub own_long : (t : ℕ) → t < length config.tasks → (declaration config t).extended ≡ true → (stack_of map t).len ≡ bytes_of stacks t
+  pub shared_long : (t : ℕ) → IsBasic config t → (stack_of map t).len ≡ shared_length bounds
+  pub own_long : (t : ℕ) → t < length config.tasks → (declaration config t).extended ≡ true → (stack_of map t).len ≡ bytes_of bounds t
   pub own : (t u : ℕ) → t < length config.tasks → u < length config.tasks → t ≢ u → (declaration config t).extended ≡ true
       → IsBelow (stack_of map t) (stack_of map u) ⊎ IsBelow (stack_of map u) (stack_of map t)
   pub aligned : All (λ e. e.base % 16 ≡ 0) map.stacks
   -- the stacks are the extents behind that of the data, and there is no other
   pub among : (t : ℕ) → t < length config.tasks → (k : ℕ) × (k < length (all_stacks map)) × (stack_of map t ≡ get_or (all_stacks map) k nowhere)
   pub no_other : (k : ℕ) → k < length (all_stacks map) → (t : ℕ) × (t < length config.tasks) × (stack_of map t ≡ get_or (all_stacks map) k nowhere)
-  pub above : (t : ℕ) → t < length config.tasks → (stack_of map t).base + bytes_of stacks t ≤ top_of map t
+  pub above : (t : ℕ) → t < length config.tasks → (stack_of map t).base + bytes_of bounds t ≤ top_of map t
   pub within : (t : ℕ) → t < length config.tasks → top_of map t ≤ (stack_of map t).base + (stack_of map t).len
   pub whole : (t : ℕ) → t < length config.tasks → top_of map t % 4 ≡ 0
-  pub apart : (t u : ℕ) → t < length config.tasks → u < length config.tasks → t ≢ u → MayMeet config app t u → PartsApart stacks map t u
+  pub apart : (t u : ℕ) → t < length config.tasks → u < length config.tasks → t ≢ u → MayMeet config app t u → PartsApart bounds map t u
   pub nested : (t u : ℕ) → IsBasic config t → IsBasic config u → MayBePreempted config app u
-      → (declaration config u).priority < (declaration config t).priority → top_of map t + bytes_of stacks u ≤ top_of map u
+      → (declaration config u).priority < (declaration config t).priority → top_of map t + bytes_of bounds u ≤ top_of map u

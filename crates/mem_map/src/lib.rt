@@ -6,6 +6,9 @@ mod lengths;
 mod placing;
 mod planning;
 mod stacks;
+mod wanted;
 mod zones;
 
 pub use planning::plan;
+pub use wanted::wanted_blocks;
+pub use zones::data_zone;

@@ -1,25 +1,27 @@
 //! The map of an image.
-ghost use Rattle.std.specs.Prelude.{ℕ, ◌≡◌, ◌≤◌, ◌<◌, ◌+◌, IfOk, All, length, map, slice_index};
-ghost use Rattle.sloth_base.specs.MemoryMap.{vectors_base};
-ghost use Rattle.sloth_region.specs.Region.{FollowWithin};
-ghost use Rattle.rv32_expand.specs.Sizes.{AgreeWithSizes, Covers};
+ghost use Rattle.std.specs.Prelude.{◌≡◌, ◌≤◌, ◌<◌, IfOk, All, length, map};
+ghost use Rattle.code_rules.specs.WellFormed.{WellFormed};
+ghost use Rattle.stack_bounds.specs.Bounds.{AreBounds};
 ghost use Rattle.mem_map.specs.Run.{starts, end_of};
 ghost use Rattle.mem_map.specs.Zones.{HasZones};
 ghost use Rattle.mem_map.specs.Stacks.{HasStacks};
-ghost use Rattle.mem_map.specs.Plan.{MayPlan, HasAddresses, IsNear, services_at, items_at, code_end, data_end, service_bytes, item_bytes, symbol_bytes, code_extents, data_extents};
+ghost use Rattle.mem_map.specs.Plan.{MayPlan, HasAddresses, services_at, items_at, code_end, service_bytes, item_bytes, symbol_bytes};
+ghost use Rattle.mem_map.specs.Planned.{IsPlanned};
 
 use crate::addresses::{Pieces, handlers, idle_at, place_pieces, place_services, prologue_at};
 use crate::lengths::{item_counts, item_lengths, symbol_lengths};
 use crate::stacks::{stack_lengths, task_parts};
+use crate::wanted::wanted_blocks;
 use crate::zones::plan_zones;
+use rv32_expand::sizes;
 use sloth_base::app::App;
 use sloth_base::config::Config;
 use sloth_base::list::List;
 use sloth_base::memory::NoMemory;
 use sloth_base::memory_map::VECTORS_BASE;
-use sloth_base::places::{BLOCK_COUNT, Places};
+use sloth_base::places::{BLOCK_COUNT, Bounds, Places};
 use sloth_region::map::Map;
-use stack_bounds::stacks::Stacks;
+use stack_bounds::offsets;
 use std::alloc::{AllocError, Global};
 
 /// The bytes behind the last symbol.
@@ -87,11 +89,12 @@ fn make_map(
     app: &App,
     sizes: &[u32],
     wanted: &[bool; BLOCK_COUNT],
-    stacks: &Stacks,
+    bounds: &Bounds,
+    offsets: &[u32],
 ) -> Result<Map, NoMemory>
-    requires { MayPlan config.now app.now sizes.now wanted.now stacks.now }
+    requires { MayPlan config.now app.now sizes.now wanted.now bounds.now offsets.now }
     ensures zones { IfOk result (λ plan. HasZones plan config.now) }
-    ensures stacks { IfOk result (HasStacks config.now app.now stacks.now) }
+    ensures stacks { IfOk result (HasStacks config.now app.now bounds.now) }
     ensures addresses { IfOk result (HasAddresses config.now app.now sizes.now wanted.now) }
 {
     let declared = config.tasks.items();
@@ -99,19 +102,14 @@ fn make_map(
     let code = plan_code(alloc, tasks, sizes, wanted)?;
     let first = plan_first(alloc, app)?;
     let symbols = plan_symbols(alloc, code.end, app)?;
-    let lengths = stack_lengths(alloc, declared, stacks)?;
+    let lengths = stack_lengths(alloc, declared, bounds)?;
     let zones = plan_zones(
         alloc,
         code.end - VECTORS_BASE,
         symbols.end + WORD - code.end,
         &lengths,
     )?;
-    let parts = task_parts(
-        alloc,
-        declared,
-        zones.stacks.items(),
-        stacks.offsets.items(),
-    )?;
+    let parts = task_parts(alloc, declared, zones.stacks.items(), offsets)?;
     let blocks = code.services;
     let handlers = handlers(tasks);
     Ok(Map {
@@ -130,30 +128,17 @@ fn make_map(
     })
 }
 
-/// The map of an image: in this order the vector words, boot, the idle loop, a prologue for each task, the wanted services
-/// (by their places in the table of blocks), all items (of so many instructions each), all symbols, the stack that all basic tasks share, and a
-/// stack for each extended task.
-/// There is room for all of them; only memory for the map itself may be missing.
-pub fn plan(
-    alloc: Global,
-    config: &Config,
-    app: &App,
-    sizes: &[u32],
-    wanted: &[bool; BLOCK_COUNT],
-    stacks: &Stacks,
-) -> Result<Map, NoMemory>
-    requires { MayPlan config.now app.now sizes.now wanted.now stacks.now }
-    ensures zones { IfOk result (λ plan. HasZones plan config.now) }
-    ensures stacks { IfOk result (HasStacks config.now app.now stacks.now) }
-    ensures addresses { IfOk result (HasAddresses config.now app.now sizes.now wanted.now) }
-    ensures reach { IfOk result (λ plan. (line : ℕ) → line < 32 → IsNear (slice_index plan.handlers line)) }
-    ensures near { IfOk result (λ plan. code_end (length config.now.tasks) wanted.now sizes.now < 0x80100400) }
-    ensures code_follows { IfOk result (λ plan. FollowWithin vectors_base (code_end (length config.now.tasks) wanted.now sizes.now)
-        (code_extents plan (length config.now.tasks) wanted.now sizes.now)) }
-    ensures data_follows { IfOk result (λ plan. FollowWithin (code_end (length config.now.tasks) wanted.now sizes.now)
-        (data_end app.now (code_end (length config.now.tasks) wanted.now sizes.now)) (data_extents plan app.now)) }
-    ensures agree { IfOk result (λ plan. AgreeWithSizes app.now plan.places) }
-    ensures covers { IfOk result (λ plan. Covers app.now plan.places) }
+/// The map of the image of well-formed task code, with the bytes of stack that its tasks may need: in this order the vector words, boot, the
+/// idle loop, a prologue for each task, the services that items call, all items, all symbols, the stack that all basic tasks share, and a
+/// stack for each extended task. There is room for all of them; only memory for the map itself may be missing.
+pub fn plan(alloc: Global, app: &App, config: &Config, bounds: &Bounds) -> Result<Map, NoMemory>
+    requires well_formed { WellFormed config.now app.now }
+    requires bounds { AreBounds config.now app.now bounds.now }
+    ensures { IfOk result (IsPlanned config.now app.now bounds.now) }
 {
-    make_map(alloc, config, app, sizes, wanted, stacks)
+    let sizes = sizes(alloc, app)?;
+    let wanted = wanted_blocks(app);
+    let offsets = offsets(alloc, config, app, bounds)?;
+    let map = make_map(alloc, config, app, &sizes, &wanted, bounds, &offsets)?;
+    Ok(map)
 }

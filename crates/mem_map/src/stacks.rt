@@ -6,8 +6,8 @@ ghost use Rattle.mem_map.specs.Stacks.{is_extended, own_before, first_own, stack
 
 use sloth_base::config::TaskDecl;
 use sloth_base::list::List;
+use sloth_base::places::Bounds;
 use sloth_region::extent::Extent;
-use stack_bounds::stacks::Stacks;
 use std::alloc::{AllocError, Global};
 
 /// The length of the shared stack is a multiple of this.
@@ -57,15 +57,15 @@ fn stack_number(tasks: &[TaskDecl], task: usize) -> usize
 fn shared_lengths(
     alloc: Global,
     tasks: &[TaskDecl],
-    stacks: &Stacks,
+    bounds: &Bounds,
 ) -> Result<Vec<u32>, AllocError>
-    requires some { 0 < first_own tasks.now → 1 ≤ stacks.now.bounds.shared }
-    requires small { stacks.now.bounds.shared ≤ 269824 }
-    ensures { IfOk result (λ lengths. AreLengths tasks.now stacks.now 0 lengths.items) }
+    requires some { 0 < first_own tasks.now → 1 ≤ bounds.now.shared }
+    requires small { bounds.now.shared ≤ 269824 }
+    ensures { IfOk result (λ lengths. AreLengths tasks.now bounds.now 0 lengths.items) }
 {
     let mut lengths = Vec::new(alloc);
     if first_own(tasks) == 1 {
-        lengths.push((stacks.bounds.shared + (WHOLE - 1)) / WHOLE * WHOLE)?;
+        lengths.push((bounds.shared + (WHOLE - 1)) / WHOLE * WHOLE)?;
     }
     Ok(lengths)
 }
@@ -74,16 +74,16 @@ fn shared_lengths(
 pub fn stack_lengths(
     alloc: Global,
     tasks: &[TaskDecl],
-    stacks: &Stacks,
+    bounds: &Bounds,
 ) -> Result<Vec<u32>, AllocError>
-    requires count { length stacks.now.bounds.bytes ≡ length tasks.now }
-    requires some { 0 < first_own tasks.now → 1 ≤ stacks.now.bounds.shared }
-    requires lengths { (t : ℕ) → t < length tasks.now → (1 ≤ bytes_of stacks.now t) × (bytes_of stacks.now t ≤ 8572) }
-    requires small { stacks.now.bounds.shared ≤ 269824 }
-    ensures { IfOk result (λ lengths. AreLengths tasks.now stacks.now (length tasks.now) lengths.items) }
+    requires count { length bounds.now.bytes ≡ length tasks.now }
+    requires some { 0 < first_own tasks.now → 1 ≤ bounds.now.shared }
+    requires lengths { (t : ℕ) → t < length tasks.now → (1 ≤ bytes_of bounds.now t) × (bytes_of bounds.now t ≤ 8572) }
+    requires small { bounds.now.shared ≤ 269824 }
+    ensures { IfOk result (λ lengths. AreLengths tasks.now bounds.now (length tasks.now) lengths.items) }
 {
-    let mut lengths = shared_lengths(alloc, tasks, stacks)?;
-    let bytes = stacks.bounds.bytes.items();
+    let mut lengths = shared_lengths(alloc, tasks, bounds)?;
+    let bytes = bounds.bytes.items();
     for (number, task) in tasks.iter().enumerate() {
         if task.extended {
             lengths.push(bytes[number])?;

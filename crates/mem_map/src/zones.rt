@@ -1,13 +1,15 @@
 //! The zones of an image, placed in one region.
-ghost use Rattle.std.specs.Prelude.{◌≡◌, ◌≤◌, ◌+◌, ◌%◌, ◌∷◌, IfOk, All, length, map};
+ghost use Rattle.std.specs.Prelude.{◌≡◌, ◌<◌, ◌≤◌, ◌+◌, ◌%◌, ◌∷◌, IfOk, All, length, map};
 ghost use Rattle.sloth_base.specs.MemoryMap.{memory_end, vectors_base};
 ghost use Rattle.sloth_region.specs.Region.{AreApartWithin};
 ghost use Rattle.mem_map.specs.Run.{room_for};
+ghost use Rattle.mem_map.specs.Zones.{data_zone};
 
 use crate::placing::{place_all, put};
 use sloth_base::list::List;
 use sloth_base::memory::NoMemory;
 use sloth_region::extent::Extent;
+use sloth_region::map::Map;
 use sloth_region::region::Region;
 use std::alloc::Global;
 
@@ -21,6 +23,17 @@ const WORDS_LEN: u32 = 1020;
 const WORD: u32 = 4;
 
 const STACK: u32 = 16;
+
+/// The place of the zone of data among the extents of a map.
+const DATA: usize = 2;
+
+/// The zone of data of a map: its symbols, and one word behind them.
+pub fn data_zone(map: &Map) -> Extent
+    requires { 2 < length map.now.extents }
+    ensures { result ≡ data_zone map.now }
+{
+    map.extents.items()[DATA]
+}
 
 /// Service words, code, data and stacks, one behind the other.
 #[derive(Drop)]

@@ -38,3 +38,7 @@ told-exact (Some event) events before after whole told pops none = (
       let both : length (events ++ before) ≡ length events + length before = length-append events before in
       absurd (omega arith)),
 )
+
+-- where nothing is kept to be handed out, no event is left
+pub nothing_left : (view : View) (p : Progress) → p.found ≡ [] → p.before ≡ [] → p.event ≡ None → p.after ≡ [] → left_over view p ≡ []
+nothing_left view p found before event after = rw (found, before, event, after) refl

@@ -1,6 +1,6 @@
 -- The table of touched lines tells which arrivals are early.
-use Rattle.std.proofs.Common.{◌≡◌, ◌≤◌, ◌<◌, ◌+◌, ℕ, zero, suc, Bool, true, false, List, [], ◌∷◌, ◌++◌, Option, Some, None, length, filter, refl, sym, ◌∙◌, ap, arith, nat_lt, inl, inr, length-set, get_or, get_or-set_other}
-use Rattle.std.specs.Prelude.{◌&&◌, ◌||◌, not, slice_index, slice_set, replicate, IfSome}
+use Rattle.std.proofs.Common.{◌≡◌, ◌≤◌, ◌<◌, ◌+◌, ℕ, zero, suc, true, false, List, [], ◌∷◌, ◌++◌, Option, Some, None, length, filter, refl, sym, ◌∙◌, ap, arith, nat_lt, inl, inr, length-set, get_or, get_or-set_other}
+use Rattle.std.specs.Prelude.{◌||◌, not, slice_index, slice_set, replicate, IfSome}
 use Rattle.std.specs.List.{list_any}
 use Rattle.std.proofs.lemmas.Bool.Decides.{leb_tells, eqb_tells}
 use Rattle.std.proofs.lemmas.Bool.{le-ltb, lt-ltb}

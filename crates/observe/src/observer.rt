@@ -5,7 +5,7 @@ ghost use Rattle.observe.specs.Observe.{admission, observe, view_of_image};
 ghost use Rattle.sloth_base.specs.ImageRange.{AreAscending};
 
 use crate::image_view::ImageView;
-use crate::touched::{skip_early, skip_late};
+use crate::touched::{Touches, skip_early, skip_late};
 use sloth_base::event::{Arrival, Stamp, Stamped};
 use sloth_base::image::Image;
 use sloth_base::lines::Owners;
@@ -26,7 +26,7 @@ pub struct Observer<'a> {
     // The arrivals from the first masked moment of that stretch on.
     inside: &'a [Arrival],
     // For each line the count after the last step of that stretch that touched it, or 0.
-    touched: [u64; 256],
+    touched: Touches,
     // What is to be handed out: found with MIE 1, early, the event, late.
     found: &'a [Arrival],
     before: &'a [Arrival],
@@ -39,7 +39,7 @@ impl<'a> Observer<'a> {
     ghost use Rattle.sloth_base.specs.declared.event.Stamped.{Stamped as AnyStamped};
     ghost use Rattle.sloth_base.specs.Arrivals.{NeverFalls};
     ghost use Rattle.observe.specs.Touched.{HasPlace};
-    ghost use Rattle.observe.specs.Progress.{Fed, progress_of, view_of, arrivals_of, expected_of, remaining, left_over, here, passed_progress, joined_progress, advanced_progress, one_or_none, settled_progress, noted_progress};
+    ghost use Rattle.observe.specs.Progress.{Fed, progress_of, view_of, arrivals_of, expected_of, remaining, left_over, here, passed_progress, joined_progress, behind_stretch, advanced_progress, one_or_none, settled_progress, noted_progress};
 
     /// An observer of a run of the image with these arrivals, which has seen no step. It needs no memory of its own.
     pub fn new(
@@ -68,7 +68,7 @@ impl<'a> Observer<'a> {
             coming: arrivals,
             first: None,
             inside: none,
-            touched: [0; 256],
+            touched: Touches::new(),
             found: none,
             before: none,
             event: None,
@@ -77,6 +77,7 @@ impl<'a> Observer<'a> {
     }
 
     // Counts the step, and gives the arrivals of its moment.
+    #[inline(always)]
     fn pass(&mut self, step: &Step) -> &'a [Arrival]
         requires expected { step.now.count ≡ expected_of self.old }
         ensures passed { progress_of self.new ≡ passed_progress (progress_of self.old) step.now }
@@ -95,18 +96,29 @@ impl<'a> Observer<'a> {
         here
     }
 
-    // The stretch of the first step goes on with this one.
-    fn join(&mut self, first: &Step, step: &Step)
+    // The open stretch goes on with this step, or ends with it.
+    #[inline(always)]
+    fn join(&mut self, step: &Step)
         ensures place { HasPlace step.now }
-        ensures joined { progress_of self.new ≡ joined_progress (view_of self.old) (progress_of self.old) first.now step.now }
+        ensures joined { IfSome self.old.first (λ first. progress_of self.new ≡ joined_progress (view_of self.old) (progress_of self.old) first step.now) }
         ensures view { view_of self.new ≡ view_of self.old }
         ensures arrivals { arrivals_of self.new ≡ arrivals_of self.old }
     {
         self.note(step);
-        if !step.enabled_after {
-            self.first = Some(*first);
-            return;
+        if step.enabled_after {
+            if let Some(first) = self.first {
+                self.close(&first, step);
+            }
         }
+    }
+
+    // The stretch of the first step ends with this one.
+    #[inline(never)]
+    fn close(&mut self, first: &Step, last: &Step)
+        ensures closed { progress_of self.new ≡ behind_stretch (view_of self.old) (progress_of self.old) first.now last.now }
+        ensures view { view_of self.new ≡ view_of self.old }
+        ensures arrivals { arrivals_of self.new ≡ arrivals_of self.old }
+    {
         let (within, _) = self
             .inside
             .split_at(self.inside.len().saturating_sub(self.coming.len()));
@@ -115,9 +127,9 @@ impl<'a> Observer<'a> {
         self.event = Some(Stamped {
             stamp: Stamp {
                 from: first.count,
-                at: step.count,
+                at: last.count,
             },
-            event: self.view.stretch_event(first, step),
+            event: self.view.stretch_event(first, last),
         });
         self.after = within;
     }
@@ -130,11 +142,12 @@ impl<'a> Observer<'a> {
         ensures arrivals { arrivals_of self.new ≡ arrivals_of self.old }
     {
         if let Some(line) = &step.touched {
-            self.touched[usize::from(line.0)] = u64::from(step.count) + 1;
+            self.touched.note(line, step.count);
         }
     }
 
     // One step more.
+    #[inline(always)]
     fn advance(&mut self, step: &Step)
         requires expected { step.now.count ≡ expected_of self.old }
         ensures joins { IfSome self.old.first (λ first. HasPlace step.now) }
@@ -143,11 +156,10 @@ impl<'a> Observer<'a> {
         ensures view { view_of self.new ≡ view_of self.old }
         ensures arrivals { arrivals_of self.new ≡ arrivals_of self.old }
     {
-        let first = self.first;
         let coming = self.coming;
         let here = self.pass(step);
-        if let Some(first) = first {
-            self.join(&first, step);
+        if self.first.is_some() {
+            self.join(step);
             return;
         }
         if !begins(step) {
@@ -155,17 +167,19 @@ impl<'a> Observer<'a> {
             self.event = self.view.outside_event(step);
             return;
         }
-        self.touched = [0; 256];
+        self.touched.clear();
         if step.enabled_before {
             self.inside = self.coming;
             self.found = here;
         } else {
             self.inside = coming;
         }
-        self.join(step, step);
+        self.first = Some(*step);
+        self.join(step);
     }
 
     /// Feeds the step of the expected count; all finished events are handed out.
+    #[inline(always)]
     pub fn feed(&mut self, step: &Step)
         requires expected { step.now.count ≡ expected_of self.old }
         requires drained { remaining self.old ≡ [] }
@@ -177,8 +191,35 @@ impl<'a> Observer<'a> {
         self.advance(step)
     }
 
+    // Nothing is to be handed out, as after most steps.
+    #[tactic(auto, using(crate::proofs::Feeding::nothing_left))]
+    fn is_drained(&self) -> bool
+        ensures { result ≡ true → remaining self.now ≡ [] }
+    {
+        self.found.is_empty()
+            && self.before.is_empty()
+            && self.event.is_none()
+            && self.after.is_empty()
+    }
+
     // Takes the next finished event off.
+    #[inline(always)]
     fn pop(&mut self) -> Option<Stamped>
+        ensures pops { remaining self.old ≡ one_or_none result ++ remaining self.new }
+        ensures none { IfNone result (remaining self.new ≡ []) }
+        ensures same { settled_progress (progress_of self.new) ≡ settled_progress (progress_of self.old) }
+        ensures view { view_of self.new ≡ view_of self.old }
+        ensures arrivals { arrivals_of self.new ≡ arrivals_of self.old }
+    {
+        if self.is_drained() {
+            return None;
+        }
+        self.pop_first()
+    }
+
+    // The same, where something may be left.
+    #[inline(never)]
+    fn pop_first(&mut self) -> Option<Stamped>
         ensures pops { remaining self.old ≡ one_or_none result ++ remaining self.new }
         ensures none { IfNone result (remaining self.new ≡ []) }
         ensures same { settled_progress (progress_of self.new) ≡ settled_progress (progress_of self.old) }
@@ -207,6 +248,7 @@ impl<'a> Observer<'a> {
     }
 
     /// Hands out the next finished event.
+    #[inline(always)]
     pub fn next(&mut self) -> Option<Stamped>
         ensures some { IfSome result (λ event. (steps : List AnyStep) (events : List AnyStamped) → Fed self.old steps events
             → Fed self.new steps (events ++ event ∷ [])) }

@@ -1,8 +1,9 @@
 -- Each text has one cut into pieces, and the first fault of the cut is the least.
-use Rattle.std.proofs.Common.{◌≡◌, ℕ, ◌+◌, ◌<◌, ◌≤◌, List, [], ◌∷◌, ◌++◌, length, drop, take, refl, ap, arith, sym, ◌∙◌, subst, suc, zero, ◌⊎◌, inl, inr, ⊎_elim, ◌↔◌, append_assoc, length-append, length-drop}
-use Rattle.std.proofs.lemmas.Bool.{cases_lt, eqb-true}
+use Rattle.std.proofs.Common.{◌≡◌, ℕ, ◌+◌, ◌<◌, ◌≤◌, List, [], ◌∷◌, ◌++◌, length, drop, take, map, refl, ap, arith, sym, ◌∙◌, subst, suc, zero, ◌⊎◌, inl, inr, ⊎_elim, ◌↔◌, append_assoc, length-append, length-drop, length-take-le, drop-drop, drop_of_length-le}
+use Rattle.std.specs.Borrow.{Bor}
 use Rattle.std.specs.Prelude.{◌==◌}
-use Rattle.std.proofs.Common.{true}
+use Rattle.std.proofs.lemmas.List.Sums.{count_by-le-length}
+use Rattle.std.proofs.lemmas.Bool.{cases_lt}
 use Rattle.std.proofs.lemmas.List.{append-nil, take-append-drop}
 use Rattle.std.proofs.Math.Seq.{take-append_seam, drop-append_seam}
 use Rattle.sloth_base.specs.declared.refusal.Code.TheVariants as code
@@ -15,7 +16,10 @@ use Rattle.oil_lex.specs.declared.pieces.PieceKind.{PieceKind}
 use Rattle.oil_lex.specs.declared.pieces.PieceKind.TheVariants as kind
 use Rattle.oil_lex.specs.Bytes.{class_of}
 use Rattle.oil_lex.specs.Pieces.{IsPiece, is_one_blank, is_line_comment, is_block_comment, is_word, is_decimal, is_hexadecimal, is_text, is_sign, is_slash, is_stray, is_unclosed_comment, is_unclosed_text_lf, is_unclosed_text_end, Piece, Cut, BeginsWith}
-use Rattle.oil_lex.specs.Tokens.{Lexeme, tokens_of, lexemes_by, FaultOf, FaultBy, meaning, line_ends, TextFault, AreTokens, IsNoFault, RefusedBy}
+use Rattle.oil_lex.specs.declared.kinds.Token.{Token}
+use Rattle.oil_lex.specs.declared.lexer.Cutter.{Cutter}
+use Rattle.oil_lex.specs.Tokens.{Lexeme, lexeme, tokens_of, lexemes_by, slice_at, tokens_by, tokens_at, FaultOf, FaultBy, meaning, line_ends, TextFault, AreTokens, AreSlices, IsNoFault}
+use Rattle.oil_lex.specs.Cutting.{rest_of, front_meaning, HasCut, IsStopped}
 use Rattle.oil_lex.specs.declared.pieces.Meaning.{Meaning}
 use Rattle.oil_lex.specs.declared.pieces.Meaning.TheVariants.{Nothing, IsToken, IsFault}
 use Rattle.oil_lex.specs.Front.{front_piece}
@@ -125,15 +129,33 @@ after_fault (is_unclosed_text_lf {w} {rest} a) n r f ps cut s g =
     let l = below_lf rest ps cut (n + line_ends (34 ∷ w)) s g in subst (λ (x : Refusal). Precedes x s) (sym f) (inl (omega (arith, l)))
 after_fault (is_unclosed_text_end {w} a) n r f ps cut s g = absurd (nothing_behind ps cut (n + line_ends (34 ∷ w)) s g)
 
--- The loop's invariant: every cut of the rest, which begins on line n, goes on from the tokens so far to a cut of the text, with the same faults.
-pub record Completed (t : List ℕ) (ts : List Lexeme) (n : ℕ) (ps : List Piece) : Type 0 where
+-- The loop's invariant: every cut of the rest, which begins at this place on line n, goes on from the tokens so far to a cut of the text, with
+-- the same faults.
+pub record Completed (text : Bor (List ℕ)) (ts : List Token) (n place : ℕ) (ps : List Piece) : Type 0 where
   pub pieces : List Piece
-  pub cut : Cut t pieces
-  pub tokens : tokens_of 1 pieces ≡ ts ++ tokens_of n ps
+  pub cut : Cut text.now pieces
+  pub tokens : tokens_at text 1 0 pieces ≡ ts ++ tokens_at text n place ps
   pub faults : (r : Refusal) → FaultOf 1 pieces r ↔ FaultOf n ps r
 
-abbrev pub GoesOn : List ℕ → List ℕ → ℕ → List Lexeme → Type 0
-GoesOn t rest n ts = (ps : List Piece) → Cut rest ps → Completed t ts n ps
+abbrev pub GoesOn : Bor (List ℕ) → ℕ → ℕ → List Token → Type 0
+GoesOn text n place ts = (ps : List Piece) → Cut (drop place text.now) ps → Completed text ts n place ps
+
+-- the tokens in memory are those that the grammar sees
+pub lexemes_at : (text : Bor (List ℕ)) (n place : ℕ) (ps : List Piece) → map lexeme (tokens_at text n place ps) ≡ tokens_of n ps
+lexemes_at text n place [] = refl
+lexemes_at text n place (p ∷ ps) = by (meaning p.kind p.bytes) (lexemes_at text (n + line_ends p.bytes) (place + length p.bytes) ps)
+  where
+    more : List Token
+    more = tokens_at text (n + line_ends p.bytes) (place + length p.bytes) ps
+
+    by : (m : Meaning) → map lexeme more ≡ tokens_of (n + line_ends p.bytes) ps
+        → map lexeme (tokens_by m n (slice_at text place p.bytes) ++ more) ≡ lexemes_by m n p.bytes ++ tokens_of (n + line_ends p.bytes) ps
+    by (IsToken k) e = ap (λ xs. record { kind = k; line = n; bytes = p.bytes } ∷ xs) e
+    by Nothing e = e
+    by (IsFault c) e = e
+
+pub seen : (text : Bor (List ℕ)) (ts : List Token) → AreSlices text ts → AreTokens text.now (map lexeme ts)
+seen text ts s = (s.0, s.1, ap (map lexeme) s.2 ∙ lexemes_at text 1 0 s.0)
 
 -- One piece more.
 same_faults : (m : Meaning) → IsNoFault m → (n : ℕ) (F : Type 0) (r : Refusal) → (FaultBy m n r ⊎ F) ↔ F
@@ -141,34 +163,30 @@ same_faults Nothing z n F r = (⊎_elim (λ f. absurd f) (λ f. f), inr)
 same_faults (IsToken k) z n F r = (⊎_elim (λ f. absurd f) (λ f. f), inr)
 same_faults (IsFault c) z n F r = absurd z
 
-abbrev front_meaning : PieceKind × ℕ → List ℕ → Meaning
-front_meaning k rest = meaning k.0 (take k.1 rest)
-
-pub goes_further : (t rest : List ℕ) (n : ℕ) (ts : List Lexeme) (k : PieceKind × ℕ) → GoesOn t rest n ts → BeginsWith rest k → IsNoFault (front_meaning k rest)
-    → GoesOn t (drop k.1 rest) (n + line_ends (take k.1 rest)) (ts ++ lexemes_by (front_meaning k rest) n (take k.1 rest))
-goes_further t rest n ts k on s z ps c =
+pub goes_further : (text : Bor (List ℕ)) (n place : ℕ) (ts : List Token) (k : PieceKind × ℕ) → GoesOn text n place ts → BeginsWith (drop place text.now) k
+    → IsNoFault (front_meaning k (drop place text.now))
+    → GoesOn text (n + line_ends (take k.1 (drop place text.now))) (place + k.1)
+    (ts ++ tokens_by (front_meaning k (drop place text.now)) n (slice_at text place (take k.1 (drop place text.now))))
+goes_further text n place ts k on s z = λ ps c.
+    let rest : List ℕ = drop place text.now in
     let p : Piece = record { kind = k.0; bytes = take k.1 rest } in
-    let w = on (p ∷ ps) (drop k.1 rest, sym (take-append-drop k.1 rest), s.0, c) in
+    let first = tokens_by (front_meaning k rest) n (slice_at text place (take k.1 rest)) in
+    let later = λ (m : ℕ). tokens_at text (n + line_ends (take k.1 rest)) (place + m) ps in
+    let w = on (p ∷ ps) (drop k.1 rest, sym (take-append-drop k.1 rest), s.0, subst (λ (x : List ℕ). Cut x ps) (sym (drop-drop k.1 place text.now)) c) in
     record {
       pieces = w.pieces;
       cut = w.cut;
-      tokens = w.tokens ∙ sym (append_assoc ts (lexemes_by (front_meaning k rest) n (take k.1 rest)) (tokens_of (n + line_ends (take k.1 rest)) ps));
+      tokens = w.tokens ∙ ap (λ m. ts ++ (first ++ later m)) (length-take-le k.1 rest s.2) ∙ sym (append_assoc ts first (later k.1));
       faults = λ r.
           let f = w.faults r in
           let g = same_faults (front_meaning k rest) z n (FaultOf (n + line_ends (take k.1 rest)) ps r) r in
           (λ x. g.0 (f.0 x), λ x. f.1 (g.1 x));
     }
 
-pub ends : (t : List ℕ) (n : ℕ) (ts : List Lexeme) → GoesOn t [] n ts → AreTokens t ts × NoFault (TextFault t)
-ends t n ts on =
-    let w = on [] refl in (
-      (w.pieces, w.cut, sym (append-nil ts) ∙ sym w.tokens),
-      λ r f. (w.faults r).0 (subst (λ (x : List Piece). FaultOf 1 x r) (cut_one f.0 w.pieces t f.1 w.cut) f.2),
-    )
-
-pub least : (t rest : List ℕ) (n : ℕ) (ts : List Lexeme) (k : PieceKind × ℕ) → GoesOn t rest n ts → BeginsWith rest k
-    → (r : Refusal) → FaultBy (front_meaning k rest) n r → IsLeast (TextFault t) r
-least t rest n ts k on s r f =
+pub least : (text : Bor (List ℕ)) (n place : ℕ) (ts : List Token) (k : PieceKind × ℕ) → GoesOn text n place ts → BeginsWith (drop place text.now) k
+    → (r : Refusal) → FaultBy (front_meaning k (drop place text.now)) n r → IsLeast (TextFault text.now) r
+least text n place ts k on s r f =
+    let rest : List ℕ = drop place text.now in
     let p : Piece = record { kind = k.0; bytes = take k.1 rest } in
     let c = cut_of (drop k.1 rest) in
     let w = on (p ∷ c.0) (drop k.1 rest, sym (take-append-drop k.1 rest), s.0, c.1) in
@@ -177,7 +195,7 @@ least t rest n ts k on s r f =
       is_least = λ q g. ⊎_elim
           (λ h. same_place (front_meaning k rest) n r q f h)
           (λ h. after_fault s.0 n r f c.0 c.1 q h)
-          ((w.faults q).0 (subst (λ (x : List Piece). FaultOf 1 x q) (cut_one g.0 w.pieces t g.1 w.cut) g.2));
+          ((w.faults q).0 (subst (λ (x : List Piece). FaultOf 1 x q) (cut_one g.0 w.pieces text.now g.1 w.cut) g.2));
     }
   where
     same_place : (m : Meaning) (n : ℕ) (r q : Refusal) → FaultBy m n r → FaultBy m n q → Precedes r q
@@ -185,29 +203,69 @@ least t rest n ts k on s r f =
     same_place (IsToken k) n r q f g = absurd f
     same_place (IsFault c) n r q f g = let e : r ≡ q = cc in subst (λ (x : Refusal). Precedes r x) e (inr (refl, omega arith))
 
--- The same two, in the words of the loop.
-pub next : (t rest : List ℕ) (n : ℕ) (ts : List Lexeme) (k : PieceKind × ℕ) → GoesOn t rest n ts → BeginsWith rest k
-    → (m : Meaning) (span behind : List ℕ) (us : List Lexeme) (l : ℕ) → span ≡ take k.1 rest → behind ≡ drop k.1 rest → m ≡ meaning k.0 span
-    → IsNoFault m → us ≡ ts ++ lexemes_by m n span → l ≡ line_ends span → GoesOn t behind (n + l) us
-next t rest n ts k on s m span behind us l es eb em z eu el =
-    let e : m ≡ front_meaning k rest = em ∙ ap (meaning k.0) es in
-    let g = goes_further t rest n ts k on s (subst IsNoFault e z) in
-    let f : us ≡ ts ++ lexemes_by (front_meaning k rest) n (take k.1 rest) =
-    eu ∙ (ap (λ x. ts ++ lexemes_by x n span) e ∙ ap (λ x. ts ++ lexemes_by (front_meaning k rest) n x) es) in
-    let h : n + l ≡ n + line_ends (take k.1 rest) = ap (λ x. n + x) el ∙ ap (λ x. n + line_ends x) es in
-    subst (λ (x : List ℕ). GoesOn t x (n + l) us) (sym eb)
-    (subst (λ (x : ℕ). GoesOn t (drop k.1 rest) x us) (sym h)
-    (subst (λ (x : List Lexeme). GoesOn t (drop k.1 rest) (n + line_ends (take k.1 rest)) x) (sym f) g))
+-- ---- the same, of the cutter
 
-pub refused : (t rest : List ℕ) (n : ℕ) (ts : List Lexeme) (k : PieceKind × ℕ) → GoesOn t rest n ts → BeginsWith rest k
-    → (m : Meaning) (span : List ℕ) → span ≡ take k.1 rest → m ≡ meaning k.0 span → (e : BuildError) → RefusedBy m n e → ErrorIs (TextFault t) e
-refused t rest n ts k on s m span es em Memory f = tt
-refused t rest n ts k on s m span es em (Refused r) f =
-    least t rest n ts k on s r (subst (λ (x : Meaning). FaultBy x n r) (em ∙ ap (meaning k.0) es) f)
+abbrev pub Goes : Bor (List ℕ) → Cutter → Type 0
+Goes text c = (c.text ≡ text) × GoesOn text c.line c.place c.tokens.items
 
-pub cut_ends : (t rest : List ℕ) (n : ℕ) (ts : List Lexeme) → GoesOn t rest n ts → true ≡ (length rest == 0) → AreTokens t ts × NoFault (TextFault t)
-cut_ends t [] n ts on e = ends t n ts on
-cut_ends t (b ∷ rest) n ts on e = absurd (let z = eqb-true (length (b ∷ rest)) 0 (sym e) in omega (arith, z))
+pub begun : (text : Bor (List ℕ)) (c : Cutter) → c.text ≡ text → c.place ≡ 0 → c.line ≡ 1 → c.tokens.items ≡ [] → Goes text c
+begun text c same p l e = (
+  same,
+  λ ps cut.
+      let whole : Cut text.now ps = subst (λ (i : ℕ). Cut (drop i text.now) ps) p cut in
+      record {
+        pieces = ps;
+        cut = whole;
+        tokens = sym (ap (λ (i : ℕ). tokens_at text 1 i ps) p) ∙ sym (ap (λ (i : ℕ). tokens_at text i c.place ps) l) ∙ sym (ap (λ (ts : List Token). ts ++ tokens_at text c.line c.place ps) e);
+        faults = λ r. let same : FaultOf c.line ps r ≡ FaultOf 1 ps r = ap (λ (i : ℕ). FaultOf i ps r) l in (subst (λ (X : Type 0). X) (sym same), subst (λ (X : Type 0). X) same);
+      },
+)
+
+pub goes : (text : Bor (List ℕ)) (c d : Cutter) → Goes text c → HasCut c d → Goes text d
+goes text c d g h = (h.text ∙ g.0, moved)
+  where
+    on : GoesOn c.text c.line c.place c.tokens.items
+    on = subst (λ (x : Bor (List ℕ)). GoesOn x c.line c.place c.tokens.items) (sym g.0) g.1
+
+    further : GoesOn c.text (c.line + line_ends (take h.piece.1 (rest_of c))) (c.place + h.piece.1)
+        (c.tokens.items ++ tokens_by (front_meaning h.piece (rest_of c)) c.line (slice_at c.text c.place (take h.piece.1 (rest_of c))))
+    further = goes_further c.text c.line c.place c.tokens.items h.piece on h.begins h.no_fault
+
+    moved : GoesOn text d.line d.place d.tokens.items
+    moved =
+        subst (λ (x : Bor (List ℕ)). GoesOn x d.line d.place d.tokens.items) g.0
+        (subst (λ (n : ℕ). GoesOn c.text n d.place d.tokens.items) (sym h.line)
+        (subst (λ (i : ℕ). GoesOn c.text (c.line + line_ends (take h.piece.1 (rest_of c))) i d.tokens.items) (sym h.place)
+        (subst (λ (ts : List Token). GoesOn c.text (c.line + line_ends (take h.piece.1 (rest_of c))) (c.place + h.piece.1) ts) (sym h.tokens) further)))
+
+pub within_next : (c d : Cutter) → HasCut c d → c.place ≤ length c.text.now → d.place ≤ length d.text.now
+within_next c d h l =
+    let rest = length-drop c.place c.text.now in
+    let same = ap (λ (x : Bor (List ℕ)). length x.now) h.text in
+    let place = h.place in
+    let fits = h.begins.2 in
+    omega (arith, rest, same, place, fits, l)
+
+pub lines_next : (c d : Cutter) → HasCut c d → c.line ≤ c.place + 1 → d.line ≤ d.place + 1
+lines_next c d h l =
+    let ends = count_by-le-length (λ b. b == 10) (take h.piece.1 (rest_of c)) in
+    let long = length-take-le h.piece.1 (rest_of c) h.begins.2 in
+    let line = h.line in
+    let place = h.place in
+    omega (arith, ends, long, line, place, l)
+
+pub stops : (text : Bor (List ℕ)) (c : Cutter) (e : BuildError) → Goes text c → IsStopped c e → ErrorIs (TextFault text.now) e
+stops text c Memory g h = tt
+stops text c (Refused r) g h = subst (λ (x : Bor (List ℕ)). IsLeast (TextFault x.now) r) g.0
+    (least c.text c.line c.place c.tokens.items h.piece (subst (λ (x : Bor (List ℕ)). GoesOn x c.line c.place c.tokens.items) (sym g.0) g.1) h.begins r h.refused)
+
+pub ends : (text : Bor (List ℕ)) (c : Cutter) → Goes text c → length c.text.now ≤ c.place → AreSlices text c.tokens.items × NoFault (TextFault text.now)
+ends text c g l =
+    let nothing : drop c.place text.now ≡ [] = drop_of_length-le text.now {i = c.place} (subst (λ (x : Bor (List ℕ)). length x.now ≤ c.place) g.0 l) in
+    let w = g.1 [] nothing in (
+      (w.pieces, w.cut, sym (append-nil c.tokens.items) ∙ sym w.tokens),
+      λ r f. (w.faults r).0 (subst (λ (x : List Piece). FaultOf 1 x r) (cut_one f.0 w.pieces text.now f.1 w.cut) f.2),
+    )
 
 -- Pieces have a fault, or none.
 pieces_judged : (ps : List Piece) (n : ℕ) → ((r : Refusal) × FaultOf n ps r) ⊎ NoFault (FaultOf n ps)

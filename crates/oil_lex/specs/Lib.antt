@@ -2,3 +2,4 @@ pub mod Bytes
 pub mod Pieces
 pub mod Tokens
 pub mod Front
+pub mod Cutting

@@ -1,5 +1,6 @@
 -- What the pieces of a text mean: its tokens and its faults.
-use Rattle.std.specs.Prelude.{◌≡◌, ℕ, ◌+◌, ◌==◌, List, [], ◌∷◌, ◌++◌, count_by, drop, ◌⊎◌}
+use Rattle.std.specs.Prelude.{◌≡◌, ℕ, ◌+◌, ◌==◌, List, [], ◌∷◌, ◌++◌, length, count_by, drop, ◌⊎◌}
+use Rattle.std.specs.Borrow.{Bor}
 use Rattle.sloth_base.specs.declared.refusal.Part.TheVariants.{Oil}
 use Rattle.sloth_base.specs.declared.refusal.Code.TheVariants as code
 use Rattle.sloth_base.specs.declared.refusal.Refusal.{Refusal}
@@ -64,6 +65,25 @@ FaultOf n (p ∷ ps) r = FaultBy (meaning p.kind p.bytes) n r ⊎ FaultOf (n + l
 -- these are the tokens of the text
 abbrev pub AreTokens : List ℕ → List Lexeme → Type 0
 AreTokens t ts = (ps : List Piece) × Cut t ps × (ts ≡ tokens_of 1 ps)
+
+-- the slice of a text in memory that begins at a place and has these bytes
+abbrev pub slice_at : Bor (List ℕ) → ℕ → List ℕ → Bor (List ℕ)
+slice_at text place bytes = record { ref_ptr = (text.ref_ptr.0, text.ref_ptr.1 + place); now = bytes }
+
+-- the token in memory that a piece on line n is, if it is one
+abbrev pub tokens_by : Meaning → ℕ → Bor (List ℕ) → List Token
+tokens_by (IsToken k) n span = record { kind = k; line = n; span = span } ∷ []
+tokens_by _ n span = []
+
+-- the tokens in memory of pieces of a text that begin on line n at a place
+abbrev pub tokens_at : Bor (List ℕ) → ℕ → ℕ → List Piece → List Token
+tokens_at text n place [] = []
+tokens_at text n place (p ∷ ps) =
+    tokens_by (meaning p.kind p.bytes) n (slice_at text place p.bytes) ++ tokens_at text (n + line_ends p.bytes) (place + length p.bytes) ps
+
+-- these are the tokens of the text, and the span of each is the slice of the text at its place
+abbrev pub AreSlices : Bor (List ℕ) → List Token → Type 0
+AreSlices text ts = (ps : List Piece) × Cut text.now ps × (ts ≡ tokens_at text 1 0 ps)
 
 -- a fault of the text
 abbrev pub TextFault : List ℕ → Refusal → Type 0

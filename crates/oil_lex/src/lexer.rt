@@ -1,15 +1,17 @@
 //! The tokens of a text.
 
-ghost use Rattle.std.specs.Prelude.{List, ℕ, ◌≡◌, ◌<◌, length, map, ◌++◌, IfOk, IfErr, OnOk};
+ghost use Rattle.std.specs.Prelude.{List, ℕ, ◌≡◌, ◌<◌, ◌≤◌, ◌+◌, [], ◌++◌, length, map, nat_le, IfOk, IfErr, OnOk};
 ghost use Rattle.least_fault.specs.Order.{ErrorIs, NoFault};
 ghost use Rattle.oil_lex.specs.Pieces.{Piece, Cut};
-ghost use Rattle.oil_lex.specs.Tokens.{Lexeme, AreTokens, TextFault, lexeme, lexemes_by, IsNoFault, RefusedBy};
+ghost use Rattle.oil_lex.specs.Tokens.{Lexeme, AreTokens, AreSlices, TextFault, lexeme, tokens_by, IsNoFault, RefusedBy};
+ghost use Rattle.oil_lex.specs.Cutting.{HasCut, IsStopped};
 
 use crate::front::first_piece;
 use crate::kinds::Token;
 use crate::pieces::{Meaning, line_ends, meaning_of};
 use sloth_base::refusal::{BuildError, Part, Refusal};
 use std::alloc::Global;
+use text_pieces::growth::push;
 
 /// Adds the token that the piece is, if it is one.
 fn keep<'a>(
@@ -18,14 +20,14 @@ fn keep<'a>(
     line: u32,
     span: &'a [u8],
 ) -> Result<(), BuildError>
-    ensures kept { OnOk result ((map lexeme tokens.new.items ≡ map lexeme tokens.old.items ++ lexemes_by meaning line span.now) × IsNoFault meaning) }
+    ensures kept { OnOk result ((tokens.new.items ≡ tokens.old.items ++ tokens_by meaning line span.entry) × IsNoFault meaning) }
     ensures fault { IfErr result (λ e. RefusedBy meaning line e) }
 {
     match meaning {
         Meaning::Nothing => Ok(()),
-        Meaning::IsToken(kind) => match tokens.push(Token { kind, line, span }) {
-            Ok(()) => Ok(()),
-            Err(_) => Err(BuildError::Memory),
+        Meaning::IsToken(kind) => {
+            push(tokens, Token { kind, line, span })?;
+            Ok(())
         },
         Meaning::IsFault(code) => Err(BuildError::Refused(Refusal {
             part: Part::Oil,
@@ -35,25 +37,70 @@ fn keep<'a>(
     }
 }
 
-/// The tokens of a text in order, or its least fault: O1 for a byte that begins nothing, O2 for a comment without its end, O3 for a
-/// string without its closing quote on the same line. The text has at most 4,294,967,294 bytes.
+/// A text from which pieces are cut off: their tokens, and the place and the line at which what is left begins.
+#[derive(Drop)]
+pub struct Cutter<'a> {
+    text: &'a [u8],
+    place: usize,
+    line: u32,
+    tokens: Vec<Token<'a>>,
+}
+
+impl<'a> Cutter<'a> {
+    /// The whole text.
+    fn new(alloc: Global, text: &'a [u8]) -> Cutter<'a>
+        ensures text { result.text ≡ text.entry }
+        ensures place { result.place ≡ 0 }
+        ensures line { result.line ≡ 1 }
+        ensures tokens { result.tokens.items ≡ [] }
+    {
+        Cutter {
+            text,
+            place: 0,
+            line: 1,
+            tokens: Vec::new(alloc),
+        }
+    }
+
+    /// Whether nothing is left.
+    fn is_done(&self) -> bool
+        ensures { result ≡ nat_le (length self.now.text.now) self.now.place }
+    {
+        self.place >= self.text.len()
+    }
+
+    /// Cuts off a piece.
+    fn cut(&mut self) -> Result<(), BuildError>
+        requires some { self.old.place < length self.old.text.now }
+        requires fits { length self.old.text.now < 4294967295 }
+        requires lines { self.old.line ≤ self.old.place + 1 }
+        ensures more { OnOk result (HasCut self.old self.new) }
+        ensures stopped { IfErr result (λ error. IsStopped self.old error) }
+    {
+        let rest = &self.text[self.place..];
+        let (kind, length) = first_piece(rest);
+        let span = &rest[..length];
+        keep(&mut self.tokens, meaning_of(kind, span), self.line, span)?;
+        self.line += line_ends(span) as u32;
+        self.place += length;
+        Ok(())
+    }
+}
+
+/// The tokens of a text in order, each a slice of it, or its least fault: O1 for a byte that begins nothing, O2 for a comment without its
+/// end, O3 for a string without its closing quote on the same line. The text has at most 4,294,967,294 bytes.
 pub fn tokens<'a>(alloc: Global, text: &'a [u8]) -> Result<Vec<Token<'a>>, BuildError>
     requires { length text.now < 4294967295 }
     ensures tokens { IfOk result (λ tokens. AreTokens text.now (map lexeme tokens.items)) }
+    ensures slices { IfOk result (λ tokens. AreSlices text.entry tokens.items) }
     ensures none { OnOk result (NoFault (TextFault text.now)) }
     ensures refused { IfErr result (λ error. ErrorIs (TextFault text.now) error) }
 {
-    let mut tokens = Vec::new(alloc);
-    let mut rest = text;
-    let mut line: u32 = 1;
-    while !rest.is_empty() {
-        let (kind, length) = first_piece(rest);
-        let (span, behind) = rest.split_at(length);
-        keep(&mut tokens, meaning_of(kind, span), line, span)?;
-        line += line_ends(span) as u32;
-        rest = behind;
+    let mut cutter = Cutter::new(alloc, text);
+    while !cutter.is_done() {
+        cutter.cut()?;
     }
-    Ok(tokens)
+    Ok(cutter.tokens)
 }
 
 /// Each text has one cut into pieces, and so one list of tokens.

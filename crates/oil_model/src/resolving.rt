@@ -16,7 +16,7 @@ use crate::config::{resource_names, tasks_of};
 use crate::event_table::EventTable;
 use crate::events::events_of;
 use crate::judge::judge;
-use crate::numbers::names_of;
+use crate::numbers::{Numbers, numbers_of};
 use crate::object_table::ObjectTable;
 use crate::objects::has_scheduler;
 use oil_parse::tree::{OilObject, OilTree};
@@ -25,26 +25,24 @@ use sloth_base::list::List;
 use sloth_base::memory::NoMemory;
 use sloth_base::refusal::{BuildError, Refusal};
 use std::alloc::Global;
-use text_pieces::names::Names;
 
 fn config_of(
     alloc: Global,
     objects: &[OilObject],
     scheduler: bool,
-    resource_numbers: &Names,
-    event_numbers: &Names,
+    numbers: &Numbers,
     events: Vec<EventDecl>,
 ) -> Result<Config, NoMemory>
     requires few { length (resource_names objects.now) ≤ 32 }
     requires scheduler { scheduler ≡ has_scheduler objects.now }
-    requires resource_numbers { resource_numbers.now ≡ resource_names objects.now }
-    requires event_numbers { event_numbers.now ≡ names_of (codes "EVENT") objects.now }
+    requires resource_numbers { numbers.now.resources ≡ resource_names objects.now }
+    requires event_numbers { numbers.now.events ≡ names_of (codes "EVENT") objects.now }
     requires events { events.items ≡ events_of objects.now }
     ensures { IfOk result (λ config. config ≡ config_of objects.now) }
 {
     let names = resource_names(alloc, objects)?;
-    let table = EventTable::new(events.as_slice(), event_numbers);
-    let tasks = tasks_of(alloc, resource_numbers, &table, objects)?;
+    let table = EventTable::new(events.as_slice(), &numbers.events);
+    let tasks = tasks_of(alloc, &numbers.resources, &table, objects)?;
     Ok(Config {
         tasks: List::from_vec(tasks),
         resources: List::from_vec(names),
@@ -58,18 +56,17 @@ fn refusal_of(
     alloc: Global,
     tree: &OilTree,
     scheduler: bool,
-    resource_numbers: &Names,
-    event_numbers: &Names,
+    numbers: &Numbers,
     events: &[EventDecl],
 ) -> Result<Option<Refusal>, NoMemory>
     requires scheduler { scheduler ≡ has_scheduler tree.now.objects }
-    requires resource_numbers { resource_numbers.now ≡ resource_names tree.now.objects }
-    requires event_numbers { event_numbers.now ≡ names_of (codes "EVENT") tree.now.objects }
+    requires resource_numbers { numbers.now.resources ≡ resource_names tree.now.objects }
+    requires event_numbers { numbers.now.events ≡ names_of (codes "EVENT") tree.now.objects }
     requires events { events.now ≡ events_of tree.now.objects }
     ensures { IfOk result (Finds (ModelFault tree.now)) }
 {
-    let objects = ObjectTable::new(tree.objects.items(), resource_numbers, event_numbers);
-    let events = EventTable::new(events, event_numbers);
+    let objects = ObjectTable::new(tree.objects.items(), &numbers.resources, &numbers.events);
+    let events = EventTable::new(events, &numbers.events);
     judge(alloc, tree, &objects, scheduler, &events)
 }
 
@@ -84,27 +81,12 @@ fn config_or_refusal(alloc: Global, tree: &OilTree) -> Result<Result<Config, Ref
     let objects = tree.objects.items();
     let scheduler = has_scheduler(objects);
     let events = events_of(alloc, objects)?;
-    let resource_numbers = names_of(alloc, objects, b"RESOURCE")?;
-    let event_numbers = names_of(alloc, objects, b"EVENT")?;
-    let refusal = refusal_of(
-        alloc,
-        tree,
-        scheduler,
-        &resource_numbers,
-        &event_numbers,
-        events.as_slice(),
-    )?;
+    let numbers = numbers_of(alloc, objects)?;
+    let refusal = refusal_of(alloc, tree, scheduler, &numbers, events.as_slice())?;
     if let Some(refusal) = refusal {
         return Ok(Err(refusal));
     }
-    let config = config_of(
-        alloc,
-        objects,
-        scheduler,
-        &resource_numbers,
-        &event_numbers,
-        events,
-    )?;
+    let config = config_of(alloc, objects, scheduler, &numbers, events)?;
     Ok(Ok(config))
 }
 
@@ -116,10 +98,9 @@ pub fn resolve(alloc: Global, tree: &OilTree) -> Result<Config, BuildError>
     ensures in_range { IfOk result InRange }
     ensures refused { IfErr result (λ error. ErrorIs (ModelFault tree.now) error) }
 {
-    match config_or_refusal(alloc, tree) {
-        Ok(Ok(config)) => Ok(config),
-        Ok(Err(refusal)) => Err(BuildError::Refused(refusal)),
-        Err(NoMemory) => Err(BuildError::Memory),
+    match config_or_refusal(alloc, tree)? {
+        Ok(config) => Ok(config),
+        Err(refusal) => Err(BuildError::Refused(refusal)),
     }
 }
 

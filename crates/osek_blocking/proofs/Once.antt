@@ -34,14 +34,14 @@ no_end (y ∷ front) x rest h = cc
 -- ---- who blocks
 
 -- a lower Active task whose current priority is at least the static priority of h
-record Blocks (config : Config) (h : ℕ) (s : System) (u : ℕ) : Type 0 where
-  declared : u < length config.tasks
-  active : IsActive s u
-  lower : static_priority config u < static_priority config h
-  raised : IsRaisedTo config s u h
+pub record Blocks (config : Config) (h : ℕ) (s : System) (u : ℕ) : Type 0 where
+  pub declared : u < length config.tasks
+  pub active : IsActive s u
+  pub lower : static_priority config u < static_priority config h
+  pub raised : IsRaisedTo config s u h
 
 -- no other than b does
-abbrev BlocksAlone : Config → ℕ → System → ℕ → Type 0
+abbrev pub BlocksAlone : Config → ℕ → System → ℕ → Type 0
 BlocksAlone config h s b = (u : ℕ) → Blocks config h s u → u ≡ b
 
 -- Who may block behind an event that finds h fresh: behind a service its caller, where it is lower, else b as before; behind an admit
@@ -101,7 +101,7 @@ module _ (config : Config) (h : ℕ) (s : System) (o : Ordered config s) where
               both_ways (blocks n) e ((decides n).1 (here.active, (here.lower, here.raised)))
           at u lt k (inr other) = none u (omega (arith, lt, other)) k
 
-  blocker : (b : ℕ) × BlocksAlone config h s b
+  pub blocker : (b : ℕ) × BlocksAlone config h s b
   blocker = by (search_below (length config.tasks) (omega arith))
     where
       by : ((b : ℕ) × Blocks config h s b) ⊎ ((u : ℕ) → u < length config.tasks → ¬ (Blocks config h s u)) → (b : ℕ) × BlocksAlone config h s b
@@ -122,7 +122,7 @@ module _ (config : Config) (app : App) (h : ℕ) (declared : h < length config.t
         clash (mode.Waiting x) a b = absurd cc
 
     -- h stays Ready
-    stays : (e : Event) → Effect config s next e → is_entry_of h e ≡ false → IsReady next h
+    pub stays : (e : Event) → Effect config s next e → is_entry_of h e ≡ false → IsReady next h
     stays event.Boot f away = f.ready h ready
     stays (event.Admit t) f away = f.ready h ready
     stays (event.Enter t) f away = f.moves.stays.ready h (λ e. eqb-false t h away (sym e)) ready
@@ -137,7 +137,7 @@ module _ (config : Config) (app : App) (h : ℕ) (declared : h < length config.t
     none : next.fresh ≡ [] → is_in h next.fresh ≡ false
     none e = ap (is_in h) e
 
-    stays_out : (e : Event) → Effect config s next e → is_in h s.fresh ≡ false → is_in h next.fresh ≡ false
+    pub stays_out : (e : Event) → Effect config s next e → is_in h s.fresh ≡ false → is_in h next.fresh ≡ false
     stays_out event.Boot f out = none f.settles
     stays_out (event.Admit t) f out = f.fresh h ready ∙ out
     stays_out (event.Enter t) f out = none f.moves.acts.settles
@@ -169,7 +169,7 @@ module _ (config : Config) (app : App) (h : ℕ) (declared : h < length config.t
         by (inr n) = from_same u (m.acts.calm u n) b
 
     -- a lower task that is top, h not left out, blocks
-    at_top : (t : ℕ) (others : List ℕ) → IsTop config s others t → is_in h others ≡ false → IsActive s t
+    pub at_top : (t : ℕ) (others : List ℕ) → IsTop config s others t → is_in h others ≡ false → IsActive s t
         → static_priority config t < static_priority config h → Blocks config h s t
     at_top t others top out active lower =
         let le = top.is_greatest h declared (inl ready) out in
@@ -193,7 +193,7 @@ module _ (config : Config) (app : App) (h : ℕ) (declared : h < length config.t
     calls t f out = split s.fresh t f.moves (λ b. at_top t s.fresh f.moves.top out f.was b.lower)
 
     -- no task begins to block, where h is not fresh
-    old : (e : Event) → Effect config s next e → is_in h s.fresh ≡ false → (u : ℕ) → Blocks config h next u → Blocks config h s u
+    pub old : (e : Event) → Effect config s next e → is_in h s.fresh ≡ false → (u : ℕ) → Blocks config h next u → Blocks config h s u
     old event.Boot f out = λ u b. from_same u (f.same u) b
     old (event.Admit t) f out = λ u b. from_same u (f.same u) b
     old (event.Enter t) f out = split [] t f.moves (entered t f)
@@ -215,7 +215,7 @@ module _ (config : Config) (app : App) (h : ℕ) (declared : h < length config.t
         subst (Blocks config h s) e (at_top t [] f.moves.top refl f.was (lower_is t u e l.lower))
 
     -- where h is not fresh it blocks
-    at_work : (e : Event) (u : ℕ) → Effect config s next e → IsOfLower config h e u → is_in h s.fresh ≡ false → Blocks config h s u
+    pub at_work : (e : Event) (u : ℕ) → Effect config s next e → IsOfLower config h e u → is_in h s.fresh ≡ false → Blocks config h s u
     at_work (event.Run t func item result) u f l out = runs t u func item result f l
     at_work (event.Call t served status) u f l out =
         let e = same_Some t u l.works in
@@ -238,7 +238,7 @@ module _ (config : Config) (app : App) (h : ℕ) (declared : h < length config.t
     fresh_now e u b further alone is f l = let w = l.works in absurd cc
 
     -- behind a service its caller alone may block, or where it is not lower who blocked before
-    called : (t b : ℕ) → BlocksAlone config h s b → Calls config t s next
+    pub called : (t b : ℕ) → BlocksAlone config h s b → Calls config t s next
         → (ltb (static_priority config t) (static_priority config h) ≡ true) ⊎ (ltb (static_priority config t) (static_priority config h) ≡ false)
         → BlocksAlone config h next (cond (ltb (static_priority config t) (static_priority config h)) t b)
     called t b alone f (inl e) =

@@ -1,6 +1,7 @@
 -- What the prologues of basic and of extended tasks have in common.
 use Rattle.std.proofs.Common.{ℕ, ◌+◌, ◌-◌, ◌%◌, ◌^◌, ◌≡◌, ◌<◌, ◌≤◌, Bool, true, false, List, ◌++◌, length, subst, arith}
 use Rattle.sloth_base.specs.Machine.{Core}
+use Rattle.sloth_base.specs.MemoryMap.{memory_base}
 use Rattle.rv32_instr.specs.declared.InstrKind.{InstrKind}
 use Rattle.masked_code.specs.Masked.{Masked, WithArrivals}
 use Rattle.masked_code.specs.Place.{at}
@@ -18,17 +19,17 @@ code extended task level frame words first = saves_context ++ (marks_active task
 
 -- it enters the task, whose frame is given by its offset
 by_offset : (extended : Bool) (task level first frame words : ℕ) → task < 30 → level < 32 → first < 2 ^ 32 → words ≤ 32
-    → DoesEnter extended task level first frame words (code extended task level (0x8000_0000 + frame) words first)
+    → DoesEnter extended task level first frame words (code extended task level (memory_base + frame) words first)
 by_offset false = enters
 by_offset true = enters_or_resumes
 
 -- whose frame is given by its address
-pub does_enter : (extended : Bool) (task level first frame words : ℕ) → task < 30 → level < 32 → first < 2 ^ 32 → words ≤ 32 → 0x8000_0000 ≤ frame
-    → DoesEnter extended task level first (frame - 0x8000_0000) words (code extended task level frame words first)
+pub does_enter : (extended : Bool) (task level first frame words : ℕ) → task < 30 → level < 32 → first < 2 ^ 32 → words ≤ 32 → memory_base ≤ frame
+    → DoesEnter extended task level first (frame - memory_base) words (code extended task level frame words first)
 does_enter extended task level first frame words is_task low_level fits few in_ram =
-    let same : 0x8000_0000 + (frame - 0x8000_0000) ≡ frame = omega arith in
-    subst (λ x. DoesEnter extended task level first (frame - 0x8000_0000) words (code extended task level x words first)) same
-    (by_offset extended task level first (frame - 0x8000_0000) words is_task low_level fits few)
+    let same : memory_base + (frame - memory_base) ≡ frame = omega arith in
+    subst (λ x. DoesEnter extended task level first (frame - memory_base) words (code extended task level x words first)) same
+    (by_offset extended task level first (frame - memory_base) words is_task low_level fits few)
 
 pub size : (extended : Bool) (task level first frame words : ℕ) (code : List InstrKind) → DoesEnter extended task level first frame words code
     → (0 < length code) × (length code ≤ 109 + words)

@@ -7,7 +7,8 @@ use Rattle.rv32_instr.specs.declared.InstrKind.{InstrKind}
 use Rattle.rv32_instr.specs.declared.InstrKind.TheVariants.{Addi}
 use Rattle.rv32_instr.specs.Ram.{word_at, with_word, with_words}
 use Rattle.sloth_base.specs.Arithmetic.{plus}
-use Rattle.masked_code.specs.Owes.{IsWordAt, IsApart, Owes}
+use Rattle.sloth_base.specs.MemoryMap.{memory_base}
+use Rattle.masked_code.specs.Owes.{◌▸◌, writes, loads, stores, accesses, IsWordAt, IsApart, Owes}
 use Rattle.masked_code.specs.Pieces.{saving_code, registers_from}
 use Rattle.masked_code.proofs.Words.{word_at-other, word_at-others}
 use Rattle.masked_code.proofs.Spread.{spread, spread_from}
@@ -22,11 +23,13 @@ enters_first task level rest = Addi 1 2 (neg_ℤ (pos context_bytes)) ∷ (savin
 
 -- the state behind it, whatever x1, x2 and x3 are
 abbrev pub entered : ℕ → ℕ → ℕ → Core → ℕ → ℕ → ℕ → Core
-entered task level place c x1 x2 x3 = record c { registers = 0 ∷ x1 ∷ x2 ∷ x3 ∷ 0x8000_0000 ∷ spread_from 27 5 c.registers; plevel = level % 256; ram = with_entry (spread c) task place }
+entered task level place c x1 x2 x3 = record c { registers = 0 ∷ x1 ∷ x2 ∷ x3 ∷ memory_base ∷ spread_from 27 5 c.registers; plevel = level % 256; ram = with_entry (spread c) task place }
 
-module _ (from to task level place : ℕ) (c : Core) (E : List ℕ → State → State → Type 0) (start : State) (rest : List InstrKind) (is_task : task < 30) (masked : c.mie ≡ false) (x2 : get_or c.registers 2 0 ≡ 0x8000_0000 + (place + context_bytes)) (aligned : place % 4 ≡ 0) (past : idle_context ≤ place) (inside : place + context_bytes ≤ 0x20_0000) (apart : (place + context_bytes ≤ from) ⊎ (to ≤ place)) (low : 1024 ≤ from) where
+module _ (from to task level place : ℕ) (c : Core) (E : List ℕ → State → State → Type 0) (start : State) (rest : List InstrKind) (is_task : task < 30)
+    (masked : c.mie ≡ false) (x2 : get_or c.registers 2 0 ≡ memory_base + (place + context_bytes)) (aligned : place % 4 ≡ 0) (past : idle_context ≤ place)
+    (inside : place + context_bytes ≤ 0x20_0000) (apart : (place + context_bytes ≤ from) ⊎ (to ≤ place)) (low : 1024 ≤ from) where
   abbrev own : ℕ
-  own = 0x8000_0000 + place
+  own = memory_base + place
 
   abbrev tail : List ℕ
   tail = spread_from 27 5 c.registers
@@ -61,7 +64,7 @@ module _ (from to task level place : ℕ) (c : Core) (E : List ℕ → State →
   word12 : IsWordAt (plus own (pos context_below)) (place + 4 + 4 + 4)
   word12 = record { is = omega arith; aligned = omega arith; inside = omega arith }
 
-  word_active : IsWordAt (plus 0x8000_0000 (pos (active task))) (active task)
+  word_active : IsWordAt (plus memory_base (pos (active task))) (active task)
   word_active = record { is = omega arith; aligned = omega arith; inside = omega arith }
 
   apart_by : (k : ℕ) → place ≤ k → k + 4 ≤ place + context_bytes → IsApart from to k
@@ -89,82 +92,26 @@ module _ (from to task level place : ℕ) (c : Core) (E : List ℕ → State →
   next_task = omega arith
 
   -- what is stored in the context, and the words of the entry
-  begun_owe : (o x3 x4 : ℕ) → Owes from to (behind 15 o) rest 0 E start (entered task level place c own (get_or c.registers 2 0) 1) → Owes from to o (saves_csrs ++ (saves_words ++ (marks_active task level ++ rest))) 0 E start (record (spread c) { registers = 0 ∷ own ∷ get_or c.registers 2 0 ∷ x3 ∷ x4 ∷ tail; ram = ram1 })
-  begun_owe o x3 x4 go = (
-    0x8000_0000,
-    refl,
-    (
-      c.mepc,
-      refl,
-      masked,
-      (
-        place,
-        word0,
-        apart0,
-        (
-          c.plevel,
-          refl,
-          masked,
-          (
-            place + 4,
-            word4,
-            apart4,
-            (
-              cur,
-              record { is = refl; aligned = refl; inside = lit≤ tt },
-              word_at c.ram cur,
-              found cur (lit≤ tt),
-              (
-                place + 4 + 4,
-                word8,
-                apart8,
-                (
-                  below_word,
-                  record { is = refl; aligned = refl; inside = lit≤ tt },
-                  word_at c.ram below_word,
-                  found_below,
-                  (
-                    place + 4 + 4 + 4,
-                    word12,
-                    apart12,
-                    (
-                      below_word,
-                      record { is = refl; aligned = refl; inside = lit≤ tt },
-                      under below_word (lit≤ tt),
-                      (
-                        task + 1,
-                        next_task,
-                        (
-                          cur,
-                          record { is = refl; aligned = refl; inside = lit≤ tt },
-                          under cur (lit≤ tt),
-                          (
-                            1,
-                            refl,
-                            (
-                              active task,
-                              word_active,
-                              under (active task) active_under,
-                              (
-                                c.plevel,
-                                refl,
-                                masked,
-                                go,
-                              ),
-                            ),
-                          ),
-                        ),
-                      ),
-                    ),
-                  ),
-                ),
-              ),
-            ),
-          ),
-        ),
-      ),
-    ),
-  )
+  begun_owe : (o x3 x4 : ℕ) → Owes from to (behind 15 o) rest 0 E start (entered task level place c own (get_or c.registers 2 0) 1)
+      → Owes from to o (saves_csrs ++ (saves_words ++ (marks_active task level ++ rest))) 0 E start
+      (record (spread c) { registers = 0 ∷ own ∷ get_or c.registers 2 0 ∷ x3 ∷ x4 ∷ tail; ram = ram1 })
+  begun_owe o x3 x4 go =
+      writes memory_base refl
+      ▸ accesses c.mepc refl masked
+      ▸ stores place word0 apart0
+      ▸ accesses c.plevel refl masked
+      ▸ stores (place + 4) word4 apart4
+      ▸ loads cur (record { is = refl; aligned = refl; inside = lit≤ tt }) (word_at c.ram cur) (found cur (lit≤ tt))
+      ▸ stores (place + 4 + 4) word8 apart8
+      ▸ loads below_word (record { is = refl; aligned = refl; inside = lit≤ tt }) (word_at c.ram below_word) found_below
+      ▸ stores (place + 4 + 4 + 4) word12 apart12
+      ▸ stores below_word (record { is = refl; aligned = refl; inside = lit≤ tt }) (under below_word (lit≤ tt))
+      ▸ writes (task + 1) next_task
+      ▸ stores cur (record { is = refl; aligned = refl; inside = lit≤ tt }) (under cur (lit≤ tt))
+      ▸ writes 1 refl
+      ▸ stores (active task) word_active (under (active task) active_under)
+      ▸ accesses c.plevel refl masked
+      ▸ go
 
   own_is : plus (get_or c.registers 2 0) (neg_ℤ (pos context_bytes)) ≡ own
   own_is = omega arith
@@ -175,9 +122,8 @@ module _ (from to task level place : ℕ) (c : Core) (E : List ℕ → State →
   context_apart : (place + 4 * (5 + 27) ≤ from) ⊎ (to ≤ place)
   context_apart = grind (arith, apart)
 
-  pub enters_owe : (o : ℕ) → Owes from to (behind 15 (o + 4 + 108)) rest 0 E start (entered task level place c own (get_or c.registers 2 0) 1) → Owes from to o (enters_first task level rest) 0 E start (spread c)
-  enters_owe o go = (
-    own,
-    own_is,
-    saves_owes from to E start (saves_csrs ++ (saves_words ++ (marks_active task level ++ rest))) place aligned 27 5 1 (o + 4) (o + 4 + 108) (record (spread c) { registers = 0 ∷ own ∷ get_or c.registers 2 0 ∷ get_or c.registers 3 0 ∷ get_or c.registers 4 0 ∷ tail }) refl refl context_fits context_apart (begun_owe (o + 4 + 108) (get_or c.registers 3 0) (get_or c.registers 4 0) go),
-  )
+  pub enters_owe : (o : ℕ) → Owes from to (behind 15 (o + 4 + 108)) rest 0 E start (entered task level place c own (get_or c.registers 2 0) 1)
+      → Owes from to o (enters_first task level rest) 0 E start (spread c)
+  enters_owe o go =
+      writes own own_is
+      ▸ saves_owes from to E start (saves_csrs ++ (saves_words ++ (marks_active task level ++ rest))) place aligned 27 5 1 (o + 4) (o + 4 + 108) (record (spread c) { registers = 0 ∷ own ∷ get_or c.registers 2 0 ∷ get_or c.registers 3 0 ∷ get_or c.registers 4 0 ∷ tail }) refl refl context_fits context_apart (begun_owe (o + 4 + 108) (get_or c.registers 3 0) (get_or c.registers 4 0) go)

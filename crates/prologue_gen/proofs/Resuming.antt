@@ -6,6 +6,7 @@ use Rattle.std.proofs.lemmas.List.{get_or-set_same, get_or-set_other, length-set
 use Rattle.sloth_base.specs.Machine.{Core, State}
 use Rattle.sloth_base.specs.Arithmetic.{plus}
 use Rattle.sloth_base.specs.Status.{E_OK}
+use Rattle.sloth_base.specs.MemoryMap.{memory_base}
 use Rattle.sloth_region.specs.Layout.{cur, active, resume, below_word, idle_context, context_bytes}
 use Rattle.rv32_instr.specs.declared.InstrKind.{InstrKind}
 use Rattle.rv32_instr.specs.Ram.{word_at, with_word, with_words}
@@ -13,7 +14,7 @@ use Rattle.masked_code.specs.Place.{at, InPlace}
 use Rattle.masked_code.specs.Kernel.{CanRun}
 use Rattle.rv32_instr.specs.declared.InstrKind.TheVariants.{Jal}
 use Rattle.masked_code.specs.Masked.{Masked, WithArrivals}
-use Rattle.masked_code.specs.Owes.{Owes}
+use Rattle.masked_code.specs.Owes.{◌▸◌, writes, loads, stores, accesses, Owes}
 use Rattle.masked_code.specs.Pieces.{restoring_code, restored_registers, registers_from}
 use Rattle.masked_code.proofs.Words.{word_at-other, word_at-others}
 use Rattle.masked_code.proofs.Spread.{spread, spread_is, spread_from}
@@ -37,11 +38,12 @@ abbrev pub code : ℕ → ℕ → ℕ → ℕ → ℕ → List InstrKind
 code task level frame words first = enters_first task level (either task frame words first)
 
 -- where the branch lands
-lands : (o : ℕ) → o ≤ 0x20_0004 → plus (0x8000_0000 + o) (pos 136) ≡ 0x8000_0000 + (o + 4 + 4 * 33)
+lands : (o : ℕ) → o ≤ 0x20_0004 → plus (memory_base + o) (pos 136) ≡ memory_base + (o + 4 + 4 * 33)
 lands o small = omega arith
 
 -- a word apart from all that the entry stores
-entry_keeps : (c : Core) (task place p : ℕ) → (p + 4 ≤ place) ⊎ (place + context_bytes ≤ p) → (4 ≤ p) → (p + 4 ≤ below_word) ⊎ (below_word + 4 ≤ p) → (p + 4 ≤ active task) ⊎ (active task + 4 ≤ p) → word_at (with_entry c task place) p ≡ word_at c.ram p
+entry_keeps : (c : Core) (task place p : ℕ) → (p + 4 ≤ place) ⊎ (place + context_bytes ≤ p) → (4 ≤ p) → (p + 4 ≤ below_word) ⊎ (below_word + 4 ≤ p)
+    → (p + 4 ≤ active task) ⊎ (active task + 4 ≤ p) → word_at (with_entry c task place) p ≡ word_at c.ram p
 entry_keeps c task place p far past below activity =
     let ws = registers_from 27 5 c.registers in
     let r1 = with_words c.ram (place + 4 * 5) ws in
@@ -49,11 +51,11 @@ entry_keeps c task place p far past below activity =
     let r3 = with_word r2 (place + 4) c.plevel in
     let r4 = with_word r3 (place + 4 + 4) (word_at c.ram cur) in
     let r5 = with_word r4 (place + 4 + 4 + 4) (word_at c.ram below_word) in
-    let r6 = with_word r5 below_word (0x8000_0000 + place) in
+    let r6 = with_word r5 below_word (memory_base + place) in
     let r7 = with_word r6 cur (task + 1) in
     word_at-other r7 (active task) 1 p activity
     ∙ word_at-other r6 cur (task + 1) p (inr (omega arith))
-    ∙ word_at-other r5 below_word (0x8000_0000 + place) p below
+    ∙ word_at-other r5 below_word (memory_base + place) p below
     ∙ word_at-other r4 (place + 4 + 4 + 4) (word_at c.ram below_word) p (grind (arith, far))
     ∙ word_at-other r3 (place + 4 + 4) (word_at c.ram cur) p (grind (arith, far))
     ∙ word_at-other r2 (place + 4) c.plevel p (grind (arith, far))
@@ -72,19 +74,17 @@ module _ (from to task level first place frame words : ℕ) (c : Core) (is_task 
   abbrev start : State
   start = at (vector task) (spread c)
 
-  pub fresh_owe : (o x1 x2 : ℕ) → o ≤ 0x20_0000 → ((o' : ℕ) → Owes from to o' (starts (0x8000_0000 + frame) words first) 0 E start (entered task level place c 0 x2 1)) → Owes from to o (either task (0x8000_0000 + frame) words first) 0 E start (entered task level place c x1 x2 1)
-  fresh_owe o x1 x2 small go = (
-    resume task,
-    record { is = omega arith; aligned = omega arith; inside = omega arith },
-    0,
-    kept_word (spread c) task place is_task past ∙ none,
-    record {
-      passed = 33;
-      lands = lands (o + 4) (omega arith);
-      when_taken = λ t. go (behind 33 (behind 2 o));
-      when_not = λ n. absurd (n refl);
-    },
-  )
+  pub fresh_owe : (o x1 x2 : ℕ) → o ≤ 0x20_0000
+      → ((o' : ℕ) → Owes from to o' (starts (memory_base + frame) words first) 0 E start (entered task level place c 0 x2 1))
+      → Owes from to o (either task (memory_base + frame) words first) 0 E start (entered task level place c x1 x2 1)
+  fresh_owe o x1 x2 small go =
+      loads (resume task) (record { is = omega arith; aligned = omega arith; inside = omega arith }) 0 (kept_word (spread c) task place is_task past ∙ none)
+      ▸ record {
+        passed = 33;
+        lands = lands (o + 4) (omega arith);
+        when_taken = λ t. go (behind 33 (behind 2 o));
+        when_not = λ n. absurd (n refl);
+      }
 
 -- what a task that goes on behind a wait needs: the word of its context names one at `own`, apart from that of what it preempts
 pub record IsKept (from task level place own : ℕ) (c : Core) : Type 0 where
@@ -94,7 +94,7 @@ pub record IsKept (from task level place own : ℕ) (c : Core) : Type 0 where
   pub previous : c.mpie ≡ true
   pub past : idle_context ≤ place
   pub inside : place + context_bytes ≤ 0x20_0000
-  pub is : word_at c.ram (resume task) ≡ 0x8000_0000 + own
+  pub is : word_at c.ram (resume task) ≡ memory_base + own
   pub aligned : own % 4 ≡ 0
   pub own_past : 1024 ≤ own
   pub own_inside : own + context_bytes ≤ 0x20_0000
@@ -111,10 +111,10 @@ module _ (from to task level place own : ℕ) (c : Core) (rest : List InstrKind)
   begun = at (vector task) (spread c)
 
   abbrev at_own : ℕ
-  at_own = 0x8000_0000 + own
+  at_own = memory_base + own
 
   abbrev sp : ℕ
-  sp = 0x8000_0000 + (own + context_bytes)
+  sp = memory_base + (own + context_bytes)
 
   abbrev ram : List ℕ
   ram = with_word (with_entry (spread c) task place) (resume task) 0
@@ -140,7 +140,7 @@ module _ (from to task level place own : ℕ) (c : Core) (rest : List InstrKind)
   level_is = omega arith
 
   abbrev regs : List ℕ
-  regs = 0 ∷ at_own ∷ sp ∷ pc ∷ 0x8000_0000 ∷ spread_from 27 5 c.registers
+  regs = 0 ∷ at_own ∷ sp ∷ pc ∷ memory_base ∷ spread_from 27 5 c.registers
 
   abbrev loaded : List ℕ
   loaded = restored_registers 27 5 ram own regs
@@ -183,7 +183,9 @@ module _ (from to task level place own : ℕ) (c : Core) (rest : List InstrKind)
   zero_there = restored_other 27 5 ram own regs 0 (inl (lit< tt))
 
   answered_owe : (o : ℕ) → Owes from to o (answers_wait ++ rest) 0 R begun (record stored { registers = loaded })
-  answered_owe o = (E_OK, ap (λ z. plus z (pos E_OK)) zero_there, done)
+  answered_owe o =
+      writes E_OK (ap (λ z. plus z (pos E_OK)) zero_there)
+      ▸ done
 
   own_fits : own + 4 * (5 + 27) ≤ 0x20_0000
   own_fits = omega arith
@@ -195,59 +197,43 @@ module _ (from to task level place own : ℕ) (c : Core) (rest : List InstrKind)
   sp_is = omega arith
 
   goes_on_owe : (o x2 x3 : ℕ) → Owes from to o (takes_own task ++ (restoring_code 27 5 1 ++ (answers_wait ++ rest))) 0 R begun (entered task level place c at_own x2 x3)
-  goes_on_owe o x2 x3 = (
-    resume task,
-    record { is = omega arith; aligned = omega arith; inside = omega arith },
-    inl (omega arith),
-    (
-      own,
-      record { is = omega arith; aligned = is_kept.aligned; inside = omega arith },
-      pc,
-      kept_pc,
-      (
-        c.mepc,
-        refl,
-        is_kept.masked,
-        (
-          sp,
-          sp_is,
-          restored_owe (behind 4 o),
-        ),
-      ),
-    ),
-  )
+  goes_on_owe o x2 x3 =
+      stores (resume task) (record { is = omega arith; aligned = omega arith; inside = omega arith }) (inl (omega arith))
+      ▸ loads own (record { is = omega arith; aligned = is_kept.aligned; inside = omega arith }) pc kept_pc
+      ▸ accesses c.mepc refl is_kept.masked
+      ▸ writes sp sp_is
+      ▸ restored_owe (behind 4 o)
 
   not_zero : at_own ≢ 0
   not_zero e = absurd (omega arith)
 
   pub resumed_owe : (o x1 x2 x3 : ℕ) → o ≤ 0x20_0000 → Owes from to o (asks_first task rest) 0 R begun (entered task level place c x1 x2 x3)
-  resumed_owe o x1 x2 x3 small = (
-    resume task,
-    record { is = omega arith; aligned = omega arith; inside = omega arith },
-    at_own,
-    kept_word (spread c) task place is_kept.is_task is_kept.past ∙ is_kept.is,
-    record {
-      passed = 33;
-      lands = lands (o + 4) (omega arith);
-      when_taken = λ t. let f = ne_eqb at_own 0 not_zero in absurd (cc);
-      when_not = λ n. goes_on_owe (behind 2 o) x2 x3;
-    },
-  )
+  resumed_owe o x1 x2 x3 small =
+      loads (resume task) (record { is = omega arith; aligned = omega arith; inside = omega arith }) at_own (kept_word (spread c) task place is_kept.is_task is_kept.past ∙ is_kept.is)
+      ▸ record {
+        passed = 33;
+        lands = lands (o + 4) (omega arith);
+        when_taken = λ t. let f = ne_eqb at_own 0 not_zero in absurd (cc);
+        when_not = λ n. goes_on_owe (behind 2 o) x2 x3;
+      }
 
 length-code : (task level frame words first : ℕ) → length (code task level frame words first) ≡ words + 109
 length-code task level frame words first = let e = length-starts frame words first in omega arith
 
 module _ (task level first frame words : ℕ) (is_task : task < 30) (low_level : level < 32) (first_fits : first < 2 ^ 32) (few : words ≤ 32) (offset place : ℕ) (c : Core) where
   abbrev whole : List InstrKind
-  whole = code task level (0x8000_0000 + frame) words first
+  whole = code task level (memory_base + frame) words first
 
   abbrev rest : List InstrKind
-  rest = either task (0x8000_0000 + frame) words first
+  rest = either task (memory_base + frame) words first
 
   -- from the vector word on
-  whole_runs : (E : List ℕ → State → State → Type 0) (jump : ℤ) → CanRun offset whole c → c.mie ≡ false → InPlace c.ram (vector task) (Jal 0 jump ∷ []) → plus (0x8000_0000 + vector task) jump ≡ 0x8000_0000 + offset → Owes offset (offset + 4 * length whole) offset whole 0 E (at (vector task) (spread c)) (spread c) → Masked (110 + words) (at (vector task) c) (WithArrivals E (at (vector task) c))
+  whole_runs : (E : List ℕ → State → State → Type 0) (jump : ℤ) → CanRun offset whole c → c.mie ≡ false → InPlace c.ram (vector task) (Jal 0 jump ∷ [])
+      → plus (memory_base + vector task) jump ≡ memory_base + offset
+      → Owes offset (offset + 4 * length whole) offset whole 0 E (at (vector task) (spread c)) (spread c)
+      → Masked (110 + words) (at (vector task) c) (WithArrivals E (at (vector task) c))
   whole_runs E jump can masked vector_word to_code all =
-      let long = length-code task level (0x8000_0000 + frame) words first in
+      let long = length-code task level (memory_base + frame) words first in
       let n = words + 109 in
       let e : suc n ≡ 110 + words = omega arith in
       let to = offset + 4 * length whole in
@@ -259,11 +245,12 @@ module _ (task level first frame words : ℕ) (is_task : task < 30) (low_level :
 
   small_offset : CanRun offset whole c → behind 15 (offset + 4 + 108) ≤ 0x20_0000
   small_offset can =
-      let long = length-code task level (0x8000_0000 + frame) words first in
+      let long = length-code task level (memory_base + frame) words first in
       let fits = can.inside in
       omega arith
 
-  starts_it : first % 4 ≡ 0 → MayStart offset task place frame words whole c → Masked (110 + words) (at (vector task) c) (WithArrivals (Entered task level first place frame words) (at (vector task) c))
+  starts_it : first % 4 ≡ 0 → MayStart offset task place frame words whole c
+      → Masked (110 + words) (at (vector task) c) (WithArrivals (Entered task level first place frame words) (at (vector task) c))
   starts_it first_aligned may =
       let h = may.enters in
       let can = h.can_run in
@@ -271,7 +258,7 @@ module _ (task level first frame words : ℕ) (is_task : task < 30) (low_level :
       let E = Entered task level first place frame words in
       let sp = get_or c.registers 2 0 in
       let o = behind 15 (offset + 4 + 108) in
-      let chosen = fresh_owe offset to task level first place frame words c is_task h.behind may.kept_none o (0x8000_0000 + place) sp (small_offset can)
+      let chosen = fresh_owe offset to task level first place frame words c is_task h.behind may.kept_none o (memory_base + place) sp (small_offset can)
       (λ o'. starts_owe offset to task level first place frame words 0 c low_level first_fits first_aligned h.masked h.previous h.frame_aligned h.frame_inside h.frame_apart o' sp 1)
       in
       whole_runs E h.jump can h.masked h.vector_word h.to_code
@@ -299,13 +286,14 @@ module _ (task level first frame words : ℕ) (is_task : task < 30) (low_level :
         returns = h.returns;
         low = can.behind;
       } in
-      let chosen = resumed_owe offset to task level place own c (starts (0x8000_0000 + frame) words first) kept o (0x8000_0000 + place) sp 1 (small_offset can) in
+      let chosen = resumed_owe offset to task level place own c (starts (memory_base + frame) words first) kept o (memory_base + place) sp 1 (small_offset can) in
       whole_runs E h.jump can h.masked h.vector_word h.to_code
       (enters_owe offset to task level place c E (at (vector task) (spread c)) rest is_task h.masked h.x2 h.aligned h.behind h.inside h.apart can.behind offset chosen)
 
-pub enters_or_resumes : (task level first frame words : ℕ) → task < 30 → level < 32 → first < 2 ^ 32 → words ≤ 32 → EntersOrResumes task level first frame words (code task level (0x8000_0000 + frame) words first)
+pub enters_or_resumes : (task level first frame words : ℕ) → task < 30 → level < 32 → first < 2 ^ 32 → words ≤ 32
+    → EntersOrResumes task level first frame words (code task level (memory_base + frame) words first)
 enters_or_resumes task level first frame words a b d f =
-    let long = length-code task level (0x8000_0000 + frame) words first in
+    let long = length-code task level (memory_base + frame) words first in
     record {
       size = omega arith;
       starts = λ offset place core e h. starts_it task level first frame words a b d f offset place core e h;

@@ -6,9 +6,10 @@ use Rattle.rv32_instr.specs.declared.InstrKind.{InstrKind}
 use Rattle.rv32_instr.specs.declared.InstrKind.TheVariants.{Mret}
 use Rattle.rv32_instr.specs.Ram.{with_words}
 use Rattle.sloth_base.specs.Arithmetic.{hi}
+use Rattle.sloth_base.specs.MemoryMap.{memory_base}
 use Rattle.masked_code.specs.Place.{at}
 use Rattle.masked_code.specs.Masked.{Masked, WithArrivals}
-use Rattle.masked_code.specs.Owes.{Owes}
+use Rattle.masked_code.specs.Owes.{◌▸◌, writes, accesses, Owes}
 use Rattle.masked_code.specs.Pieces.{clearing_code, clears_words, cleared_registers}
 use Rattle.masked_code.proofs.Parts.{hi_lo}
 use Rattle.masked_code.proofs.Spread.{spread, spread_is, spread_from, others}
@@ -30,9 +31,11 @@ starts frame words first = beginning_code frame first ++ last words
 abbrev pub code : ℕ → ℕ → ℕ → ℕ → ℕ → List InstrKind
 code task level frame words first = enters_first task level (starts frame words first)
 
-module _ (from to task level first place frame words x1 : ℕ) (c : Core) (low_level : level < 32) (first_fits : first < 2 ^ 32) (first_aligned : first % 4 ≡ 0) (masked : c.mie ≡ false) (previous : c.mpie ≡ true) (frame_aligned : frame % 4 ≡ 0) (frame_inside : frame + 4 * words ≤ 0x20_0000) (frame_apart : (frame + 4 * words ≤ from) ⊎ (to ≤ frame)) where
+module _ (from to task level first place frame words x1 : ℕ) (c : Core) (low_level : level < 32) (first_fits : first < 2 ^ 32)
+    (first_aligned : first % 4 ≡ 0) (masked : c.mie ≡ false) (previous : c.mpie ≡ true) (frame_aligned : frame % 4 ≡ 0)
+    (frame_inside : frame + 4 * words ≤ 0x20_0000) (frame_apart : (frame + 4 * words ≤ from) ⊎ (to ≤ frame)) where
   abbrev sp : ℕ
-  sp = 0x8000_0000 + frame
+  sp = memory_base + frame
 
   abbrev start : State
   start = at (vector task) (spread c)
@@ -44,7 +47,7 @@ module _ (from to task level first place frame words x1 : ℕ) (c : Core) (low_l
   ram8 = with_entry (spread c) task place
 
   abbrev regs : List ℕ
-  regs = 0 ∷ x1 ∷ sp ∷ first ∷ 0x8000_0000 ∷ tail
+  regs = 0 ∷ x1 ∷ sp ∷ first ∷ memory_base ∷ tail
 
   -- the state behind all that is stored and set
   abbrev stored : Core
@@ -68,7 +71,7 @@ module _ (from to task level first place frame words x1 : ℕ) (c : Core) (low_l
     pc = first_is;
     x2 = cleared_other 25 5 regs 2 (inl (lit< tt));
     zeros = λ i from upto. cleared_at 25 5 regs i from upto (lit≤ tt);
-    kept = λ i past. cleared_other 25 5 regs i (inr past) ∙ others x1 sp first 0x8000_0000 (get_or c.registers 1 0) (get_or c.registers 2 0) (get_or c.registers 3 0) (get_or c.registers 4 0) tail i (below_ten i past);
+    kept = λ i past. cleared_other 25 5 regs i (inr past) ∙ others x1 sp first memory_base (get_or c.registers 1 0) (get_or c.registers 2 0) (get_or c.registers 3 0) (get_or c.registers 4 0) tail i (below_ten i past);
     left = record {
       zero = cleared_other 25 5 regs 0 (inl (lit< tt));
       registers = length-cleared 25 5 regs;
@@ -84,7 +87,9 @@ module _ (from to task level first place frame words x1 : ℕ) (c : Core) (low_l
     };
   }
 
-  cleared_owe : (o : ℕ) → Owes from to o (clearing_code 25 5 ++ Mret ∷ []) 0 (Entered task level first place frame words) start (record stored { ram = with_words ram8 (frame + 4 * 0) (replicate words 0) })
+  cleared_owe : (o : ℕ)
+      → Owes from to o (clearing_code 25 5 ++ Mret ∷ []) 0 (Entered task level first place frame words) start
+      (record stored { ram = with_words ram8 (frame + 4 * 0) (replicate words 0) })
   cleared_owe o = clears_owes from to (Entered task level first place frame words) start (Mret ∷ []) 25 5 o (o + 100) (record stored { ram = with_words ram8 (frame + 4 * 0) (replicate words 0) }) refl (lit≤ tt) refl done
 
   frame_fits : frame + 4 * (0 + words) ≤ 0x20_0000
@@ -101,28 +106,13 @@ module _ (from to task level first place frame words x1 : ℕ) (c : Core) (low_l
 
   -- the start of the task, in the state behind the entry
   pub starts_owe : (o x2 x3 : ℕ) → Owes from to o (starts sp words first) 0 (Entered task level first place frame words) start (entered task level place c x1 x2 x3)
-  starts_owe o x2 x3 = (
-    hi sp * 4096,
-    refl,
-    (
-      sp,
-      hi_lo sp sp_fits,
-      (
-        hi first * 4096,
-        refl,
-        (
-          first,
-          hi_lo first first_fits,
-          (
-            c.mepc,
-            refl,
-            masked,
-            zeroed_owe (behind 5 o),
-          ),
-        ),
-      ),
-    ),
-  )
+  starts_owe o x2 x3 =
+      writes (hi sp * 4096) refl
+      ▸ writes sp (hi_lo sp sp_fits)
+      ▸ writes (hi first * 4096) refl
+      ▸ writes first (hi_lo first first_fits)
+      ▸ accesses c.mepc refl masked
+      ▸ zeroed_owe (behind 5 o)
 
 pub length-starts : (frame words first : ℕ) → length (starts frame words first) ≡ words + 31
 length-starts frame words first =
@@ -133,28 +123,29 @@ length-starts frame words first =
 length-code : (task level frame words first : ℕ) → length (code task level frame words first) ≡ words + 74
 length-code task level frame words first = let e = length-starts frame words first in omega arith
 
-module _ (task level first frame words : ℕ) (is_task : task < 30) (low_level : level < 32) (first_fits : first < 2 ^ 32) (first_aligned : first % 4 ≡ 0) (few : words ≤ 32) (offset place : ℕ) (c : Core) (h : MayEnter offset task place frame words (code task level (0x8000_0000 + frame) words first) c) where
+module _ (task level first frame words : ℕ) (is_task : task < 30) (low_level : level < 32) (first_fits : first < 2 ^ 32) (first_aligned : first % 4 ≡ 0)
+    (few : words ≤ 32) (offset place : ℕ) (c : Core) (h : MayEnter offset task place frame words (code task level (memory_base + frame) words first) c) where
   abbrev whole : List InstrKind
-  whole = code task level (0x8000_0000 + frame) words first
+  whole = code task level (memory_base + frame) words first
 
   pub runs_it : Masked (75 + words) (at (vector task) c) (WithArrivals (Entered task level first place frame words) (at (vector task) c))
   runs_it =
       let can = h.can_run in
-      let long = length-code task level (0x8000_0000 + frame) words first in
+      let long = length-code task level (memory_base + frame) words first in
       let n = words + 74 in
       let e : suc n ≡ 75 + words = omega arith in
       let to = offset + 4 * length whole in
       let E = Entered task level first place frame words in
-      let own = 0x8000_0000 + place in
+      let own = memory_base + place in
       let began = starts_owe offset to task level first place frame words own c low_level first_fits first_aligned h.masked h.previous h.frame_aligned h.frame_inside h.frame_apart (behind 15 (offset + 4 + 108)) (get_or c.registers 2 0) 1 in
-      let all = enters_owe offset to task level place c E (at (vector task) (spread c)) (starts (0x8000_0000 + frame) words first) is_task h.masked h.x2 h.aligned h.behind h.inside h.apart can.behind offset began in
+      let all = enters_owe offset to task level place c E (at (vector task) (spread c)) (starts (memory_base + frame) words first) is_task h.masked h.x2 h.aligned h.behind h.inside h.apart can.behind offset began in
       subst (λ k. Masked k (at (vector task) c) (WithArrivals E (at (vector task) c))) e
       (jumps_in (vector task) offset n h.jump whole c E (at (vector task) c) (omega arith) h.vector_word h.to_code
       (record { masked = h.masked; there = can.controller; lines = can.lines; aligned = can.aligned; fits = can.inside; placed = can.placed })
       (omega arith)
       (subst (λ x. Owes offset to offset whole 0 E (at (vector task) x) x) (spread_is c can.registers can.zero) all))
 
-pub enters : (task level first frame words : ℕ) → task < 30 → level < 32 → first < 2 ^ 32 → words ≤ 32 → Enters task level first frame words (code task level (0x8000_0000 + frame) words first)
+pub enters : (task level first frame words : ℕ) → task < 30 → level < 32 → first < 2 ^ 32 → words ≤ 32 → Enters task level first frame words (code task level (memory_base + frame) words first)
 enters task level first frame words a b d f =
-    let long = length-code task level (0x8000_0000 + frame) words first in
+    let long = length-code task level (memory_base + frame) words first in
     record { size = omega arith; runs = λ offset place core e h. runs_it task level first frame words a b d e f offset place core h }

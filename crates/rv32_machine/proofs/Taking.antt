@@ -1,11 +1,9 @@
 -- A line is taken, and given back where the step stops.
-use Rattle.std.proofs.Common.{◌≡◌, ℕ, ◌+◌, ◌-◌, ◌<◌, List, [], ◌∷◌, refl, ap, sym, subst, ◌∙◌, arith, true, Option, Some, None, zero, suc, slice_index, slice_set}
+use Rattle.std.proofs.Common.{◌≡◌, ℕ, ◌+◌, ◌-◌, ◌<◌, List, [], ◌∷◌, refl, ap, sym, ◌∙◌, arith, true, None, zero, suc, slice_index, slice_set}
 use Rattle.sloth_base.specs.declared.app.Width.TheVariants as width
 use Rattle.std.proofs.lemmas.Bool.Decides.{nat_tests}
 use Rattle.sloth_base.specs.Lines.{controller_byte, with_controller_byte}
-use Rattle.std.specs.Option.{ForSome}
-use Rattle.sloth_base.specs.Machine.{State}
-use Rattle.sloth_base.specs.Take.{enter, entered, line_to_take}
+use Rattle.sloth_base.specs.Take.{take}
 use Rattle.rv32_machine.specs.declared.machine.Hart.{Hart}
 use Rattle.rv32_machine.specs.State.{state_of, pending_again}
 use Rattle.rv32_instr.specs.Ram.{word_at}
@@ -41,31 +39,20 @@ pending_stores memory line n e h t = grind (arith, nat_tests)
 
 pub pending_stored
     : (memory : Memory) (line n : ℕ) → n ≡ line → line < 32
-    → stored_memory memory (0x1000_0000 + n) width.Byte 1 ≡ pending_again (Some line) memory
+    → stored_memory memory (0x1000_0000 + n) width.Byte 1 ≡ pending_again line memory
 unfolding stored_memory with_controller_byte
 pending_stored memory line n e h =
     let f : 0x1000_0000 + n - 0x1000_0000 ≡ line = omega arith in
     grind (arith, nat_tests)
 
 -- what an entry took is given back
-give_back
-    : (hart : Hart) (memory : Memory) (line : Option ℕ) → ForSome line (λ l. slice_index memory.lines.pending l ≡ 1)
-    → pending_again line (memory_of (enter line (state_of hart memory)).core) ≡ memory
-give_back hart memory None h = refl
-give_back hart memory (Some line) h =
-    ap (λ b. record memory { lines = record memory.lines { pending = b } })
-    (put_back memory.lines.pending line (h line refl))
-
 pub restored
-    : (before hart : Hart) (old new : Memory) (line : Option ℕ) (start ent : State)
-    → start ≡ state_of before old → line ≡ line_to_take start → ent ≡ entered start → state_of hart new ≡ ent
-    → ForSome line (λ l. slice_index start.core.pending l ≡ 1)
-    → state_of before (pending_again line new) ≡ state_of before old
-restored before hart old new line start ent s l e h p =
-    let f : state_of hart new ≡ enter line (state_of before old) = h ∙ e ∙ ap (λ o. enter o start) (sym l) ∙ ap (enter line) s in
-    let m : new ≡ memory_of (enter line (state_of before old)).core = ap (λ x. memory_of x.core) f in
+    : (before hart : Hart) (old new : Memory) (line : ℕ) → state_of hart new ≡ take line (state_of before old)
+    → slice_index old.lines.pending line ≡ 1 → state_of before (pending_again line new) ≡ state_of before old
+restored before hart old new line e p =
+    let m : new ≡ memory_of (take line (state_of before old)).core = ap (λ x. memory_of x.core) e in
     ap (λ x. state_of before (pending_again line x)) m
-    ∙ ap (state_of before) (give_back before old line (subst (λ x. ForSome line (λ l. slice_index x.core.pending l ≡ 1)) s p))
+    ∙ ap (λ b. state_of before (record old { lines = record old.lines { pending = b } })) (put_back old.lines.pending line p)
 
 -- the word at 0x80000000 may always be loaded
 pub cur_loads : (memory : Memory) → refusal memory 0x8000_0000 width.Word ≡ None

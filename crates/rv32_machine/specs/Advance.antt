@@ -1,5 +1,5 @@
 -- One step of the machine: at most one line is taken, then one instruction is executed. A stop changes nothing.
-use Rattle.std.specs.Prelude.{ℕ}
+use Rattle.std.specs.Prelude.{ℕ, None, false, replicate}
 use Rattle.sloth_base.specs.declared.step.Step.{Step}
 use Rattle.sloth_base.specs.Machine.{State}
 use Rattle.sloth_base.specs.Take.{line_to_take, entered}
@@ -11,6 +11,20 @@ use Rattle.rv32_instr.specs.Execute.{Next, Going, Stopped, step, touched}
 pub data Outcome : Type 0 where
   Goes : Step → State → Outcome
   Halts : Stop → Outcome
+
+-- a record that no step was written into
+abbrev pub blank_step : Step
+blank_step = record {
+  count = 0;
+  pc = 0;
+  entered = None;
+  enabled_before = false;
+  enabled_after = false;
+  cur_before = 0;
+  cur_after = 0;
+  touched = None;
+  regs = replicate 32 0;
+}
 
 -- what is seen of the step of a count that leads from a state to another; the word at 0x80000000 tells the running task
 abbrev pub seen_step : ℕ → State → State → Step

@@ -1,5 +1,5 @@
 -- The state of a machine: its hart's registers, and the memory that its bus shows.
-use Rattle.std.specs.Prelude.{ℕ, Option, Some, None, slice_set}
+use Rattle.std.specs.Prelude.{ℕ, slice_set}
 use Rattle.sloth_base.specs.Machine.{Core, State}
 use Rattle.rv32_instr.specs.Memory.{Memory}
 use Rattle.rv32_machine.specs.declared.machine.Hart.{Hart}
@@ -31,7 +31,6 @@ abbrev pub state : {B : Type 0} → (B → Memory) → Machine B → State
 state memory machine = state_of machine.hart (memory machine.bus)
 
 -- the memory with a line pending
-abbrev pub pending_again : Option ℕ → Memory → Memory
-pending_again None memory = memory
-pending_again (Some line) memory =
+abbrev pub pending_again : ℕ → Memory → Memory
+pending_again line memory =
     record memory { lines = record memory.lines { pending = slice_set memory.lines.pending line 1 } }

@@ -18,3 +18,4 @@ pub use machine::Machine;
 pub use rv32_instr::{Bad, Stop};
 pub use sloth::SlothBus;
 pub use sloth_base::step::Step;
+pub use step::blank_step;

@@ -67,6 +67,15 @@ impl SlothBus {
     {
         self.controller.is_enabled(line)
     }
+
+    /// The line's level byte, 0 to 255.
+    #[tactic(auto, using(std::proofs::lemmas::Bool::Decides::nat_tests), unfolding(sloth_base::specs::Lines::controller_byte))]
+    pub fn level_of(&self, line: Line) -> u8
+        requires { line < 32 }
+        ensures { result ≡ slice_index self.now.lines.levels line }
+    {
+        self.controller.load(64 + u32::from(line.0))
+    }
 }
 
 impl Bus for SlothBus {

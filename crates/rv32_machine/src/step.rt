@@ -1,12 +1,12 @@
 //! One step of the machine.
 ghost use Rattle.std.specs.Prelude.{◌≡◌, ◌<◌, ◌+◌, ◌%◌, OnOk, OnErr, IfOk, IfErr, true, false, slice_index};
 ghost use Rattle.std.specs.Option.{ForSome};
-ghost use Rattle.sloth_base.specs.Take.{take, entered, line_to_take};
+ghost use Rattle.sloth_base.specs.Take.{take, enter, entered, line_to_take};
 ghost use Rattle.rv32_instr.specs.Memory.{in_ram};
 ghost use Rattle.rv32_instr.specs.Ram.{word_at};
 ghost use Rattle.rv32_instr.specs.Execute.{Going, Stopped, step, touched, touched_by, pending_line, word_at_pc};
 ghost use Rattle.rv32_instr.specs.declared.stop.Stop.TheVariants as stop;
-ghost use Rattle.rv32_machine.specs.Advance.{advance, Goes, Halts};
+ghost use Rattle.rv32_machine.specs.Advance.{advance, blank_step, Goes, Halts};
 
 use crate::bus::Bus;
 use crate::effect::effect;
@@ -26,6 +26,23 @@ const LEVELS: u32 = 0x1000_0040;
 
 /// The first interrupt vector; each has four bytes.
 const VECTORS: u32 = 0x8000_0400;
+
+/// The record of a step before one is written into it.
+pub fn blank_step() -> Step
+    ensures { result ≡ blank_step }
+{
+    Step {
+        count: 0,
+        pc: 0,
+        entered: None,
+        enabled_before: false,
+        enabled_after: false,
+        cur_before: 0,
+        cur_after: 0,
+        touched: None,
+        regs: [0; 32],
+    }
+}
 
 /// The line whose pending byte an effect loads, or sets to zero by a store.
 #[tactic(auto, using(std::proofs::lemmas::Bool::Decides::nat_tests), unfolding(rv32_instr::specs::Execute::touched_by))]
@@ -80,31 +97,47 @@ impl<B: Bus> Machine<B> {
         ensures entered { IfOk result (λ shown. ForSome shown.entered (λ line. line < 32)) }
         ensures touched { IfOk result (λ shown. ForSome shown.touched (λ line. line < 32)) }
     {
+        let mut shown = blank_step();
+        match self.step_into(&mut shown) {
+            Ok(()) => Ok(shown),
+            Err(stop) => Err(stop),
+        }
+    }
+
+    /// The same, written into a record that is lent. A stop leaves any record there.
+    #[inline(always)]
+    pub fn step_into(&mut self, shown: &mut Step) -> Result<(), Stop>
+        requires { self.old.count < 1000000 }
+        ensures ok { OnOk result (advance self.old.count (state B.memory self.old) ≡ Goes shown.new (state B.memory self.new)) }
+        ensures err { IfErr result (λ stop. advance self.old.count (state B.memory self.old) ≡ Halts stop) }
+        ensures same { OnErr result (state B.memory self.new ≡ state B.memory self.old) }
+        ensures count { OnOk result (self.new.count ≡ self.old.count + 1) }
+        ensures stays { OnErr result (self.new.count ≡ self.old.count) }
+        ensures shown { OnOk result (shown.new.count ≡ self.old.count) }
+        ensures entered { OnOk result (ForSome shown.new.entered (λ line. line < 32)) }
+        ensures touched { OnOk result (ForSome shown.new.touched (λ line. line < 32)) }
+    {
         let count = self.count;
-        let before = self.hart;
+        let enabled_before = self.hart.mie;
         let cur_before = self.cur();
-        let entered = self.enter();
-        let pc = self.hart.pc;
-        match self.execute() {
+        let entered = self.line_to_take();
+        let pc = self.pc_after(&entered);
+        match self.execute_after(&entered) {
             Ok(touched) => {
-                self.count += 1;
                 let cur_after = self.cur();
-                Ok(Step {
-                    count,
-                    pc,
-                    entered,
-                    enabled_before: before.mie,
-                    enabled_after: self.hart.mie,
-                    cur_before,
-                    cur_after,
-                    touched,
-                    regs: self.hart.registers,
-                })
+                shown.count = count;
+                shown.pc = pc;
+                shown.entered = entered;
+                shown.enabled_before = enabled_before;
+                shown.enabled_after = self.hart.mie;
+                shown.cur_before = cur_before;
+                shown.cur_after = cur_after;
+                shown.touched = touched;
+                shown.regs = self.hart.registers;
+                self.count += 1;
+                Ok(())
             }
-            Err(stop) => {
-                self.restore(before, entered);
-                Err(stop)
-            }
+            Err(stop) => Err(stop),
         }
     }
 
@@ -112,7 +145,15 @@ impl<B: Bus> Machine<B> {
     pub fn next_pc(&self) -> u32
         ensures { result ≡ (entered (state B.memory self.now)).pc }
     {
-        match self.line_to_take() {
+        self.pc_after(&self.line_to_take())
+    }
+
+    /// The address of the next instruction, once this line is taken.
+    fn pc_after(&self, line: &Option<Line>) -> u32
+        requires { ForSome line.now (λ l. l < 32) }
+        ensures { result ≡ (enter line.now (state B.memory self.now)).pc }
+    {
+        match line {
             Some(line) => VECTORS + 4 * u32::from(line.0),
             None => self.hart.pc,
         }
@@ -145,20 +186,45 @@ impl<B: Bus> Machine<B> {
         }
     }
 
-    /// Takes the line that is to be taken, if there is one, and tells it.
-    fn enter(&mut self) -> Option<Line>
-        ensures is { result ≡ line_to_take (state B.memory self.old) }
-        ensures state { state B.memory self.new ≡ entered (state B.memory self.old) }
-        ensures there { ForSome result (λ line. (line < 32) × ((state B.memory self.old).core.controller ≡ true)) }
-        ensures pending { ForSome result (λ line. slice_index (state B.memory self.old).core.pending line ≡ 1) }
+    /// Takes a line, if there is one, then executes an instruction. A stop changes nothing.
+    #[inline(always)]
+    fn execute_after(&mut self, line: &Option<Line>) -> Result<Option<Line>, Stop>
+        requires there { ForSome line.now (λ l. (l < 32) × ((state B.memory self.old).core.controller ≡ true)) }
+        requires pending { ForSome line.now (λ l. slice_index (state B.memory self.old).core.pending l ≡ 1) }
+        ensures ok { IfOk result (λ touch. step (enter line.now (state B.memory self.old)) ≡ Going (state B.memory self.new)) }
+        ensures touched { IfOk result (λ touch. touch ≡ touched (enter line.now (state B.memory self.old))) }
+        ensures err { IfErr result (λ stop. step (enter line.now (state B.memory self.old)) ≡ Stopped stop) }
+        ensures same { OnErr result (state B.memory self.new ≡ state B.memory self.old) }
         ensures count { self.new.count ≡ self.old.count }
+        ensures in_range { IfOk result (λ touch. ForSome touch (λ l. l < 32)) }
     {
-        match self.line_to_take() {
-            Some(line) => {
-                self.take(line);
-                Some(line)
+        match line {
+            Some(line) => self.execute_taken(*line),
+            None => self.execute(),
+        }
+    }
+
+    /// Takes a line, then executes an instruction. A stop gives the line back.
+    #[inline(never)]
+    fn execute_taken(&mut self, line: Line) -> Result<Option<Line>, Stop>
+        requires in_range { line < 32 }
+        requires there { (state B.memory self.old).core.controller ≡ true }
+        requires pending { slice_index (state B.memory self.old).core.pending line ≡ 1 }
+        ensures ok { IfOk result (λ touch. step (take line (state B.memory self.old)) ≡ Going (state B.memory self.new)) }
+        ensures touched { IfOk result (λ touch. touch ≡ touched (take line (state B.memory self.old))) }
+        ensures err { IfErr result (λ stop. step (take line (state B.memory self.old)) ≡ Stopped stop) }
+        ensures same { OnErr result (state B.memory self.new ≡ state B.memory self.old) }
+        ensures count { self.new.count ≡ self.old.count }
+        ensures touched_in_range { IfOk result (λ touch. ForSome touch (λ l. l < 32)) }
+    {
+        let before = self.hart;
+        self.take(line);
+        match self.execute() {
+            Ok(touched) => Ok(touched),
+            Err(stop) => {
+                self.restore(before, line);
+                Err(stop)
             }
-            None => None,
         }
     }
 
@@ -193,24 +259,24 @@ impl<B: Bus> Machine<B> {
         }
     }
 
-    /// Undoes the entry of a line, if there was one.
-    fn restore(&mut self, before: Hart, line: Option<Line>)
+    /// Undoes the entry of a line.
+    fn restore(&mut self, before: Hart, line: Line)
         requires aligned { before.pc % 4 ≡ 0 }
         requires returns_aligned { before.mepc % 4 ≡ 0 }
-        requires there { ForSome line (λ l. (l < 32) × ((state B.memory self.old).core.controller ≡ true)) }
+        requires in_range { line < 32 }
+        requires there { (state B.memory self.old).core.controller ≡ true }
         ensures state { state B.memory self.new ≡ state_of before (pending_again line (B.memory self.old.bus)) }
         ensures count { self.new.count ≡ self.old.count }
     {
         self.hart = before;
-        if let Some(line) = line {
-            match self.bus.store(PENDING + u32::from(line.0), Width::Byte, 1) {
-                Ok(()) => {}
-                Err(_) => unreachable!(),
-            }
+        match self.bus.store(PENDING + u32::from(line.0), Width::Byte, 1) {
+            Ok(()) => {}
+            Err(_) => unreachable!(),
         }
     }
 
     /// Fetches, decodes and executes an instruction, and tells the line that it touched.
+    #[inline(always)]
     fn execute(&mut self) -> Result<Option<Line>, Stop>
         ensures ok { IfOk result (λ line. step (state B.memory self.old) ≡ Going (state B.memory self.new)) }
         ensures touched { IfOk result (λ line. line ≡ touched (state B.memory self.old)) }

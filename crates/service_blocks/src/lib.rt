@@ -1,10 +1,8 @@
 //! The code of every service, whichever crate generates it.
 #![tactic(auto)]
 
-ghost use Rattle.std.specs.Prelude.{◌≡◌, ◌≤◌, ◌∷◌, IfOk, length, slice_index};
-ghost use Rattle.sloth_base.specs.Blocks.{block_number};
-ghost use Rattle.sloth_base.specs.ServiceCodes.{code_of};
-ghost use Rattle.block_parts.specs.Marks.{opening};
+ghost use Rattle.std.specs.Prelude.{IfOk};
+ghost use Rattle.block_parts.specs.ServiceBlock.{IsServiceBlock};
 ghost use Rattle.service_gen.specs.Block.{further_marks};
 ghost use Rattle.service_blocks.specs.Calls.{IsCalledWith, ServesCall};
 
@@ -26,9 +24,7 @@ pub fn block(
     map: &Map,
 ) -> Result<Block, NoMemory>
     requires { IsCalledWith service object }
-    ensures at { IfOk result (λ block. block.at ≡ slice_index map.now.places.blocks (block_number service object)) }
-    ensures marks { IfOk result (λ block. block.marks ≡ opening block.at (code_of service) ∷ further_marks service block.at) }
-    ensures few { IfOk result (λ block. length block.code ≤ 256) }
+    ensures block { IfOk result (IsServiceBlock service object map.now.places.blocks (further_marks service)) }
     ensures serves { IfOk result (λ block. ServesCall service object levels.now block.code) }
 {
     match service {

@@ -8,10 +8,11 @@ use Rattle.rv32_instr.specs.declared.InstrKind.{InstrKind}
 use Rattle.rv32_instr.specs.declared.InstrKind.TheVariants.{Lui}
 use Rattle.rv32_instr.specs.Ram.{word_at}
 use Rattle.sloth_base.specs.Arithmetic.{shifted_left}
+use Rattle.sloth_base.specs.MemoryMap.{memory_base}
 use Rattle.masked_code.specs.Place.{at}
 use Rattle.masked_code.specs.Masked.{FromOpening}
 use Rattle.masked_code.specs.Kernel.{masking}
-use Rattle.masked_code.specs.Owes.{Owes, Pending, Enabled}
+use Rattle.masked_code.specs.Owes.{◌▸◌, writes, loads, loads_byte, raises, Owes, Pending, Enabled}
 use Rattle.masked_code.proofs.Spread.{spread}
 use Rattle.masked_code.proofs.Routines.{masked}
 use Rattle.block_parts.proofs.Busy.{bit_arrives, busy_of, busies}
@@ -54,62 +55,23 @@ module _ (offset task : ℕ) (c : Core) (h : MayActivate offset task (masking �
       let small = h.is_task in
       let line : task < 32 = omega arith in
       let e = get_or c.enabled task 0 in
-      let a = word_at c.ram (active task) in (
-        0x8000_0000,
-        refl,
-        (
-          controller_base,
-          refl,
-          (
-            Enabled task,
-            (omega arith, line),
-            (
-              bit_xor e 1,
-              refl,
-              (
-                Pending task,
-                (omega arith, line),
-                λ lines only. (
-                  bit_or (bit_xor e 1) (get_or (arrive lines c.pending) task 0),
-                  refl,
-                  (
-                    active task,
-                    record { is = omega arith; aligned = omega arith; inside = omega arith },
-                    a,
-                    refl,
-                    (
-                      bit_or (bit_or (bit_xor e 1) (get_or (arrive lines c.pending) task 0)) a,
-                      refl,
-                      (
-                        answer e (get_or (arrive lines c.pending) task 0) a,
-                        refl,
-                        (
-                          controller_base,
-                          refl,
-                          (
-                            1,
-                            refl,
-                            (
-                              Pending task,
-                              (omega arith, line),
-                              inl (
-                                (λ z. absurd (cc)),
-                                goes_back offset (masking ∷ body task) c h.goes_back (λ u. Activated task (task ∷ u)) controller_base 1
-                                    (answer e (get_or (arrive lines c.pending) task 0) a) (arrive lines c.pending) (set (arrive lines c.pending) task 1) c.ram h.level
-                                    (λ last is went. record { touches = refl; status = subst (Answers task (at_touch lines)) (sym is) (found lines); back = went }),
-                              ),
-                            ),
-                          ),
-                        ),
-                      ),
-                    ),
-                  ),
-                ),
-              ),
-            ),
-          ),
-        ),
-      )
+      let a = word_at c.ram (active task) in
+      writes memory_base refl
+      ▸ writes controller_base refl
+      ▸ loads_byte (Enabled task) (omega arith, line)
+      ▸ writes (bit_xor e 1) refl
+      ▸ loads_byte (Pending task) (omega arith, line)
+      ▸ λ lines only.
+      writes (bit_or (bit_xor e 1) (get_or (arrive lines c.pending) task 0)) refl
+      ▸ loads (active task) (record { is = omega arith; aligned = omega arith; inside = omega arith }) a refl
+      ▸ writes (bit_or (bit_or (bit_xor e 1) (get_or (arrive lines c.pending) task 0)) a) refl
+      ▸ writes (answer e (get_or (arrive lines c.pending) task 0) a) refl
+      ▸ writes controller_base refl
+      ▸ writes 1 refl
+      ▸ raises task (omega arith, line) (λ z. absurd (cc))
+      ▸ goes_back offset (masking ∷ body task) c h.goes_back (λ u. Activated task (task ∷ u)) controller_base 1
+      (answer e (get_or (arrive lines c.pending) task 0) a) (arrive lines c.pending) (set (arrive lines c.pending) task 1) c.ram h.level
+      (λ last is went. record { touches = refl; status = subst (Answers task (at_touch lines)) (sym is) (found lines); back = went })
 
   runs_it : FromOpening 16 (at offset c) (Activated task)
   runs_it = opens offset 16 (body task) c (Activated task) h.goes_back.can_run (omega arith) body_owes

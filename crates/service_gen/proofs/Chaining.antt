@@ -1,17 +1,18 @@
 -- The code of ChainTask has its effect.
-use Rattle.std.proofs.Common.{◌≡◌, ℕ, ◌+◌, ◌*◌, ◌<◌, ◌≤◌, List, [], ◌∷◌, ◌++◌, length, get_or, refl, sym, ap, ◌∙◌, arith, inl, inr, ⊎_elim}
+use Rattle.std.proofs.Common.{◌≡◌, ℕ, ◌+◌, ◌<◌, ◌≤◌, List, [], ◌∷◌, ◌++◌, length, get_or, refl, sym, ap, ◌∙◌, arith, inl, inr, ⊎_elim}
 use Rattle.std.specs.Prelude.{false, set, pos, ◌≢◌, eqb}
 use Rattle.std.proofs.lemmas.Bool.{cases_eq, eq-eqb, ne_eqb}
 use Rattle.sloth_base.specs.Machine.{Core, State}
 use Rattle.sloth_base.specs.Arrive.{arrive, state_arrive}
 use Rattle.sloth_base.specs.Status.{E_OS_LIMIT}
+use Rattle.sloth_base.specs.MemoryMap.{memory_base}
 use Rattle.sloth_region.specs.Layout.{cur, active, words_high, controller_base}
 use Rattle.rv32_instr.specs.declared.InstrKind.{InstrKind}
 use Rattle.rv32_instr.specs.declared.InstrKind.TheVariants.{Lui, Addi}
 use Rattle.rv32_instr.specs.Ram.{word_at}
 use Rattle.masked_code.specs.Place.{at}
 use Rattle.masked_code.specs.Masked.{FromOpening}
-use Rattle.masked_code.specs.Owes.{AreOf, Owes, Pending}
+use Rattle.masked_code.specs.Owes.{◌▸◌, writes, loads, raises, AreOf, Owes}
 use Rattle.masked_code.specs.Kernel.{leaving_code, masking}
 use Rattle.masked_code.proofs.Arrivals.{other_bytes}
 use Rattle.masked_code.proofs.Spread.{spread, spread_from}
@@ -55,46 +56,33 @@ module _ (offset task own place : ℕ) (c : Core) (h : MayChain offset task own 
   word = word_at c.ram (active task)
 
   -- the caller's end, the raised line, and the way down
-  go_owe : (o : ℕ) (p : List ℕ) (x1 x3 : ℕ) (E : List ℕ → State → State → Type 0) → ((lines : List ℕ) (middle end : State) → AreOf own lines → Terminated own place (own ∷ []) (st (arrive lines p)) middle → end ≡ state_arrive (task ∷ []) middle → E (own ∷ []) (st (arrive lines p)) end) → Owes offset (offset + 4 + 272) o (ending_code ++ (raising_code task ++ leaving_code)) 0 E (st p) (record (masked (spread c)) { registers = 0 ∷ x1 ∷ x2 ∷ x3 ∷ 0x8000_0000 ∷ tail; pending = p })
+  go_owe : (o : ℕ) (p : List ℕ) (x1 x3 : ℕ) (E : List ℕ → State → State → Type 0) → ((lines : List ℕ) (middle end : State) → AreOf own lines → Terminated own place (own ∷ []) (st (arrive lines p)) middle → end ≡ state_arrive (task ∷ []) middle → E (own ∷ []) (st (arrive lines p)) end) → Owes offset (offset + 4 + 272) o (ending_code ++ (raising_code task ++ leaving_code)) 0 E (st p) (record (masked (spread c)) { registers = 0 ∷ x1 ∷ x2 ∷ x3 ∷ memory_base ∷ tail; pending = p })
   go_owe o p x1 x3 E k =
       ends_owe offset (offset + 4 + 272) own E (st p) (raising_code task ++ leaving_code) (record (masked (spread c)) { pending = p }) x1 x2 x3 tail h.is_own h.runs low o
       (λ lines only.
       let q = arrive lines p in
-      let d = record (masked (spread c)) { pending = set (set q own 0) task 1; ram = ended_ram c.ram own } in (
-        controller_base,
-        refl,
-        (
-          1,
-          refl,
-          (
-            Pending task,
-            (omega arith, line),
-            inl (
-              (λ z. absurd (cc)),
-              leave_owes offset (offset + 4 + 272) (λ u. E (own ∷ u)) (st q) place d controller_base x2 1 tail refl refl h.goes_back.previous (ended_below c d own place h.is_own refl h.below) low (behind 13 o)
-                  (λ end left. k lines (record end { core = record end.core { pending = set q own 0 } }) end only
-                  (has_ended c d own place (st q) end h.is_own h.below.behind refl refl refl refl refl refl left)
-                  (ap (λ x. record end { core = record end.core { pending = x } }) left.left.pending)),
-            ),
-          ),
-        ),
-      ))
+      let d = record (masked (spread c)) { pending = set (set q own 0) task 1; ram = ended_ram c.ram own } in
+      writes controller_base refl
+      ▸ writes 1 refl
+      ▸ raises task (omega arith, line) (λ z. absurd (cc))
+      ▸ leave_owes offset (offset + 4 + 272) (λ u. E (own ∷ u)) (st q) place d controller_base x2 1 tail refl refl h.goes_back.previous (ended_below c d own place h.is_own refl h.below) low (behind 13 o)
+      (λ end left. k lines (record end { core = record end.core { pending = set q own 0 } }) end only
+      (has_ended c d own place (st q) end h.is_own h.below.behind refl refl refl refl refl refl left)
+      (ap (λ x. record end { core = record end.core { pending = x } }) left.left.pending)))
 
   -- the task was not Suspended
   stays_owe : (o : ℕ) (p : List ℕ) (v : ℕ) → task ≢ own → (LooksSuspended task (record c { pending = p }) → ⊥)
       → Owes offset (offset + 4 + 272) o (Addi 10 0 (pos E_OS_LIMIT) ∷ (back ++ (ending_code ++ (raising_code task ++ leaving_code)))) 0 (λ u. Chained task own place (task ∷ u)) (st p)
-      (record (masked (spread c)) { registers = 0 ∷ word ∷ x2 ∷ v ∷ 0x8000_0000 ∷ tail; pending = p })
-  stays_owe o p v ne busy = (
-    E_OS_LIMIT,
-    refl,
-    goes_back offset (masking ∷ body task) c h.goes_back (λ u. Chained task own place (task ∷ u)) word v E_OS_LIMIT p p c.ram h.level
-        (λ last is went. inr (record { other = ne; not_suspended = busy; touches = refl; status = is; back = went })),
-  )
+      (record (masked (spread c)) { registers = 0 ∷ word ∷ x2 ∷ v ∷ memory_base ∷ tail; pending = p })
+  stays_owe o p v ne busy =
+      writes E_OS_LIMIT refl
+      ▸ goes_back offset (masking ∷ body task) c h.goes_back (λ u. Chained task own place (task ∷ u)) word v E_OS_LIMIT p p c.ram h.level
+      (λ last is went. inr (record { other = ne; not_suspended = busy; touches = refl; status = is; back = went }))
 
   -- behind the look at the task
   looked_owe : (o : ℕ) (p : List ℕ) (v : ℕ) → o ≤ 0x20_0000 → task ≢ own → Finds task (record c { pending = p }) v
       → Owes offset (offset + 4 + 272) o (refusing_code ++ (back ++ (ending_code ++ (raising_code task ++ leaving_code)))) 0 (λ u. Chained task own place (task ∷ u)) (st p)
-      (record (masked (spread c)) { registers = 0 ∷ word ∷ x2 ∷ v ∷ 0x8000_0000 ∷ tail; pending = p })
+      (record (masked (spread c)) { registers = 0 ∷ word ∷ x2 ∷ v ∷ memory_base ∷ tail; pending = p })
   looked_owe o p v small ne found =
       record {
         passed = 5;
@@ -112,33 +100,23 @@ module _ (offset task own place : ℕ) (c : Core) (h : MayChain offset task own 
   body_owes : Owes offset (offset + 4 + 272) (offset + 4) (body task) 0 (Chained task own place) (at offset (spread c)) (masked (spread c))
   body_owes =
       let fits = inside in
-      let small = h.is_task in (
-        0x8000_0000,
-        refl,
-        (
-          cur,
-          record { is = refl; aligned = refl; inside = omega arith },
-          own + 1,
-          h.runs,
-          (
-            task + 1,
-            omega arith,
-            record {
-              passed = 13;
-              lands = lands (behind 3 (offset + 4)) 56 13 (omega arith) (omega arith) refl;
-              when_taken = λ t. ⊎_elim
-                  (λ same. go_owe (behind 17 (offset + 4)) c.pending (task + 1) (own + 1) (Chained task own place) (λ lines middle end only ended raised. inl (record { may = inl (omega arith, refl); middle = middle; ended = ended; raised = raised })))
-                  (λ ne. let f = ne_eqb (own + 1) (task + 1) ne in absurd (cc))
-                  (cases_eq (own + 1) (task + 1));
-              when_not = λ n.
-                  let ne : task ≢ own = λ x. n (eq-eqb (own + 1) (task + 1) (ap (λ y. y + 1) (sym x))) in
-                  looks_owe offset (offset + 4 + 272) task (Chained task own place) (refusing_code ++ (back ++ (ending_code ++ (raising_code task ++ leaving_code)))) c h.is_task
-                  h.goes_back.can_run.lines h.active_bit h.pending_bit h.enabled_bit (behind 4 (offset + 4)) (task + 1) (own + 1)
-                  (λ lines v only found. looked_owe (behind 11 (offset + 4)) (arrive lines c.pending) v (omega arith) ne found);
-            },
-          ),
-        ),
-      )
+      let small = h.is_task in
+      writes memory_base refl
+      ▸ loads cur (record { is = refl; aligned = refl; inside = omega arith }) (own + 1) h.runs
+      ▸ writes (task + 1) (omega arith)
+      ▸ record {
+        passed = 13;
+        lands = lands (behind 3 (offset + 4)) 56 13 (omega arith) (omega arith) refl;
+        when_taken = λ t. ⊎_elim
+            (λ same. go_owe (behind 17 (offset + 4)) c.pending (task + 1) (own + 1) (Chained task own place) (λ lines middle end only ended raised. inl (record { may = inl (omega arith, refl); middle = middle; ended = ended; raised = raised })))
+            (λ ne. let f = ne_eqb (own + 1) (task + 1) ne in absurd (cc))
+            (cases_eq (own + 1) (task + 1));
+        when_not = λ n.
+            let ne : task ≢ own = λ x. n (eq-eqb (own + 1) (task + 1) (ap (λ y. y + 1) (sym x))) in
+            looks_owe offset (offset + 4 + 272) task (Chained task own place) (refusing_code ++ (back ++ (ending_code ++ (raising_code task ++ leaving_code)))) c h.is_task
+            h.goes_back.can_run.lines h.active_bit h.pending_bit h.enabled_bit (behind 4 (offset + 4)) (task + 1) (own + 1)
+            (λ lines v only found. looked_owe (behind 11 (offset + 4)) (arrive lines c.pending) v (omega arith) ne found);
+      }
 
   runs_it : FromOpening 63 (at offset c) (Chained task own place)
   runs_it = opens_within offset 63 (body task) c (Chained task own place) h.goes_back.can_run (omega arith) body_owes

@@ -3,10 +3,11 @@ use Rattle.std.proofs.Common.{◌≡◌, ℕ, ◌+◌, ◌*◌, ◌%◌, ◌<◌
 use Rattle.std.specs.Prelude.{set}
 use Rattle.sloth_base.specs.Machine.{Core, State}
 use Rattle.sloth_base.specs.Arrive.{arrive, state_arrive}
+use Rattle.sloth_base.specs.MemoryMap.{memory_base}
 use Rattle.sloth_region.specs.Layout.{cur, active, events, below_word, idle_context, context_level, context_cur, context_below, controller_base}
 use Rattle.rv32_instr.specs.declared.InstrKind.{InstrKind}
 use Rattle.rv32_instr.specs.Ram.{word_at, with_word}
-use Rattle.masked_code.specs.Owes.{AreOf, Owes, Pending}
+use Rattle.masked_code.specs.Owes.{◌▸◌, writes, loads, stores, clears, AreOf, Owes}
 use Rattle.masked_code.specs.Kernel.{IsBelow, HasLeft}
 use Rattle.masked_code.proofs.Words.{word_at-other}
 use Rattle.masked_code.proofs.Leave.{behind}
@@ -17,55 +18,20 @@ pub ended_kept : (ram : List ℕ) (own p : ℕ) → own < 30 → below_word ≤ 
 ended_kept ram own p small far = word_at-other (with_word ram (active own) 0) (events own) 0 p (inr (omega arith)) ∙ word_at-other ram (active own) 0 p (inr (omega arith))
 
 module _ (from to own : ℕ) (E : List ℕ → State → State → Type 0) (start : State) (rest : List InstrKind) (c : Core) (x1 x2 x3 : ℕ) (tail : List ℕ) (small : own < 30) (runs : word_at c.ram cur ≡ own + 1) (low : 1024 ≤ from) where
-  pub ends_owe : (o : ℕ) → ((lines : List ℕ) → AreOf own lines → Owes from to (behind 10 o) rest 0 (λ touched. E (own ∷ touched)) (state_arrive lines start) (record c { registers = 0 ∷ 8 * (own + 1) ∷ x2 ∷ (0x8000_0000 + 12 * (own + 1)) ∷ 0x8000_0000 ∷ tail; pending = set (arrive lines c.pending) own 0; ram = ended_ram c.ram own })) → Owes from to o (ending_code ++ rest) 0 E start (record c { registers = 0 ∷ x1 ∷ x2 ∷ x3 ∷ 0x8000_0000 ∷ tail })
-  ends_owe o go = (
-    cur,
-    record { is = refl; aligned = refl; inside = omega arith },
-    own + 1,
-    runs,
-    (
-      controller_base,
-      refl,
-      (
-        controller_base + (own + 1),
-        omega arith,
-        (
-          Pending own,
-          (omega arith, omega arith),
-          inr (
-            refl,
-            λ lines only. (
-              8 * (own + 1),
-              omega arith,
-              (
-                4 * (own + 1),
-                omega arith,
-                (
-                  12 * (own + 1),
-                  omega arith,
-                  (
-                    0x8000_0000 + 12 * (own + 1),
-                    omega arith,
-                    (
-                      active own,
-                      record { is = omega arith; aligned = omega arith; inside = omega arith },
-                      inl (omega arith),
-                      (
-                        events own,
-                        record { is = omega arith; aligned = omega arith; inside = omega arith },
-                        inl (omega arith),
-                        go lines only,
-                      ),
-                    ),
-                  ),
-                ),
-              ),
-            ),
-          ),
-        ),
-      ),
-    ),
-  )
+  pub ends_owe : (o : ℕ) → ((lines : List ℕ) → AreOf own lines → Owes from to (behind 10 o) rest 0 (λ touched. E (own ∷ touched)) (state_arrive lines start) (record c { registers = 0 ∷ 8 * (own + 1) ∷ x2 ∷ (memory_base + 12 * (own + 1)) ∷ memory_base ∷ tail; pending = set (arrive lines c.pending) own 0; ram = ended_ram c.ram own })) → Owes from to o (ending_code ++ rest) 0 E start (record c { registers = 0 ∷ x1 ∷ x2 ∷ x3 ∷ memory_base ∷ tail })
+  ends_owe o go =
+      loads cur (record { is = refl; aligned = refl; inside = omega arith }) (own + 1) runs
+      ▸ writes controller_base refl
+      ▸ writes (controller_base + (own + 1)) (omega arith)
+      ▸ clears own (omega arith, omega arith) refl
+      ▸ λ lines only.
+      writes (8 * (own + 1)) (omega arith)
+      ▸ writes (4 * (own + 1)) (omega arith)
+      ▸ writes (12 * (own + 1)) (omega arith)
+      ▸ writes (memory_base + 12 * (own + 1)) (omega arith)
+      ▸ stores (active own) (record { is = omega arith; aligned = omega arith; inside = omega arith }) (inl (omega arith))
+      ▸ stores (events own) (record { is = omega arith; aligned = omega arith; inside = omega arith }) (inl (omega arith))
+      ▸ go lines only
 
 -- what runs below is as it was
 pub ended_below : (c d : Core) (own place : ℕ) → own < 30 → d.ram ≡ ended_ram c.ram own → IsBelow place c → IsBelow place d

@@ -2,6 +2,7 @@
 use Rattle.std.proofs.Common.{◌≡◌, ℕ, ◌+◌, List, ◌∷◌, length, get_or, refl, arith}
 use Rattle.sloth_base.specs.Machine.{Core}
 use Rattle.sloth_base.specs.Status.{E_OK}
+use Rattle.sloth_base.specs.MemoryMap.{memory_base}
 use Rattle.sloth_region.specs.Layout.{saved_level, words_high}
 use Rattle.rv32_instr.specs.declared.InstrKind.{InstrKind}
 use Rattle.rv32_instr.specs.declared.InstrKind.TheVariants.{Lui}
@@ -9,7 +10,7 @@ use Rattle.rv32_instr.specs.Ram.{word_at}
 use Rattle.masked_code.specs.Place.{at}
 use Rattle.masked_code.specs.Masked.{FromOpening}
 use Rattle.masked_code.specs.Kernel.{masking}
-use Rattle.masked_code.specs.Owes.{Owes}
+use Rattle.masked_code.specs.Owes.{◌▸◌, writes, loads, Owes}
 use Rattle.masked_code.proofs.Spread.{spread}
 use Rattle.masked_code.proofs.Routines.{masked}
 use Rattle.block_parts.proofs.Returning.{goes_back_at}
@@ -25,22 +26,12 @@ module _ (offset resource : ℕ) (c : Core) (h : MayRelease offset resource (mas
   body_owes =
       let small = h.is_resource in
       let fits = h.level in
-      let level = word_at c.ram (saved_level resource) in (
-        0x8000_0000,
-        refl,
-        (
-          saved_level resource,
-          record { is = omega arith; aligned = omega arith; inside = omega arith },
-          level,
-          refl,
-          (
-            E_OK,
-            refl,
-            goes_back_at offset (masking ∷ body resource) c h.goes_back (Released resource) (get_or c.registers 1 0) level level E_OK c.pending c.pending
-                c.ram (omega arith) (λ last is went. record { touches = refl; status = is; back = went }),
-          ),
-        ),
-      )
+      let level = word_at c.ram (saved_level resource) in
+      writes memory_base refl
+      ▸ loads (saved_level resource) (record { is = omega arith; aligned = omega arith; inside = omega arith }) level refl
+      ▸ writes E_OK refl
+      ▸ goes_back_at offset (masking ∷ body resource) c h.goes_back (Released resource) (get_or c.registers 1 0) level level E_OK c.pending c.pending
+      c.ram (omega arith) (λ last is went. record { touches = refl; status = is; back = went })
 
   runs_it : FromOpening 6 (at offset c) (Released resource)
   runs_it = opens offset 6 (body resource) c (Released resource) h.goes_back.can_run (omega arith) body_owes

@@ -6,6 +6,7 @@ use Rattle.sloth_base.specs.Machine.{Core, State}
 use Rattle.sloth_base.specs.Arithmetic.{plus, difference32, one_if, shifted_left}
 use Rattle.sloth_base.specs.Arrive.{arrive}
 use Rattle.sloth_base.specs.Status.{E_OK}
+use Rattle.sloth_base.specs.MemoryMap.{memory_base}
 use Rattle.sloth_region.specs.Layout.{cur, active, words_high, controller_base}
 use Rattle.rv32_instr.specs.declared.InstrKind.{InstrKind}
 use Rattle.rv32_instr.specs.declared.InstrKind.TheVariants.{Lui}
@@ -13,7 +14,7 @@ use Rattle.rv32_instr.specs.Ram.{word_at}
 use Rattle.masked_code.specs.Place.{at}
 use Rattle.masked_code.specs.Masked.{FromOpening}
 use Rattle.masked_code.specs.Kernel.{masking}
-use Rattle.masked_code.specs.Owes.{Owes, Pending, Enabled}
+use Rattle.masked_code.specs.Owes.{◌▸◌, writes, loads, loads_byte, Owes, Pending, Enabled}
 use Rattle.masked_code.proofs.Leave.{behind}
 use Rattle.masked_code.proofs.Spread.{spread, spread_from}
 use Rattle.masked_code.proofs.Routines.{masked}
@@ -72,7 +73,7 @@ module _ (offset task own : ℕ) (c : Core) (h : MayTellState offset task own (m
   -- the way back, with the number in a1, where these lines were touched before
   back_owe : (p before : List ℕ) (x x3 number : ℕ) → IsNumber task own (record (spread c) { pending = p }) (before ++ []) number
       → Owes 0 0 0 back 0 (λ u. StateTold task own (before ++ u)) (st p)
-      (record (masked (spread c)) { registers = 0 ∷ x ∷ x2 ∷ x3 ∷ 0x8000_0000 ∷ set (set tail 6 number) 5 E_OK; pending = p })
+      (record (masked (spread c)) { registers = 0 ∷ x ∷ x2 ∷ x3 ∷ memory_base ∷ set (set tail 6 number) 5 E_OK; pending = p })
   back_owe p before x x3 number is =
       goes_back_with offset (masking ∷ body task) c h.goes_back (λ u. StateTold task own (before ++ u)) x x3 E_OK number p p c.ram h.level
       (λ last status answer went. record {
@@ -90,50 +91,35 @@ module _ (offset task own : ℕ) (c : Core) (h : MayTellState offset task own (m
       (cases_eq q 0)
 
   -- the task is not Active
-  resting_owe : (o : ℕ) → o + 12 ≤ 0x20_0000 → word ≡ 0 → Owes offset (offset + 4 + 92) o (asks_waiting task ++ (tells_resting task ++ back)) 0 (StateTold task own) (st c.pending) (record (masked (spread c)) { registers = 0 ∷ x1 ∷ x2 ∷ word ∷ 0x8000_0000 ∷ set tail 5 E_OK; pending = c.pending })
+  resting_owe : (o : ℕ) → o + 12 ≤ 0x20_0000 → word ≡ 0 → Owes offset (offset + 4 + 92) o (asks_waiting task ++ (tells_resting task ++ back)) 0 (StateTold task own) (st c.pending) (record (masked (spread c)) { registers = 0 ∷ x1 ∷ x2 ∷ word ∷ memory_base ∷ set tail 5 E_OK; pending = c.pending })
   resting_owe o low a =
       let long = h.goes_back.can_run.lines in
-      let below = line in (
-        controller_base,
-        refl,
-        (
-          Enabled task,
-          (omega arith, below),
-          (
-            1,
-            refl,
-            record {
-              passed = 3;
-              lands = lands (behind 3 o) 16 3 (omega arith) (omega arith) refl;
-              when_taken = λ t. ⊎_elim
-                  (λ z. back_owe c.pending [] controller_base enabled 1 (waiting a z refl refl))
-                  (λ ne. let f = ne_eqb enabled 0 ne in absurd (cc))
-                  (cases_eq enabled 0);
-              when_not = λ n.
-                  let bit = h.enabled_bit in
-                  let e : enabled ≡ 1 = ⊎_elim (λ (z : enabled < 1). absurd (n (eq-eqb enabled 0 (omega arith)))) (λ (m : 1 ≤ enabled). omega arith) (cases_lt enabled 1) in (
-                    Pending task,
-                    (omega arith, below),
-                    λ lines only.
-                        let p = arrive lines c.pending in
-                        let q = get_or p task 0 in (
-                          3,
-                          refl,
-                          (
-                            difference32 3 q,
-                            refl,
-                            back_owe p (task ∷ []) controller_base q (difference32 3 q)
-                                (rests q p a e refl (bit_arrives lines c.pending task (omega arith) h.pending_bit)),
-                          ),
-                        ),
-                  );
-            },
-          ),
-        ),
-      )
+      let below = line in
+      writes controller_base refl
+      ▸ loads_byte (Enabled task) (omega arith, below)
+      ▸ writes 1 refl
+      ▸ record {
+        passed = 3;
+        lands = lands (behind 3 o) 16 3 (omega arith) (omega arith) refl;
+        when_taken = λ t. ⊎_elim
+            (λ z. back_owe c.pending [] controller_base enabled 1 (waiting a z refl refl))
+            (λ ne. let f = ne_eqb enabled 0 ne in absurd (cc))
+            (cases_eq enabled 0);
+        when_not = λ n.
+            let bit = h.enabled_bit in
+            let e : enabled ≡ 1 = ⊎_elim (λ (z : enabled < 1). absurd (n (eq-eqb enabled 0 (omega arith)))) (λ (m : 1 ≤ enabled). omega arith) (cases_lt enabled 1) in
+            loads_byte (Pending task) (omega arith, below)
+            ▸ λ lines only.
+            let p = arrive lines c.pending in
+            let q = get_or p task 0 in
+            writes 3 refl
+            ▸ writes (difference32 3 q) refl
+            ▸ back_owe p (task ∷ []) controller_base q (difference32 3 q)
+            (rests q p a e refl (bit_arrives lines c.pending task (omega arith) h.pending_bit));
+      }
 
   -- the task is Active
-  active_owe : (o : ℕ) → word ≡ 1 → Owes offset (offset + 4 + 92) o (tells_active task ++ (back ++ (asks_waiting task ++ (tells_resting task ++ back)))) 0 (StateTold task own) (st c.pending) (record (masked (spread c)) { registers = 0 ∷ x1 ∷ x2 ∷ word ∷ 0x8000_0000 ∷ set tail 5 E_OK; pending = c.pending })
+  active_owe : (o : ℕ) → word ≡ 1 → Owes offset (offset + 4 + 92) o (tells_active task ++ (back ++ (asks_waiting task ++ (tells_resting task ++ back)))) 0 (StateTold task own) (st c.pending) (record (masked (spread c)) { registers = 0 ∷ x1 ∷ x2 ∷ word ∷ memory_base ∷ set tail 5 E_OK; pending = c.pending })
   active_owe o a =
       let v = apart own task in
       let number : IsNumber task own (spread c) [] (told v) =
@@ -141,54 +127,31 @@ module _ (offset task own : ℕ) (c : Core) (h : MayTellState offset task own (m
       (λ (e : task ≡ own). running a e refl (told_own task own h.is_task e))
       (λ ne. preempted a ne refl (told_other task own h.is_task h.is_own ne))
       (cases_eq task own)
-      in (
-        cur,
-        record { is = refl; aligned = refl; inside = omega arith },
-        own + 1,
-        h.runs,
-        (
-          v,
-          refl,
-          (
-            one_if (nat_lt 0 v),
-            refl,
-            (
-              told v,
-              refl,
-              back_owe c.pending [] x1 v (told v) number,
-            ),
-          ),
-        ),
-      )
+      in
+      loads cur (record { is = refl; aligned = refl; inside = omega arith }) (own + 1) h.runs
+      ▸ writes v refl
+      ▸ writes (one_if (nat_lt 0 v)) refl
+      ▸ writes (told v) refl
+      ▸ back_owe c.pending [] x1 v (told v) number
 
   body_owes : Owes offset (offset + 4 + 92) (offset + 4) (body task) 0 (StateTold task own) (at offset (spread c)) (masked (spread c))
   body_owes =
       let fits = h.goes_back.can_run.inside in
       let small = h.is_task in
-      let bit = h.active_bit in (
-        0x8000_0000,
-        refl,
-        (
-          E_OK,
-          refl,
-          (
-            active task,
-            record { is = omega arith; aligned = omega arith; inside = omega arith },
-            word,
-            refl,
-            record {
-              passed = 8;
-              lands = lands (behind 3 (offset + 4)) 36 8 (omega arith) (omega arith) refl;
-              when_taken = λ t. ⊎_elim
-                  (λ z. resting_owe (behind 12 (offset + 4)) (omega arith) z)
-                  (λ ne. let f = ne_eqb word 0 ne in absurd (cc))
-                  (cases_eq word 0);
-              when_not = λ n. active_owe (behind 4 (offset + 4))
-                  (⊎_elim (λ (z : word < 1). absurd (n (eq-eqb word 0 (omega arith)))) (λ (m : 1 ≤ word). omega arith) (cases_lt word 1));
-            },
-          ),
-        ),
-      )
+      let bit = h.active_bit in
+      writes memory_base refl
+      ▸ writes E_OK refl
+      ▸ loads (active task) (record { is = omega arith; aligned = omega arith; inside = omega arith }) word refl
+      ▸ record {
+        passed = 8;
+        lands = lands (behind 3 (offset + 4)) 36 8 (omega arith) (omega arith) refl;
+        when_taken = λ t. ⊎_elim
+            (λ z. resting_owe (behind 12 (offset + 4)) (omega arith) z)
+            (λ ne. let f = ne_eqb word 0 ne in absurd (cc))
+            (cases_eq word 0);
+        when_not = λ n. active_owe (behind 4 (offset + 4))
+            (⊎_elim (λ (z : word < 1). absurd (n (eq-eqb word 0 (omega arith)))) (λ (m : 1 ≤ word). omega arith) (cases_lt word 1));
+      }
 
   runs_it : FromOpening 15 (at offset c) (StateTold task own)
   runs_it = opens_within offset 15 (body task) c (StateTold task own) h.goes_back.can_run (omega arith) body_owes

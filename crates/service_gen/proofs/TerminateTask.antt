@@ -3,12 +3,13 @@ use Rattle.std.proofs.Common.{◌≡◌, ℕ, ◌+◌, ◌*◌, List, [], ◌∷
 use Rattle.std.specs.Prelude.{set}
 use Rattle.sloth_base.specs.Machine.{Core}
 use Rattle.sloth_base.specs.Arrive.{arrive, state_arrive}
+use Rattle.sloth_base.specs.MemoryMap.{memory_base}
 use Rattle.sloth_region.specs.Layout.{words_high}
 use Rattle.rv32_instr.specs.declared.InstrKind.{InstrKind}
 use Rattle.rv32_instr.specs.declared.InstrKind.TheVariants.{Lui}
 use Rattle.masked_code.specs.Place.{at}
 use Rattle.masked_code.specs.Masked.{FromOpening}
-use Rattle.masked_code.specs.Owes.{Owes}
+use Rattle.masked_code.specs.Owes.{◌▸◌, writes, Owes}
 use Rattle.masked_code.specs.Kernel.{leaving_code, masking}
 use Rattle.masked_code.proofs.Spread.{spread, spread_from}
 use Rattle.masked_code.proofs.Routines.{masked}
@@ -27,18 +28,16 @@ module _ (offset task place : ℕ) (c : Core) (h : MayTerminate offset task plac
       let small = h.is_task in
       let low = h.can_run.behind in
       let x2 = get_or c.registers 2 0 in
-      let tail = spread_from 27 5 c.registers in (
-        0x8000_0000,
-        refl,
-        ends_owe offset (offset + 4 + 196) task (Terminated task place) (at offset (spread c)) leaving_code (masked (spread c)) (get_or c.registers 1 0) x2 (get_or c.registers 3 0) tail small h.runs low (offset + 4 + 4)
-            (λ lines only.
-            let start = state_arrive lines (at offset (spread c)) in
-            let d = record (masked (spread c)) { pending = set (arrive lines c.pending) task 0; ram = ended_ram c.ram task } in
-            leave_owes offset (offset + 4 + 196) (λ touched. Terminated task place (task ∷ touched)) start place d (8 * (task + 1)) x2 (0x8000_0000 + 12 * (task + 1)) tail refl refl h.previous
-            (ended_below c d task place small refl h.below) low (behind 12 offset)
-            (λ end left. subst (λ p. Terminated task place (task ∷ []) start (record end { core = record end.core { pending = p } })) (sym left.left.pending)
-            (has_ended c d task place start end small h.below.behind refl refl refl refl refl refl left))),
-      )
+      let tail = spread_from 27 5 c.registers in
+      writes memory_base refl
+      ▸ ends_owe offset (offset + 4 + 196) task (Terminated task place) (at offset (spread c)) leaving_code (masked (spread c)) (get_or c.registers 1 0) x2 (get_or c.registers 3 0) tail small h.runs low (offset + 4 + 4)
+      (λ lines only.
+      let start = state_arrive lines (at offset (spread c)) in
+      let d = record (masked (spread c)) { pending = set (arrive lines c.pending) task 0; ram = ended_ram c.ram task } in
+      leave_owes offset (offset + 4 + 196) (λ touched. Terminated task place (task ∷ touched)) start place d (8 * (task + 1)) x2 (memory_base + 12 * (task + 1)) tail refl refl h.previous
+      (ended_below c d task place small refl h.below) low (behind 12 offset)
+      (λ end left. subst (λ p. Terminated task place (task ∷ []) start (record end { core = record end.core { pending = p } })) (sym left.left.pending)
+      (has_ended c d task place start end small h.below.behind refl refl refl refl refl refl left)))
 
   runs_it : FromOpening 49 (at offset c) (Terminated task place)
   runs_it = opens offset 49 body c (Terminated task place) h.can_run (omega arith) body_owes

@@ -4,6 +4,7 @@ use Rattle.std.specs.Prelude.{true, set, ◌≢◌}
 use Rattle.std.proofs.lemmas.List.{get_or-set_other}
 use Rattle.sloth_base.specs.Machine.{Core, State}
 use Rattle.sloth_base.specs.Status.{E_OK}
+use Rattle.sloth_base.specs.MemoryMap.{memory_base}
 use Rattle.sloth_region.specs.Layout.{cur, words_high, controller_base}
 use Rattle.rv32_instr.specs.declared.InstrKind.{InstrKind}
 use Rattle.rv32_instr.specs.declared.InstrKind.TheVariants.{Lui, Csrrw, Mret}
@@ -11,7 +12,7 @@ use Rattle.rv32_instr.specs.declared.csr.TheConstants.{MEPC, PLEVEL}
 use Rattle.masked_code.specs.Place.{at, InPlace}
 use Rattle.masked_code.specs.Masked.{FromOpening}
 use Rattle.masked_code.specs.Kernel.{CanRun, masking}
-use Rattle.masked_code.specs.Owes.{Owes, Level}
+use Rattle.masked_code.specs.Owes.{◌▸◌, writes, loads, loads_byte, accesses, Owes, Level}
 use Rattle.masked_code.proofs.Spread.{spread, spread_from, others}
 use Rattle.masked_code.proofs.Routines.{masked}
 use Rattle.block_parts.proofs.Serving.{opens}
@@ -51,14 +52,14 @@ module _ (offset task : ℕ) (c : Core) (h : MayYield offset task (masking ∷ b
   tail = spread_from 27 5 c.registers
 
   abbrev here : ℕ
-  here = 0x8000_0000 + (offset + 32)
+  here = memory_base + (offset + 32)
 
   abbrev there : ℕ
-  there = 0x8000_0000 + (offset + 52)
+  there = memory_base + (offset + 52)
 
   -- the registers at the end
   abbrev low : List ℕ
-  low = 0 ∷ (controller_base + (task + 1)) ∷ x2 ∷ there ∷ 0x8000_0000 ∷ tail
+  low = 0 ∷ (controller_base + (task + 1)) ∷ x2 ∷ there ∷ memory_base ∷ tail
 
   abbrev end : State
   end =
@@ -70,7 +71,7 @@ module _ (offset task : ℕ) (c : Core) (h : MayYield offset task (masking ∷ b
   kept : (i : ℕ) → 5 ≤ i → i ≢ a0 → i ≢ start_register → get_or end.core.registers i 0 ≡ get_or (spread c).registers i 0
   kept i past not_status not_level =
       get_or-set_other (set low 30 c.ilevel) 10 i E_OK 0 not_status ∙ get_or-set_other low 30 i c.ilevel 0 not_level
-      ∙ others (controller_base + (task + 1)) x2 there 0x8000_0000 (get_or c.registers 1 0) x2 (get_or c.registers 3 0) (get_or c.registers 4 0) tail i past
+      ∙ others (controller_base + (task + 1)) x2 there memory_base (get_or c.registers 1 0) x2 (get_or c.registers 3 0) (get_or c.registers 4 0) tail i past
 
   has_yielded : Yielded offset task [] (at offset (spread c)) end
   has_yielded =
@@ -89,52 +90,19 @@ module _ (offset task : ℕ) (c : Core) (h : MayYield offset task (masking ∷ b
   lowering_owes : Owes offset (offset + 4 + 48) (offset + 4) lowering 0 (Yielded offset task) (at offset (spread c)) (masked (spread c))
   lowering_owes =
       let small = h.is_task in
-      let inside = h.can_run.inside in (
-        0x8000_0000,
-        refl,
-        (
-          c.ilevel,
-          refl,
-          refl,
-          (
-            cur,
-            record { is = refl; aligned = refl; inside = omega arith },
-            task + 1,
-            h.runs,
-            (
-              controller_base,
-              refl,
-              (
-                controller_base + (task + 1),
-                omega arith,
-                (
-                  Level task,
-                  (omega arith, omega arith),
-                  (
-                    c.plevel,
-                    refl,
-                    refl,
-                    (
-                      here,
-                      omega arith,
-                      (
-                        there,
-                        omega arith,
-                        (
-                          c.mepc,
-                          refl,
-                          refl,
-                          (E_OK, refl, has_yielded),
-                        ),
-                      ),
-                    ),
-                  ),
-                ),
-              ),
-            ),
-          ),
-        ),
-      )
+      let inside = h.can_run.inside in
+      writes memory_base refl
+      ▸ accesses c.ilevel refl refl
+      ▸ loads cur (record { is = refl; aligned = refl; inside = omega arith }) (task + 1) h.runs
+      ▸ writes controller_base refl
+      ▸ writes (controller_base + (task + 1)) (omega arith)
+      ▸ loads_byte (Level task) (omega arith, omega arith)
+      ▸ accesses c.plevel refl refl
+      ▸ writes here (omega arith)
+      ▸ writes there (omega arith)
+      ▸ accesses c.mepc refl refl
+      ▸ writes E_OK refl
+      ▸ has_yielded
 
   can_lower : CanRun offset (masking ∷ lowering) c
   can_lower =
@@ -163,22 +131,15 @@ module _ (offset : ℕ) (c : Core) (h : MayComeBack offset (masking ∷ body) c)
   returning_owes : Owes (offset + way_back) (offset + way_back + 4 + 12) (offset + way_back + 4) returning 0 CameBack (at (offset + way_back) (spread c)) (masked (spread c))
   returning_owes =
       let fits = h.level in
-      let aligned = h.goes_back.back in (
-        c.plevel,
-        refl,
-        refl,
-        (
-          c.mepc,
-          refl,
-          refl,
-          record {
-            touches = refl;
-            left = record { zero = refl; registers = refl; opened = h.goes_back.previous; previous = refl; running = omega arith; pending = refl; enabled = refl; levels = refl; ram = refl; scratch = refl; controller = refl };
-            pc = omega arith;
-            registers = refl;
-          },
-        ),
-      )
+      let aligned = h.goes_back.back in
+      accesses c.plevel refl refl
+      ▸ accesses c.mepc refl refl
+      ▸ record {
+        touches = refl;
+        left = record { zero = refl; registers = refl; opened = h.goes_back.previous; previous = refl; running = omega arith; pending = refl; enabled = refl; levels = refl; ram = refl; scratch = refl; controller = refl };
+        pc = omega arith;
+        registers = refl;
+      }
 
   can_return : CanRun (offset + way_back) (masking ∷ returning) c
   can_return =
@@ -205,7 +166,9 @@ yields =
     record {
       size = (let n : length (masking ∷ body) ≡ 17 = refl in omega arith);
       masks = (body, refl);
-      masks_again = (masking ∷ lowering, returning, refl, refl);
-      runs = λ offset task core h. lowers_it offset task core h;
-      comes_back = λ offset core h. returns_it offset core h;
+      runs = record {
+        masks_again = (masking ∷ lowering, returning, refl, refl);
+        lowers = λ offset task core h. lowers_it offset task core h;
+        comes_back = λ offset core h. returns_it offset core h;
+      };
     }

@@ -1,5 +1,5 @@
 -- ActivateTask (OSEK OS 2.2.3, section 13.2.3.1).
-use Rattle.std.specs.Prelude.{ℕ, ◌≡◌, ◌<◌, ◌≤◌, ◌⊎◌, List, [], ◌∷◌, length, slice_index, slice_set}
+use Rattle.std.specs.Prelude.{ℕ, ◌≡◌, ◌<◌, ◌⊎◌, List, [], ◌∷◌, slice_index, slice_set}
 use Rattle.sloth_base.specs.Machine.{Core, State}
 use Rattle.sloth_base.specs.Status.{E_OK, E_OS_LIMIT}
 use Rattle.block_parts.specs.Looks.{LooksSuspended}
@@ -8,7 +8,7 @@ use Rattle.rv32_instr.specs.declared.InstrKind.{InstrKind}
 use Rattle.rv32_instr.specs.Ram.{word_at}
 use Rattle.masked_code.specs.Masked.{FromOpening}
 use Rattle.masked_code.specs.Place.{at}
-use Rattle.masked_code.specs.Kernel.{masking}
+use Rattle.block_parts.specs.ServiceCode.{IsServiceCode}
 use Rattle.block_parts.specs.Back.{CanGoBack, WentBack, a0}
 
 -- the code can run, and what tells of the task are bits
@@ -28,8 +28,7 @@ pub record Activated (task : ℕ) (touched : List ℕ) (start end : State) : Typ
       ⊎ ((LooksSuspended task start.core → ⊥) × (slice_index end.core.registers a0 ≡ E_OS_LIMIT))
   pub back : WentBack a0 (record start.core { pending = slice_set start.core.pending task 1 }) start end
 
--- Code of ActivateTask: its first instruction masks, and at most 16 more lead to its effect, whatever lines arrive.
-pub record Activates (task : ℕ) (code : List InstrKind) : Type 0 where
-  pub size : length code ≤ 17
-  pub masks : (rest : List InstrKind) × (code ≡ masking ∷ rest)
-  pub runs : (offset : ℕ) (core : Core) → MayActivate offset task code core → FromOpening 16 (at offset core) (Activated task)
+-- Code of ActivateTask: behind its first instruction at most 16 more lead to its effect, whatever lines arrive.
+abbrev pub Activates : ℕ → List InstrKind → Type 0
+Activates task code =
+    IsServiceCode 17 code ((offset : ℕ) (core : Core) → MayActivate offset task code core → FromOpening 16 (at offset core) (Activated task))

@@ -1,5 +1,5 @@
 -- ChainTask (OSEK OS 2.2.3, section 13.2.3.3).
-use Rattle.std.specs.Prelude.{ℕ, ◌+◌, ◌≡◌, ◌≢◌, ◌<◌, ◌≤◌, ◌⊎◌, List, [], ◌∷◌, length, slice_index}
+use Rattle.std.specs.Prelude.{ℕ, ◌+◌, ◌≡◌, ◌≢◌, ◌<◌, ◌⊎◌, List, [], ◌∷◌, slice_index}
 use Rattle.sloth_base.specs.Machine.{Core, State}
 use Rattle.sloth_base.specs.Status.{E_OS_LIMIT}
 use Rattle.sloth_base.specs.Arrive.{state_arrive}
@@ -8,7 +8,8 @@ use Rattle.rv32_instr.specs.declared.InstrKind.{InstrKind}
 use Rattle.rv32_instr.specs.Ram.{word_at}
 use Rattle.masked_code.specs.Masked.{FromOpening}
 use Rattle.masked_code.specs.Place.{at}
-use Rattle.masked_code.specs.Kernel.{IsBelow, masking}
+use Rattle.masked_code.specs.Kernel.{IsBelow}
+use Rattle.block_parts.specs.ServiceCode.{IsServiceCode}
 use Rattle.block_parts.specs.Back.{CanGoBack, WentBack, a0}
 use Rattle.block_parts.specs.Looks.{LooksSuspended}
 use Rattle.service_gen.specs.TerminateTask.{Terminated}
@@ -44,8 +45,8 @@ pub record HasNotChained (task own : ℕ) (touched : List ℕ) (start end : Stat
 abbrev pub Chained : ℕ → ℕ → ℕ → List ℕ → State → State → Type 0
 Chained task own place touched start end = HasChained task own place touched start end ⊎ HasNotChained task own touched start end
 
--- Code of ChainTask: its first instruction masks, and at most 63 more lead to its effect, whatever lines arrive.
-pub record Chains (task : ℕ) (code : List InstrKind) : Type 0 where
-  pub size : length code ≤ 69
-  pub masks : (rest : List InstrKind) × (code ≡ masking ∷ rest)
-  pub runs : (offset own place : ℕ) (core : Core) → MayChain offset task own place code core → FromOpening 63 (at offset core) (Chained task own place)
+-- Code of ChainTask: behind its first instruction at most 63 more lead to its effect, whatever lines arrive.
+abbrev pub Chains : ℕ → List InstrKind → Type 0
+Chains task code =
+    IsServiceCode 69 code ((offset own place : ℕ) (core : Core) → MayChain offset task own place code core
+    → FromOpening 63 (at offset core) (Chained task own place))

@@ -1,5 +1,5 @@
 -- GetResource (OSEK OS 2.2.3, section 13.4.3.1), with the priority ceiling protocol.
-use Rattle.std.specs.Prelude.{ℕ, max, ◌≡◌, ◌<◌, ◌≤◌, List, [], ◌∷◌, length, slice_index}
+use Rattle.std.specs.Prelude.{ℕ, max, ◌≡◌, ◌<◌, ◌≤◌, List, [], slice_index}
 use Rattle.sloth_base.specs.Machine.{Core, State}
 use Rattle.sloth_base.specs.Status.{E_OK}
 use Rattle.sloth_region.specs.Layout.{saved_level}
@@ -7,7 +7,7 @@ use Rattle.rv32_instr.specs.declared.InstrKind.{InstrKind}
 use Rattle.rv32_instr.specs.Ram.{with_word}
 use Rattle.masked_code.specs.Masked.{FromOpening}
 use Rattle.masked_code.specs.Place.{at}
-use Rattle.masked_code.specs.Kernel.{masking}
+use Rattle.block_parts.specs.ServiceCode.{IsServiceCode}
 use Rattle.block_parts.specs.Back.{CanGoBack, WentBack, a0}
 
 -- the code can run
@@ -26,8 +26,7 @@ pub record Taken (resource ceiling : ℕ) (touched : List ℕ) (start end : Stat
   pub status : slice_index end.core.registers a0 ≡ E_OK
   pub back : WentBack a0 (raised_to resource ceiling start.core) start end
 
--- Code of GetResource: its first instruction masks, and at most 10 more lead to its effect, whatever lines arrive.
-pub record Takes (resource ceiling : ℕ) (code : List InstrKind) : Type 0 where
-  pub size : length code ≤ 11
-  pub masks : (rest : List InstrKind) × (code ≡ masking ∷ rest)
-  pub runs : (offset : ℕ) (core : Core) → MayTake offset resource code core → FromOpening 10 (at offset core) (Taken resource ceiling)
+-- Code of GetResource: behind its first instruction at most 10 more lead to its effect, whatever lines arrive.
+abbrev pub Takes : ℕ → ℕ → List InstrKind → Type 0
+Takes resource ceiling code =
+    IsServiceCode 11 code ((offset : ℕ) (core : Core) → MayTake offset resource code core → FromOpening 10 (at offset core) (Taken resource ceiling))

@@ -1,5 +1,5 @@
 -- GetTaskID (OSEK OS 2.2.3, section 13.2.3.5).
-use Rattle.std.specs.Prelude.{ℕ, ◌+◌, ◌≡◌, ◌<◌, ◌≤◌, List, [], ◌∷◌, length, slice_index}
+use Rattle.std.specs.Prelude.{ℕ, ◌+◌, ◌≡◌, ◌<◌, List, [], slice_index}
 use Rattle.sloth_base.specs.Machine.{Core, State}
 use Rattle.sloth_base.specs.Status.{E_OK}
 use Rattle.sloth_region.specs.Layout.{cur}
@@ -7,7 +7,7 @@ use Rattle.rv32_instr.specs.declared.InstrKind.{InstrKind}
 use Rattle.rv32_instr.specs.Ram.{word_at}
 use Rattle.masked_code.specs.Masked.{FromOpening}
 use Rattle.masked_code.specs.Place.{at}
-use Rattle.masked_code.specs.Kernel.{masking}
+use Rattle.block_parts.specs.ServiceCode.{IsServiceCode}
 use Rattle.block_parts.specs.Back.{CanGoBack, WentBack, a0, a1}
 
 -- the code can run, and this task runs
@@ -24,8 +24,7 @@ pub record Told (task : ℕ) (touched : List ℕ) (start end : State) : Type 0 w
   pub number : slice_index end.core.registers a1 ≡ task
   pub back : WentBack a1 start.core start end
 
--- Code of GetTaskID: its first instruction masks, and at most 8 more lead to its effect, whatever lines arrive.
-pub record TellsTask (code : List InstrKind) : Type 0 where
-  pub size : length code ≤ 9
-  pub masks : (rest : List InstrKind) × (code ≡ masking ∷ rest)
-  pub runs : (offset task : ℕ) (core : Core) → MayTell offset task code core → FromOpening 8 (at offset core) (Told task)
+-- Code of GetTaskID: behind its first instruction at most 8 more lead to its effect, whatever lines arrive.
+abbrev pub TellsTask : List InstrKind → Type 0
+TellsTask code =
+    IsServiceCode 9 code ((offset task : ℕ) (core : Core) → MayTell offset task code core → FromOpening 8 (at offset core) (Told task))

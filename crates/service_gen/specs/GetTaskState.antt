@@ -1,5 +1,5 @@
 -- GetTaskState (OSEK OS 2.2.3, section 13.2.3.4).
-use Rattle.std.specs.Prelude.{ℕ, ◌+◌, ◌≡◌, ◌≢◌, ◌<◌, ◌≤◌, List, [], ◌∷◌, length, slice_index}
+use Rattle.std.specs.Prelude.{ℕ, ◌+◌, ◌≡◌, ◌≢◌, ◌<◌, List, [], ◌∷◌, slice_index}
 use Rattle.sloth_base.specs.Machine.{Core, State}
 use Rattle.sloth_base.specs.Status.{E_OK}
 use Rattle.sloth_region.specs.Layout.{cur, active}
@@ -7,7 +7,7 @@ use Rattle.rv32_instr.specs.declared.InstrKind.{InstrKind}
 use Rattle.rv32_instr.specs.Ram.{word_at}
 use Rattle.masked_code.specs.Masked.{FromOpening}
 use Rattle.masked_code.specs.Place.{at}
-use Rattle.masked_code.specs.Kernel.{masking}
+use Rattle.block_parts.specs.ServiceCode.{IsServiceCode}
 use Rattle.block_parts.specs.Back.{CanGoBack, WentBack, a0, a1}
 use Rattle.block_parts.specs.Looks.{LooksSuspended}
 
@@ -38,8 +38,7 @@ pub record StateTold (task own : ℕ) (touched : List ℕ) (start end : State) :
   pub number : IsNumber task own start.core touched (slice_index end.core.registers a1)
   pub back : WentBack a1 start.core start end
 
--- Code of GetTaskState: its first instruction masks, and at most 15 more lead to its effect, whatever lines arrive.
-pub record TellsState (task : ℕ) (code : List InstrKind) : Type 0 where
-  pub size : length code ≤ 24
-  pub masks : (rest : List InstrKind) × (code ≡ masking ∷ rest)
-  pub runs : (offset own : ℕ) (core : Core) → MayTellState offset task own code core → FromOpening 15 (at offset core) (StateTold task own)
+-- Code of GetTaskState: behind its first instruction at most 15 more lead to its effect, whatever lines arrive.
+abbrev pub TellsState : ℕ → List InstrKind → Type 0
+TellsState task code =
+    IsServiceCode 24 code ((offset own : ℕ) (core : Core) → MayTellState offset task own code core → FromOpening 15 (at offset core) (StateTold task own))

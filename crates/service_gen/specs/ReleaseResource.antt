@@ -1,5 +1,5 @@
 -- ReleaseResource (OSEK OS 2.2.3, section 13.4.3.2).
-use Rattle.std.specs.Prelude.{ℕ, ◌≡◌, ◌<◌, ◌≤◌, List, [], ◌∷◌, length, slice_index}
+use Rattle.std.specs.Prelude.{ℕ, ◌≡◌, ◌<◌, ◌≤◌, List, [], slice_index}
 use Rattle.sloth_base.specs.Machine.{Core, State}
 use Rattle.sloth_base.specs.Status.{E_OK}
 use Rattle.sloth_region.specs.Layout.{saved_level}
@@ -7,7 +7,7 @@ use Rattle.rv32_instr.specs.declared.InstrKind.{InstrKind}
 use Rattle.rv32_instr.specs.Ram.{word_at}
 use Rattle.masked_code.specs.Masked.{FromOpening}
 use Rattle.masked_code.specs.Place.{at}
-use Rattle.masked_code.specs.Kernel.{masking}
+use Rattle.block_parts.specs.ServiceCode.{IsServiceCode}
 use Rattle.block_parts.specs.Back.{CanGoBack, WentBack, a0}
 
 -- the code can run, and a level is saved for the resource
@@ -22,8 +22,7 @@ pub record Released (resource : ℕ) (touched : List ℕ) (start end : State) : 
   pub status : slice_index end.core.registers a0 ≡ E_OK
   pub back : WentBack a0 (record start.core { ilevel = word_at start.core.ram (saved_level resource) }) start end
 
--- Code of ReleaseResource: its first instruction masks, and at most 6 more lead to its effect, whatever lines arrive.
-pub record Releases (resource : ℕ) (code : List InstrKind) : Type 0 where
-  pub size : length code ≤ 7
-  pub masks : (rest : List InstrKind) × (code ≡ masking ∷ rest)
-  pub runs : (offset : ℕ) (core : Core) → MayRelease offset resource code core → FromOpening 6 (at offset core) (Released resource)
+-- Code of ReleaseResource: behind its first instruction at most 6 more lead to its effect, whatever lines arrive.
+abbrev pub Releases : ℕ → List InstrKind → Type 0
+Releases resource code =
+    IsServiceCode 7 code ((offset : ℕ) (core : Core) → MayRelease offset resource code core → FromOpening 6 (at offset core) (Released resource))

@@ -9,6 +9,7 @@ use Rattle.rv32_instr.specs.Ram.{word_at}
 use Rattle.masked_code.specs.Masked.{FromOpening}
 use Rattle.masked_code.specs.Place.{at}
 use Rattle.masked_code.specs.Kernel.{CanRun, LeftAs, masking}
+use Rattle.block_parts.specs.ServiceCode.{IsServiceCode}
 use Rattle.block_parts.specs.Back.{CanGoBack, a0}
 
 -- the register of the level to come back to
@@ -51,11 +52,12 @@ pub record CameBack (touched : List ℕ) (start end : State) : Type 0 where
   pub pc : end.pc ≡ slice_index start.core.registers 31
   pub registers : end.core.registers ≡ start.core.registers
 
--- Code of Schedule: its first instruction masks, and at most 12 more lead to its effect, whatever lines arrive. So does the first
--- of the way back, with at most 3 more.
-pub record Yields (code : List InstrKind) : Type 0 where
-  pub size : length code ≤ 17
-  pub masks : (rest : List InstrKind) × (code ≡ masking ∷ rest)
+-- Behind the first instruction at most 12 more lead to the effect, whatever lines arrive. So do at most 3 behind the first of the way back.
+pub record RunsAndComesBack (code : List InstrKind) : Type 0 where
   pub masks_again : (first rest : List InstrKind) × (code ≡ first ++ masking ∷ rest) × (length first ≡ 13)
-  pub runs : (offset task : ℕ) (core : Core) → MayYield offset task code core → FromOpening 12 (at offset core) (Yielded offset task)
+  pub lowers : (offset task : ℕ) (core : Core) → MayYield offset task code core → FromOpening 12 (at offset core) (Yielded offset task)
   pub comes_back : (offset : ℕ) (core : Core) → MayComeBack offset code core → FromOpening 3 (at (offset + way_back) core) CameBack
+
+-- code of Schedule
+abbrev pub Yields : List InstrKind → Type 0
+Yields code = IsServiceCode 17 code (RunsAndComesBack code)

@@ -1,5 +1,5 @@
 -- TerminateTask (OSEK OS 2.2.3, section 13.2.3.2).
-use Rattle.std.specs.Prelude.{ℕ, ◌+◌, ◌*◌, ◌≡◌, ◌<◌, ◌≤◌, true, List, [], ◌∷◌, length, slice_index, slice_set}
+use Rattle.std.specs.Prelude.{ℕ, ◌+◌, ◌*◌, ◌≡◌, ◌<◌, ◌≤◌, true, List, [], ◌∷◌, slice_index, slice_set}
 use Rattle.sloth_base.specs.Machine.{Core, State}
 use Rattle.sloth_base.specs.MemoryMap.{memory_base}
 use Rattle.sloth_region.specs.Layout.{cur, active, events, below_word, context_bytes, context_level, context_cur, context_below}
@@ -7,7 +7,8 @@ use Rattle.rv32_instr.specs.declared.InstrKind.{InstrKind}
 use Rattle.rv32_instr.specs.Ram.{word_at, with_word}
 use Rattle.masked_code.specs.Masked.{FromOpening}
 use Rattle.masked_code.specs.Place.{at}
-use Rattle.masked_code.specs.Kernel.{CanRun, IsBelow, LeftAs, masking}
+use Rattle.masked_code.specs.Kernel.{CanRun, IsBelow, LeftAs}
+use Rattle.block_parts.specs.ServiceCode.{IsServiceCode}
 
 -- the code stands at an offset, this task runs, and the context of what runs below it stands at `place`
 pub record MayTerminate (offset task place : ℕ) (code : List InstrKind) (core : Core) : Type 0 where
@@ -38,8 +39,8 @@ pub record Terminated (task place : ℕ) (touched : List ℕ) (start end : State
   pub x2 : slice_index end.core.registers 2 ≡ memory_base + (place + context_bytes)
   pub loaded : (i : ℕ) → 5 ≤ i → i < 32 → slice_index end.core.registers i ≡ word_at start.core.ram (place + 4 * i)
 
--- Code of TerminateTask: its first instruction masks, and at most 49 more lead to the end of the task, whatever lines arrive.
-pub record Terminates (code : List InstrKind) : Type 0 where
-  pub size : length code ≤ 50
-  pub masks : (rest : List InstrKind) × (code ≡ masking ∷ rest)
-  pub runs : (offset task place : ℕ) (core : Core) → MayTerminate offset task place code core → FromOpening 49 (at offset core) (Terminated task place)
+-- Code of TerminateTask: behind its first instruction at most 49 more lead to the end of the task, whatever lines arrive.
+abbrev pub Terminates : List InstrKind → Type 0
+Terminates code =
+    IsServiceCode 50 code ((offset task place : ℕ) (core : Core) → MayTerminate offset task place code core
+    → FromOpening 49 (at offset core) (Terminated task place))

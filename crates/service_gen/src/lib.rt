@@ -1,10 +1,10 @@
 //! The code of the operating system services (OSEK OS 2.2.3, section 13) that need no events.
 #![tactic(auto)]
 
-ghost use Rattle.std.specs.Prelude.{◌≡◌, ◌+◌, ◌*◌, ◌<◌, ◌≤◌, [], ◌∷◌, IfOk, length, slice_index};
-ghost use Rattle.sloth_base.specs.Blocks.{block_number};
+ghost use Rattle.std.specs.Prelude.{◌≡◌, ◌∷◌, IfOk};
 ghost use Rattle.sloth_base.specs.ServiceCodes.{code_of};
 ghost use Rattle.block_parts.specs.Marks.{opening};
+ghost use Rattle.block_parts.specs.ServiceBlock.{IsServiceBlock};
 ghost use Rattle.service_gen.specs.Block.{further_marks, HasBlock, Serves};
 
 mod activate_task;
@@ -40,9 +40,7 @@ pub fn block(
     map: &Map,
 ) -> Result<Block, NoMemory>
     requires { HasBlock service object }
-    ensures at { IfOk result (λ block. block.at ≡ slice_index map.now.places.blocks (block_number service object)) }
-    ensures marks { IfOk result (λ block. block.marks ≡ opening block.at (code_of service) ∷ further_marks service block.at) }
-    ensures size { IfOk result (λ block. length block.code ≤ 256) }
+    ensures block { IfOk result (IsServiceBlock service object map.now.places.blocks (further_marks service)) }
     ensures effect { IfOk result (λ block. Serves service object levels.now block.code) }
 {
     let at = map.places.blocks[block_number(service, object)];

@@ -23,6 +23,7 @@ padded [] n i = zero_at n i
 padded (byte ∷ bytes) n zero = refl
 padded (byte ∷ bytes) n (suc i) = padded bytes n i
 
+-- a byte of RAM at the start is that of the image
 pub ram_at : (bytes : List ℕ) (i : ℕ) → slice_index (ram_of bytes) i ≡ slice_index bytes i
 unfolding ram_of
 ram_at bytes i = padded bytes (2097152 - length bytes) i
@@ -77,5 +78,6 @@ module _ (b : Build) (image : Image) (levels : List ℕ) (end : State) (fits : F
         record { from = d.from; is_data = d.is_data; holds = ram_is _ ∙ d.holds };
   }
 
+  -- boot is the event Boot, and the relation stands behind it
   pub boots_law : OsekStep b.config b.app event.Boot (opening b.config b.app) (started_system b) × Stands b end (started_system b)
   boots_law = ((refl, refl), starts_stand b end fits starts)

@@ -295,6 +295,7 @@ module _ (b : Build) (view : View) (arrivals : List Arrival) (setting : IsSettin
       by_frames [] e = enter_stretch e (alone e) prologue
       by_frames (frame ∷ outer) e = let some : (task found t).frames ≢ [] = λ z. cc in resume_stretch some (waited some) prologue
 
+      -- the run goes on from the taken line to where the task runs
       pub enter_advances : (progress : State → System → ℕ) → Advances (setting_of b view arrivals) (Stands b) progress count state s
       enter_advances progress =
           let h = by_frames (task found t).frames refl in

@@ -146,6 +146,7 @@ module _ (ram words registers zeros : List ℕ) (place t frame : ℕ) (may : May
       let n4 = length-with_word ram3 cur (t + 1) in
       low_word (active t) (omega arith) ∙ word_at-same ram4 (active t) 1 (omega arith) (omega arith)
 
+  -- what is stored is found again
   pub is_stored : IsStored ram words registers zeros place t frame (stored ram words registers zeros place t frame)
   is_stored = record {
     long = long_new;

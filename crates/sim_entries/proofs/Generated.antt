@@ -32,6 +32,7 @@ all_counted (d ∷ ds) p h =
     let rest = all_counted ds p (omega arith) in
     omega arith
 
+-- the level of the highest priority is that of all tasks
 pub highest_level : (config : Config) → level_of config (highest_priority config) ≡ length config.tasks
 highest_level config = all_counted config.tasks (highest_priority config) (omega arith)
 
@@ -71,6 +72,7 @@ module _ (b : Build) (levels : Levels) (map_of : Map) (t : ℕ) (code : List Ins
       let r = first_room b fits t declared in
       omega arith
 
+  -- the code of a generated prologue enters its task
   pub enters_built : EntersBuilt b t code
   enters_built =
       let kind : Bool = (declaration b.config t).extended in

@@ -34,6 +34,7 @@ module _ (b : Build) (state : State) (s : System) (t : ℕ) (fits : Fits b) (k :
   ready : (task s t).state ≡ mode.Ready
   ready = taken_ready b state s k few t declared e
 
+  -- a task that waited has a context of its own
   pub own_context : HasOwn b state.core.ram t (task s t)
   own_context = own_by b state.core.ram t (task s t) (is_active (task s t).state) (task s t).frames (ap is_active ready) refl some (k.words t declared).resumption
 

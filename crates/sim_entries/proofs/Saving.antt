@@ -1,9 +1,8 @@
 -- What every entry leaves, anew or behind a wait: what was preempted is saved, and the task is the running one.
-use Rattle.std.proofs.Common.{◌≡◌, ℕ, ◌+◌, ◌-◌, ◌*◌, ◌%◌, ◌<◌, ◌≤◌, List, length, refl, sym, ap, ◌∙◌, subst, arith, ⊎_elim, inl, inr, Some}
+use Rattle.std.proofs.Common.{◌≡◌, ℕ, ◌+◌, ◌-◌, ◌*◌, ◌%◌, ◌<◌, ◌≤◌, List, length, refl, sym, ap, ◌∙◌, subst, arith, ⊎_elim, inl, inr}
 use Rattle.std.specs.Prelude.{◌⊎◌, ◌≢◌, slice_index, replicate}
 use Rattle.std.proofs.lemmas.List.{length-replicate}
 use Rattle.sloth_base.specs.Machine.{State}
-use Rattle.sloth_base.specs.Choose.{choose}
 use Rattle.sloth_base.specs.Take.{take}
 use Rattle.sloth_region.specs.Layout.{cur, below_word, active, resume, idle_context}
 use Rattle.rv32_instr.specs.Ram.{word_at}
@@ -28,6 +27,7 @@ preempted state = context_words state.pc state.core.ilevel (word_at state.core.r
 abbrev pub cleared : ℕ → List ℕ
 cleared words = replicate words 0
 
+-- a cleared frame has as many words as asked
 pub cleared_long : (words : ℕ) → length (cleared words) ≡ words
 cleared_long words = length-replicate words 0
 
@@ -57,6 +57,7 @@ module _ (b : Build) (state : State) (s : System) (t place : ℕ) (fits : Fits b
 
   -- the frame lies in the task's part of the stacks, apart from the context
   module _ (frame words : ℕ) (from : b.low t ≤ frame) (to : frame + 4 * words ≤ b.top t) (apart : (place + 128 ≤ frame) ⊎ (frame + 4 * words ≤ place)) where
+    -- the context of what was preempted is stored, and the frame cleared
     pub is_saved : IsStored old (preempted state) rest (cleared words) place t frame (saved state t place frame words)
     is_saved =
         let l = declared in
@@ -89,6 +90,7 @@ module _ (b : Build) (state : State) (s : System) (t place : ℕ) (fits : Fits b
       word_is : (j : ℕ) → j < 4 → word_at new (place + 4 * j) ≡ slice_index (preempted state) j
       word_is j h = let a = sp.aligned in in_context (place + 4 * j) (omega arith) (omega arith) ∙ is_saved.word_is j h
 
+      -- what an entry leaves of RAM
       pub entry_ram : EntryRam b state new t place
       entry_ram =
           let d = few30 in
@@ -113,6 +115,7 @@ module _ (b : Build) (state : State) (s : System) (t place : ℕ) (fits : Fits b
             resumption = none;
           }
 
+  -- what it leaves of the machine beside RAM
   pub entry_machine : (end : State) (ram : List ℕ) → LeftAs (record (take t state).core { ilevel = start_level b t; ram = ram }) end.core → EntryMachine b state end t
   entry_machine end ram left = record {
     registers = left.registers ∙ sym k.fixed.registers;

@@ -14,11 +14,13 @@ use Rattle.sim_relation.proofs.Tops.{is_in-head}
 
 -- ---- lists
 
+-- zeros fit into words
 pub zeros_small : (w j : ℕ) → slice_index (replicate w 0) j < 4294967296
 zeros_small zero j = omega arith
 zeros_small (suc w) zero = omega arith
 zeros_small (suc w) (suc j) = zeros_small w j
 
+-- each of them is 0
 pub zero_at : (w j : ℕ) → slice_index (replicate w 0) j ≡ 0
 zero_at zero j = refl
 zero_at (suc w) zero = refl
@@ -28,6 +30,7 @@ zero_at (suc w) (suc j) = zero_at w j
 abbrev pub context_words : (pc level current below : ℕ) → List ℕ
 context_words pc level current below = pc ∷ level ∷ current ∷ below ∷ []
 
+-- the first four words of a context fit into words
 pub words_small : (x y z w : ℕ) → x < 4294967296 → y < 4294967296 → z < 4294967296 → w < 4294967296 → (j : ℕ) → slice_index (context_words x y z w) j < 4294967296
 words_small x y z w p q r s zero = p
 words_small x y z w p q r s (suc zero) = q

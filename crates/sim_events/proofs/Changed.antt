@@ -1,5 +1,5 @@
 -- A service goes back with a status and has changed the events of a task, that of its caller or of another: the relation stands.
-use Rattle.std.proofs.Common.{◌≡◌, ℕ, zero, suc, ◌^◌, ◌<◌, List, [], ◌∷◌, length, set, refl, sym, ap, ◌∙◌, subst, arith, inr}
+use Rattle.std.proofs.Common.{◌≡◌, ℕ, zero, ◌^◌, ◌<◌, List, length, refl, sym, ap, ◌∙◌, subst, arith, inr}
 use Rattle.std.specs.Prelude.{◌≢◌, slice_index}
 use Rattle.sloth_base.specs.Machine.{State}
 use Rattle.sloth_base.specs.declared.service.Service.{Service}
@@ -120,5 +120,6 @@ module _ (b : Build) (state : State) (s : System) (t : ℕ) (called : Task) (ser
               c.wait_word;
         }
 
+    -- the relation with the answer and the changed record
     pub stands_changed : Stands b end (changed_to answer u m now)
     stands_changed = change_stands b middle end answer before fits u c.declared m now change

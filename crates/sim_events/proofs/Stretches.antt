@@ -36,6 +36,7 @@ module _ (b : Build) (view : View) (arrivals : List Arrival) (count : ℕ) (stat
   abbrev found : System
   found = with_admits (lines_at arrivals count) s
 
+  -- GetEvent
   pub tells_stretches : OpensGoingOn b view start found t service.GetEvent TellsEvents → Stretches b view arrivals count state s
   tells_stretches o =
       let block = o.opens.block in
@@ -54,6 +55,7 @@ module _ (b : Build) (view : View) (arrivals : List Arrival) (count : ℕ) (stat
       }))
       (λ place lines touched s2 end can may effect. tells_events b (state_arrive lines start) s2 t (task found t) object touched end fits may effect)
 
+  -- ClearEvent
   pub clears_stretches : OpensWithMask b view start found t service.ClearEvent (λ object. ClearsEvents) → Stretches b view arrivals count state s
   clears_stretches o =
       let opening = o.goes_on.opens.opening in
@@ -72,6 +74,7 @@ module _ (b : Build) (view : View) (arrivals : List Arrival) (count : ℕ) (stat
       (λ place lines touched s2 end can may effect.
       clears b (state_arrive lines start) s2 t (task found t) opening.block.call.object touched end fits may effect)
 
+  -- SetEvent
   pub sets_stretches : OpensWithMask b view start found t service.SetEvent SetsEvents → Stretches b view arrivals count state s
   sets_stretches o =
       let opening = o.goes_on.opens.opening in

@@ -24,6 +24,7 @@ by_active : (c : Bool) (w : ℕ) → is_active (cond c (mode.Waiting w) mode.Rea
 by_active true w = refl
 by_active false w = refl
 
+-- an Active task stays Active, and no other becomes so
 pub after_active : (m : TaskState) (now : ℕ) → is_active (state_after m now) ≡ is_active m
 after_active (mode.Waiting w) now = by_active (bit_and now w == 0) w
 after_active mode.Suspended now = refl
@@ -34,6 +35,7 @@ by_awake : (c : Bool) (w : ℕ) → cond c (mode.Waiting w) mode.Ready ≡ mode.
 by_awake true w h = cc
 by_awake false w h = cc
 
+-- a task that is not Suspended does not become so
 pub after_awake : (m : TaskState) (now : ℕ) → m ≢ mode.Suspended → state_after m now ≢ mode.Suspended
 after_awake (mode.Waiting w) now n = by_awake (bit_and now w == 0) w
 after_awake mode.Suspended now n = n
@@ -54,12 +56,14 @@ after_some : (w now word : ℕ) → bit_and now word ≢ 0 → word ≡ w → st
 after_some w now word z h =
     ap (λ (c : Bool). cond c (mode.Waiting w) mode.Ready) (ne_eqb (bit_and now w) 0 (λ e. z (ap (bit_and now) h ∙ e)))
 
+-- where an awaited event is set the line is pending and enabled
 pub some_line : (m : TaskState) (now word : ℕ) → bit_and now word ≢ 0 → IsWaitWord m word → m ≢ mode.Suspended → IsLineOf (state_after m now) 1 1
 some_line (mode.Waiting w) now word z h n = subst (λ m. IsLineOf m 1 1) (sym (after_some w now word z h)) (refl, refl)
 some_line mode.Suspended now word z h n = absurd (n refl)
 some_line mode.Ready now word z h n = (refl, refl)
 some_line mode.Active now word z h n = refl
 
+-- and the word of awaited events may stay as it is
 pub some_word : (m : TaskState) (now word : ℕ) → bit_and now word ≢ 0 → IsWaitWord m word → IsWaitWord (state_after m now) word
 some_word (mode.Waiting w) now word z h = subst (λ m. IsWaitWord m word) (sym (after_some w now word z h)) tt
 some_word mode.Suspended now word z h = tt
@@ -76,6 +80,7 @@ by_woken s u now w false l e =
     ap (λ x. settled_state (with_task (with_events s u now) u (record x { state = mode.Ready }))) (this_task s u (record (task s u) { events = now }) l)
     ∙ ap (λ l. settled_state (record s { tasks = l })) (set-set s.tasks u (record (task s u) { events = now }) (record (task s u) { state = mode.Ready; events = now }))
 
+-- the record of the task whose events are set
 pub woken_is : (s : System) (u now : ℕ) (m : TaskState) → u < length s.tasks → (task s u).state ≡ m
     → settled_state (woken_state m now u (with_events s u now)) ≡ changed_to s u (state_after m now) now
 woken_is s u now (mode.Waiting w) l e = by_woken s u now w (bit_and now w == 0) l e

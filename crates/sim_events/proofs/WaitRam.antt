@@ -87,6 +87,7 @@ module _ (old registers : List ℕ) (t own mask pc current link : ℕ) (long : l
   late p h n0 n1 n2 =
       word_other ram6 below_word link p h (omega arith) n1 ∙ word_other ram5 cur current p h (omega arith) n0 ∙ word_other ram4 (resume t) (0x8000_0000 + own) p h (omega arith) n2
 
+  -- those words, and no other byte
   pub wait_ram : WaitRam old new registers t own mask pc current link
   wait_ram =
       let k1 = long1 in let k2 = long2 in let k3 = long3 in let k4 = long4 in let k5 = long5 in let k6 = long6 in

@@ -6,9 +6,7 @@ use Rattle.std.proofs.lemmas.Bool.{ne_eqb, eq-eqb}
 use Rattle.std.proofs.lemmas.List.{get_or-set_same, get_or-set_other, length-set}
 use Rattle.sloth_base.specs.Machine.{State}
 use Rattle.sloth_base.specs.Status.{E_OK}
-use Rattle.sloth_base.specs.declared.event.Event.TheVariants as event
 use Rattle.sloth_base.specs.declared.service.Service.TheVariants as service
-use Rattle.sloth_base.specs.declared.app.Op.TheVariants as op
 use Rattle.sloth_region.specs.Layout.{cur, events, context_bytes}
 use Rattle.rv32_instr.specs.Ram.{word_at}
 use Rattle.rv32_expand.specs.Expansion.{mask_of}

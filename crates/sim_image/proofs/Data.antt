@@ -17,7 +17,8 @@ use Rattle.mem_map.specs.Run.{extents_of}
 use Rattle.mem_map.specs.Zones.{data_zone, nowhere}
 use Rattle.sloth_link.specs.Linked.{datum_section}
 use Rattle.sloth_link.specs.Room.{AreIn}
-use Rattle.sim_image.specs.Symbols.{HasSymbols, IsInData, data_of, SymbolsAreInData, SymbolsAreIn, SymbolsAreApart}
+use Rattle.sloth_link.specs.Symbols.{data_of}
+use Rattle.sim_image.specs.Symbols.{HasSymbols, IsInData, SymbolsAreInData, SymbolsAreIn, SymbolsAreApart}
 use Rattle.sim_image.proofs.Following.{ends}
 
 -- the room of a symbol isn't shorter

@@ -17,7 +17,7 @@ use Rattle.sim_relation.specs.Stands.{AreApart}
 use Rattle.sloth_link.specs.Linked.{BlockStands}
 use Rattle.mem_map.specs.Zones.{HasZones, code_zone, data_zone, all_stacks, nowhere}
 use Rattle.mem_map.specs.Stacks.{HasStacks, top_of}
-use Rattle.stack_bounds.specs.declared.stacks.Stacks.{Stacks}
+use Rattle.sloth_base.specs.declared.places.Bounds.{Bounds}
 use Rattle.stack_bounds.specs.Bounds.{MayMeet, bytes_of}
 use Rattle.sim_laws.specs.Nested.{HasNestedParts}
 use Rattle.sim_image.specs.Symbols.{HasSymbols}
@@ -43,9 +43,9 @@ aligned_at [] (suc k) h = refl
 aligned_at (x ∷ xs) zero h = h 0 0 (omega arith)
 aligned_at (x ∷ xs) (suc k) h = aligned_at xs k (λ j d l. h (suc j) d (omega arith))
 
-module _ (config : Config) (app : App) (map : Map) (stacks : Stacks) (back : ℕ) (memory : List ℕ) (z : HasZones map config) where
+module _ (config : Config) (app : App) (map : Map) (bounds : Bounds) (back : ℕ) (memory : List ℕ) (z : HasZones map config) where
   abbrev b : Build
-  b = build_of config app map stacks back memory
+  b = build_of config app map bounds back memory
 
   follow : FollowWithin 0x8000_0004 0x8020_0000 (map.words ∷ code_zone map ∷ data_zone map ∷ all_stacks map)
   follow = subst (FollowWithin 0x8000_0004 0x8020_0000) z.extents (follow_from_apart 0x8000_0004 0x8020_0000 map.extents z.apart (omega arith))
@@ -64,8 +64,8 @@ module _ (config : Config) (app : App) (map : Map) (stacks : Stacks) (back : ℕ
   stacks_follow = follow.2.2.2
 
   -- a task's part lies behind the data
-  pub part_inside : HasStacks config app stacks map → (t : ℕ) → t < length config.tasks
-      → ((data_zone map).base + (data_zone map).len + bytes_of stacks t ≤ top_of map t) × (top_of map t ≤ 0x8020_0000)
+  pub part_inside : HasStacks config app bounds map → (t : ℕ) → t < length config.tasks
+      → ((data_zone map).base + (data_zone map).len + bytes_of bounds t ≤ top_of map t) × (top_of map t ≤ 0x8020_0000)
   part_inside s t l =
       let among = s.among t l in
       let h = (apart_within _ _ (all_stacks map) stacks_follow).inside among.0 nowhere among.1 in
@@ -85,7 +85,7 @@ module _ (config : Config) (app : App) (map : Map) (stacks : Stacks) (back : ℕ
   elsewhere i (inl h) = let p = inside (code_zone map) i h in let f = code_from in let t = code_to in (omega (arith, p.0, f), omega (arith, p.1, t))
   elsewhere i (inr h) = let p = inside (data_zone map) i h in let f = code_from in let t = code_to in (omega (arith, p.0, f, t), p.1)
 
-  pub fits : HasStacks config app stacks map → RoomForCalls stacks config app → HasSymbols map app → back % 4 ≡ 0 → Fits b
+  pub fits : HasStacks config app bounds map → RoomForCalls bounds config app → HasSymbols map app → back % 4 ≡ 0 → Fits b
   fits parts calls has back_aligned = record {
     few_tasks = z.few_tasks;
     elsewhere = λ i e. let h = (elsewhere i e).0 in omega (arith, h);
@@ -103,14 +103,14 @@ module _ (config : Config) (app : App) (map : Map) (stacks : Stacks) (back : ℕ
     room = λ t l func outer called. let s = part_inside parts t l in let enough = calls t l func outer called in let c = code_to in let f = code_from in omega (arith, enough, s.0, c, f);
   }
 
-  pub stacks_apart : HasStacks config app stacks map → (t u : ℕ) → t < length config.tasks → u < length config.tasks → u ≢ t → MayMeet config app t u → AreApart b t u
+  pub stacks_apart : HasStacks config app bounds map → (t u : ℕ) → t < length config.tasks → u < length config.tasks → u ≢ t → MayMeet config app t u → AreApart b t u
   stacks_apart s t u l m ne may =
       ⊎_elim
-      (λ (x : top_of map t + bytes_of stacks u ≤ top_of map u). inl (omega (arith, x)))
-      (λ (x : top_of map u + bytes_of stacks t ≤ top_of map t). inr (omega (arith, x)))
+      (λ (x : top_of map t + bytes_of bounds u ≤ top_of map u). inl (omega (arith, x)))
+      (λ (x : top_of map u + bytes_of bounds t ≤ top_of map t). inr (omega (arith, x)))
       (s.apart t u l m (λ e. ne (sym e)) may)
 
-  pub parts_nested : HasStacks config app stacks map → HasNestedParts b
+  pub parts_nested : HasStacks config app bounds map → HasNestedParts b
   parts_nested s t u basic other may less = let below = s.nested t u basic other may less in omega (arith, below)
 
   pub placed : (block : Block) → All InRange block.code → IsInCode map block → BlockStands memory block → IsPlaced b (block.at - 0x8000_0000) block.code
@@ -128,10 +128,10 @@ module _ (config : Config) (app : App) (map : Map) (stacks : Stacks) (back : ℕ
       }
 
 pub zones_fit : ZonesFit
-zones_fit config app map stacks back memory z parts calls has = fits config app map stacks back memory z parts calls has
+zones_fit config app map bounds back memory z parts calls has = fits config app map bounds back memory z parts calls has
 
 pub stacks_are_apart : StacksAreApart
-stacks_are_apart config app map stacks back memory z s = stacks_apart config app map stacks back memory z s
+stacks_are_apart config app map bounds back memory z s = stacks_apart config app map bounds back memory z s
 
 pub blocks_are_placed : BlocksArePlaced
-blocks_are_placed config app map stacks back memory blocks z r c s = λ k d l. placed config app map stacks back memory z (slice_index_or blocks k d) (r k d l) (c k d l) (s k d l)
+blocks_are_placed config app map bounds back memory blocks z r c s = λ k d l. placed config app map bounds back memory z (slice_index_or blocks k d) (r k d l) (c k d l) (s k d l)

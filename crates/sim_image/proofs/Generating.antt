@@ -52,18 +52,19 @@ use Rattle.sloth_link.specs.declared.datum.Datum.{Datum}
 use Rattle.sloth_link.specs.Linked.{marks_of, code_bytes, block_section, datum_section, IsInside}
 use Rattle.sloth_link.proofs.Written.{code_bytes_length, front_of}
 use Rattle.mem_map.specs.Zones.{code_zone}
-use Rattle.stack_bounds.specs.declared.stacks.Stacks.{Stacks}
+use Rattle.sloth_base.specs.declared.places.Bounds.{Bounds}
 use Rattle.sim_image.specs.Zones.{build_of, IsInCode}
-use Rattle.sim_image.specs.Standing.{ItemsStand, item_block}
+use Rattle.sloth_link.specs.Items.{item_block}
+use Rattle.sloth_link.specs.Standing.{ItemsStand}
 use Rattle.sim_image.specs.Generated.{Has, IsBuiltBy, BuiltIsGenerated, BuiltIsInPlace}
 use Rattle.sim_image.proofs.Apart.{blocks_apart}
 use Rattle.sim_image.proofs.Fitting.{here, zones_fit, stacks_are_apart, parts_nested, blocks_are_placed, code_from, code_to, part_inside}
 use Rattle.sim_image.proofs.Images.{linked_is_image}
-use Rattle.sim_image.proofs.Items.{all_marks, mark_of_all, linked_items_stand}
+use Rattle.sloth_link.proofs.Standing.{all_marks, mark_of_all, items_stand}
 use Rattle.sim_image.proofs.Marks.{not_inside}
 use Rattle.sloth_base.proofs.Services.{of_code}
 use Rattle.sim_image.proofs.Serving.{some_code}
-use Rattle.sim_image.proofs.Placing.{items_are_placed}
+use Rattle.sloth_link.proofs.Placing.{items_are_placed}
 
 -- there is no item in a function that is not there
 is_declared : (funcs : List Func) (func item : ℕ) → item < length (get_or funcs func missing).items → func < length funcs
@@ -72,15 +73,15 @@ is_declared [] (suc func) item l = absurd (omega (arith, l))
 is_declared (f ∷ funcs) zero item l = omega arith
 is_declared (f ∷ funcs) (suc func) item l = let d = is_declared funcs func item l in omega (arith, d)
 
-module _ (config : Config) (app : App) (levels : Levels) (map : Map) (stacks : Stacks) (back size : ℕ) (blocks : List Block) (symbols : List Datum) (image : Image) (g : IsBuiltBy config app levels map stacks back size blocks symbols image) where
+module _ (config : Config) (app : App) (levels : Levels) (map : Map) (bounds : Bounds) (back size : ℕ) (blocks : List Block) (symbols : List Datum) (image : Image) (g : IsBuiltBy config app levels map bounds back size blocks symbols image) where
   abbrev b : Build
-  b = build_of config app map stacks back image.memory
+  b = build_of config app map bounds back image.memory
 
   -- every one of the blocks is above the service words, and placed
   above : (block : Block) → Contains blocks block → 0x8000_0400 ≤ block.at
   above block c =
       let i = (All-contains (IsInCode map) blocks block g.linked.in_code c).from in
-      let f = code_from config app map stacks back image.memory g.linked.zones in
+      let f = code_from config app map bounds back image.memory g.linked.zones in
       omega (arith, i, f)
 
   placed : (block : Block) (offset : ℕ) → Contains blocks block → block.at ≡ 0x8000_0000 + offset → IsPlaced b offset block.code
@@ -88,7 +89,7 @@ module _ (config : Config) (app : App) (levels : Levels) (map : Map) (stacks : S
       let e : block.at - 0x8000_0000 ≡ offset = omega (arith, at) in
       let P : ℕ → Type 0 = λ o. IsPlaced b o block.code in
       subst P e (All-contains (λ (x : Block). IsPlaced b (x.at - 0x8000_0000) x.code) blocks block
-      (blocks_are_placed config app map stacks back image.memory blocks g.linked.zones g.linked.in_range g.linked.in_code g.linked.code) c)
+      (blocks_are_placed config app map bounds back image.memory blocks g.linked.zones g.linked.in_range g.linked.in_code g.linked.code) c)
 
   idle : HasIdle b (view_of_image image)
   idle =
@@ -138,9 +139,9 @@ module _ (config : Config) (app : App) (levels : Levels) (map : Map) (stacks : S
 
   tops : (t : ℕ) → t < length config.tasks → 0x8000_0000 + b.top t ≡ slice_index map.tops t
   tops t l =
-      let s = (part_inside config app map stacks back image.memory g.linked.zones g.linked.has_stacks t l).0 in
-      let f = code_from config app map stacks back image.memory g.linked.zones in
-      let c = code_to config app map stacks back image.memory g.linked.zones in
+      let s = (part_inside config app map bounds back image.memory g.linked.zones g.linked.has_stacks t l).0 in
+      let f = code_from config app map bounds back image.memory g.linked.zones in
+      let c = code_to config app map bounds back image.memory g.linked.zones in
       omega (arith, s, f, c)
 
   item_of : (func item : ℕ) → item < length (function app func).items → IsItem app func item
@@ -148,7 +149,7 @@ module _ (config : Config) (app : App) (levels : Levels) (map : Map) (stacks : S
 
   pub stand : ItemsStand app map.places image.memory image.marks
   stand =
-      linked_items_stand app map.places size blocks image.memory image.marks g.has_items.items g.has_items.own g.linked.room.blocks_above
+      items_stand app map.places size blocks image.memory image.marks g.has_items.items g.has_items.own g.linked.room.blocks_above
       (front_of (IsInside size) block_section blocks (prelude.map datum_section symbols) g.linked.room.inside)
       g.linked.linked.size_is g.linked.code g.marks
 
@@ -304,14 +305,14 @@ module _ (config : Config) (app : App) (levels : Levels) (map : Map) (stacks : S
 
   pub generated : IsGenerated b image levels map
   generated = record {
-    fits = zones_fit config app map stacks back image.memory g.linked.zones g.linked.has_stacks g.linked.calls_fit g.linked.has_symbols g.back_aligned;
+    fits = zones_fit config app map bounds back image.memory g.linked.zones g.linked.has_stacks g.linked.calls_fit g.linked.has_symbols g.back_aligned;
     well_formed = g.has_items.well_formed;
     are_levels = g.are_levels;
     places = refl;
     idle_is = refl;
     tops = tops;
     tasks = ap length g.names.tasks ∙ length-map config.tasks (λ (d : TaskDecl). d.name);
-    is_image = linked_is_image map config app stacks size blocks symbols image back g.linked;
+    is_image = linked_is_image map config app bounds size blocks symbols image back g.linked;
     bytes = g.bytes;
     vectors = g.has_code.vectors.block.code;
     jumps = g.has_code.vectors.does;
@@ -321,15 +322,15 @@ module _ (config : Config) (app : App) (levels : Levels) (map : Map) (stacks : S
     boot_placed = placed g.has_code.boot.block 0x480 g.has_code.boot.among g.has_code.boot.at;
     idle = idle;
     prologues = prologue;
-    stacks = stacks_are_apart config app map stacks back image.memory g.linked.zones g.linked.has_stacks;
-    nested = parts_nested config app map stacks back image.memory g.linked.zones g.linked.has_stacks;
+    stacks = stacks_are_apart config app map bounds back image.memory g.linked.zones g.linked.has_stacks;
+    nested = parts_nested config app map bounds back image.memory g.linked.zones g.linked.has_stacks;
     items = λ func item l. item_stands b image func item has_items (item_of func item l) (range func item (item_of func item l));
     operations = λ func item l. operations func item (item_of func item l);
     way_back = λ func item call l e s. has_way_back func item (item_of func item l) call e s;
   }
 
 pub built_is_generated : BuiltIsGenerated
-built_is_generated config app levels map stacks back size blocks symbols image g = generated config app levels map stacks back size blocks symbols image g
+built_is_generated config app levels map bounds back size blocks symbols image g = generated config app levels map bounds back size blocks symbols image g
 
 pub built_is_in_place : BuiltIsInPlace
-built_is_in_place config app levels map stacks back size blocks symbols image g = in_place config app levels map stacks back size blocks symbols image g
+built_is_in_place config app levels map bounds back size blocks symbols image g = in_place config app levels map bounds back size blocks symbols image g

@@ -2,8 +2,6 @@ pub mod Following
 pub mod Data
 pub mod Fitting
 pub mod Images
-pub mod Items
-pub mod Placing
 pub mod Apart
 pub mod Marks
 pub mod Generating

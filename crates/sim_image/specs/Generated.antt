@@ -15,7 +15,7 @@ use Rattle.sloth_base.specs.declared.service.Service.TheVariants as service
 use Rattle.sloth_base.specs.MemoryMap.{vectors_base, boot_base}
 use Rattle.sloth_region.specs.declared.map.Map.{Map}
 use Rattle.code_rules.specs.WellFormed.{WellFormed}
-use Rattle.stack_bounds.specs.declared.stacks.Stacks.{Stacks}
+use Rattle.sloth_base.specs.declared.places.Bounds.{Bounds}
 use Rattle.rv32_instr.specs.declared.InstrKind.{InstrKind}
 use Rattle.rv32_instr.specs.declared.block.Block.{Block}
 use Rattle.rv32_expand.specs.Expansion.{block_address}
@@ -36,7 +36,9 @@ use Rattle.sloth_link.specs.declared.datum.Datum.{Datum}
 use Rattle.sloth_link.specs.Linked.{marks_of, addresses}
 use Rattle.sim_image.specs.Zones.{build_of}
 use Rattle.sim_image.specs.Rooms.{HasOwnMarks}
-use Rattle.sim_image.specs.Standing.{IsLinkedIn, HaveItems, MarksAreOfItems, HasNames}
+use Rattle.sloth_link.specs.Items.{HaveItems, MarksAreOfItems}
+use Rattle.sloth_link.specs.Standing.{HasNames}
+use Rattle.sim_image.specs.Standing.{IsLinkedIn}
 
 -- one of the blocks stands at this address, with these marks, and its code does this
 pub record Has (blocks : List Block) (address : ℕ) (marks : List Mark) (Does : List InstrKind → Type 0) : Type 0 where
@@ -66,10 +68,10 @@ pub record HasItemBlocks (config : Config) (app : App) (places : Places) (blocks
   pub own : All (MarksAreOfItems app places) blocks
 
 -- An image is built by the levels and the map: of blocks with the code of the generators and of the items, which were linked.
-pub record IsBuiltBy (config : Config) (app : App) (levels : Levels) (map : Map) (stacks : Stacks) (back size : ℕ) (blocks : List Block) (symbols : List Datum)
+pub record IsBuiltBy (config : Config) (app : App) (levels : Levels) (map : Map) (bounds : Bounds) (back size : ℕ) (blocks : List Block) (symbols : List Datum)
     (image : Image) : Type 0 where
   pub are_levels : AreLevels config levels
-  pub linked : IsLinkedIn map config app stacks size blocks symbols image.memory
+  pub linked : IsLinkedIn map config app bounds size blocks symbols image.memory
   pub has_code : HasCode config app levels map blocks
   pub has_items : HasItemBlocks config app map.places blocks
   pub own_marks : All HasOwnMarks blocks
@@ -84,11 +86,11 @@ pub record IsBuiltBy (config : Config) (app : App) (levels : Levels) (map : Map)
 
 -- so it is generated
 abbrev pub BuiltIsGenerated : Type 0
-BuiltIsGenerated = (config : Config) (app : App) (levels : Levels) (map : Map) (stacks : Stacks) (back size : ℕ) (blocks : List Block) (symbols : List Datum)
-    (image : Image) → IsBuiltBy config app levels map stacks back size blocks symbols image
-    → IsGenerated (build_of config app map stacks back image.memory) image levels map
+BuiltIsGenerated = (config : Config) (app : App) (levels : Levels) (map : Map) (bounds : Bounds) (back size : ℕ) (blocks : List Block) (symbols : List Datum)
+    (image : Image) → IsBuiltBy config app levels map bounds back size blocks symbols image
+    → IsGenerated (build_of config app map bounds back image.memory) image levels map
 
 -- and its items are in place
 abbrev pub BuiltIsInPlace : Type 0
-BuiltIsInPlace = (config : Config) (app : App) (levels : Levels) (map : Map) (stacks : Stacks) (back size : ℕ) (blocks : List Block) (symbols : List Datum)
-    (image : Image) → IsBuiltBy config app levels map stacks back size blocks symbols image → ItemsInPlace image config app
+BuiltIsInPlace = (config : Config) (app : App) (levels : Levels) (map : Map) (bounds : Bounds) (back size : ℕ) (blocks : List Block) (symbols : List Datum)
+    (image : Image) → IsBuiltBy config app levels map bounds back size blocks symbols image → ItemsInPlace image config app

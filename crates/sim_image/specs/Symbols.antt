@@ -1,9 +1,8 @@
 -- The symbols of task code, one behind the other in the zone of data.
-use Rattle.std.specs.Prelude.{ℕ, ◌+◌, ◌%◌, ◌<◌, ◌≤◌, ◌≡◌, ◌≢◌, List, [], ◌∷◌, length, All}
+use Rattle.std.specs.Prelude.{ℕ, ◌+◌, ◌%◌, ◌<◌, ◌≤◌, ◌≡◌, ◌≢◌, length, All}
 use Rattle.std.specs.Prelude as prelude
 use Rattle.sloth_base.specs.Named.{symbol_size}
 use Rattle.sloth_base.specs.declared.app.App.{App}
-use Rattle.sloth_base.specs.declared.app.Symbol.{Symbol}
 use Rattle.sloth_base.specs.MemoryMap.{memory_base}
 use Rattle.sloth_region.specs.declared.map.Map.{Map}
 use Rattle.sloth_region.specs.Region.{FollowWithin}
@@ -13,6 +12,7 @@ use Rattle.mem_map.specs.Zones.{data_zone}
 use Rattle.sloth_link.specs.declared.datum.Datum.{Datum}
 use Rattle.sloth_link.specs.Linked.{datum_section}
 use Rattle.sloth_link.specs.Room.{AreIn}
+use Rattle.sloth_link.specs.Symbols.{data_of}
 
 -- each symbol has its own room at a multiple of 4, in the order of the symbols
 pub record HasSymbols (map : Map) (app : App) : Type 0 where
@@ -24,12 +24,6 @@ pub record HasSymbols (map : Map) (app : App) : Type 0 where
 pub record IsInData (map : Map) (datum : Datum) : Type 0 where
   pub from : (data_zone map).base ≤ datum.at
   pub to : datum.at + length datum.bytes ≤ (data_zone map).base + (data_zone map).len
-
--- each symbol's bytes with its address
-abbrev pub data_of : List ℕ → List Symbol → List Datum
-data_of [] symbols = []
-data_of (address ∷ addresses) [] = []
-data_of (address ∷ addresses) (symbol ∷ symbols) = record { at = address; bytes = symbol.bytes } ∷ data_of addresses symbols
 
 -- where the image has zones, the symbols lie in that of data
 abbrev pub SymbolsAreInData : Type 0

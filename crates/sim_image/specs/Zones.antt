@@ -11,7 +11,7 @@ use Rattle.rv32_instr.specs.declared.block.Block.{Block}
 use Rattle.rv32_instr.specs.Range.{InRange}
 use Rattle.masked_code.specs.Kernel.{CanRun}
 use Rattle.code_rules.specs.Code.{IsCalledBy}
-use Rattle.stack_bounds.specs.declared.stacks.Stacks.{Stacks}
+use Rattle.sloth_base.specs.declared.places.Bounds.{Bounds}
 use Rattle.stack_bounds.specs.Bounds.{MayMeet, bytes_of}
 use Rattle.sim_relation.specs.Build.{Build, Fits, frame_bytes}
 use Rattle.sim_relation.specs.Placed.{IsPlaced}
@@ -26,12 +26,12 @@ abbrev pub is_in : Extent → ℕ → Bool
 is_in e i = nat_le e.base (memory_base + i) && nat_lt (memory_base + i) (e.base + e.len)
 
 -- what is built, by the map
-abbrev pub build_of : Config → App → Map → Stacks → ℕ → List ℕ → Build
-build_of config app map stacks back memory = record {
+abbrev pub build_of : Config → App → Map → Bounds → ℕ → List ℕ → Build
+build_of config app map bounds back memory = record {
   config = config;
   app = app;
   places = map.places;
-  low = λ t. top_of map t - bytes_of stacks t - memory_base;
+  low = λ t. top_of map t - bytes_of bounds t - memory_base;
   top = λ t. top_of map t - memory_base;
   is_code = is_in (code_zone map);
   is_data = is_in (data_zone map);
@@ -45,8 +45,8 @@ abbrev pub HoldCalls : App → (task bytes : ℕ) → Type 0
 HoldCalls app task bytes = (func : ℕ) (outer : List ℕ) → IsCalledBy app task func outer → context_bytes + frame_bytes app func outer ≤ bytes
 
 -- so have each task's bytes
-abbrev pub RoomForCalls : Stacks → Config → App → Type 0
-RoomForCalls stacks config app = (task : ℕ) → task < length config.tasks → HoldCalls app task (bytes_of stacks task)
+abbrev pub RoomForCalls : Bounds → Config → App → Type 0
+RoomForCalls bounds config app = (task : ℕ) → task < length config.tasks → HoldCalls app task (bytes_of bounds task)
 
 -- a block of code lies in the zone of code, at a multiple of 4
 pub record IsInCode (map : Map) (block : Block) : Type 0 where
@@ -58,26 +58,26 @@ pub record IsInCode (map : Map) (block : Block) : Type 0 where
 
 -- what is built fits where the image has zones
 abbrev pub ZonesFit : Type 0
-ZonesFit = (config : Config) (app : App) (map : Map) (stacks : Stacks) (back : ℕ) (memory : List ℕ) → HasZones map config → HasStacks config app stacks map
-    → RoomForCalls stacks config app → HasSymbols map app → back % 4 ≡ 0 → Fits (build_of config app map stacks back memory)
+ZonesFit = (config : Config) (app : App) (map : Map) (bounds : Bounds) (back : ℕ) (memory : List ℕ) → HasZones map config → HasStacks config app bounds map
+    → RoomForCalls bounds config app → HasSymbols map app → back % 4 ≡ 0 → Fits (build_of config app map bounds back memory)
 
 -- the parts of two tasks that may have something there at once are apart
 abbrev pub StacksAreApart : Type 0
-StacksAreApart = (config : Config) (app : App) (map : Map) (stacks : Stacks) (back : ℕ) (memory : List ℕ) → HasZones map config
-    → HasStacks config app stacks map
-    → (t u : ℕ) → t < length config.tasks → u < length config.tasks → u ≢ t → MayMeet config app t u → AreApart (build_of config app map stacks back memory) t u
+StacksAreApart = (config : Config) (app : App) (map : Map) (bounds : Bounds) (back : ℕ) (memory : List ℕ) → HasZones map config
+    → HasStacks config app bounds map
+    → (t u : ℕ) → t < length config.tasks → u < length config.tasks → u ≢ t → MayMeet config app t u → AreApart (build_of config app map bounds back memory) t u
 
 -- every block of a list that is linked is placed
 abbrev pub BlocksArePlaced : Type 0
-BlocksArePlaced = (config : Config) (app : App) (map : Map) (stacks : Stacks) (back : ℕ) (memory : List ℕ) (blocks : List Block) → HasZones map config
+BlocksArePlaced = (config : Config) (app : App) (map : Map) (bounds : Bounds) (back : ℕ) (memory : List ℕ) (blocks : List Block) → HasZones map config
     → All (λ b. All InRange b.code) blocks → All (IsInCode map) blocks → All (BlockStands memory) blocks
-    → All (λ b. IsPlaced (build_of config app map stacks back memory) (b.at - memory_base) b.code) blocks
+    → All (λ b. IsPlaced (build_of config app map bounds back memory) (b.at - memory_base) b.code) blocks
 
 -- every block can run wherever the bytes of code are those that were linked
 abbrev pub BlocksCanRun : Type 0
-BlocksCanRun = (config : Config) (app : App) (map : Map) (stacks : Stacks) (back : ℕ) (memory : List ℕ) (blocks : List Block) (core : Core)
+BlocksCanRun = (config : Config) (app : App) (map : Map) (bounds : Bounds) (back : ℕ) (memory : List ℕ) (blocks : List Block) (core : Core)
     → HasZones map config
-    → HasStacks config app stacks map → RoomForCalls stacks config app → HasSymbols map app → back % 4 ≡ 0 → All (λ b. All InRange b.code) blocks
+    → HasStacks config app bounds map → RoomForCalls bounds config app → HasSymbols map app → back % 4 ≡ 0 → All (λ b. All InRange b.code) blocks
     → All (IsInCode map) blocks → All (BlockStands memory) blocks → All (λ b. 0 < length b.code) blocks → core.controller ≡ true
     → length core.registers ≡ 32 → slice_index core.registers 0 ≡ 0 → length core.pending ≡ 32
     → ((i : ℕ) → is_in (code_zone map) i ≡ true → slice_index core.ram i ≡ slice_index memory i)

@@ -3,7 +3,7 @@
 
 ghost use Rattle.sim_image.specs.Zones.{ZonesFit, StacksAreApart, BlocksArePlaced, BlocksCanRun};
 ghost use Rattle.sim_image.specs.Symbols.{SymbolsAreInData, SymbolsAreIn, SymbolsAreApart};
-ghost use Rattle.sim_image.specs.Standing.{LinkedIsImage, LinkedItemsStand, ItemsArePlaced};
+ghost use Rattle.sim_image.specs.Standing.{LinkedIsImage};
 ghost use Rattle.sim_image.specs.Rooms.{BlocksAreIn, BlocksAreInCode, MarksDiffer};
 ghost use Rattle.sim_image.specs.Generated.{BuiltIsGenerated, BuiltIsInPlace};
 
@@ -45,16 +45,6 @@ pub fn symbols_are_apart()
 /// What is linked is an image of what is built.
 pub fn linked_is_image()
     ensures { LinkedIsImage }
-{}
-
-/// Each item that is one of the blocks stands, with its mark.
-pub fn linked_items_stand()
-    ensures { LinkedItemsStand }
-{}
-
-/// Items that stand are in place in an image that has the names of their functions.
-pub fn items_are_placed()
-    ensures { ItemsArePlaced }
 {}
 
 /// Blocks that fit their extents lie there.

@@ -42,6 +42,7 @@ half_number : (ram : List ℕ) (o : ℕ) → half_at ram o ≡ number_at ram o 2
 unfolding half_at
 half_number ram o = omega arith
 
+-- a word is the number in its four bytes
 pub word_number : (ram : List ℕ) (o : ℕ) → word_at ram o ≡ number_at ram o 4
 unfolding word_at
 word_number ram o =
@@ -69,6 +70,7 @@ load_effect width.Word rd base offset pc x = refl
 load_effect width.ByteU rd base offset pc x = refl
 load_effect width.HalfU rd base offset pc x = refl
 
+-- a load of RAM leaves the number in its bytes, extended as its width says
 pub load_performs : (c : Core) (w : Width) (rd address o word pc : ℕ) → IsPlaceOf w address o
     → perform (Load w rd address) word pc c ≡ goes_on pc (with_register c rd (extended_number w (number_at c.ram o (size_of w))))
 unfolding perform
@@ -76,15 +78,18 @@ load_performs c w rd address o word pc i =
     ap (λ a. unless_refused (refusal (memory_of c) a w) a (goes_on pc (with_register c rd (loaded_number (memory_of c) a w)))) i.is
     ∙ rw (allowed c w o i.aligned i.inside) (ap (λ v. goes_on pc (with_register c rd v)) (gives c w o i.inside))
 
+-- it touches no line
 pub load_quiet : (w : Width) (rd address o : ℕ) → IsPlaceOf w address o → touched_by (Load w rd address) ≡ None
 unfolding touched_by
 load_quiet w rd address o i = let e = i.is in no_line address (omega arith)
 
+-- the same of a load by a register and an offset
 pub load_at : (c : Core) (w : Width) (rd base : ℕ) (offset : ℤ) (o word pc : ℕ) → IsPlaceOf w (plus (slice_index c.registers base) offset) o
     → perform (effect (load w rd base offset) pc c.registers) word pc c ≡ goes_on pc (with_register c rd (extended_number w (number_at c.ram o (size_of w))))
 load_at c w rd base offset o word pc i =
     ap (λ e. perform e word pc c) (load_effect w rd base offset pc c.registers) ∙ load_performs c w rd (plus (slice_index c.registers base) offset) o word pc i
 
+-- which touches no line either
 pub load_at_quiet : (c : Core) (w : Width) (rd base : ℕ) (offset : ℤ) (o pc : ℕ) → IsPlaceOf w (plus (slice_index c.registers base) offset) o
     → touched_by (effect (load w rd base offset) pc c.registers) ≡ None
 load_at_quiet c w rd base offset o pc i =
@@ -103,6 +108,7 @@ half_bytes : (ram : List ℕ) (o value : ℕ) → with_half ram o value ≡ with
 unfolding with_half
 half_bytes ram o value = two ram o _ _ _ _ (omega arith) (omega arith)
 
+-- a word is written as its four bytes
 pub word_bytes : (ram : List ℕ) (o value : ℕ) → with_word ram o value ≡ with_bytes ram o (low_bytes width.Word value)
 unfolding with_word
 word_bytes ram o value = four ram o _ _ _ _ _ _ _ _ _ _ _ _ (omega arith) (omega arith) (omega arith) (omega arith) (omega arith) (omega arith)
@@ -145,6 +151,7 @@ store_at c width.Word rs base offset o word pc i = store_performs c width.Word _
 store_at c width.ByteU rs base offset o word pc i = store_performs c width.Byte _ _ o word pc (record { is = i.is; aligned = i.aligned; inside = i.inside })
 store_at c width.HalfU rs base offset o word pc i = store_performs c width.Half _ _ o word pc (record { is = i.is; aligned = i.aligned; inside = i.inside })
 
+-- a store of RAM touches no line
 pub store_at_quiet : (c : Core) (w : Width) (rs base : ℕ) (offset : ℤ) (o pc : ℕ) → IsPlaceOf w (plus (slice_index c.registers base) offset) o
     → touched_by (effect (store w rs base offset) pc c.registers) ≡ None
 store_at_quiet c width.Byte rs base offset o pc i = store_quiet width.Byte _ _ o i

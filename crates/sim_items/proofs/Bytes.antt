@@ -11,6 +11,7 @@ abbrev pub with_bytes : List ℕ → ℕ → List ℕ → List ℕ
 with_bytes ram o [] = ram
 with_bytes ram o (x ∷ new) = with_bytes (set ram o x) (o + 1) new
 
+-- writing bytes keeps the length
 pub length-with_bytes : (new ram : List ℕ) (o : ℕ) → length (with_bytes ram o new) ≡ length ram
 length-with_bytes [] ram o = refl
 length-with_bytes (x ∷ new) ram o = length-with_bytes new (set ram o x) (o + 1) ∙ length-set ram o x
@@ -77,9 +78,11 @@ replaced new (x ∷ xs) (suc o) l =
 abbrev pub low_bytes : Width → ℕ → List ℕ
 low_bytes w value = bytes_of (size_of w) (value % 2 ^ (8 * size_of w))
 
+-- a width has as many bytes as its size
 pub length-low_bytes : (w : Width) (value : ℕ) → length (low_bytes w value) ≡ size_of w
 length-low_bytes w value = length-bytes_of (size_of w) (value % 2 ^ (8 * size_of w))
 
+-- a symbol's bytes behind a store are those bytes written over
 pub stored_bytes : (w : Width) (bytes : List ℕ) (offset value : ℕ) → offset + size_of w ≤ length bytes → bytes_after_store w bytes offset value ≡ with_bytes bytes offset (low_bytes w value)
 stored_bytes w bytes offset value l =
     let e = length-low_bytes w value in
@@ -92,12 +95,14 @@ abbrev pub number_at : List ℕ → ℕ → ℕ → ℕ
 number_at ram o zero = 0
 number_at ram o (suc n) = get_or ram o 0 + 256 * number_at ram (o + 1) n
 
+-- the number in a part of the bytes is the number there
 pub number_of_part : (bytes : List ℕ) (o n : ℕ) → o + n ≤ length bytes → number_of (take n (drop o bytes)) ≡ number_at bytes o n
 number_of_part bytes o zero l = refl
 number_of_part bytes o (suc n) l =
     ap (λ r. number_of (take (suc n) r)) (drop_more bytes o 0 (omega arith))
     ∙ ap (λ v. get_or bytes o 0 + 256 * v) (number_of_part bytes (o + 1) n (omega arith))
 
+-- bytes that are the same have the same number
 pub number_agrees : (ram bytes : List ℕ) (place : ℕ) → ((k : ℕ) → k < length bytes → get_or ram (place + k) 0 ≡ get_or bytes k 0)
     → (n o : ℕ) → o + n ≤ length bytes → number_at ram (place + o) n ≡ number_at bytes o n
 number_agrees ram bytes place same zero o l = refl

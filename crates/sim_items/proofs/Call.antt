@@ -165,6 +165,7 @@ module _ (b : Build) (view : View) (arrivals : List Arrival) (count : ℕ) (stat
       })
       (omega arith) (let a = item.context.aligned in omega arith)
 
+  -- its first instruction
   pub call_begins : GoesOutside b view arrivals (progress_in b) count state s
   call_begins =
       let a = all in
@@ -463,6 +464,7 @@ module _ (b : Build) (view : View) (arrivals : List Arrival) (count : ℕ) (stat
       call.placed (outside.last_at b view arrivals (progress_in b) count state s here item.frame.func item.frame.item c.done c.pc (omega arith))
       (λ address. call_mark b item.frame.func item.frame.item c.callee address (operation b.app item.frame.func item.frame.item) call.is)
 
+  -- each further one
   pub call_goes_on : GoesOutside b view arrivals (progress_in b) count state s
   call_goes_on =
       let some = c.some in

@@ -30,6 +30,7 @@ jumps_away address words target = Jal 0 (distance (address + 4 * (words + 3)) ta
 abbrev pub last_three : (address words target : ℕ) → List InstrKind
 last_three address words target = links ∷ stores_link words ∷ jumps_away address words target ∷ []
 
+-- the instructions of a call, by the callee's frame
 pub call_expands : (b : Build) (func item callee : ℕ) → operation b.app func item ≡ op.Invoke callee
     → expansion b.app b.places func item ≡ calls (item_address b.places func item) (function b.app callee).frame_words (item_address b.places callee 0)
 call_expands b func item callee is = ap (λ o. operation_code b.app b.places func (item_address b.places func item) (is_long b.places func item) o) is
@@ -77,6 +78,7 @@ at_jump address words target = ap (λ c. lowers words ∷ c) (sym (append_assoc 
 pub behind_store : (words : ℕ) → length (lowers words ∷ (zeros words 0 ++ (links ∷ stores_link words ∷ []))) ≡ words + 3
 behind_store words = let z = zeros_length words 0 in let a = length-append (zeros words 0) (links ∷ stores_link words ∷ []) in omega arith
 
+-- how many they are
 pub call_size : (b : Build) (func item callee : ℕ) → operation b.app func item ≡ op.Invoke callee → length (expansion b.app b.places func item) ≡ 4 + (function b.app callee).frame_words
 call_size b func item callee is =
     ap length (call_expands b func item callee is) ∙ calls_length (item_address b.places func item) (function b.app callee).frame_words (item_address b.places callee 0)

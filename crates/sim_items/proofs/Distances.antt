@@ -23,6 +23,7 @@ use Rattle.sim_items.specs.Place.{HasInstructions, ItemStands}
 pub arrives : (from to : ℕ) → from < 4294967296 → to < 4294967296 → plus from (distance from to) ≡ to
 arrives from to l h = grind (arith, nat_tests, ints)
 
+-- a jump to a whole word goes there
 pub jumps_to : (target : ℕ) (core : Core) → target % 4 ≡ 0 → jumps target core ≡ Going (record { pc = target; core = core })
 jumps_to target core a = rw (eq-eqb (target % 4) 0 a) refl
 
@@ -44,6 +45,7 @@ item_in_ram b view func item h =
 
 -- ---- tests
 
+-- a branch instruction branches where its test holds
 pub test_effect : (kind : BranchKind) (a b : ℕ) (offset : ℤ) (pc : ℕ) (x : List ℕ) → effect (test kind a b offset) pc x ≡ Branch (branch_holds kind (slice_index x a) (slice_index x b)) (plus pc offset)
 test_effect branch.Beq a b offset pc x = refl
 test_effect branch.Bne a b offset pc x = refl
@@ -56,6 +58,7 @@ twice : (x : Bool) → x ≡ not (not x)
 twice true = refl
 twice false = refl
 
+-- the opposite test holds where the test does not
 pub opposite_holds : (kind : BranchKind) (a b : ℕ) → branch_holds (opposite kind) a b ≡ not (branch_holds kind a b)
 opposite_holds branch.Beq a b = refl
 opposite_holds branch.Bne a b = twice (a == b)

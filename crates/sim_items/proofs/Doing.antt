@@ -361,6 +361,7 @@ module _ (b : Build) (state : State) (s : System) (t : ℕ) (fits : Fits b) (k :
       (store_near b.app b.places frame.func address long w rs y index mask) (store_far b.app b.places frame.func address long w rs y index mask) scratch last in
       stores_from (op.StoreAt w rs y index mask) v.0 w rs y masked (lo (symbol_address b.places y)) h.0 inside v.1 v.2 (reaches_masked w y masked inside v.3) (h.0, (h.1, tt)) refl refl
 
+  -- each item of the ten does what it means
   pub does : (o : Op) → IsStraight b.app frame.func o → P o
   does = straight_cases b.app frame.func P (record {
     registers = of_registers;

@@ -34,6 +34,7 @@ use Rattle.sim_items.proofs.Values.{own_meaning}
 module _ (app : App) (func item : ℕ) (P : Op → Type 0)
     (jump : (label : ℕ) → IsFlow app func item (op.Jump label) → P (op.Jump label))
     (branch : (kind : BranchKind) (rs1 rs2 label : ℕ) → IsFlow app func item (op.Branch kind rs1 rs2 label) → P (op.Branch kind rs1 rs2 label)) where
+  -- an item of these is a label, a jump or a branch
   pub flow_cases : (operation : Op) → IsFlow app func item operation → P operation
   flow_cases (op.Jump label) h = jump label h
   flow_cases (op.Branch kind rs1 rs2 label) h = branch kind rs1 rs2 label h
@@ -58,6 +59,7 @@ flow_mark app func item address =
     flow_cases app func item (λ o. mark_of o address func item ≡ record { address = address; kind = mark_kind.Item; a = result_register o; b = func; c = item })
     (λ label h. refl) (λ kind rs1 rs2 label h. refl)
 
+-- none of them has a result
 pub no_result : (app : App) (func item : ℕ) (o : Op) → IsFlow app func item o → result_register o ≡ 0
 no_result app func item = flow_cases app func item (λ o. result_register o ≡ 0) (λ label h. refl) (λ kind rs1 rs2 label h. refl)
 
@@ -365,9 +367,11 @@ module _ (b : Build) (view : View) (fits : Fits b) (state : State) (own : List �
     branch_inner true = inner
     branch_inner false = λ done scratch l. absurd (omega arith)
 
+  -- the last instruction of each
   pub last_of : (long : Bool) (o : Op) → IsFlow b.app frame.func frame.item o → Last long o
   last_of long = flow_cases b.app frame.func frame.item (Last long) (λ label h. of_jump long label h) (λ kind rs1 rs2 label h. branch_last kind rs1 rs2 label h long)
 
+  -- the instruction before the last one, where there is one
   pub inner_of : (long : Bool) (o : Op) → IsFlow b.app frame.func frame.item o → Inner long o
   inner_of long =
       flow_cases b.app frame.func frame.item (Inner long) (λ label h done scratch l. absurd (omega arith)) (λ kind rs1 rs2 label h. branch_inner kind rs1 rs2 label h long)

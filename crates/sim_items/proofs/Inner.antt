@@ -45,6 +45,7 @@ module _ (b : Build) (view : View) (arrivals : List Arrival) (count : ℕ) (stat
       scratch_passes b n s1 t now item (offset + 4 * v.steps) v.registers v.same
       (inl (record { done = item.here.done + v.steps; within = v.within; pc = omega arith; scratch = v.scratch (offset + 4 * v.steps) })))
 
+  -- it is an instruction of a run that shows nothing
   pub inner_outside : IsStraight b.app item.frame.func this → item.here.done + 1 < length (expansion b.app b.places item.frame.func item.frame.item)
       → GoesOutside b view arrivals (progress_in b) count state s
   inner_outside is more =

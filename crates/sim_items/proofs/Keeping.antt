@@ -1,5 +1,5 @@
 -- What an item that writes to RAM leaves there.
-use Rattle.std.proofs.Common.{◌≡◌, ℕ, zero, suc, ◌+◌, ◌*◌, ◌<◌, ◌≤◌, List, [], ◌∷◌, length, get_or, set, refl, sym, ap, ◌∙◌, subst, arith, ⊎_elim, inl, inr, Bool, true, false}
+use Rattle.std.proofs.Common.{◌≡◌, ℕ, zero, suc, ◌+◌, ◌*◌, ◌<◌, ◌≤◌, List, [], ◌∷◌, length, get_or, set, refl, sym, ap, ◌∙◌, subst, arith, ⊎_elim, inl, inr, true, false}
 use Rattle.std.specs.Prelude.{◌⊎◌, slice_index}
 use Rattle.std.proofs.lemmas.Bool.{cases_eq, cases_lt, false_from_ne_true}
 use Rattle.std.proofs.lemmas.List.{get_or-set_same, get_or-set_other, length-set}
@@ -22,6 +22,7 @@ pub record Keeps (b : Build) (old new : List ℕ) (s : System) (t : ℕ) : Type 
   pub code : (i : ℕ) → b.is_code i ≡ true → slice_index new i ≡ slice_index old i
   pub others : OthersKept b old new s t
 
+-- what writes nothing keeps all
 pub same_keeps : (b : Build) (ram : List ℕ) (s : System) (t : ℕ) → Keeps b ram ram s t
 same_keeps b ram s t = record { long = refl; low = λ i x y. refl; code = λ i h. refl; others = λ u h n a i x y. refl }
 
@@ -43,6 +44,7 @@ module _ (b : Build) (fits : Fits b) (old new : List ℕ) (only : (i : ℕ) → 
 
 -- ---- a word of a frame
 
+-- words in place, each by its number
 pub words_at : (ram words : List ℕ) (place k : ℕ) → k < length words → AreWords ram place words → word_at ram (place + 4 * k) ≡ get_or words k 0
 words_at ram [] place k l h = absurd (omega arith)
 words_at ram (w ∷ words) place zero l h = let e : place + 4 * 0 ≡ place = omega arith in ap (word_at ram) e ∙ h.0
@@ -50,6 +52,7 @@ words_at ram (w ∷ words) place (suc k) l h =
     let e : place + 4 * suc k ≡ place + 4 + 4 * k = omega arith in
     ap (word_at ram) e ∙ words_at ram words (place + 4) k (omega arith) h.1
 
+-- words that are there one by one are in place
 pub words_from : (ram words : List ℕ) (place : ℕ) → ((k : ℕ) → k < length words → word_at ram (place + 4 * k) ≡ get_or words k 0) → AreWords ram place words
 words_from ram [] place h = tt
 words_from ram (w ∷ words) place h =
@@ -68,6 +71,7 @@ module _ (b : Build) (fits : Fits b) (ram : List ℕ) (s : System) (t : ℕ) (in
       get_or-with_word ram spot value i
       (⊎_elim (λ (l : i < b.low t). inl (omega arith)) (λ (l : b.top t ≤ i). inr (omega arith)) h)
 
+  -- a word of the task's own part is written: all else stays
   pub part_keeps : Keeps b ram (with_word ram spot value) s t
   part_keeps = record {
     long = length-with_word ram spot value;
@@ -78,6 +82,7 @@ module _ (b : Build) (fits : Fits b) (ram : List ℕ) (s : System) (t : ℕ) (in
         (⊎_elim (λ (l : b.top t ≤ b.low u). inr (omega arith)) (λ (l : b.top u ≤ b.low t). inl (omega arith)) (apart t u inside h (λ e. n (sym e)) alive a));
   }
 
+  -- and so do the bytes of the symbols
   pub part_data : (i : ℕ) → b.is_data i ≡ true → slice_index (with_word ram spot value) i ≡ slice_index ram i
   part_data i d = outside_part i (fits.outside t i inside (inr d))
 
@@ -94,12 +99,15 @@ module _ (b : Build) (fits : Fits b) (ram : List ℕ) (s : System) (t : ℕ) (in
   pub in_part : (b.low t ≤ spot) × (spot + 4 ≤ b.top t)
   in_part = let l = outer_below b ram outer (place + 4 * length frame.words) (b.top t) stood.2 in (omega arith, omega arith)
 
+  -- a word of the frame is written: all else stays
   pub frame_keeps : Keeps b ram new s t
   frame_keeps = part_keeps b fits ram s t inside alive apart spot value in_part.0 in_part.1
 
+  -- so do the symbols
   pub frame_data : (symbols : List (List ℕ)) → DataStands b ram symbols → DataStands b new symbols
   frame_data symbols = data_kept b ram new symbols (part_data b fits ram s t inside alive apart spot value in_part.0 in_part.1)
 
+  -- and the frame has the word
   pub frame_stood : (item : ℕ) → FramesAt b new (record frame { item = item; words = set frame.words word value }) outer place (b.top t)
   frame_stood item =
       let size = length-set frame.words word value in

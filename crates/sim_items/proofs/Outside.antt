@@ -101,6 +101,7 @@ module _ (b : Build) (view : View) (arrivals : List Arrival) (progress : State �
         ap (λ m. events_of_kind m.kind view m (seen_at given count state runs.next)) (is_item (last_address b.app b.places func item))
         ∙ ap (λ u. event.Run u func item result ∷ []) (ap (running_task view.owners.tasks) current ∙ task_is view.owners.tasks t l)
 
+    -- an instruction with a mark shows its event
     pub committed_outside : GoesOutside b view arrivals progress count state s
     committed_outside = (
       runs.next,
@@ -116,6 +117,7 @@ module _ (b : Build) (view : View) (arrivals : List Arrival) (progress : State �
       (placed : ItemStands b view item.frame.func item.frame.item)
       (last : item.here.done + 1 ≡ length (expansion b.app b.places item.frame.func item.frame.item))
       (more : item.frame.item + 1 < length (function b.app item.frame.func).items) where
+    -- the last instruction of an item
     pub item_outside : GoesOutside b view arrivals progress count state s
     item_outside =
         committed_outside t item.current item.frame.func item.frame.item
@@ -150,6 +152,7 @@ module _ (b : Build) (view : View) (arrivals : List Arrival) (progress : State �
     stays : step n ≡ Going n
     stays = ap step n_is ∙ idle.idles.stays idle.offset n.core idle.placed.aligned inside placed ∙ ap Going (sym n_is)
 
+    -- the idle loop
     pub idle_outside : GoesOutside b view arrivals progress count state s
     idle_outside = (
       n,

@@ -37,12 +37,14 @@ use Rattle.sim_items.proofs.Outside as outside
 
 -- ---- the measure
 
+-- behind so many instructions so many are passed
 pub at_done : (address count done : ℕ) → done < count → passed_at address count (address + 4 * done) ≡ done
 at_done address count done h =
     let z : (address + 4 * done - address) / 4 ≡ done = omega arith in
     ap (λ b. cond b ((address + 4 * done - address) / 4) 40)
     (and_from _ _ (le-leb address (address + 4 * done) (omega arith)) (lt-ltb (address + 4 * done) (address + 4 * count) (omega arith))) ∙ z
 
+-- elsewhere the measure has its greatest value
 pub at_none : (address count pc : ℕ) → (pc < address) ⊎ (address + 4 * count ≤ pc) → passed_at address count pc ≡ 40
 at_none address count pc (inl h) = ap (λ b. cond b ((pc - address) / 4) 40) (and_left _ _ (lt-leb address pc h))
 at_none address count pc (inr h) = ap (λ b. cond b ((pc - address) / 4) 40) (and_right _ _ (le-ltb pc (address + 4 * count) h))
@@ -150,6 +152,7 @@ module _ (b : Build) (view : View) (arrivals : List Arrival) (count : ℕ) (stat
     unmarked : mark_at view n.pc ≡ None
     unmarked = ap (mark_at view) pc_is ∙ placed.unmarked done (omega arith)
 
+    -- from the state behind it
     pub passing_outside : GoesOutside b view arrivals (progress_in b) count state s
     passing_outside = (
       next,
@@ -166,6 +169,7 @@ module _ (b : Build) (view : View) (arrivals : List Arrival) (count : ℕ) (stat
       → perform (effect kind (0x8000_0000 + offset) n.core.registers) word (0x8000_0000 + offset) n.core ≡ Going (at (offset + 4 * steps) core_now))
       (quiet : (pc : ℕ) → touched_by (effect kind pc n.core.registers) ≡ None)
       (passes : (offset : ℕ) → 0x8000_0000 + offset ≡ address + 4 * done → Passes b n (at (offset + 4 * steps) core_now) s1 t) where
+    -- from the instruction itself
     pub instruction_outside : GoesOutside b view arrivals (progress_in b) count state s
     instruction_outside =
         let offset = code.offset b view n s1 here.fits now frame.func frame.item placed done pc_is before kind rest expands reached in

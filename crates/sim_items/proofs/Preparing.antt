@@ -80,6 +80,7 @@ module _ (b : Build) (state : State) (own : List ℕ) (frame : Frame) (long : Bo
     unfolding touched_by
     quiet_write pc = ap touched_by (writes pc)
 
+    -- each of the ten items, and each instruction before its last
     pub prepares : Before o done
     prepares = record {
       before = before;
@@ -216,6 +217,7 @@ module _ (b : Build) (state : State) (own : List ℕ) (frame : Frame) (long : Bo
 
   -- ---- all of them
 
+  -- the same, by the item's kind
   pub prepares_straight : (o : Op) → IsStraight b.app frame.func o → P o
   prepares_straight =
       straight_cases b.app frame.func P (record {

@@ -9,6 +9,7 @@ use Rattle.osek_scheduler.specs.Meaning.{register, seen_in}
 use Rattle.osek_scheduler.specs.Meaning as meaning
 use Rattle.sim_items.specs.Place.{IsOwn}
 
+-- a register other than x0 is written
 pub written : (core : Core) (rd value : ℕ) → 0 < rd → with_register core rd value ≡ record core { registers = set core.registers rd value }
 written core zero value h = absurd (omega arith)
 written core (suc rd) value h = refl
@@ -17,6 +18,7 @@ own_written : (own : List ℕ) (rd value : ℕ) → 0 < rd → meaning.with_regi
 own_written own zero value h = absurd (omega arith)
 own_written own (suc rd) value h = refl
 
+-- the task's registers are x5 to x29 of the machine
 pub own_register : (own : List ℕ) (r : ℕ) → 0 < r → register own r ≡ slice_index own (r - 5)
 own_register own zero h = absurd (omega arith)
 own_register own (suc r) h = refl
@@ -43,6 +45,7 @@ pub record Wrote (core own : List ℕ) (rd value : ℕ) (core_now own_now : List
   pub same : (i : ℕ) → i < 25 → slice_index own_now i ≡ slice_index core_now (i + 5)
   pub shows : seen_in rd value ≡ slice_index core_now rd
 
+-- a register that is written in both
 pub wrote : (core : Core) (own : List ℕ) (rd value : ℕ) → length core.registers ≡ 32 → slice_index core.registers 0 ≡ 0 → length own ≡ 25
     → ((i : ℕ) → i < 25 → slice_index own i ≡ slice_index core.registers (i + 5)) → IsOwn rd
     → Wrote core.registers own rd value (with_register core rd value).registers (meaning.with_register own rd value)

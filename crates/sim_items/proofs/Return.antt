@@ -148,6 +148,7 @@ module _ (b : Build) (view : View) (arrivals : List Arrival) (count : ℕ) (stat
       })
       item.context.room item.context.aligned
 
+  -- its first instruction
   pub return_begins : GoesOutside b view arrivals (progress_in b) count state s
   return_begins =
       let a = three in
@@ -316,6 +317,7 @@ module _ (b : Build) (view : View) (arrivals : List Arrival) (count : ℕ) (stat
       back.placed (outside.last_at b view arrivals (progress_in b) count state s here item.frame.func item.frame.item 2 at_pc (omega arith))
       (λ address. return_mark b item.frame.func item.frame.item address (operation b.app item.frame.func item.frame.item) back.is)
 
+  -- each further one
   pub return_goes_on : GoesOutside b view arrivals (progress_in b) count state s
   return_goes_on =
       ⊎_elim (λ (h : (m.pc ≡ from + 4) × FramesAt b ram item.frame item.outer item.place (b.top t)). raise_goes h.1 h.0)

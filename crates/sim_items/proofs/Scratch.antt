@@ -37,6 +37,7 @@ pub record SameRegisters (old new : List ℕ) : Type 0 where
   pub long : length new ≡ length old
   pub same : (i : ℕ) → i < 30 → slice_index new i ≡ slice_index old i
 
+-- it keeps all but x30 and x31
 pub scratch_passes : (b : Build) (n : State) (s : System) (t : ℕ) → Stands b n s → (item : AtItem b n s t) → (offset : ℕ) (registers : List ℕ) → SameRegisters n.core.registers registers
     → InExpansion b (task s t) item.frame (thread_of (at offset (record n.core { registers = registers }))) ⊎ AtBlock b item.frame (thread_of (at offset (record n.core { registers = registers })))
     → Passes b n (at offset (record n.core { registers = registers })) s t

@@ -1,5 +1,5 @@
 -- What an instruction of an item computes is what the item means.
-use Rattle.std.proofs.Common.{◌≡◌, ℕ, ◌-◌, ℤ, pos, negsuc, List, [], ◌∷◌, Bool, true, false, inl, inr, ltb, refl, sym, ap, ◌∙◌, subst, arith}
+use Rattle.std.proofs.Common.{◌≡◌, ℕ, ◌-◌, ℤ, pos, negsuc, List, [], ◌∷◌, true, inl, inr, ltb, refl, sym, ap, ◌∙◌, subst, arith}
 use Rattle.std.specs.Prelude.{slice_index, int_lt, if◌then◌else◌, ◌==◌, ◌&&◌, ◌||◌}
 use Rattle.std.specs.List.{list_all, AllByRecursion}
 use Rattle.std.proofs.lemmas.Bool.{and_from, le-leb, lt-ltb}
@@ -26,6 +26,7 @@ signed_word : (z : ℤ) → Signed 12 z → signed 32 (complement z) ≡ z
 signed_word (pos n) h = signed_pos 32 n n refl (omega (arith, ints))
 signed_word (negsuc n) h = signed_neg 32 (4294967295 - n) n (omega (arith, ints)) (omega (arith, ints))
 
+-- an operation on two registers
 pub register_value : (kind : AluKind) (rd rs1 rs2 pc : ℕ) (x : List ℕ)
     → effect (register_operation kind rd rs1 rs2) pc x ≡ Write rd (register_result kind (slice_index x rs1) (slice_index x rs2))
 register_value alu.Add rd rs1 rs2 pc x = refl
@@ -39,6 +40,7 @@ register_value alu.Sra rd rs1 rs2 pc x = refl
 register_value alu.Or rd rs1 rs2 pc x = refl
 register_value alu.And rd rs1 rs2 pc x = refl
 
+-- an operation on a register and a number
 pub number_value : (kind : ImmKind) (rd rs1 : ℕ) (number : ℤ) (pc : ℕ) (x : List ℕ) → IsNumber kind number
     → effect (number_operation kind rd rs1 number) pc x ≡ Write rd (number_result kind (slice_index x rs1) (complement number))
 number_value imm.Addi rd rs1 number pc x h = refl
@@ -69,6 +71,7 @@ own_tests : (rs : List ℕ) → AreOwn rs → list_all is_own rs ≡ true
 own_tests [] h = refl
 own_tests (r ∷ rs) h = and_from _ _ (own_test r h.0) (own_tests rs h.1)
 
+-- the meaning of an item goes by the task's own registers
 pub own_meaning : (app : App) (operation : Op) (x : List ℕ) (frame : Frame) (outer : List Frame) (symbols : List (List ℕ)) → AreOwn (registers_of operation)
     → meaning app operation x frame outer symbols ≡ execution app operation x frame outer symbols
 own_meaning app operation x frame outer symbols h =

@@ -265,6 +265,7 @@ step_fits state h =
 
 -- ---- arrivals, and lines that are taken
 
+-- arrivals keep the bounds
 pub arrive_fits : (lines : List ℕ) (state : State) → IsBounded state → IsBounded (state_arrive lines state)
 arrive_fits [] state h = h
 arrive_fits (line ∷ lines) state h =
@@ -304,6 +305,7 @@ goes_fits : (o : Next) (count : ℕ) (before next : State) (seen : Step) → out
 goes_fits (Going after) count before next seen e h = let g : after ≡ next = cc in subst IsBounded g h
 goes_fits (Stopped why) count before next seen e h = cc
 
+-- a step keeps them
 pub bounds_stay : (arrivals : List Arrival) (count : ℕ) (state next : State) (seen : Step) → moment arrivals count state ≡ Goes seen next → IsBounded state → IsBounded next
 unfolding advance
 bounds_stay arrivals count state next seen e h =

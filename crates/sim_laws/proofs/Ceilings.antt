@@ -93,6 +93,7 @@ ceiling_level b levels are r small p =
 
 -- ---- a task that takes a resource
 
+-- a task that calls GetResource may have the resource
 pub may_have : (b : Build) → Facts b.config b.app → (levels : Levels) → AreLevels b.config levels → (s : System) (t : ℕ) (call : Call) → Valid b.config b.app s → t < length b.config.tasks
     → IsAt b.app s t (op.Serve call) → call.service ≡ service.GetResource → MayHaveResource b t (task s t) call.object (slice_index levels.ceiling call.object)
 may_have b w levels are s t call v declared at is =

@@ -43,6 +43,7 @@ same_default [] j d e l = absurd (omega arith)
 same_default (m ∷ marks) zero d e l = refl
 same_default (m ∷ marks) (suc j) d e l = same_default marks j d e (omega arith)
 
+-- in a list in order the mark of an address is found
 pub marks_found : (image : Image) (mark : Mark) → AreAscending image.marks → Contains image.marks mark → mark_at (view_of_image image) mark.address ≡ Some mark
 marks_found image mark up h =
     find_first image.marks mark h.0 h.1 h.2
@@ -85,6 +86,7 @@ record InImage (b : Build) (image : Image) (places : Places) (func item : ℕ) :
   adjacent : IsItem b.app func (item + 1) → item_address places func (item + 1) ≡ item_address places func item + 4 * length (expansion b.app places func item)
   marked : Contains image.marks (item_mark b.app places func item)
 
+-- each item stands, with its mark on its last instruction
 pub item_stands : (b : Build) (image : Image) (func item : ℕ) → HasItems b image → IsItem b.app func item → All InRange (expansion b.app b.places func item)
     → ItemStands b (view_of_image image) func item
 item_stands b image func item h is range =

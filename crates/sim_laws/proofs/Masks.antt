@@ -42,6 +42,7 @@ module _ (config : Config) (range : InRange config) where
   operands_small : (s : Service) (object mask : ℕ) → AreOperands config s object mask → mask < 4294967296
   operands_small s object mask is = events_small (has_mask s) mask is.1
 
+-- a call's mask fits into a word
 pub is_word : (b : Build) → Facts b.config b.app → (func item : ℕ) (call : Call) → IsItem b.app func item (op.Serve call) → call.mask < 4294967296
 is_word b w func item call is = operands_small b.config w.in_range.configuration call.service call.object call.mask (w.items func item (op.Serve call) is)
 
@@ -89,5 +90,6 @@ module _ (b : Build) (view : View) (func item : ℕ) (h : CallsService b view fu
     apart = apart 3 (size_is (number_in mask_register h.call.mask) some);
   })
 
+  -- which of the two it is
   pub call_jumps : JumpsToService b func item ⊎ JumpsWithMask b func item
   call_jumps = by (mask_cases h.call.service h.call.mask)

@@ -1,5 +1,5 @@
 -- The task that is entered may have something on its stack beside each task that has something there.
-use Rattle.std.proofs.Common.{◌≡◌, ℕ, ◌<◌, ◌≤◌, ◌⊎◌, Bool, List, [], length, refl, inl, inr, sym, ◌∙◌, subst, arith, true, false, Some}
+use Rattle.std.proofs.Common.{◌≡◌, ℕ, ◌<◌, ◌≤◌, ◌⊎◌, Bool, [], length, refl, inl, inr, sym, ◌∙◌, arith, true, false, Some}
 use Rattle.sloth_base.specs.Choose.{choose}
 use Rattle.sloth_base.specs.Machine.{State}
 use Rattle.stack_bounds.specs.Bounds.{MayMeet}

@@ -1,5 +1,5 @@
 -- The parts of the Active basic tasks lie one below the other, as the tasks were entered.
-use Rattle.std.proofs.Common.{ℕ, ◌<◌, List, [], ◌∷◌, arith}
+use Rattle.std.proofs.Common.{ℕ, List, [], ◌∷◌, arith}
 use Rattle.osek_scheduler.specs.State.{System, task}
 use Rattle.osek_valid.specs.Valid.{Valid}
 use Rattle.osek_valid.specs.Together.{OwesBySchedule}

@@ -17,6 +17,7 @@ use Rattle.rv32_instr.specs.Effect.{effect}
 use Rattle.rv32_instr.proofs.Words.{signed_pos, signed_neg}
 use Rattle.sim_relation.specs.Bounds.{AreBelow}
 
+-- a number that has room keeps a list below its bound
 pub set_below : (bound : ℕ) (xs : List ℕ) (k v : ℕ) → AreBelow bound xs → v < bound → AreBelow bound (set xs k v)
 set_below bound [] k v h l i = h i
 set_below bound (x ∷ xs) zero v h l zero = l
@@ -36,6 +37,7 @@ bit_fits false = omega arith
 negative_fits : (n : ℕ) → complement (negsuc n) < 4294967296
 negative_fits n = omega arith
 
+-- a signed number has room as a word
 pub signed_fits : (n v : ℕ) → v < 2 ^ n → v < 4294967296 → complement (signed n v) < 4294967296
 signed_fits n v h l =
     ⊎_elim (λ (a : v < 2 ^ (n - 1)). subst (λ z. complement z < 4294967296) (sym (signed_pos n v v refl a)) l)
@@ -49,6 +51,7 @@ number_fits (negsuc n) h = negative_fits n
 div_fits : (a d : ℕ) → a < 4294967296 → a / d < 4294967296
 div_fits a d h = let g = div-le_self a d in omega arith
 
+-- a conjunction has room
 pub and_fits : (a b : ℕ) → a < 4294967296 → bit_and a b < 4294967296
 and_fits a b h = let g = and_le_l a b in omega arith
 
@@ -77,6 +80,7 @@ kept_or : (b : Bool) (x : Change) → ChangeFits x → ChangeFits (if b then Kee
 kept_or true x h = tt
 kept_or false x h = h
 
+-- so has what each instruction leaves
 pub effect_fits : (kind : InstrKind) (pc : ℕ) (x : List ℕ) → InRange kind → AreBelow 4294967296 x → EffectFits (effect kind pc x)
 effect_fits (Lui rd imm) pc x r h = let a = r.1 in omega arith
 effect_fits (Auipc rd imm) pc x r h = mod_fits _

@@ -1,6 +1,6 @@
 -- With well-formed task code each event keeps a system valid; what follows from that for the routines.
 use Rattle.std.proofs.Common.{◌≡◌, ℕ, ◌<◌, List, [], ◌++◌, length, refl, sym, ap, ◌∙◌, subst, true, false, inl, inr}
-use Rattle.std.specs.Prelude.{Bool, ◌-◌, ◌⊎◌, get_or, not, ◌&&◌}
+use Rattle.std.specs.Prelude.{◌-◌, ◌⊎◌, get_or, not, ◌&&◌}
 use Rattle.code_rules.specs.Code.{Ends, Pauses}
 use Rattle.std.proofs.Math.ListN.{get_or-map}
 use Rattle.std.proofs.Math.Bool.{and-true}
@@ -14,7 +14,6 @@ use Rattle.sloth_base.specs.Named.{no_symbol}
 use Rattle.code_rules.specs.WellFormed.{WellFormed, held_before}
 use Rattle.osek_scheduler.specs.declared.state.TaskState.TheVariants as mode
 use Rattle.osek_scheduler.specs.State.{Frame, System, task, declaration, opening}
-use Rattle.osek_scheduler.specs.Services.{started_task}
 use Rattle.osek_scheduler.specs.Steps.{IsAt, OsekStep}
 use Rattle.osek_valid.specs.Valid.{Valid, InState, held_by}
 use Rattle.osek_valid.proofs.Apart.{step_apart, opening_apart}
@@ -76,6 +75,7 @@ basic_anew config app s t v declared ready basic = by (subst (InState config t (
 
 -- ---- each step
 
+-- each event keeps a steady system steady
 pub steady_stays : (config : Config) (app : App) → WellFormed config app → (what : Event) (s next : System) → OsekStep config app what s next
     → IsSteady config app s → IsSteady config app next
 steady_stays config app well what s next h k = record {
@@ -84,6 +84,7 @@ steady_stays config app well what s next h k = record {
   owing = step_owes app config (facts config app well) what s next h k.valid k.owing;
 }
 
+-- the system at the start is steady
 pub opening_steady : (config : Config) (app : App) → WellFormed config app → IsSteady config app (opening config app)
 opening_steady config app well = record {
   valid = opening_valid config app;

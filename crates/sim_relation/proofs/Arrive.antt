@@ -37,12 +37,14 @@ line_ready (mode.Waiting w) p e n h = cc
 line_pending : (m : TaskState) (p q e : ℕ) → q ≡ p → IsLineOf m p e → IsLineOf m q e
 line_pending m p q e k h = subst (λ x. IsLineOf m x e) (sym k) h
 
+-- a task is Suspended or not
 pub is_suspended : (m : TaskState) → (m ≡ mode.Suspended) ⊎ (m ≡ mode.Suspended → ⊥)
 is_suspended mode.Suspended = inl refl
 is_suspended mode.Ready = inr (λ e. cc)
 is_suspended mode.Active = inr (λ e. cc)
 is_suspended (mode.Waiting w) = inr (λ e. cc)
 
+-- of a task that is not, the second case of a choice holds
 pub not_suspended : (m : TaskState) (x y : System) → (m ≡ mode.Suspended → ⊥) → if_suspended m x y ≡ y
 not_suspended mode.Suspended x y n = absurd (n refl)
 not_suspended mode.Ready x y n = refl
@@ -144,6 +146,7 @@ module _ (b : Build) (state : State) (s : System) (l : ℕ) (k : Stands b state 
         ready_words ready_tidy in_stack (λ a. absurd cc)
         (λ a. ⊎_elim (λ (x : mode.Ready ≡ mode.Active). absurd cc) (λ (x : (task s l).frames ≢ []). inr x) a))
 
+  -- the relation stands with the line pending and the arrival admitted
   pub arrived_one : Stands b now (admitted_state l s)
   arrived_one =
       ⊎_elim

@@ -11,6 +11,7 @@ use Rattle.sim_relation.specs.Position.{Thread, FramesAt, InExpansion, Position}
 use Rattle.sim_relation.specs.Context.{Context, Rested}
 use Rattle.sim_relation.proofs.Framing.{scratch_first}
 
+-- at the address of an item its expansion has not begun
 pub at_first : (b : Build) (own : Task) (frame : Frame) (th : Thread) → th.pc ≡ item_address b.places frame.func frame.item → InExpansion b own frame th
 at_first b own frame th e = record {
   done = 0;
@@ -19,6 +20,7 @@ at_first b own frame th e = record {
   scratch = scratch_first b own.registers frame (operation b.app frame.func frame.item) th;
 }
 
+-- a task whose pc is that of its next item has its position there
 pub position_first : (b : Build) (ram : List ℕ) (t : ℕ) (own : Task) (th : Thread) (place : ℕ) (frame : Frame) (outer : List Frame)
     → own.frames ≡ frame ∷ outer → own.owed ≡ false → frame.item < length (function b.app frame.func).items
     → th.pc ≡ item_address b.places frame.func frame.item → FramesAt b ram frame outer place (b.top t) → Position b ram t own th place

@@ -41,6 +41,7 @@ pub record StartsAt (ram : List ℕ) (place : ℕ) : Type 0 where
   pub returns : word_at ram place % 4 ≡ 0
   pub level : word_at ram (place + 4) < 256
 
+-- what the chain says of the next context is what a routine needs of it
 pub chain_starts : (b : Build) (ram : List ℕ) (s : System) (stack : List ℕ) (place : ℕ) → Fits b → Falling b s stack → Chain b ram s stack place → StartsAt ram place
 chain_starts b ram s [] place fits f k =
     let p = k.is in

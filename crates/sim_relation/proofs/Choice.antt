@@ -25,9 +25,11 @@ unfolding choose
 choice_is core e =
     subst (λ v. IsChosen (lines_of core) core.ilevel (cond v (choose_line (lines_of core) core.ilevel) None)) (sym e) (choose_line-is (lines_of core) core.ilevel)
 
+-- the line that the machine chooses is one by the definition of the choice
 pub chosen_some : (core : Core) (line : ℕ) → core.controller ≡ true → choose core ≡ Some line → IsChosen (lines_of core) core.ilevel (Some line)
 chosen_some core line h e = subst (IsChosen (lines_of core) core.ilevel) e (choice_is core h)
 
+-- where it chooses none there is none
 pub chosen_none : (core : Core) → core.controller ≡ true → choose core ≡ None → IsChosen (lines_of core) core.ilevel None
 chosen_none core h e = subst (IsChosen (lines_of core) core.ilevel) e (choice_is core h)
 
@@ -121,6 +123,7 @@ module _ (b : Build) (state : State) (s : System) (k : Stands b state s) (few : 
     pub taken_above : (u : ℕ) → is_in u k.stack ≡ true → priority_of b.config s u < (declaration b.config t).priority
     taken_above = above_all b s k.stack k.active.falling t (let l = level_is in let r = runs_level b state s k.stack k.running in omega arith)
 
+    -- the task of the line that is taken is Ready
     pub taken_ready : (task s t).state ≡ mode.Ready
     taken_ready =
         ⊎_elim (λ (a : (task s t).state ≡ mode.Ready). a)
@@ -144,6 +147,7 @@ module _ (b : Build) (state : State) (s : System) (k : Stands b state s) (few : 
         (λ (a : (declaration b.config u).priority ≤ (declaration b.config t).priority). a)
         (cases_lt (declaration b.config t).priority (declaration b.config u).priority)
 
+    -- it is the top task
     pub taken_top : IsTop b.config s [] t
     taken_top = record {
       declared = is_task;

@@ -13,9 +13,11 @@ use Rattle.sim_relation.specs.Framing.{Agree, IdleKept, SameThread, SamePart}
 use Rattle.std.specs.List.{AllByRecursion}
 use Rattle.sim_relation.proofs.Framing.{word_kept, position_kept, position_below}
 
+-- a context lies below the top of its task's part of the stacks
 pub context_below : (b : Build) (ram : List ℕ) (t : ℕ) (own : Task) (th : Thread) (place : ℕ) → Context b ram t own th place → place ≤ b.top t
 context_below b ram t own th place k = position_below b ram t own th place k.position
 
+-- a context stands where its task, its thread and its bytes are the same
 pub context_same : (b : Build) (old new : List ℕ) (t : ℕ) (own next : Task) (th now : Thread) (place : ℕ)
     → next ≡ own → SameThread th now → Agree old new place (b.top t) → Context b old t own th place → Context b new t next now place
 context_same b old new t own next th now place e s g k =
@@ -38,6 +40,7 @@ saved_same old new place a = record {
   x = λ i l h. word_kept old new place (place + 128) (place + 4 * i) a (omega arith) (omega arith);
 }
 
+-- the same of the context of a task below another, and its thread as the context has it
 pub context_kept : (b : Build) (old new : List ℕ) (s next : System) (t place : ℕ) → SamePart b old new s next t
     → Context b old t (task s t) (thread_at old place) (place + 128) → Context b new t (task next t) (thread_at new place) (place + 128)
 context_kept b old new s next t place p k =
@@ -47,6 +50,7 @@ context_kept b old new s next t place p k =
     (saved_same old new place (λ i l h. p.bytes i (omega arith) (omega arith)))
     (λ i l h. p.bytes i (omega arith) (omega arith)) k
 
+-- and so does a context that is saved, or none
 pub saved_kept : (b : Build) (old new : List ℕ) (s next : System) (t place : ℕ) → SamePart b old new s next t → Saved b old s t place → Saved b new next t place
 saved_kept b old new s next t place p k =
     let low = k.context.room in

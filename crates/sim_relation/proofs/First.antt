@@ -26,17 +26,22 @@ module _ (b : Build) (state : State) (s : System) (t : ℕ) (fits : Fits b) (k :
   pub first_of : (below : List ℕ) × (k.stack ≡ t ∷ below)
   first_of = by_stack k.stack refl
 
+  -- a step of the running task keeps the relation
   pub steps_keep : (now : State) (own : Task) (symbols : List (List ℕ)) → TaskStep b state now s t own symbols → Stands b now (moved_to s t own symbols)
   steps_keep now own symbols step = task_steps b state now s k fits t first_of.0 first_of.1 own symbols step
 
+  -- a move of it does
   pub moves_keep : (now : State) (own : Task) (symbols : List (List ℕ)) → TaskMove b state now s t own symbols → Stands b now (moved_to s t own symbols)
   moves_keep now own symbols step = task_moves b state now s k t first_of.0 first_of.1 own symbols step
 
+  -- so does a task that leaves the processor
   pub leaves_keep : (now : State) (own : Task) (place : ℕ) → TaskLeave b state now s t own place → Stands b now (settled_state (with_task s t own))
   leaves_keep now own place leave = leave_stands b state now s k fits t first_of.0 first_of.1 own place leave
 
+  -- the running task runs, by the relation
   pub runs_task : RunsTask b state s t first_of.0
   runs_task = subst (Running b state s) first_of.1 k.running
 
+  -- the context of what runs below it
   pub below_found : (place : ℕ) × IsBelow place state.core
   below_found = (runs_task.next, is_below b state s t first_of.0 fits (subst (AreActive b s) first_of.1 k.active) runs_task)

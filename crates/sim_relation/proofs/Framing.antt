@@ -12,9 +12,11 @@ use Rattle.sim_relation.specs.Build.{Build}
 use Rattle.sim_relation.specs.Position.{Thread, AreWords, OuterAt, FramesAt, HasIndexed, HasFarIndexed, HasAddress, HasTarget, HasScratch, InExpansion, AtBlock, Standing, Owing, Calling, Returning, Position}
 use Rattle.sim_relation.specs.Framing.{Agree, SamePlace}
 
+-- a word is the same where the bytes around it are
 pub word_kept : (old new : List ℕ) (from to place : ℕ) → Agree old new from to → from ≤ place → place + 4 ≤ to → word_at new place ≡ word_at old place
 word_kept old new from to place a l h = word_at-agree new old place (λ i x y. a i (omega arith) (omega arith))
 
+-- so are words one behind the other
 pub words_kept : (old new : List ℕ) (from to : ℕ) → Agree old new from to → (words : List ℕ) (place : ℕ) → from ≤ place → place + 4 * length words ≤ to
     → AreWords old place words → AreWords new place words
 words_kept old new from to a [] place l h w = tt
@@ -23,11 +25,13 @@ words_kept old new from to a (x ∷ words) place l h w = (
   words_kept old new from to a words (place + 4) (omega arith) (omega arith) w.1,
 )
 
+-- the frames of callers lie below the top
 pub outer_below : (b : Build) (ram : List ℕ) (outer : List Frame) (place top : ℕ) → OuterAt b ram outer place top → place ≤ top
 outer_below b ram [] place top h = omega arith
 outer_below b ram (frame ∷ outer) place top h =
     let below = outer_below b ram outer (place + 4 + 4 * length frame.words) top h.3 in omega arith
 
+-- they stand where their bytes are the same
 pub outer_kept : (b : Build) (old new : List ℕ) (from top : ℕ) → Agree old new from top → (outer : List Frame) (place : ℕ) → from ≤ place
     → OuterAt b old outer place top → OuterAt b new outer place top
 outer_kept b old new from top a [] place l h = h
@@ -39,12 +43,14 @@ outer_kept b old new from top a (frame ∷ outer) place l h =
       outer_kept b old new from top a outer (place + 4 + 4 * length frame.words) (omega arith) h.3,
     )
 
+-- so do all frames of a task
 pub frames_kept : (b : Build) (old new : List ℕ) (from top : ℕ) → Agree old new from top → (frame : Frame) (outer : List Frame) (place : ℕ) → from ≤ place
     → FramesAt b old frame outer place top → FramesAt b new frame outer place top
 frames_kept b old new from top a frame outer place l h =
     let below = outer_below b old outer (place + 4 * length frame.words) top h.2 in
     (h.0, words_kept old new from top a frame.words place l (omega arith) h.1, outer_kept b old new from top a outer (place + 4 * length frame.words) (omega arith) h.2)
 
+-- all frames of a task lie below the top
 pub frames_below : (b : Build) (ram : List ℕ) (frame : Frame) (outer : List Frame) (place top : ℕ) → FramesAt b ram frame outer place top → place ≤ top
 frames_below b ram frame outer place top h = let below = outer_below b ram outer (place + 4 * length frame.words) top h.2 in omega arith
 
@@ -175,6 +181,7 @@ module _ (b : Build) (ram new : List ℕ) (t : ℕ) (own : Task) (old now : Thre
         p.here;
   }
 
+  -- a task's position stands where its bytes, its thread and what its record says of it are the same
   pub position_kept : Position b ram t own old place → Position b new t own now place
   position_kept p = record {
     frame = p.frame;

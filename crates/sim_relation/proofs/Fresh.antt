@@ -28,6 +28,7 @@ start_priority config t own h r =
     ∙ ap (λ (x : Bool). max p (max 0 (cond x (highest_priority config) 0))) r
     ∙ by_scheduling p (highest_priority config) (greatest_holds config.tasks t) (declaration config t).non
 
+-- a task of higher priority may go on top of the stack
 pub falling_cons : (b : Build) (s : System) (t : ℕ) (stack : List ℕ) → IsActive b s t
     → ((u : ℕ) → is_in u stack ≡ true → priority_of b.config s u < (declaration b.config t).priority) → Falling b s stack → Falling b s (t ∷ stack)
 falling_cons b s t [] a h f = a

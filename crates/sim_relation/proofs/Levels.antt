@@ -22,6 +22,7 @@ one_more g p q h =
     (λ (b : g ≤ p). let d : g ≤ q = omega arith in rw (le-leb g p b, le-leb g q d) (omega arith))
     (cases_lt p g)
 
+-- a higher priority has at least as many tasks below it
 pub levels_in-mono : (ds : List TaskDecl) (p q : ℕ) → p ≤ q → levels_in ds p ≤ levels_in ds q
 levels_in-mono [] p q h = omega arith
 levels_in-mono (d ∷ ds) p q h =
@@ -34,6 +35,7 @@ levels_in-mono (d ∷ ds) p q h =
 counts_itself : (g p : ℕ) → p < g → cond (leb g p) 1 0 + 1 ≤ cond (leb g g) 1 0
 counts_itself g p h = rw (lt-leb g p h, le-leb g g (omega arith)) (omega arith)
 
+-- and one more, where a task stands between the two
 pub levels_in-below : (ds : List TaskDecl) (t p : ℕ) → t < length ds → p < (get_or ds t undeclared).priority
     → levels_in ds p < levels_in ds (get_or ds t undeclared).priority
 levels_in-below [] t p l h = absurd (omega arith)
@@ -51,9 +53,11 @@ levels_in-below (d ∷ ds) (suc t) p l h =
     let e = levels_in-cons d ds q in
     omega arith
 
+-- the level of a higher priority is no lower
 pub level_of-mono : (config : Config) (p q : ℕ) → p ≤ q → level_of config p ≤ level_of config q
 level_of-mono config p q h = levels_in-mono config.tasks p q h
 
+-- the level of a priority below a task's is below that of the task
 pub level_of-below : (config : Config) (t p : ℕ) → t < length config.tasks → p < (declaration config t).priority
     → level_of config p < level_of config (declaration config t).priority
 level_of-below config t p l h = levels_in-below config.tasks t p l h
@@ -85,6 +89,7 @@ above_from config t p h =
     (λ (b : (declaration config t).priority ≤ p). absurd (let m = level_of-mono config (declaration config t).priority p b in omega arith))
     (cases_lt p (declaration config t).priority)
 
+-- so levels in order have their priorities in order
 pub at_most_from : (config : Config) (t p : ℕ) → t < length config.tasks → level_of config (declaration config t).priority ≤ level_of config p
     → (declaration config t).priority ≤ p
 at_most_from config t p l h =

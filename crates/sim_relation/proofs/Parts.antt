@@ -25,9 +25,11 @@ use Rattle.sim_relation.proofs.Tops.{is_in-head, is_in-tail}
 
 -- ---- one task's record
 
+-- another task's record stays
 pub other_task : (s : System) (t u : ℕ) (new : Task) → u ≢ t → task (with_task s t new) u ≡ task s u
 other_task s t u new h = get_or-set_other s.tasks t u new sleeping_task h
 
+-- the task's own record is the new one
 pub this_task : (s : System) (t : ℕ) (new : Task) → t < length s.tasks → task (with_task s t new) t ≡ new
 this_task s t new h = get_or-set_same s.tasks t new sleeping_task h
 
@@ -42,6 +44,7 @@ by_task P s t new l here other u =
 
 -- ---- the line of a task
 
+-- what a line says of its task's state goes by its two bytes
 pub line_same : (m : TaskState) (p q a d : ℕ) → q ≡ p → d ≡ a → IsLineOf m p a → IsLineOf m q d
 line_same m p q a d e f h = subst (λ x. IsLineOf m x d) (sym e) (subst (λ x. IsLineOf m p x) (sym f) h)
 
@@ -56,6 +59,7 @@ line_active (mode.Waiting w) p a e h = cc
 active_kept : (b : Build) (s next : System) (t : ℕ) → task next t ≡ task s t → IsActive b s t → IsActive b next t
 active_kept b s next t e f = record { declared = f.declared; active = ap (λ v. v.state) e ∙ f.active }
 
+-- priorities fall along the stack where its tasks are as before
 pub falling_kept : (b : Build) (s next : System) (stack : List ℕ) → ((u : ℕ) → is_in u stack ≡ true → task next u ≡ task s u) → Falling b s stack → Falling b next stack
 falling_kept b s next [] e f = tt
 falling_kept b s next (t ∷ []) e f = active_kept b s next t (e t (is_in-head t [])) f
@@ -66,6 +70,7 @@ falling_kept b s next (t ∷ u ∷ below) e f = (
   falling_kept b s next (u ∷ below) (λ v h. e v (is_in-tail t v (u ∷ below) h)) f.2,
 )
 
+-- what holds of each task of the stack, along it
 pub each_from : (P : ℕ → Type 0) (stack : List ℕ) → ((u : ℕ) → is_in u stack ≡ true → P u) → AllByRecursion P stack
 each_from P [] h = tt
 each_from P (t ∷ below) h = (h t (is_in-head t below), each_from P below (λ u k. h u (is_in-tail t u below k)))
@@ -99,6 +104,7 @@ running_tasks b state now s next (t ∷ below) p x r l e k =
 
 -- ---- service words
 
+-- the saved levels stand where their words are the same
 pub held_kept : (b : Build) (old new : List ℕ) (priority : ℕ) (held : List ℕ)
     → ((r : ℕ) → is_in r held ≡ true → word_at new (saved_level r) ≡ word_at old (saved_level r)) → HeldWords b old priority held → HeldWords b new priority held
 held_kept b old new priority [] e h = tt
@@ -122,6 +128,7 @@ rested_kept b old new t own frame outer place e a k =
       aligned = k.aligned;
     }
 
+-- a task's word of its own context stands where it and the context are the same
 pub resumes_kept : (b : Build) (old new : List ℕ) (t : ℕ) (own : Task) (a : Bool) (frames : List Frame)
     → word_at new (resume t) ≡ word_at old (resume t) → (a ≡ false → frames ≢ [] → Agree old new (b.low t) (b.top t)) → Resumes b old t own a frames → Resumes b new t own a frames
 resumes_kept b old new t own true frames e g h = e ∙ h
@@ -152,11 +159,13 @@ word_other ram place value other a c h =
 
 -- ---- a task that starts anew
 
+-- a task with no frames has 0 as the word of its own context
 pub rests : (b : Build) (ram : List ℕ) (t : ℕ) (own : Task) (a : Bool) (frames : List Frame) → frames ≡ [] → Resumes b ram t own a frames → word_at ram (resume t) ≡ 0
 rests b ram t own true frames e h = h
 rests b ram t own false [] e h = h
 rests b ram t own false (frame ∷ outer) e h = cc
 
+-- and 0 is right there
 pub anew : (b : Build) (ram : List ℕ) (t : ℕ) (own : Task) (a : Bool) (frames : List Frame) → frames ≡ [] → word_at ram (resume t) ≡ 0 → Resumes b ram t own a frames
 anew b ram t own true frames e h = h
 anew b ram t own false [] e h = h

@@ -15,6 +15,7 @@ use Rattle.sim_relation.specs.Placed.{IsPlaced}
 use Rattle.sim_relation.specs.Stands.{Stands, IsActive, AreActive}
 use Rattle.sim_relation.proofs.Tops.{falling_head}
 
+-- code in place stands where its bytes are the same
 pub in_place-agree : (old new : List ℕ) (code : List InstrKind) (offset : ℕ) → ((i : ℕ) → offset ≤ i → i < offset + 4 * length code → slice_index new i ≡ slice_index old i)
     → InPlace old offset code → InPlace new offset code
 in_place-agree old new [] offset same h = tt
@@ -28,9 +29,11 @@ pub placed_in : (b : Build) (ram : List ℕ) (offset : ℕ) (code : List InstrKi
     → IsPlaced b offset code → InPlace ram offset code
 placed_in b ram offset code same p = in_place-agree b.memory ram code offset (λ i a c. same i (p.is_code i a c)) p.placed
 
+-- code stands behind the service words
 pub code_behind : (b : Build) (offset : ℕ) (code : List InstrKind) → Fits b → 0 < length code → IsPlaced b offset code → 1024 ≤ offset
 code_behind b offset code fits some p = fits.elsewhere offset (inl (p.is_code offset (omega arith) (omega arith)))
 
+-- the task that the word names is the first of the stack
 pub first_by_word : (b : Build) (state : State) (s : System) (t : ℕ) (stack : List ℕ) → Running b state s stack → word_at state.core.ram cur ≡ t + 1
     → (below : List ℕ) × (stack ≡ t ∷ below)
 first_by_word b state s t [] run h = let a = run.current in absurd (omega arith)

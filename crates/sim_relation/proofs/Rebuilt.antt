@@ -47,6 +47,7 @@ other_kept b old new s t u fits declared h n tidy named stack k =
 
 -- ---- the relation
 
+-- a task that is declared has a record
 pub among : (b : Build) (state : State) (s : System) (t : ℕ) → Stands b state s → t < length b.config.tasks → t < length s.tasks
 among b state s t k h = let v = k.tidy.tasks in omega arith
 
@@ -107,6 +108,7 @@ module _ (b : Build) (old now : State) (s : System) (k : Stands b old s) (t : �
       (λ i z c. swapped b t x (r.apart x h m a c))
       (λ v o i z c. k.apart x v h i z a c) u l n)
 
+  -- the relation, from its parts
   pub rebuilt : Stands b now next
   rebuilt = record {
     stack = stack;

@@ -25,6 +25,7 @@ outer_top b ram (frame ∷ outer) place top h =
     let words = h.1 in
     omega arith
 
+-- the frames of a task reach from its x2 up to the top of its part
 pub frames_top : (b : Build) (ram : List ℕ) (frame : Frame) (outer : List Frame) (place top : ℕ) → FramesAt b ram frame outer place top
     → place + frame_bytes b.app frame.func (funcs_of outer) ≡ top
 frames_top b ram frame outer place top h =

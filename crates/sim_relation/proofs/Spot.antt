@@ -18,6 +18,7 @@ abbrev pub is_first : List ℕ → ℕ → Bool
 is_first [] u = false
 is_first (t ∷ below) u = eqb t u
 
+-- the first of the stack is in it
 pub is_first_in : (stack : List ℕ) (u : ℕ) → is_first stack u ≡ true → is_in u stack ≡ true
 is_first_in [] u h = cc
 is_first_in (t ∷ below) u h = or_left (eqb t u) (is_in u below) h
@@ -31,6 +32,7 @@ pub record Spot (b : Build) (s : System) (stack : List ℕ) (place : ℕ) : Type
   -- of the tasks that have something on their stacks only the running one has it in its part
   pub apart : (u : ℕ) → u < length b.config.tasks → IsAlive (task s u) → is_first stack u ≡ false → (b.top u ≤ place) ⊎ (place + 128 ≤ b.low u)
 
+-- the context has room where it is to be saved
 pub spot : (b : Build) (state : State) (s : System) (stack : List ℕ) (place : ℕ) → Fits b → StacksApart b s → Falling b s stack
     → slice_index state.core.registers 2 ≡ 0x8000_0000 + (place + 128) → Running b state s stack → Spot b s stack place
 spot b state s [] place fits apart f x k =

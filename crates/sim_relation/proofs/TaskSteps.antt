@@ -25,10 +25,12 @@ same_current config d own new h r =
     ap (λ (x : List ℕ). max d.priority (max (greatest (map (ceiling config) x)) (cond new.raised (highest_priority config) 0))) h
     ∙ ap (λ (x : Bool). max d.priority (max (greatest (map (ceiling config) own.held)) (cond x (highest_priority config) 0))) r
 
+-- an Active task has 0 as the word of its own context
 pub active_resumes : (b : Build) (ram : List ℕ) (t : ℕ) (own : Task) (a : Bool) (frames : List Frame) → a ≡ true → Resumes b ram t own a frames → word_at ram (resume t) ≡ 0
 active_resumes b ram t own true frames e h = h
 active_resumes b ram t own false frames e h = cc
 
+-- and 0 is right there
 pub resumes_active : (b : Build) (ram : List ℕ) (t : ℕ) (own : Task) (a : Bool) (frames : List Frame) → a ≡ true → word_at ram (resume t) ≡ 0 → Resumes b ram t own a frames
 resumes_active b ram t own true frames e h = h
 resumes_active b ram t own false frames e h = cc

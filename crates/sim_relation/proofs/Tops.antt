@@ -9,25 +9,32 @@ use Rattle.sim_induction.specs.Mirror.{priority_of}
 use Rattle.sim_relation.specs.Build.{Build}
 use Rattle.sim_relation.specs.Stands.{IsActive, Falling, AreActive}
 
+-- a task's current priority is at least its own
 pub static_le : (config : Config) (s : System) (t : ℕ) → (declaration config t).priority ≤ priority_of config s t
 static_le config s t = omega arith
 
+-- the rank of an Active task, by its current priority
 pub rank_active : (config : Config) (s : System) (t : ℕ) → (task s t).state ≡ mode.Active → rank config s t ≡ 2 * priority_of config s t + 1
 rank_active config s t e = ap (λ m. cond (is_active m) (2 * priority_of config s t + 1) (2 * (declaration config t).priority)) e
 
+-- the rank of a Ready task, by its own priority
 pub rank_ready : (config : Config) (s : System) (t : ℕ) → (task s t).state ≡ mode.Ready → rank config s t ≡ 2 * (declaration config t).priority
 rank_ready config s t e = ap (λ m. cond (is_active m) (2 * priority_of config s t + 1) (2 * (declaration config t).priority)) e
 
+-- the first of a list is in it
 pub is_in-head : (t : ℕ) (below : List ℕ) → is_in t (t ∷ below) ≡ true
 is_in-head t below = or_left (eqb t t) (is_in t below) (eq-eqb t t refl)
 
+-- what is in the rest of a list is in it
 pub is_in-tail : (t u : ℕ) (below : List ℕ) → is_in u below ≡ true → is_in u (t ∷ below) ≡ true
 is_in-tail t u below h = or_right (eqb t u) (is_in u below) h
 
+-- priorities fall along the rest of the stack
 pub falling_tail : (b : Build) (s : System) (t : ℕ) (below : List ℕ) → Falling b s (t ∷ below) → Falling b s below
 falling_tail b s t [] f = tt
 falling_tail b s t (u ∷ below) f = f.2
 
+-- the first of the stack is Active
 pub falling_head : (b : Build) (s : System) (t : ℕ) (below : List ℕ) → Falling b s (t ∷ below) → IsActive b s t
 falling_head b s t [] f = f
 falling_head b s t (u ∷ below) f = f.0
@@ -46,6 +53,7 @@ below_first b s t (v ∷ below) f u h =
     omega arith)
     (or_cases (eqb v u) (is_in u below) h)
 
+-- none of the stack has a higher rank than its first
 pub first_most : (b : Build) (s : System) (t : ℕ) (below : List ℕ) → Falling b s (t ∷ below) → (u : ℕ) → is_in u (t ∷ below) ≡ true
     → priority_of b.config s u ≤ priority_of b.config s t
 first_most b s t below f u h =
@@ -65,10 +73,12 @@ not_below b s t below f =
     (λ (h : is_in t below ≡ false). h)
     (cases_Bool (is_in t below))
 
+-- a task below the first is another
 pub below_other : (b : Build) (s : System) (t : ℕ) (below : List ℕ) → Falling b s (t ∷ below) → (u : ℕ) → is_in u below ≡ true → u ≢ t
 below_other b s t below f u h e =
     let a = not_below b s t below f in let c : is_in t below ≡ true = subst (λ v. is_in v below ≡ true) e h in cc
 
+-- each task of the stack is Active
 pub falling_active : (b : Build) (s : System) (stack : List ℕ) → Falling b s stack → (u : ℕ) → is_in u stack ≡ true → IsActive b s u
 falling_active b s [] f u h = cc
 falling_active b s (t ∷ below) f u h =

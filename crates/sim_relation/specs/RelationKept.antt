@@ -70,7 +70,8 @@ ChangesKeep = (b : Build) (old now : State) (s : System) (t : ℕ) (state : Task
 
 -- the entry of the task whose line is taken
 abbrev pub EntriesKeep : Type 0
-EntriesKeep = (b : Build) (old now : State) (s : System) (t : ℕ) (own : Task) (place : ℕ) → Fits b → Stands b old s → t < length b.config.tasks → choose old.core ≡ Some t
+EntriesKeep = (b : Build) (old now : State) (s : System) (t : ℕ) (own : Task) (place : ℕ) → Fits b → Stands b old s
+    → t < length b.config.tasks → choose old.core ≡ Some t
     → TaskEntry b old now s t own place → Stands b now (settled_state (with_task s t own))
 
 -- the context of what runs below it is where a routine looks for it

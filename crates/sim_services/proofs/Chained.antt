@@ -94,6 +94,7 @@ module _ (b : Build) (state : State) (s : System) (t : ℕ) (own : Task) (object
           leaves_so b state s t own service.ChainTask is fits touched end u t touches names (activated_state (ended_state t s) u) answer_is
           (subst (λ x. Stands b x (settled_state (activated_state (ended_state t s) u))) (sym raised) (readied b middle after over u in_range few asleep)) gone
 
+    -- the caller ends, and the chained task is activated
     pub chains : Answers b s t service.ChainTask touched end
     chains =
         ⊎_elim
@@ -110,6 +111,7 @@ module _ (b : Build) (state : State) (s : System) (t : ℕ) (own : Task) (object
 
   -- ---- the caller goes on
 
+  -- the chained task is not Suspended: the status alone
   pub refuses : HasNotChained object t touched state end → Answers b s t service.ChainTask touched end
   refuses h =
       answers_status b state s t own service.ChainTask is fits touched end object object
@@ -117,6 +119,7 @@ module _ (b : Build) (state : State) (s : System) (t : ℕ) (own : Task) (object
       names may.goes_on.followed h.back E_OS_LIMIT h.status
       (of_other h.other ∙ second_outcome (task s object).state other_first other_second (λ e. h.not_suspended (looks b state s k object declared e)))
 
+-- whichever of the two it is
 pub chain_answers : (b : Build) (state : State) (s : System) (t : ℕ) (own : Task) (object place : ℕ) (touched : List ℕ) (end : State) → Fits b
     → MayChainTo b state s t own object place → Chained object t place touched state end → Answers b s t service.ChainTask touched end
 chain_answers b state s t own object place touched end fits may effect =

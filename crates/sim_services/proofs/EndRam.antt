@@ -67,5 +67,6 @@ module _ (old : List ℕ) (t current link : ℕ) (long : length old ≡ 0x20_000
   link_word : word_at new below_word ≡ link
   link_word = let l = long3 in word_at-same third below_word link (omega arith) link_in
 
+  -- those four words, and no other byte
   pub end_ram : EndRam old new t current link
   end_ram = record { long = long4; high = high; named = named; activity = activity; event_mask = event_mask; current_word = current_word; link_word = link_word }

@@ -2,7 +2,6 @@
 use Rattle.std.proofs.Common.{◌≡◌, ℕ, ◌+◌, ◌<◌, List, [], ◌∷◌, length, refl, sym, ap, ◌∙◌, subst, arith, false}
 use Rattle.std.specs.Prelude.{slice_index}
 use Rattle.std.proofs.lemmas.List.{get_or-set_same, get_or-set_other, length-set}
-use Rattle.sloth_base.specs.declared.event.Event.TheVariants as event
 use Rattle.sloth_base.specs.declared.service.Service.{Service}
 use Rattle.sloth_base.specs.Machine.{State}
 use Rattle.sloth_region.specs.Layout.{cur, resume}
@@ -14,10 +13,8 @@ use Rattle.osek_scheduler.specs.State.{Task, System, task, zero_registers}
 use Rattle.osek_scheduler.specs.Priority.{is_active}
 use Rattle.osek_scheduler.specs.Services.{ended_state}
 use Rattle.osek_scheduler.specs.Steps.{settled_state}
-use Rattle.sloth_base.specs.declared.app.Op.TheVariants as op
 use Rattle.sim_induction.proofs.Passing.{not_suspended}
 use Rattle.sim_relation.specs.Build.{Build, Fits}
-use Rattle.sim_relation.specs.Context.{RunsTask, Running}
 use Rattle.sim_relation.specs.ServiceWords.{ServiceWords, HeldWords, base_priority}
 use Rattle.sim_relation.specs.Stands.{Stands, IsActive, AreActive, IsLineOf}
 use Rattle.sim_relation.specs.Moves.{TaskLeave}

@@ -95,6 +95,7 @@ module _ (b : Build) (view : View) (arrivals : List Arrival) (count : ℕ) (stat
   abbrev found : System
   found = with_admits (lines_at arrivals count) s
 
+  -- GetTaskID
   pub tells_stretches : OpensGoingOn b view start found t service.GetTaskID (λ object. TellsTask) → Stretches b view arrivals count state s
   tells_stretches o =
       let block = o.opens.block in
@@ -105,6 +106,7 @@ module _ (b : Build) (view : View) (arrivals : List Arrival) (count : ℕ) (stat
       (λ place lines touched s2 end can may effect.
       tells b (state_arrive lines start) s2 t (task found t) o.opens.opening.block.call.object touched end fits may effect)
 
+  -- GetTaskState
   pub states_stretches : OpensGoingOn b view start found t service.GetTaskState TellsState → Stretches b view arrivals count state s
   states_stretches o =
       let block = o.opens.block in
@@ -125,6 +127,7 @@ module _ (b : Build) (view : View) (arrivals : List Arrival) (count : ℕ) (stat
       }))
       (λ place lines touched s2 end can may effect. tells_state b (state_arrive lines start) s2 t (task found t) object touched end fits may effect)
 
+  -- ActivateTask
   pub activates_stretches : OpensGoingOn b view start found t service.ActivateTask Activates → Stretches b view arrivals count state s
   activates_stretches o =
       let block = o.opens.block in
@@ -143,6 +146,7 @@ module _ (b : Build) (view : View) (arrivals : List Arrival) (count : ℕ) (stat
       }))
       (λ place lines touched s2 end can may effect. activates b (state_arrive lines start) s2 t (task found t) object touched end fits may effect)
 
+  -- ChainTask, which may end its caller too
   pub chain_stretches : OpensChainTask b view start found t → Stretches b view arrivals count state s
   chain_stretches o =
       let block = o.goes_on.opens.block in
@@ -167,6 +171,7 @@ module _ (b : Build) (view : View) (arrivals : List Arrival) (count : ℕ) (stat
       chain_answers b (state_arrive lines start) s2 t (task found t) object place touched end fits
       (record { goes_on = may; holds_nothing = o.holds_nothing; below = can.below.is }) effect)
 
+  -- GetResource
   pub takes_stretches : (level : ℕ) → OpensGetResource b view start found t level → Stretches b view arrivals count state s
   takes_stretches level o =
       let block = o.goes_on.opens.block in
@@ -177,6 +182,7 @@ module _ (b : Build) (view : View) (arrivals : List Arrival) (count : ℕ) (stat
       (record { goes_back = can.goes_back; is_resource = let l = o.may.is_resource in omega arith; level = can.level }))
       (λ place lines touched s2 end can may effect. takes b (state_arrive lines start) s2 t (task found t) object level touched end fits may o.may effect)
 
+  -- ReleaseResource
   pub releases_stretches : OpensGoingOn b view start found t service.ReleaseResource Releases → Stretches b view arrivals count state s
   releases_stretches o =
       let block = o.opens.block in

@@ -24,6 +24,7 @@ with_greatest b priority (r ∷ held) = let e = with_greatest b (max priority (c
 pub current_is : (b : Build) (t : ℕ) (own : Task) → current_priority b.config (declaration b.config t) own ≡ with_held b (base_priority b t own) own.held
 current_is b t own = let e = with_greatest b (base_priority b t own) own.held in omega arith
 
+-- one more resource raises the priority to its ceiling at least
 pub with_one_more : (b : Build) (priority : ℕ) (held : List ℕ) (r : ℕ) → with_held b priority (held ++ r ∷ []) ≡ max (with_held b priority held) (ceiling b.config r)
 with_one_more b priority [] r = omega arith
 with_one_more b priority (q ∷ held) r = with_one_more b (max priority (ceiling b.config q)) held r
@@ -40,6 +41,7 @@ pub record Popped (b : Build) (ram : List ℕ) (priority : ℕ) (held : List ℕ
   pub level : word_at ram (saved_level r) ≡ level_of b.config (with_held b priority (without_last held))
   pub among : is_in r held ≡ true
 
+-- behind the release of the last one the words of the others stand, and its word is the level to go back to
 pub words_pop : (b : Build) (ram : List ℕ) (priority : ℕ) (held : List ℕ) (r : ℕ) → is_last r held ≡ true → HeldWords b ram priority held → Popped b ram priority held r
 words_pop b ram priority [] r l h = absurd (false≢true l)
 words_pop b ram priority (q ∷ []) r l h =
@@ -63,5 +65,6 @@ at_most_greatest b (q ∷ held) r h = by (at_most_greatest b held r) (or_cases (
     by tail (inl e) = let same : ceiling b.config q ≡ ceiling b.config r = ap (ceiling b.config) (eqb-true q r e) in omega arith
     by tail (inr e) = let rest = tail e in omega arith
 
+-- a task that holds a resource has at least its ceiling
 pub holds_at_least : (b : Build) (t : ℕ) (own : Task) (r : ℕ) → is_in r own.held ≡ true → ceiling b.config r ≤ current_priority b.config (declaration b.config t) own
 holds_at_least b t own r h = let e = at_most_greatest b own.held r h in omega arith

@@ -66,6 +66,7 @@ module _ (b : Build) (state : State) (s : System) (k : Stands b state s) (t : �
           let c : is_in r [] ≡ true = subst (λ x. is_in r x ≡ true) none h in
           cc
 
+  -- what another task holds is another resource
   pub other_holder : (u q : ℕ) → u < length b.config.tasks → u ≢ t → is_in q (task s u).held ≡ true → q ≢ r
   other_holder u q l n h e = holds_not u l n (subst (λ x. is_in x (task s u).held ≡ true) e h)
 
@@ -162,6 +163,7 @@ module _ (b : Build) (state : State) (s : System) (t : ℕ) (called : Task) (obj
             high own_now refl refl;
       }
 
+  -- GetResource
   pub takes : Answers b s t service.GetResource touched end
   takes =
       answers_so b state s t called service.GetResource is fits touched end t t
@@ -173,9 +175,11 @@ module _ (b : Build) (state : State) (s : System) (t : ℕ) (called : Task) (obj
       (ap (λ r. word_at r cur) effect.back.left.ram ∙ named cur (omega arith) (λ e. omega arith))
 
 module _ (b : Build) (state : State) (s : System) (k : Stands b state s) (t : ℕ) (declared : t < length b.config.tasks) (r : ℕ) (last : is_last r (task s t).held ≡ true) where
+  -- the words of what is still held
   pub popped : Popped b state.core.ram (base_priority b t (task s t)) (task s t).held r
   popped = words_pop b state.core.ram (base_priority b t (task s t)) (task s t).held r last (k.words t declared).held
 
+  -- the saved level has room in a byte
   pub saved_few : length b.config.tasks ≤ 30 → word_at state.core.ram (saved_level r) < 256
   saved_few f =
       let e = popped.level in
@@ -221,6 +225,7 @@ module _ (b : Build) (state : State) (s : System) (t : ℕ) (called : Task) (obj
             (λ i h. refl) released refl refl;
       }
 
+  -- ReleaseResource
   pub releases : Answers b s t service.ReleaseResource touched end
   releases =
       answers_so b state s t called service.ReleaseResource release_is fits touched end t t

@@ -45,6 +45,7 @@ enabled_small (mode.Waiting mask) pending enabled l = omega arith
 pub first_outcome : (m : TaskState) (first second : Outcome) → m ≡ mode.Suspended → if_suspended m first second ≡ first
 first_outcome m first second e = ap (λ n. if_suspended n first second) e
 
+-- of a task that is not Suspended, the second outcome
 pub second_outcome : (m : TaskState) (first second : Outcome) → (m ≡ mode.Suspended → ⊥) → if_suspended m first second ≡ second
 second_outcome mode.Suspended first second n = absurd (n refl)
 second_outcome mode.Ready first second n = refl
@@ -58,12 +59,15 @@ module _ (b : Build) (state : State) (s : System) (k : Stands b state s) (u : �
   line_is : IsLineOf (task s u).state (slice_index state.core.pending u) (slice_index state.core.enabled u)
   line_is = k.lines.each u declared
 
+  -- what the code looks at says of a Suspended task that it is
   pub looks : (task s u).state ≡ mode.Suspended → LooksSuspended u state.core
   looks e = looks_of (task s u).state (word_at state.core.ram (active u)) (slice_index state.core.pending u) (slice_index state.core.enabled u) word_is line_is e
 
+  -- and of no other
   pub is_so : LooksSuspended u state.core → (task s u).state ≡ mode.Suspended
   is_so h = of_looks (task s u).state (word_at state.core.ram (active u)) (slice_index state.core.pending u) (slice_index state.core.enabled u) word_is line_is h.0 h.1 h.2
 
+  -- the words and bytes that it looks at are bits
   pub active_bit : word_at state.core.ram (active u) < 2
   active_bit = active_small (task s u).state (word_at state.core.ram (active u)) word_is
 

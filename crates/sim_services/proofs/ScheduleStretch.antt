@@ -50,6 +50,7 @@ use Rattle.sim_services.proofs.GoingOnStretch.{going_on_stretches}
 use Rattle.sim_services.proofs.ServiceStretch.{k}
 use Rattle.sim_services.proofs.Touching.{touches_none}
 
+-- Schedule, up to the count before the way back
 pub yields_stretches : (b : Build) (view : View) (arrivals : List Arrival) (count : ℕ) (state : State) (s : System) (t : ℕ)
     → Fits b → IsSetting (setting_of b view arrivals) → 0 < count → Stands b state s
     → OpensSchedule b view (arrived arrivals count state) (with_admits (lines_at arrivals count) s) t → Stretches b view arrivals count state s
@@ -62,7 +63,7 @@ yields_stretches b view arrivals count state s t fits setting after_boot stands 
     let here = active_by_word b n s1 t there o.goes_on.opens.opening.current in
     going_on_stretches b view arrivals count state s t service.Schedule (λ object. Yields) fits setting after_boot stands o.goes_on block.serves.masks
     12 (omega arith) (λ place. Yielded block.offset t) (λ place touched from to e. touches_none b touched e.touches)
-    (λ place can. block.serves.runs block.offset t n.core (record {
+    (λ place can. block.serves.runs.lowers block.offset t n.core (record {
       can_run = can.goes_back.can_run;
       previous = can.goes_back.previous;
       level = can.level;
@@ -105,7 +106,7 @@ module _ (b : Build) (view : View) (arrivals : List Arrival) (count : ℕ) (stat
   untouched_at : n.pc ≡ b.back → touched (entered n) ≡ None
   unfolding touched_by
   untouched_at pc =
-      let again = opens.way.yields.masks_again in
+      let again = opens.way.yields.runs.masks_again in
       let whole : InPlace n.core.ram offset (again.0 ++ kernel.masking ∷ again.1) = subst (InPlace n.core.ram offset) again.2 placed in
       let rest = in_place-rest n.core.ram again.0 (kernel.masking ∷ again.1) offset whole in
       let e : offset + 4 * length again.0 ≡ offset + way_back = let l = again.3 in omega arith in
@@ -129,7 +130,7 @@ module _ (b : Build) (view : View) (arrivals : List Arrival) (count : ℕ) (stat
     may_come_back : MayComeBack offset opens.way.code n.core
     may_come_back =
         let f = there.fixed in
-        let again = opens.way.yields.masks_again in
+        let again = opens.way.yields.runs.masks_again in
         let a = fits.items p.frame.func p.frame.item in
         let m = level_of-few b.config (cond (declaration b.config t).non (highest_priority b.config) (declaration b.config t).priority) in
         let l = owing.level in
@@ -198,9 +199,10 @@ module _ (b : Build) (view : View) (arrivals : List Arrival) (count : ℕ) (stat
             (stands_arrived b (late e.trace) e.last answer.after few in_range.1 answer.stands);
       }
 
+  -- the way back
   pub back_stretches : Stretches b view arrivals count state s
   back_stretches =
       let f = first_by_word b n s1 t there.stack there.running opens.current in
       let e = masking arrivals 3 count state CameBack none
-      (subst (λ m. FromOpening 3 m CameBack) (sym (n_is f.0 f.1)) (opens.way.yields.comes_back offset n.core (may_come_back f.0 f.1))) in
+      (subst (λ m. FromOpening 3 m CameBack) (sym (n_is f.0 f.1)) (opens.way.yields.runs.comes_back offset n.core (may_come_back f.0 f.1))) in
       (e.next, e.trace, e.end, stretch f.0 f.1 e)

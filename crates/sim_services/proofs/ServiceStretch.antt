@@ -70,6 +70,7 @@ module _ (b : Build) (view : View) (arrivals : List Arrival) (count : ℕ) (stat
   all_owned : (i : ℕ) → AreOwned (owners_in b.config) (lines_at arrivals i)
   all_owned = owned_at (setting_of b view arrivals) setting
 
+  -- the relation at the opening, behind what arrived
   pub k : Stands b n s1
   k = stands_arrived b (lines_at arrivals count) state s few (all_owned count) stands
 

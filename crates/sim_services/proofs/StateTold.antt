@@ -87,6 +87,7 @@ module _ (b : Build) (state : State) (s : System) (k : Stands b state s) (own ob
   touches touched number (ready a e p is n) = subst AreOne (sym is) one
   touches touched number (suspended l is n) = subst AreOne (sym is) one
 
+-- the number is that of the task's state
 pub tells_state : (b : Build) (state : State) (s : System) (t : ℕ) (own : Task) (object : ℕ) (touched : List ℕ) (end : State) → Fits b
     → MayGoOn b state s t own service.GetTaskState object → StateTold object t touched state end → Answers b s t service.GetTaskState touched end
 tells_state b state s t own object touched end fits may told =

@@ -1,6 +1,5 @@
 -- Task code that was read is what images are generated of.
 use Rattle.std.proofs.Common.{ℕ, ◌<◌, length}
-use Rattle.std.specs.Prelude.{All}
 use Rattle.sloth_base.specs.declared.app.App.{App}
 use Rattle.sloth_base.specs.declared.config.Config.{Config}
 use Rattle.sloth_base.specs.Named.{body_of, IsBodyOf}
@@ -8,18 +7,17 @@ use Rattle.code_rules.specs.WellFormed.{WellFormed}
 use Rattle.osek_valid.proofs.Facts.{facts}
 use Rattle.osek_valid.proofs.Stacks.{has_body}
 use Rattle.image_gen.specs.Gathered.{MayBuild}
-use Rattle.stack_bounds.specs.declared.stacks.Stacks.{Stacks}
-use Rattle.stack_bounds.specs.Bounds.{AreBounds, AreParts, HaveRoom, IsLength}
+use Rattle.sloth_base.specs.declared.places.Bounds.{Bounds}
+use Rattle.stack_bounds.specs.Bounds.{AreBounds}
 use Rattle.sloth_source.specs.SourceText.{BodiesAreNamed}
 
 module _ (config : Config) (app : App) (w : WellFormed config app) where
   body : (t : ℕ) → t < length config.tasks → IsBodyOf app t (body_of app.funcs t)
   body t declared = has_body config app (facts config app w) t declared
 
-  pub may_build : BodiesAreNamed config app → (stacks : Stacks) → AreBounds config app stacks.bounds → HaveRoom config app stacks.bounds
-      → All IsLength stacks.bounds.bytes → AreParts config app stacks → MayBuild config app stacks
-  may_build named stacks are room lengths parts = record {
+  pub may_build : BodiesAreNamed config app → (bounds : Bounds) → AreBounds config app bounds → MayBuild config app bounds
+  may_build named bounds are = record {
     well_formed = w;
     named = λ t below. let is = body t below in (body_of app.funcs t, is.0, is.1, named (body_of app.funcs t) t is);
-    needs = record { count = are.count; lengths = lengths; room = room; parts = parts };
+    are_bounds = are;
   }

@@ -22,7 +22,7 @@ use Rattle.sloth_cli.specs.declared.failure.Failure.TheVariants as failure
 use Rattle.sloth_cli.specs.Top.{World, world, inputs_of, names_of, AreInputs, FilesStay, IsAccepted, IsBuiltImage}
 use Rattle.sloth_cli.specs.Top.{IsWritten, IsDone, Requires, Puts, BrokeOff, Answers, done_text}
 use Rattle.sloth_cli.specs.Failures.{ReadFailed, JudgeFailed, PerformFailed, Ends, EndsPlainly, CommandFailed, IsPerformed, Finished}
-use Rattle.sloth_cli.proofs.Ceilings.{shown-keep}
+use Rattle.sloth_cli.proofs.Ceilings.{shown-keep, shown-keep_bounds}
 use Rattle.sloth_cli.proofs.ToolCauses.{end-required}
 
 -- ---- a command
@@ -81,6 +81,7 @@ done old mid new c image arrivals b w = record {
   written = (w.0, λ name other. w.1 name other ∙ b.kept.holds name);
   text_is = refl;
   protocol = shown-keep b.config b.app image arrivals c.run b.is_image.protocol b.accepted.in_range b.in_limit;
+  bounds = shown-keep_bounds b.config b.app image arrivals c.run b.is_image.bounds b.accepted.in_range b.in_limit;
 }
 
 pub perform-ends : (f : Failure) (old mid : Files) (sink : Output) (new : World) (c : Building) (image : Image) (arrivals : List Arrival)

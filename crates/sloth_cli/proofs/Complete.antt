@@ -1,14 +1,12 @@
 -- Which answer comes, where the inputs are told.
-use Rattle.std.proofs.Common.{◌≡◌, ◌≤◌, ◌<◌, ◌+◌, ◌∙◌, inl, inr, ℕ, List, [], ◌∷◌, Option, None, Some, sym, ap, subst, arith, min, length}
+use Rattle.std.proofs.Common.{◌≡◌, ◌≤◌, ◌<◌, ◌+◌, ◌∙◌, inl, inr, ℕ, List, ◌∷◌, Option, None, Some, sym, ap, subst, arith, min, length}
 use Rattle.std.specs.Prelude.{IsTrue, ◌⊎◌}
 use Rattle.std.proofs.Math.Nat.{min-eq_left}
 use Rattle.sloth_base.specs.declared.config.Config.{Config}
 use Rattle.sloth_base.specs.declared.app.App.{App}
 use Rattle.sloth_base.specs.declared.event.Arrival.{Arrival}
-use Rattle.sloth_base.specs.declared.refusal.Part.TheVariants.{Arr}
-use Rattle.least_fault.specs.Order.{IsLeast, NoFault}
-use Rattle.trace_text.specs.ArrivalsText.{arrivals_of, arrivals_in, LineFault, FaultAt, ArrivalsFault}
-use Rattle.sloth_source.proofs.Least.{one_least, of_some}
+use Rattle.least_fault.specs.Order.{NoFault}
+use Rattle.trace_text.specs.ArrivalsText.{arrivals_in, ArrivalsFault}
 use Rattle.sloth_base.specs.declared.image.Image.{Image}
 use Rattle.sloth_base.specs.declared.refusal.Refusal.{Refusal}
 use Rattle.sloth_io.specs.Counts.{Rose, Stays}
@@ -16,8 +14,7 @@ use Rattle.sloth_io.specs.Sink.{Output, HasNoSpace}
 use Rattle.sloth_io.specs.Store.{Files, Holds, IsMissing, IsTooLong, IsUnwritten}
 use Rattle.image_file.specs.ImageText.{image_bytes}
 use Rattle.sloth_source.specs.Texts.{Accepted}
-use Rattle.sloth_source.proofs.Refusals.{one_refusal}
-use Rattle.sloth_source.proofs.Unique.{one_meaning, never_both}
+use Rattle.sloth_source.proofs.Unique.{one_meaning}
 use Rattle.command_line.specs.LastLine.{refusal_line}
 use Rattle.command_line.specs.Command.{Command, Building, Run, Builds, Uses, IsCommand, IsNoTool, NoCommand}
 use Rattle.command_line.specs.Tools.{ToolUse}
@@ -29,6 +26,7 @@ use Rattle.sloth_cli.specs.Top.{World, arrivals_named, inputs_of, FirstUnread, A
 use Rattle.sloth_cli.specs.Top.{CommandDone, CommandRefused, CommandUnwritten, CommandStopped, names_of, done_text, IsRefusal, IsRefused, IsAccepted, IsBuiltImage, Requires, Puts, Took, BrokeOff, EndsAs, Answers}
 use Rattle.sloth_cli.specs.Top.{AnswersUsage, AnswersRefused, ReadsWork, WritesWork, HasSpace, PutsWork, CallsWork, TellsUsage, TellsRefused, IsComplete}
 use Rattle.command_line.proofs.Commands.{one-command}
+use Rattle.trace_command.proofs.Refused.{not-refused, one-way}
 
 pub stays : (a b : ℕ) → Stays a b → Rose a b → ⊥
 stays a b s r =
@@ -84,14 +82,6 @@ no-long-read old new c oil src arr there =
     none-unread (λ name. IsTooLong old new name input_limit) old c oil src arr there.inputs
     (λ name bytes holds short. not-long old new name bytes there.tells holds short)
 
--- accepted inputs are not refused
-not-refused : (oil src arr : List ℕ) (config : Config) (app : App) (r : Refusal) → Accepted oil src config app
-    → NoFault (ArrivalsFault (names_of config) arr) → IsRefusal oil src arr r → ⊥
-not-refused oil src arr config app r h none (inl first) = never_both oil src config app r h first
-not-refused oil src arr config app r h none (inr other) =
-    let same = one_meaning oil src other.config config other.app app other.accepted h in
-    none r (subst (λ (c : Config). ArrivalsFault (names_of c) arr r) same.0 other.least.is_fault)
-
 one-verdict : (old : Files) (c : Building) (config : Config) (app : App) (arrivals : List Arrival) (oil src arr : List ℕ) (r : Refusal)
     → AreThere old c oil src arr → IsAccepted old c config app arrivals → IsRefusal oil src arr r → ⊥
 one-verdict old c config app arrivals oil src arr r there h refusal =
@@ -102,27 +92,6 @@ one-verdict old c config app arrivals oil src arr r there h refusal =
     let by_arr : IsRefusal oil src h.arr r = subst (λ x. IsRefusal oil src x r) arr_is refusal in
     let by_src : IsRefusal oil h.src h.arr r = subst (λ x. IsRefusal oil x h.arr r) src_is by_arr in
     not-refused h.oil h.src h.arr config app r h.accepted h.read.no_fault (subst (λ x. IsRefusal x h.src h.arr r) oil_is by_src)
-
--- a fault of arrivals is one of their text
-part-is : (tasks : List (List ℕ)) (before : List Arrival) (n : ℕ) (line : List ℕ) (r : Refusal) → LineFault tasks before n line r → r.part ≡ Arr
-part-is tasks before n line r (inl f) = ap (λ (x : Refusal). x.part) f.1
-part-is tasks before n line r (inr (inl f)) = ap (λ (x : Refusal). x.part) f.1
-part-is tasks before n line r (inr (inr (inl f))) = ap (λ (x : Refusal). x.part) f.1
-part-is tasks before n line r (inr (inr (inr f))) = ap (λ (x : Refusal). x.part) f.1
-
-pub of-arrivals : (tasks : List (List ℕ)) (text : List ℕ) (r : Refusal) → ArrivalsFault tasks text r → r.part ≡ Arr
-of-arrivals tasks text r h =
-    of_some Arr (FaultAt tasks) (λ front line s f. part-is tasks (arrivals_of tasks front) (length front + 1) line s f) [] _ r h
-
--- the inputs that are told are refused in one way
-one-way : (oil src arr : List ℕ) (r s : Refusal) → IsRefusal oil src arr r → IsRefusal oil src arr s → r ≡ s
-one-way oil src arr r s (inl a) (inl b) = one_refusal oil src r s a b
-one-way oil src arr r s (inl a) (inr b) = absurd (never_both oil src b.config b.app r b.accepted a)
-one-way oil src arr r s (inr a) (inl b) = absurd (never_both oil src a.config a.app s a.accepted b)
-one-way oil src arr r s (inr a) (inr b) =
-    let same = one_meaning oil src a.config b.config a.app b.app a.accepted b.accepted in
-    one_least Arr (ArrivalsFault (names_of b.config) arr) (of-arrivals (names_of b.config) arr) r s
-    (subst (λ (c : Config). IsLeast (ArrivalsFault (names_of c) arr) r) same.0 a.least) b.least
 
 told-refusal : (old : Files) (c : Building) (oil src arr : List ℕ) (r s : Refusal) → AreThere old c oil src arr → IsRefused old c r → IsRefusal oil src arr s → r ≡ s
 told-refusal old c oil src arr r s there refused refusal =

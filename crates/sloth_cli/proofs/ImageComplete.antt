@@ -36,7 +36,8 @@ use Rattle.sloth_runner.specs.declared.runner.RunEnd.TheVariants as ends
 use Rattle.sloth_cli.specs.declared.top.Status.{Status}
 use Rattle.sloth_cli.specs.declared.top.Status.TheVariants as status
 use Rattle.command_line.proofs.Commands.{one-command}
-use Rattle.sloth_cli.proofs.Complete.{told, not-missing, not-long, of-arrivals, counted-put, no-tool, stands}
+use Rattle.sloth_cli.proofs.Complete.{told, not-missing, not-long, counted-put, no-tool, stands}
+use Rattle.trace_command.proofs.Refused.{of-arrivals}
 
 -- ---- the inputs that are told
 

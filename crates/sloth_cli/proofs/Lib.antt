@@ -1,4 +1,5 @@
 mod Ceilings
+mod OnlyRuns
 mod Listed
 mod Causes
 mod Complete

@@ -1,7 +1,6 @@
 -- What the program does, and why it does not.
-use Rattle.std.specs.Prelude.{ℕ, ◌≡◌, ◌+◌, ◌≤◌, ◌⊎◌, List, [], ◌∷◌, Option, Some, None, IsTrue, codes, length, map}
+use Rattle.std.specs.Prelude.{ℕ, ◌≡◌, ◌+◌, ◌≤◌, ◌⊎◌, List, [], ◌∷◌, Option, Some, None, IsTrue, codes, length}
 use Rattle.sloth_base.specs.declared.config.Config.{Config}
-use Rattle.sloth_base.specs.declared.config.TaskDecl.{TaskDecl}
 use Rattle.sloth_base.specs.declared.app.App.{App}
 use Rattle.sloth_base.specs.declared.event.Arrival.{Arrival}
 use Rattle.sloth_base.specs.declared.image.Image.{Image}
@@ -9,9 +8,11 @@ use Rattle.sloth_base.specs.declared.refusal.Refusal.{Refusal}
 use Rattle.sloth_base.specs.Arrivals.{AreArrivals}
 use Rattle.sloth_base.specs.ImageRange.{InFormat}
 use Rattle.sloth_base.specs.Owners.{owners_in}
-use Rattle.least_fault.specs.Order.{IsLeast}
+use Rattle.checked_runs.specs.CheckedRuns.{RunsAreChecked}
 use Rattle.rv32_expand.specs.InPlace.{ItemsInPlace}
 use Rattle.osek_blocking.specs.Protocol.{KeepsCeilingProtocol}
+use Rattle.run_bounds.specs.BlockingBounds.{KeepsBlockingBounds}
+use Rattle.next_events.specs.NextEvents.{IsOnlyRun}
 use Rattle.sim_induction.specs.Sound.{Sound, events_of}
 use Rattle.sim_states.specs.Shown.{ShowsStates}
 use Rattle.sloth_io.specs.Counts.{Rose, Stays}
@@ -21,7 +22,6 @@ use Rattle.image_file.specs.ImageText.{image_bytes}
 use Rattle.image_file.specs.declared.fault.ImageFault.{ImageFault}
 use Rattle.rv32_instr.specs.declared.stop.Stop.{Stop}
 use Rattle.sloth_source.specs.Texts.{Accepted, FirstRefusal}
-use Rattle.trace_text.specs.ArrivalsText.{ArrivalsFault}
 use Rattle.command_line.specs.Command.{Command, Building, Run, Builds, Executes, Lists, Samples, Uses, IsCommand, NoCommand}
 use Rattle.command_line.specs.Tools.{ToolUse}
 use Rattle.elf_image.specs.declared.fault.ElfFault.{ElfFault}
@@ -30,6 +30,7 @@ use Rattle.tool_commands.specs.declared.answer.ToolAnswer.{ToolAnswer}
 use Rattle.tool_commands.specs.declared.answer.ToolAnswer.TheVariants as tool_answer
 use Rattle.tool_commands.specs.declared.answer.Outcome.{Outcome}
 use Rattle.tool_commands.specs.declared.answer.TraceFault.{TraceFault}
+pub use Rattle.trace_command.specs.Inputs.{names_of, IsRefusal}
 use Rattle.sloth_cli.specs.Inputs.{input_limit, AreRead}
 use Rattle.sloth_cli.specs.ToolFiles.{IsToolAnswer, tool_status}
 use Rattle.sloth_cli.specs.ImageFiles.{IsExecuted, IsExecRefused, IsListed, IsNoImage}
@@ -95,23 +96,6 @@ IsFailedRead old new c = FirstUnread old (IsMissing old new) (inputs_of c)
 abbrev pub IsLongRead : Files → Files → Command → Type 0
 IsLongRead old new c = FirstUnread old (λ name. IsTooLong old new name input_limit) (inputs_of c)
 
--- ---- the judgement
-
--- the names of the tasks of a configuration
-abbrev pub names_of : Config → List (List ℕ)
-names_of config = map (λ (t : TaskDecl). t.name) config.tasks
-
--- the configuration and the task code are accepted, and this is the least fault of the arrivals
-pub record IsArrivalsRefusal (oil src arr : List ℕ) (refusal : Refusal) : Type 0 where
-  pub config : Config
-  pub app : App
-  pub accepted : Accepted oil src config app
-  pub least : IsLeast (ArrivalsFault (names_of config) arr) refusal
-
--- The texts are refused so: the configuration or the task code, or else the arrivals.
-abbrev pub IsRefusal : List ℕ → List ℕ → List ℕ → Refusal → Type 0
-IsRefusal oil src arr refusal = FirstRefusal oil src refusal ⊎ IsArrivalsRefusal oil src arr refusal
-
 -- ---- what stands after an answer
 
 -- no file has changed
@@ -144,6 +128,16 @@ RunsKeepProtocol config app image =
     (arrivals : List Arrival) (n : ℕ) → AreArrivals (owners_in config) arrivals → n ≤ 1000000
     → KeepsCeilingProtocol config app (events_of image arrivals n)
 
+-- and the blocking bounds of the tasks
+abbrev pub RunsKeepBlockingBounds : Config → App → Image → Type 0
+RunsKeepBlockingBounds config app image =
+    (arrivals : List Arrival) (n : ℕ) → AreArrivals (owners_in config) arrivals → n ≤ 1000000
+    → KeepsBlockingBounds config app n (events_of image arrivals n)
+
+-- in every run of an image in which no line arrives, the observed events are the only run of their number of the abstract scheduler
+abbrev pub RunsAreOnly : Config → App → Image → Type 0
+RunsAreOnly config app image = (n : ℕ) → n ≤ 1000000 → IsOnlyRun config app (events_of image [] n)
+
 -- an image of a configuration and its task code
 pub record IsBuiltImage (config : Config) (app : App) (image : Image) : Type 0 where
   -- every run of the image, whatever lines arrive, is one of the abstract scheduler
@@ -152,6 +146,12 @@ pub record IsBuiltImage (config : Config) (app : App) (image : Image) : Type 0 w
   pub shows : ShowsStates config app image
   -- so a Ready task is blocked by one lower task at most, and resources are held by one task at a time
   pub protocol : RunsKeepProtocol config app image
+  -- and waits for no more work of lower tasks than its bound
+  pub bounds : RunsKeepBlockingBounds config app image
+  -- where no line arrives, what happens is determined by the configuration and its task code alone
+  pub only : RunsAreOnly config app image
+  -- the checker of texts answers yes to what a run of the image prints
+  pub checked : RunsAreChecked config app image
   -- the items of the task code stand in the image, each with its mark on its last instruction
   pub items : ItemsInPlace image config app
   -- its numbers and names are those of an image file
@@ -164,6 +164,11 @@ abbrev pub ShownKeepProtocol : Config → App → Image → List Arrival → Opt
 ShownKeepProtocol config app image arrivals None = Unit {0}
 ShownKeepProtocol config app image arrivals (Some run) = KeepsCeilingProtocol config app (events_of image arrivals run.n)
 
+-- and the blocking bounds of the tasks
+abbrev pub ShownKeepBlockingBounds : Config → App → Image → List Arrival → Option Run → Type 0
+ShownKeepBlockingBounds config app image arrivals None = Unit {0}
+ShownKeepBlockingBounds config app image arrivals (Some run) = KeepsBlockingBounds config app run.n (events_of image arrivals run.n)
+
 -- The inputs are accepted, IMG holds the image's file, and this is the text of the image's run with the arrivals, or of its file's length.
 pub record IsDone (old new : Files) (c : Building) (text : List ℕ) : Type 0 where
   pub config : Config
@@ -174,8 +179,9 @@ pub record IsDone (old new : Files) (c : Building) (text : List ℕ) : Type 0 wh
   pub is_image : IsBuiltImage config app image
   pub written : IsWritten old new c.img (image_bytes image)
   pub text_is : text ≡ done_text image arrivals c.run
-  -- and the events of this text keep the priority ceiling protocol
+  -- and the events of this text keep the priority ceiling protocol and the blocking bounds
   pub protocol : ShownKeepProtocol config app image arrivals c.run
+  pub bounds : ShownKeepBlockingBounds config app image arrivals c.run
 
 -- the inputs are refused so
 pub record IsRefused (old : Files) (c : Building) (refusal : Refusal) : Type 0 where
@@ -208,8 +214,9 @@ pub record IsSampled (old new : Files) (seed : ℕ) (img text : List ℕ) : Type
   pub text_is : text ≡ sample_text image (sample_arrivals seed)
   -- so all its instructions are run
   pub whole : run_end image (sample_arrivals seed) 1000000 ≡ ends.Whole
-  -- and the events that are counted keep the priority ceiling protocol
+  -- and the events that are counted keep the priority ceiling protocol and the blocking bounds
   pub protocol : KeepsCeilingProtocol config app (events_of image (sample_arrivals seed) 1000000)
+  pub bounds : KeepsBlockingBounds config app 1000000 (events_of image (sample_arrivals seed) 1000000)
 
 -- the generated texts are accepted, the write of the image's file failed, and no other file has changed
 pub record IsUnwrittenSample (old new : Files) (seed : ℕ) (img : List ℕ) : Type 0 where

@@ -6,7 +6,6 @@ ghost use Rattle.sloth_base.specs.ImageRange.{InFormat};
 ghost use Rattle.sloth_io.specs.Sink.{output_with, GainsPart};
 ghost use Rattle.sloth_io.specs.Store.{KeepsFiles};
 ghost use Rattle.image_file.specs.ImageText.{ImageText};
-ghost use Rattle.trace_text.specs.Listing.{listing};
 ghost use Rattle.command_line.specs.Command.{Executes, Lists};
 ghost use Rattle.command_line.specs.Words.{execution_of};
 ghost use Rattle.sloth_cli.specs.Inputs.{input_limit, AreRead};

@@ -9,18 +9,23 @@ use Rattle.osek_scheduler.specs.declared.state.TaskState.{TaskState}
 use Rattle.osek_scheduler.specs.declared.state.TaskState.TheVariants as mode
 use Rattle.sloth_inspect.specs.States.{state_in, states_in}
 
+-- one place more that is used
+pub one_place_more : {X : Type 0} (f : ℕ → X) (d : X) (task : ℕ) → task < 30
+    → set (map f (range_with_len 0 task) ++ replicate (30 - task) d) task (f task) ≡ map f (range_with_len 0 (task + 1)) ++ replicate (30 - (task + 1)) d
+one_place_more {X} f d task below =
+    let known : List X = map f (range_with_len 0 task) in
+    let rest : List X = replicate (30 - (task + 1)) d in
+    let size : length known ≡ task = length-map-range_with_len f 0 task in
+    let left : 30 - task ≡ suc (30 - (task + 1)) = omega arith in
+    ap (λ n. set (known ++ replicate n d) task (f task)) left
+    ∙ ap (λ n. set (known ++ (d ∷ rest)) n (f task)) (sym size)
+    ∙ set-append_seam known d rest (f task)
+    ∙ sym (append_assoc known (f task ∷ []) rest)
+    ∙ ap (λ xs. xs ++ rest) (sym (map-range_with_len_more f 0 task task (omega arith)))
+
 -- one task more
 pub one_more : (memory : Memory) (task : ℕ) → task < 30 → set (states_in memory task) task (state_in memory task) ≡ states_in memory (task + 1)
-one_more memory task below =
-    let known : List TaskState = map (state_in memory) (range_with_len 0 task) in
-    let rest : List TaskState = replicate (30 - (task + 1)) mode.Suspended in
-    let size : length known ≡ task = length-map-range_with_len (state_in memory) 0 task in
-    let left : 30 - task ≡ suc (30 - (task + 1)) = omega arith in
-    ap (λ n. set (known ++ replicate n mode.Suspended) task (state_in memory task)) left
-    ∙ ap (λ n. set (known ++ (mode.Suspended ∷ rest)) n (state_in memory task)) (sym size)
-    ∙ set-append_seam known mode.Suspended rest (state_in memory task)
-    ∙ sym (append_assoc known (state_in memory task ∷ []) rest)
-    ∙ ap (λ xs. xs ++ rest) (sym (map-range_with_len_more (state_in memory) 0 task task (omega arith)))
+one_more memory task below = one_place_more (state_in memory) mode.Suspended task below
 
 -- the state in each place that is used
 pub state_at_place : (memory : Memory) (tasks task : ℕ) (d : TaskState) → task < tasks → get_or (states_in memory tasks) task d ≡ state_in memory task

@@ -3,16 +3,14 @@
 
 ghost use Rattle.std.specs.Prelude.{◌≡◌, ◌≤◌, ◌<◌, ◌+◌, ◌%◌};
 ghost use Rattle.rv32_instr.specs.Ram.{word_at};
-ghost use Rattle.sloth_inspect.specs.States.{state_in, states_in};
+ghost use Rattle.sloth_inspect.specs.States.{state_in, states_in, running_in, is_pending_in, pending_in, levels_in};
 
 use osek_scheduler::state::TaskState;
 use rv32_machine::{Bus, SlothBus};
 use sloth_base::app::Width;
+use sloth_base::memory_map::MEMORY_BASE;
 use sloth_base::numbers::Line;
-use sloth_region::layout::{active, wait};
-
-/// The address of RAM, which begins with the service words.
-const RAM: u32 = 0x8000_0000;
+use sloth_region::layout::{CUR, active, wait};
 
 /// How many tasks there are at most.
 pub const TASKS: usize = 30;
@@ -24,7 +22,7 @@ fn word(bus: &mut SlothBus, offset: u32) -> u32
     ensures is { result ≡ word_at bus.old.ram offset }
     ensures same { bus.new ≡ bus.old }
 {
-    match bus.load(RAM + offset, Width::Word) {
+    match bus.load(MEMORY_BASE + offset, Width::Word) {
         Ok(word) => word,
         Err(_) => unreachable!(),
     }
@@ -61,4 +59,36 @@ pub fn states(bus: &mut SlothBus, tasks: u32) -> [TaskState; TASKS]
         states[task as usize] = state(bus, task as u8);
     }
     states
+}
+
+/// The number of the running task and 1 more, or 0 where none runs. The bus keeps its contents.
+pub fn running(bus: &mut SlothBus) -> u32
+    ensures running { result ≡ running_in bus.old }
+    ensures same { bus.new ≡ bus.old }
+{
+    word(bus, CUR as u32)
+}
+
+/// Whether the line of each of so many tasks is pending; an unused place has false.
+pub fn pending(bus: &SlothBus, tasks: u32) -> [bool; TASKS]
+    requires { tasks ≤ 30 }
+    ensures { result ≡ pending_in bus.now tasks }
+{
+    let mut pending = [false; TASKS];
+    for task in 0..tasks {
+        pending[task as usize] = bus.is_pending(Line(task as u8));
+    }
+    pending
+}
+
+/// The level byte of the line of each of so many tasks; an unused place has 0.
+pub fn levels(bus: &SlothBus, tasks: u32) -> [u8; TASKS]
+    requires { tasks ≤ 30 }
+    ensures { result ≡ levels_in bus.now tasks }
+{
+    let mut levels = [0; TASKS];
+    for task in 0..tasks {
+        levels[task as usize] = bus.level_of(Line(task as u8));
+    }
+    levels
 }

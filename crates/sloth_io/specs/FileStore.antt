@@ -19,6 +19,10 @@ untold_files failed_reads overlong_reads failed_writes = record {
 abbrev pub shown_files : {R : Type 0} → FileStore R → Files
 shown_files store = untold_files store.failed_reads store.overlong_reads store.failed_writes
 
+-- how many bytes the last call took from a file or wrote to it
+abbrev pub taken_bytes : {R : Type 0} → FileStore R → ℕ
+taken_bytes store = store.taken
+
 -- some bytes stand behind the old ones
 abbrev pub Extends : List ℕ → List ℕ → Type 0
 Extends old new = (bytes : List ℕ) × (new ≡ old ++ bytes)

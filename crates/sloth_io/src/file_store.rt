@@ -1,19 +1,21 @@
 //! The system's files.
-ghost use Rattle.std.specs.Prelude.{◌≡◌, OnOk};
-ghost use Rattle.sloth_io.specs.FileStore.{Extends, ExtendsBeyond, ExtendsWithin, shown_files, untold_files};
+ghost use Rattle.std.specs.Prelude.{◌≡◌, ◌≢◌, ◌<◌, ◌+◌, OnErr, OnOk, length};
+ghost use Rattle.sloth_io.specs.Store.{Appends, IsMissing, IsTooLong, IsUnwritten, Holds, KeepsOthers, KeepsFiles, KeepsReads};
+ghost use Rattle.sloth_io.specs.FileStore.{Extends, ExtendsBeyond, ExtendsWithin, shown_files, taken_bytes, untold_files};
 
 use crate::store::{Store, StoreFault};
+use crate::whole::{read_whole, write_whole};
 use std::fs;
-use std::io::{Read, Write};
 use std::rt::Files;
 
-/// Files of the system. It tells nothing of them, and counts each refusal.
+/// Files of the system. It tells nothing of them, counts each refusal, and keeps how many bytes the last call took from a file or wrote to it.
 #[derive(Drop)]
 pub struct FileStore<'a, R> {
     rt: &'a R,
     failed_reads: u64,
     overlong_reads: u64,
     failed_writes: u64,
+    taken: usize,
 }
 
 impl<'a, R: Files> FileStore<'a, R> {
@@ -26,6 +28,7 @@ impl<'a, R: Files> FileStore<'a, R> {
             failed_reads: 0,
             overlong_reads: 0,
             failed_writes: 0,
+            taken: 0,
         }
     }
 
@@ -37,8 +40,8 @@ impl<'a, R: Files> FileStore<'a, R> {
     }
 }
 
-// Reads to the end of the file, or until more bytes than the limit were taken. A read of nothing is the end.
-fn read_whole<R: Files>(
+// Opens a file and reads it whole.
+fn read_file<R: Files>(
     rt: &R,
     name: &str,
     limit: usize,
@@ -51,46 +54,36 @@ fn read_whole<R: Files>(
     let Ok(mut file) = fs::open(rt, name) else {
         return Err(StoreFault::Failed);
     };
-    let mut buffer = [0u8; 4096];
-    let mut left = limit;
-    loop {
-        let Ok(count) = file.read(&mut buffer) else {
-            return Err(StoreFault::Failed);
-        };
-        if count == 0 {
-            return Ok(());
-        }
-        if into.extend_from_slice(&buffer[..count]).is_err() {
-            return Err(StoreFault::Memory);
-        }
-        if count > left {
-            return Err(StoreFault::TooLong);
-        }
-        left -= count;
-    }
+    read_whole(&mut file, limit, into)
 }
 
-// Makes the file anew, and writes until all is written. A write of nothing is a fault.
-fn write_whole<R: Files>(rt: &R, name: &str, bytes: &[u8]) -> bool {
+// Makes a file anew and writes it whole. How many bytes it took, or none where it was not made.
+fn write_file<R: Files>(rt: &R, name: &str, bytes: &[u8]) -> Option<usize> {
     let Ok(mut file) = fs::create(rt, name) else {
-        return false;
+        return None;
     };
-    let mut rest = bytes;
-    while !rest.is_empty() {
-        match file.write(rest) {
-            Ok(0) | Err(_) => return false,
-            Ok(count) => rest = &rest[count..],
-        }
-    }
-    true
+    Some(write_whole(&mut file, bytes))
 }
 
 impl<'a, R: Files> Store for FileStore<'a, R> {
     ghost seen = { λ store. shown_files store };
 
-    fn read(&mut self, name: &str, limit: usize, into: &mut Vec<u8>) -> Result<(), StoreFault> {
+    fn read(&mut self, name: &str, limit: usize, into: &mut Vec<u8>) -> Result<(), StoreFault>
+        ensures ok { OnOk result (Appends (shown_files self.old) name.now limit into.old.items into.new.items) }
+        ensures err { OnErr result (into.new.items ≡ into.old.items) }
+        ensures failed { result ≡ Err StoreFault.Failed → IsMissing (shown_files self.old) (shown_files self.new) name.now }
+        ensures too_long { result ≡ Err StoreFault.TooLong → IsTooLong (shown_files self.old) (shown_files self.new) name.now limit }
+        ensures keeps { KeepsFiles (shown_files self.old) (shown_files self.new) }
+        ensures failed_reads { result ≢ Err StoreFault.Failed → (shown_files self.new).failed_reads ≡ (shown_files self.old).failed_reads }
+        ensures overlong_reads { result ≢ Err StoreFault.TooLong → (shown_files self.new).overlong_reads ≡ (shown_files self.old).overlong_reads }
+
+        // A read is too long only where more bytes than the limit were taken from the file.
+        ensures taken { OnOk result (length into.new.items ≡ length into.old.items + taken_bytes self.new) }
+        ensures taken_beyond { result ≡ Err StoreFault.TooLong → limit < taken_bytes self.new }
+    {
         let before = into.len();
-        let outcome = read_whole(self.rt, name, limit, into);
+        let outcome = read_file(self.rt, name, limit, into);
+        self.taken = into.len() - before;
         match outcome {
             Ok(()) => return Ok(()),
             Err(StoreFault::Failed) => {
@@ -105,8 +98,20 @@ impl<'a, R: Files> Store for FileStore<'a, R> {
         outcome
     }
 
-    fn write(&mut self, name: &str, bytes: &[u8]) -> Result<(), StoreFault> {
-        if write_whole(self.rt, name, bytes) {
+    fn write(&mut self, name: &str, bytes: &[u8]) -> Result<(), StoreFault>
+        ensures ok { OnOk result (Holds (shown_files self.new) name.now bytes.now) }
+        ensures failed { OnErr result (IsUnwritten (shown_files self.old) (shown_files self.new) name.now (length bytes.now)) }
+        ensures only_failed { OnErr result (result ≡ Err StoreFault.Failed) }
+        ensures others { KeepsOthers (shown_files self.old) (shown_files self.new) name.now }
+        ensures keeps { KeepsReads (shown_files self.old) (shown_files self.new) }
+        ensures failed_writes { OnOk result ((shown_files self.new).failed_writes ≡ (shown_files self.old).failed_writes) }
+
+        // A write is done only where the file took all bytes.
+        ensures taken { OnOk result (taken_bytes self.new ≡ length bytes.now) }
+    {
+        let taken = write_file(self.rt, name, bytes);
+        self.taken = taken.unwrap_or(0);
+        if taken == Some(bytes.len()) {
             return Ok(());
         }
         self.failed_writes = self.failed_writes.saturating_add(1);

@@ -8,3 +8,4 @@ pub mod mem_store;
 pub mod out_sink;
 pub mod sink;
 pub mod store;
+mod whole;

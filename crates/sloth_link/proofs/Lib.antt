@@ -2,4 +2,11 @@ pub mod Written
 pub mod Stand
 pub mod Marked
 pub mod WrittenMemory
+pub mod Joined
 pub mod Housed
+pub mod Growing
+pub mod Counting
+pub mod ItemBlocks
+pub mod Standing
+pub mod Placing
+pub mod InPlace

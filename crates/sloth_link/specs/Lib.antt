@@ -1,2 +1,7 @@
+pub mod Image
+pub mod Items
 pub mod Linked
+pub mod Names
 pub mod Room
+pub mod Standing
+pub mod Symbols

@@ -1,17 +1,31 @@
-//! The memory and the marks of an image.
-ghost use Rattle.std.specs.Prelude.{◌≡◌, ◌<◌, ◌≤◌, ◌+◌, ◌-◌, IfOk, All, length, replicate, ℕ, slice_index};
+//! The image of blocks of code, of the items of task code, and of its symbols.
+ghost use Rattle.std.specs.Prelude.{◌≡◌, ◌<◌, ◌≤◌, ◌+◌, ◌++◌, IfOk, All, length, replicate, ℕ, slice_index};
 ghost use Rattle.std.specs.List.Sorted.{IsPermutation, IsStrictlyIncreasing};
 ghost use Rattle.std.specs.Vec.{vec_len};
+ghost use Rattle.sloth_base.specs.MemoryMap.{memory_base};
 ghost use Rattle.rv32_instr.specs.Range.{InRange};
+ghost use Rattle.rv32_expand.specs.InPlace.{ItemsInPlace};
+ghost use Rattle.mem_map.specs.Zones.{data_zone};
+ghost use Rattle.sloth_link.specs.Image.{MayLink, all_blocks, all_data, memory_size};
 ghost use Rattle.sloth_link.specs.Linked.{marks_of, HaveOwnAddresses, addresses, HaveRoom, AreLinked, sections_of, BlockStands, datum_section, Holds, linked};
+ghost use Rattle.sloth_link.specs.Names.{task_names, function_names};
+ghost use Rattle.sloth_link.specs.Standing.{ItemsStand};
 
 use crate::datum::Datum;
+use crate::items::items;
 use crate::marking::marks;
+use crate::names::{function_names, task_names};
+use crate::symbols::symbols;
 use crate::writing::{write_blocks, write_data};
+use mem_map::data_zone;
 use rv32_instr::{Block, Instr};
-use sloth_base::image::Mark;
+use sloth_base::app::App;
+use sloth_base::config::Config;
+use sloth_base::image::{Image, Mark};
 use sloth_base::list::List;
 use sloth_base::memory::NoMemory;
+use sloth_base::memory_map::MEMORY_BASE;
+use sloth_region::map::Map;
 use std::alloc::{AllocError, Global};
 
 /// A memory and its marks.
@@ -39,13 +53,13 @@ pub fn are_in_range(blocks: &[Block])
     }
 }
 
-// Writes the blocks and the bytes.
-#[tactic(auto, using(crate::proofs::Written::linked_append))]
-fn write_all(memory: &mut [u8], blocks: &[Block], symbols: &[Datum])
-    requires room { HaveRoom (length memory.old) blocks.now symbols.now }
-    ensures { memory.new ≡ linked memory.old (sections_of blocks.now symbols.now) }
+// Writes the blocks, the items and the bytes.
+fn write_all(memory: &mut [u8], blocks: &[Block], items: &[Block], symbols: &[Datum])
+    requires room { HaveRoom (length memory.old) (blocks.now ++ items.now) symbols.now }
+    ensures { memory.new ≡ linked memory.old (sections_of (blocks.now ++ items.now) symbols.now) }
 {
     write_blocks(memory, blocks);
+    write_blocks(memory, items);
     write_data(memory, symbols);
 }
 
@@ -70,39 +84,87 @@ fn zeros(alloc: Global, size: usize) -> Result<Vec<u8>, AllocError>
 fn memory(
     alloc: Global,
     blocks: &[Block],
+    items: &[Block],
     symbols: &[Datum],
     size: usize,
 ) -> Result<Vec<u8>, AllocError>
-    requires room { HaveRoom size blocks.now symbols.now }
-    ensures { IfOk result (λ memory. AreLinked size (sections_of blocks.now symbols.now) memory.items) }
+    requires room { HaveRoom size (blocks.now ++ items.now) symbols.now }
+    ensures { IfOk result (λ memory. AreLinked size (sections_of (blocks.now ++ items.now) symbols.now) memory.items) }
 {
     let mut memory = zeros(alloc, size)?;
-    write_all(&mut memory, blocks, symbols);
+    write_all(&mut memory, blocks, items, symbols);
     Ok(memory)
 }
 
-/// A memory of `size` bytes with these blocks and bytes at their addresses, and zeros elsewhere.
-pub fn link(
+// A memory of `size` bytes with these blocks, items and bytes at their addresses, and zeros elsewhere.
+fn link_all(
     alloc: Global,
     blocks: &[Block],
+    items: &[Block],
     symbols: &[Datum],
     size: usize,
 ) -> Result<Linked, NoMemory>
-    requires room { HaveRoom size blocks.now symbols.now }
-    requires marks { HaveOwnAddresses (marks_of blocks.now) }
-    ensures range { All (λ b. All InRange b.code) blocks.now }
-    ensures code { IfOk result (λ linked. All (BlockStands linked.memory) blocks.now) }
+    requires room { HaveRoom size (blocks.now ++ items.now) symbols.now }
+    requires marks { HaveOwnAddresses (marks_of (blocks.now ++ items.now)) }
+    ensures range { All (λ b. All InRange b.code) (blocks.now ++ items.now) }
+    ensures code { IfOk result (λ linked. All (BlockStands linked.memory) (blocks.now ++ items.now)) }
     ensures symbols { IfOk result (λ linked. All (λ d. Holds linked.memory (datum_section d)) symbols.now) }
-    ensures linked { IfOk result (λ linked. AreLinked size (sections_of blocks.now symbols.now) linked.memory) }
+    ensures linked { IfOk result (λ linked. AreLinked size (sections_of (blocks.now ++ items.now) symbols.now) linked.memory) }
     ensures bytes { IfOk result (λ linked. (i : ℕ) → slice_index linked.memory i < 256) }
-    ensures marks { IfOk result (λ linked. IsPermutation (marks_of blocks.now) linked.marks) }
+    ensures marks { IfOk result (λ linked. IsPermutation (marks_of (blocks.now ++ items.now)) linked.marks) }
     ensures ascending { IfOk result (λ linked. IsStrictlyIncreasing (addresses linked.marks)) }
 {
     are_in_range(blocks);
-    let memory = memory(alloc, blocks, symbols, size)?;
+    are_in_range(items);
+    let memory = memory(alloc, blocks, items, symbols, size)?;
     are_bytes(&memory);
     Ok(Linked {
         memory: List::from_vec(memory),
-        marks: List::from_vec(marks(alloc, blocks)?),
+        marks: List::from_vec(marks(alloc, blocks, items)?),
+    })
+}
+
+// The bytes of the memory, up to the end of the zone of data.
+fn memory_size(map: &Map) -> usize
+    requires zones { 2 < length map.now.extents }
+    requires above { memory_base ≤ (data_zone map.now).base }
+    requires below { (data_zone map.now).base + (data_zone map.now).len < 4294967296 }
+    ensures { result ≡ memory_size map.now }
+{
+    let data = data_zone(map);
+    (data.base - MEMORY_BASE + data.len) as usize
+}
+
+/// The image of well-formed task code by its map: the blocks of routines at their addresses, each item at its address with its mark, each
+/// symbol's bytes at its address, and zeros elsewhere; the marks of the blocks and items by rising addresses; and the names.
+pub fn link(
+    alloc: Global,
+    blocks: &[Block],
+    app: &App,
+    config: &Config,
+    map: &Map,
+) -> Result<Image, NoMemory>
+    requires { MayLink config.now app.now map.now blocks.now }
+    ensures items { IfOk result (λ image. ItemsInPlace image config.now app.now) }
+    ensures stand { IfOk result (λ image. ItemsStand app.now map.now.places image.memory image.marks) }
+    ensures range { IfOk result (λ image. All (λ b. All InRange b.code) (all_blocks app.now map.now blocks.now)) }
+    ensures code { IfOk result (λ image. All (BlockStands image.memory) (all_blocks app.now map.now blocks.now)) }
+    ensures symbols { IfOk result (λ image. All (λ d. Holds image.memory (datum_section d)) (all_data app.now map.now)) }
+    ensures linked { IfOk result (λ image.
+        AreLinked (memory_size map.now) (sections_of (all_blocks app.now map.now blocks.now) (all_data app.now map.now)) image.memory) }
+    ensures bytes { IfOk result (λ image. (i : ℕ) → slice_index image.memory i < 256) }
+    ensures marks { IfOk result (λ image. IsPermutation (marks_of (all_blocks app.now map.now blocks.now)) image.marks) }
+    ensures ascending { IfOk result (λ image. IsStrictlyIncreasing (addresses image.marks)) }
+    ensures tasks { IfOk result (λ image. image.tasks ≡ task_names config.now) }
+    ensures functions { IfOk result (λ image. image.funcs ≡ function_names app.now) }
+{
+    let items = items(alloc, app, &map.places)?;
+    let symbols = symbols(alloc, app, &map.places)?;
+    let linked = link_all(alloc, blocks, &items, &symbols, memory_size(map))?;
+    Ok(Image {
+        tasks: task_names(alloc, config)?,
+        funcs: function_names(alloc, app)?,
+        memory: linked.memory,
+        marks: linked.marks,
     })
 }

@@ -17,7 +17,7 @@ use Rattle.sloth_runner.specs.declared.runner.RunEnd.TheVariants as ends
 use Rattle.sloth_runner.specs.declared.sight.Seen.{Seen}
 use Rattle.sloth_runner.specs.declared.sight.Sight.{Sight}
 use Rattle.sloth_runner.specs.declared.sight.Sight.TheVariants as sights
-use Rattle.sloth_runner.specs.Sight.{task_states, AreMasked, IsSeen, IsSight, IsLast, seen_at, sight_of}
+use Rattle.sloth_runner.specs.Sight.{task_states, running_task, AreMasked, IsSeen, IsSight, IsLast, seen_at, sight_of}
 
 module _ (image : Image) (A : List Arrival) where
   -- ---- one count more
@@ -39,6 +39,7 @@ module _ (image : Image) (A : List Arrival) where
     after = is.after;
     enabled = is.enabled;
     tasks = is.tasks;
+    running = is.running;
     last = masked-more (seen.count + 1) k m after off is.last;
   }
 
@@ -47,13 +48,14 @@ module _ (image : Image) (A : List Arrival) where
   last-more k m last after is = by m.core.mie refl
     where
       by : (b : Bool) → m.core.mie ≡ b
-          → IsLast image A (k + 1) (option_or (if b then Some (record { count = k; tasks = task_states image (arrived A k m) }) else None) last)
+          → IsLast image A (k + 1) (option_or (if b then Some (record { count = k; tasks = task_states image (arrived A k m); running = running_task (arrived A k m) }) else None) last)
       by true on = record {
         state = m;
         within = omega arith;
         after = after;
         enabled = on;
         tasks = refl;
+        running = refl;
         last = λ count state f l found. absurd (omega arith);
       }
       by false off = still-last k m last after off is
@@ -98,11 +100,21 @@ module _ (image : Image) (A : List Arrival) where
       let state : h.state ≡ k.state = cc in
       let tasks : a.tasks ≡ b.tasks =
       h.tasks ∙ ap (λ c. task_states image (arrived A c h.state)) count ∙ ap (λ (x : State). task_states image (arrived A b.count x)) state ∙ sym k.tasks in
-      ap (λ c. record { count = c; tasks = a.tasks }) count ∙ ap (λ ts. record { count = b.count; tasks = ts }) tasks
+      let running : a.running ≡ b.running =
+      h.running ∙ ap (λ c. running_task (arrived A c h.state)) count ∙ ap (λ (x : State). running_task (arrived A b.count x)) state ∙ sym k.running in
+      ap (λ c. record { count = c; tasks = a.tasks; running = a.running }) count ∙ ap (λ ts. record { count = b.count; tasks = ts; running = a.running }) tasks
+      ∙ ap (λ r. record { count = b.count; tasks = b.tasks; running = r }) running
 
   -- what is seen is not masked
   not-masked : (n : ℕ) (a : Seen) → IsSeen image A n a → AreMasked image A 0 n → ⊥
   not-masked n a h masked = let off = masked a.count h.state (omega arith) h.within h.after in let on = h.enabled in cc
+
+  -- what was seen last is one
+  pub one-last : (n : ℕ) (a b : Option Seen) → IsLast image A n a → IsLast image A n b → a ≡ b
+  one-last n None None h k = refl
+  one-last n None (Some b) h k = absurd (not-masked n b k h)
+  one-last n (Some a) None h k = absurd (not-masked n a h k)
+  one-last n (Some a) (Some b) h k = ap Some (one-seen n a b h k)
 
   pub one_sight : (k : ℕ) (a b : Sight) → IsSight image A k a → IsSight image A k b → a ≡ b
   one_sight k (sights.Stopped p x) (sights.Stopped q y) h l = let e = sym h ∙ l in cc

@@ -50,6 +50,16 @@ arrived-is r image k h m st e n =
     e ∙ ap (λ c. H c r.coming.now) st.count ∙ ap (H k) st.coming ∙ front-is _ (from k (given_arrivals r)) ∙ here-from 0 k (given_arrivals r) (in-order r image k st) in
     n ∙ ap (λ g. state_arrive (map (λ a. a.line) g) (sloth_state r.machine)) mine
 
+-- where none is due nothing arrives
+pub none-arrive : (r : Runner) → HasRun r (image_of r) (count_of r) → length (here r.count r.coming.now) ≡ 0 → HasArrived r r
+none-arrive r ran none = record {
+  state = arrived-is r (image_of r) (count_of r) [] (sloth_state r.machine) ran (sym (ap (λ n. take n r.coming.now) none)) refl;
+  coming = sym (ap (λ n. drop n r.coming.now) none);
+  lines = ran.lines;
+  count = refl;
+  executed = refl;
+}
+
 map-append : (xs : List Moment) (m : Moment) → steps_of (xs ++ m ∷ []) ≡ steps_of xs ++ m.step ∷ []
 map-append [] m = refl
 map-append (x ∷ xs) m = ap (λ ss. x.step ∷ ss) (map-append xs m)

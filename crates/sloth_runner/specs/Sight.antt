@@ -1,5 +1,5 @@
 -- What a run shows of its tasks at a count.
-use Rattle.std.specs.Prelude.{ℕ, ◌≡◌, ◌+◌, ◌<◌, ◌≤◌, List, length, Option, Some, None, true, false, if◌then◌else◌}
+use Rattle.std.specs.Prelude.{ℕ, ◌≡◌, ◌+◌, ◌<◌, ◌≤◌, List, length, Option, Some, None, true, false, not, if◌then◌else◌}
 use Rattle.sloth_base.specs.declared.image.Image.{Image}
 use Rattle.sloth_base.specs.declared.event.Arrival.{Arrival}
 use Rattle.sloth_base.specs.Machine.{State}
@@ -7,8 +7,9 @@ use Rattle.rv32_instr.specs.Memory.{memory_of}
 use Rattle.rv32_machine.specs.Start.{start}
 use Rattle.rv32_machine.specs.Run.{arrived, state_after}
 use Rattle.osek_scheduler.specs.declared.state.TaskState.{TaskState}
-use Rattle.sloth_inspect.specs.States.{states_in}
+use Rattle.sloth_inspect.specs.States.{states_in, running_in, pending_in, levels_in}
 use Rattle.sloth_runner.specs.declared.runner.RunEnd.TheVariants as ends
+use Rattle.sloth_runner.specs.declared.sight.Interrupts.{Interrupts}
 use Rattle.sloth_runner.specs.declared.sight.Seen.{Seen}
 use Rattle.sloth_runner.specs.declared.sight.Sight.{Sight}
 use Rattle.sloth_runner.specs.declared.sight.Sight.TheVariants as sights
@@ -17,6 +18,22 @@ use Rattle.sloth_runner.specs.Runner.{run_end}
 -- the states of the image's tasks, as a state of the machine shows them
 abbrev pub task_states : Image → State → List TaskState
 task_states image state = states_in (memory_of state.core) (length image.tasks)
+
+-- the running task's number and 1 more, or 0, as a state of the machine shows it
+abbrev pub running_task : State → ℕ
+running_task state = running_in (memory_of state.core)
+
+-- what a state of the machine shows of interrupts: which lines of the image's tasks are pending, the running level, and whether all are masked
+abbrev pub interrupts_in : Image → State → Interrupts
+interrupts_in image state = record {
+  pending = pending_in (memory_of state.core) (length image.tasks);
+  level = state.core.ilevel;
+  masked = not state.core.mie;
+}
+
+-- the level bytes of the lines of the image's tasks
+abbrev pub task_levels : Image → State → List ℕ
+task_levels image state = levels_in (memory_of state.core) (length image.tasks)
 
 -- all counts from one to below another find MIE 0
 abbrev pub AreMasked : Image → List Arrival → (from to : ℕ) → Type 0
@@ -31,6 +48,7 @@ pub record IsSeen (image : Image) (arrivals : List Arrival) (below : ℕ) (seen 
   pub after : state_after seen.count arrivals (start image) ≡ Some state
   pub enabled : state.core.mie ≡ true
   pub tasks : seen.tasks ≡ task_states image (arrived arrivals seen.count state)
+  pub running : seen.running ≡ running_task (arrived arrivals seen.count state)
   pub last : AreMasked image arrivals (seen.count + 1) below
 
 -- What a run of k + 1 instructions shows: where and why it stops; or that no count up to k finds MIE 1; or the last count that does, with
@@ -44,7 +62,10 @@ IsSight image arrivals k (sights.At seen) = (run_end image arrivals (k + 1) ≡ 
 
 -- what is seen of a state at a count: the tasks' states, where it finds MIE 1
 abbrev pub seen_at : Image → ℕ → State → Option Seen
-seen_at image count state = if state.core.mie then Some (record { count = count; tasks = task_states image state }) else None
+seen_at image count state =
+    if state.core.mie
+    then Some (record { count = count; tasks = task_states image state; running = running_task state })
+    else None
 
 -- what was seen last at the counts below this one
 abbrev pub IsLast : Image → List Arrival → ℕ → Option Seen → Type 0

@@ -7,6 +7,6 @@ pub mod sight;
 pub mod summary;
 pub mod tally;
 
-pub use runner::{RunEnd, Runner};
-pub use sight::{Seen, Sight};
+pub use runner::{Halt, RunEnd, Runner};
+pub use sight::{Interrupts, Seen, Sight};
 pub use tally::Tally;

@@ -10,7 +10,7 @@ ghost use Rattle.observe.specs.Progress.{remaining, view_of, arrivals_of, expect
 ghost use Rattle.sloth_runner.specs.Runner.{AreLines, sloth_state, lines_of, HandsOut};
 
 use observe::observer::Observer;
-use rv32_machine::{Machine, SlothBus, Step, Stop};
+use rv32_machine::{Machine, SlothBus, Step, Stop, blank_step};
 use sloth_base::event::{Arrival, Event, Stamped};
 use sloth_base::image::Image;
 use sloth_base::memory::NoMemory;
@@ -25,11 +25,11 @@ pub enum RunEnd {
     Stopped { pc: u32, stop: Stop },
 }
 
-// Where the machine stops, and why.
+/// Where the machine stops, and why.
 #[derive(Clone, Copy)]
-pub(crate) struct Halt {
-    pub(crate) pc: u32,
-    pub(crate) stop: Stop,
+pub struct Halt {
+    pub pc: u32,
+    pub stop: Stop,
 }
 
 // Prints events in a form, and knows whether the last one was an idle.
@@ -118,6 +118,8 @@ pub struct Runner<'a> {
     // The arrivals of the next moment and of later ones.
     pub(crate) coming: &'a [Arrival],
     pub(crate) count: u32,
+    // The record of the last instruction.
+    pub(crate) shown: Step,
 }
 
 impl<'a> Runner<'a> {
@@ -143,23 +145,63 @@ impl<'a> Runner<'a> {
             observer,
             coming: arrivals,
             count: 0,
+            shown: blank_step(),
         })
     }
 
-    // The lines of the next moment's arrivals become pending.
-    pub(crate) fn arrive_now(&mut self)
+    /// The lines of the next moment's arrivals become pending.
+    #[inline(always)]
+    pub fn arrive_now(&mut self)
         requires { HasRun self.old (image_of self.old) (count_of self.old) }
         ensures arrived { HasArrived self.old self.new }
         ensures image { image_of self.new ≡ image_of self.old }
         ensures observer { self.new.observer ≡ self.old.observer }
     {
-        let (here, behind) = self.coming.split_at(passing(self.coming, self.count));
+        let due = passing(self.coming, self.count);
+        if due > 0 {
+            self.arrive_first(due);
+        }
+    }
+
+    // The lines of the next moment's arrivals, the first ones of this number, become pending.
+    #[inline(never)]
+    fn arrive_first(&mut self, due: usize)
+        requires ran { HasRun self.old (image_of self.old) (count_of self.old) }
+        requires due { due ≡ length (here self.old.count self.old.coming.now) }
+        ensures arrived { HasArrived self.old self.new }
+        ensures image { image_of self.new ≡ image_of self.old }
+        ensures observer { self.new.observer ≡ self.old.observer }
+    {
+        let (here, behind) = self.coming.split_at(due);
         self.coming = behind;
         arrive(&mut self.machine, here);
     }
 
-    // One instruction, unless the machine stops at it.
-    pub(crate) fn execute(&mut self) -> Result<Step, Halt>
+    // One instruction, unless the machine stops at it. Its record is kept.
+    #[inline(always)]
+    fn record(&mut self) -> Result<(), Halt>
+        requires few { count_of self.old < 1000000 }
+        requires executed { self.old.machine.count ≡ count_of self.old }
+        ensures ok { OnOk result (HasExecuted self.old self.new self.new.shown) }
+        ensures err { IfErr result (HaltsAt self.old) }
+        ensures coming { self.new.coming.now ≡ self.old.coming.now }
+        ensures image { image_of self.new ≡ image_of self.old }
+        ensures observer { self.new.observer ≡ self.old.observer }
+    {
+        match self.machine.step_into(&mut self.shown) {
+            Ok(()) => {
+                self.count += 1;
+                Ok(())
+            }
+            Err(stop) => Err(Halt {
+                pc: self.machine.next_pc(),
+                stop,
+            }),
+        }
+    }
+
+    /// One instruction, unless the machine stops at it.
+    pub fn execute(&mut self) -> Result<Step, Halt>
         requires few { count_of self.old < 1000000 }
         requires executed { self.old.machine.count ≡ count_of self.old }
         ensures ok { IfOk result (HasExecuted self.old self.new) }
@@ -168,17 +210,14 @@ impl<'a> Runner<'a> {
         ensures image { image_of self.new ≡ image_of self.old }
         ensures observer { self.new.observer ≡ self.old.observer }
     {
-        let pc = self.machine.next_pc();
-        match self.machine.step() {
-            Ok(step) => {
-                self.count += 1;
-                Ok(step)
-            }
-            Err(stop) => Err(Halt { pc, stop }),
+        match self.record() {
+            Ok(()) => Ok(self.shown),
+            Err(halt) => Err(halt),
         }
     }
 
     // One instruction, unless the machine stops at it. Its finished events are left with the observer.
+    #[inline(always)]
     pub(crate) fn advance(&mut self) -> Option<RunEnd>
         requires few { count_of self.old < 1000000 }
         requires running { IsRunning self.old }
@@ -188,9 +227,9 @@ impl<'a> Runner<'a> {
         ensures arrivals { given_arrivals self.new ≡ given_arrivals self.old }
     {
         self.arrive_now();
-        match self.execute() {
-            Ok(step) => {
-                self.observer.feed(&step);
+        match self.record() {
+            Ok(()) => {
+                self.observer.feed(&self.shown);
                 None
             }
             Err(halt) => Some(RunEnd::Stopped {

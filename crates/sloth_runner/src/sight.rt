@@ -1,18 +1,32 @@
 //! The states of the tasks at a count of a run.
 ghost use Rattle.std.specs.Prelude.{◌≡◌, ◌<◌, ◌≤◌, length};
+ghost use Rattle.sloth_inspect.specs.States.{states_in, running_in};
 ghost use Rattle.sloth_runner.specs.Runner.{sloth_state};
-ghost use Rattle.sloth_runner.specs.Sight.{seen_at};
+ghost use Rattle.sloth_runner.specs.Sight.{seen_at, interrupts_in, task_levels};
 
 use crate::runner::Runner;
 use osek_scheduler::state::TaskState;
-use rv32_machine::Stop;
-use sloth_inspect::{TASKS, states};
+use rv32_machine::{SlothBus, Stop};
+use sloth_inspect::{TASKS, levels, pending, running, states};
 
 /// The states of the tasks at a count, in 30 places.
 #[derive(Clone, Copy, Debug, PartialEq, Eq)]
 pub struct Seen {
     pub count: u32,
     pub tasks: [TaskState; TASKS],
+    /// The number of the running task and 1 more, or 0 where none runs.
+    pub running: u32,
+}
+
+/// What the machine shows of interrupts at a count.
+#[derive(Clone, Copy, Debug, PartialEq, Eq)]
+pub struct Interrupts {
+    /// Whether each task's line is pending, in 30 places.
+    pub pending: [bool; TASKS],
+    /// The running level, 0 to 255.
+    pub level: u8,
+    /// Whether interrupts are masked.
+    pub masked: bool,
 }
 
 /// What a run shows of its tasks.
@@ -26,12 +40,25 @@ pub enum Sight {
     Stopped { pc: u32, stop: Stop },
 }
 
+// What memory and the controller show of so many tasks, at a count.
+fn seen_of(bus: &mut SlothBus, count: u32, tasks: u32) -> Seen
+    requires { tasks ≤ 30 }
+    ensures is { result ≡ record { count = count; tasks = states_in bus.old tasks; running = running_in bus.old } }
+    ensures same { bus.new ≡ bus.old }
+{
+    Seen {
+        count,
+        tasks: states(bus, tasks),
+        running: running(bus),
+    }
+}
+
 impl<'a> Runner<'a> {
     ghost use Rattle.sloth_runner.specs.Runner.{IsFresh, image_of, given_arrivals, count_of};
     ghost use Rattle.sloth_runner.specs.Sight.{IsSight};
 
-    // What the machine shows of the tasks, where interrupts are open.
-    fn look(&mut self) -> Option<Seen>
+    /// What the machine shows of the tasks, where interrupts are open.
+    pub fn look(&mut self) -> Option<Seen>
         requires { length (image_of self.old).tasks ≤ 30 }
         ensures seen { result ≡ seen_at (image_of self.old) (count_of self.old) (sloth_state self.old.machine) }
         ensures same { self.new ≡ self.old }
@@ -40,10 +67,31 @@ impl<'a> Runner<'a> {
             return None;
         }
         let tasks = self.image.tasks.items().len() as u32;
-        Some(Seen {
-            count: self.count,
-            tasks: states(self.machine.bus_mut(), tasks),
-        })
+        Some(seen_of(self.machine.bus_mut(), self.count, tasks))
+    }
+
+    /// What the machine shows of interrupts.
+    pub fn interrupts(&mut self) -> Interrupts
+        requires { length (image_of self.old).tasks ≤ 30 }
+        ensures interrupts { result ≡ interrupts_in (image_of self.old) (sloth_state self.old.machine) }
+        ensures same { self.new ≡ self.old }
+    {
+        let tasks = self.image.tasks.items().len() as u32;
+        Interrupts {
+            pending: pending(self.machine.bus_mut(), tasks),
+            level: self.machine.level(),
+            masked: !self.machine.enabled(),
+        }
+    }
+
+    /// The level byte of each task's line, in 30 places.
+    pub fn levels(&mut self) -> [u8; TASKS]
+        requires { length (image_of self.old).tasks ≤ 30 }
+        ensures levels { result ≡ task_levels (image_of self.old) (sloth_state self.old.machine) }
+        ensures same { self.new ≡ self.old }
+    {
+        let tasks = self.image.tasks.items().len() as u32;
+        levels(self.machine.bus_mut(), tasks)
     }
 
     /// Runs k + 1 instructions, and tells the states of the tasks at the last count that finds interrupts open.

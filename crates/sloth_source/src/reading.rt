@@ -1,25 +1,25 @@
 //! What both texts mean.
-ghost use Rattle.std.specs.Prelude.{◌<◌, All, IfOk, IfErr, length};
+ghost use Rattle.std.specs.Prelude.{◌<◌, IfOk, IfErr, length};
 ghost use Rattle.code_rules.specs.WellFormed.{WellFormed};
-ghost use Rattle.stack_bounds.specs.Bounds.{AreBounds, AreParts, HaveRoom, IsLength};
+ghost use Rattle.stack_bounds.specs.Bounds.{AreBounds};
 ghost use Rattle.sloth_source.specs.SourceText.{BodiesAreNamed};
 ghost use Rattle.sloth_source.specs.Texts.{Accepted, ErrorIs};
 
 use crate::ranked::{Ranked, read_ranked};
 use sloth_base::app::App;
 use sloth_base::config::Config;
+use sloth_base::places::Bounds;
 use sloth_base::refusal::BuildError;
 use stack_bounds::bound;
-use stack_bounds::stacks::Stacks;
 use std::alloc::Global;
 use task_verify::verify;
 
-/// A configuration and its task code, and what its tasks need of the stacks.
+/// A configuration and its task code, and the bytes of stack that its tasks may need.
 #[derive(Drop)]
 pub struct Source {
     pub config: Config,
     pub app: App,
-    pub stacks: Stacks,
+    pub bounds: Bounds,
 }
 
 /// Reads a configuration and its task source, each a text of at most 4,294,967,294 bytes: what they mean, or the first refusal. The
@@ -30,18 +30,15 @@ pub fn read(alloc: Global, oil: &[u8], src: &[u8]) -> Result<Source, BuildError>
     ensures accepted { IfOk result (λ source. Accepted oil.now src.now source.config source.app) }
     ensures well_formed { IfOk result (λ source. WellFormed source.config source.app) }
     ensures named { IfOk result (λ source. BodiesAreNamed source.config source.app) }
-    ensures bounds { IfOk result (λ source. AreBounds source.config source.app source.stacks.bounds) }
-    ensures room { IfOk result (λ source. HaveRoom source.config source.app source.stacks.bounds) }
-    ensures lengths { IfOk result (λ source. All IsLength source.stacks.bounds.bytes) }
-    ensures parts { IfOk result (λ source. AreParts source.config source.app source.stacks) }
+    ensures bounds { IfOk result (λ source. AreBounds source.config source.app source.bounds) }
     ensures refused { IfErr result (ErrorIs oil.now src.now) }
 {
     let Ranked { config, app, ranks } = read_ranked(alloc, oil, src)?;
     let verified = verify(alloc, &config, &app, &ranks)?;
-    let stacks = bound(alloc, &verified, &ranks)?;
+    let bounds = bound(alloc, &verified, &ranks)?;
     Ok(Source {
         config,
         app,
-        stacks,
+        bounds,
     })
 }

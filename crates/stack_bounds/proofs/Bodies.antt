@@ -2,6 +2,7 @@
 use Rattle.std.proofs.Common.{◌≡◌, ℕ, zero, suc, ◌<◌, List, [], ◌∷◌, Bool, true, false, cond, length, get_or, refl, sym, ap, ◌∙◌, subst, arith, Some, None, Option}
 use Rattle.std.proofs.lemmas.Bool.{eqb-true, eq-eqb, true≢false}
 use Rattle.sloth_base.specs.declared.config.Config.{Config}
+use Rattle.sloth_base.specs.declared.config.TaskDecl.{TaskDecl}
 use Rattle.sloth_base.specs.declared.app.App.{App}
 use Rattle.sloth_base.specs.declared.app.Func.{Func}
 use Rattle.sloth_base.specs.declared.app.Op.{Op}
@@ -9,6 +10,7 @@ use Rattle.sloth_base.specs.declared.app.Op.TheVariants as op
 use Rattle.sloth_base.specs.Options.{is_number}
 use Rattle.sloth_base.specs.Named.{function, body_of, missing, no_item, IsBodyOf}
 use Rattle.code_rules.specs.AppRange.{AppInRange, IsOp}
+use Rattle.code_rules.specs.WellFormed.{WellFormed}
 use Rattle.stack_bounds.specs.Tables.{IsKnown, AreCallable, HasBody}
 
 some_number : (t : ℕ) (o : Option ℕ) → is_number t o ≡ true → o ≡ Some t
@@ -52,3 +54,9 @@ module _ (config : Config) (app : App) (in_range : AppInRange config app) where
     frames = λ f l. (in_range.bodies f missing l).frame;
     callees = λ f i l inside. known f _ ((in_range.bodies f missing l).items i no_item inside);
   }
+
+-- as the lists that the functions take
+pub bodies_of : (config : Config) (app : App) (tasks : List TaskDecl) (funcs : List Func) → WellFormed config app → tasks ≡ config.tasks → funcs ≡ app.funcs
+    → (t : ℕ) → t < length tasks → HasBody funcs t
+bodies_of config app tasks funcs w e f t l =
+    subst (λ (x : List Func). HasBody x t) (sym f) (bodies config app w.in_range t (subst (λ (x : List TaskDecl). t < length x) e l))

@@ -1,23 +1,20 @@
 -- What is computed of verified task code are its bounds.
-use Rattle.std.proofs.Common.{◌≡◌, ℕ, ◌+◌, ◌*◌, ◌<◌, ◌≤◌, ◌⊎◌, inl, inr, ⊎_elim, Bool, false, cond, List, [], length, get_or, sym, ap, ◌∙◌, subst, arith}
-use Rattle.std.specs.Prelude.{nat_lt, ◌&&◌, All}
-use Rattle.std.specs.Bool.{Decides}
-use Rattle.std.proofs.lemmas.Bool.{and_parts, and_from, and_right, ltb-true, lt-ltb, le-ltb, cases_Bool, cases_lt, cond-true, cond-false, true≢false}
-use Rattle.std.proofs.lemmas.List.{get_or_past, get_or_default}
+use Rattle.std.proofs.Common.{◌≡◌, ℕ, ◌+◌, ◌*◌, ◌<◌, Bool, false, List, [], length, get_or, sym, ap, ◌∙◌, subst, arith}
+use Rattle.std.specs.Prelude.{All}
+use Rattle.std.proofs.lemmas.List.{get_or_default}
 use Rattle.sloth_base.specs.declared.config.Config.{Config}
 use Rattle.sloth_base.specs.declared.config.TaskDecl.{TaskDecl}
 use Rattle.sloth_base.specs.declared.app.App.{App}
 use Rattle.sloth_base.specs.declared.app.Func.{Func}
-use Rattle.sloth_base.specs.Named.{declaration, function, body_of, undeclared}
+use Rattle.sloth_base.specs.Named.{declaration, function, body_of}
 use Rattle.code_rules.specs.WellFormed.{WellFormed}
 use Rattle.call_graph.specs.declared.ranking.Ranks.{Ranks}
 use Rattle.call_graph.specs.Ranks.{RanksOf}
-use Rattle.stack_bounds.specs.Bounds.{total, IsGreatest, context_bytes, frame_bytes, call_bytes, CallsInTurn, used_bytes, IsBasic, MayBePreempted, AreStacked, AreBounds, HaveRoom, IsLength}
-use Rattle.stack_bounds.specs.Tables.{sum_below, in_table, IsTable, task_bytes, gives_way, bytes_under, bytes_with_lower, most_stacked, AreStacks, task_at}
+use Rattle.stack_bounds.specs.Bounds.{total, IsGreatest, context_bytes, frame_bytes, call_bytes, CallsInTurn, used_bytes, AreBounds, HaveRoom, IsLength}
+use Rattle.stack_bounds.specs.Tables.{in_table, IsTable, task_bytes, gives_way, most_stacked, task_at}
 use Rattle.stack_bounds.proofs.Bodies.{has_body, callable}
 use Rattle.stack_bounds.proofs.Chains.{greatest, greatest_small, inwards, words}
-use Rattle.stack_bounds.proofs.Yielding.{Decides-gives_way}
-use Rattle.stack_bounds.proofs.Stacked as stacked
+use Rattle.stack_bounds.proofs.Rows.{AreRows, preempted, greatest_shared}
 
 -- with the same bytes more on both sides
 with_more : (Kind : List ℕ → Type 0) (size : List ℕ → ℕ) (n before behind : ℕ) → IsGreatest Kind size n
@@ -53,10 +50,7 @@ made config app ranks tasks funcs pauses table slice yielding bytes w belong e f
       ∙ ap (λ (x : List Func). task_bytes x slice t) f
       ∙ ap (λ (x : List ℕ). task_bytes app.funcs x t) s;
   yielding_count = yields ∙ ap length e;
-  yielding_are = λ t l. yield t (subst (λ (x : List TaskDecl). t < length x) (sym e) l)
-      ∙ ap (λ (x : List TaskDecl). gives_way (task_at x t) (get_or pauses (body_of funcs t) false)) e
-      ∙ ap (λ (x : List Func). gives_way (declaration config t) (get_or pauses (body_of x t) false)) f
-      ∙ ap (λ (x : List Bool). gives_way (declaration config t) (get_or x (body_of app.funcs t) false)) p;
+  yielding_are = preempted config app ranks tasks funcs pauses yielding e f p yield;
 }
 
 module _ (config : Config) (app : App) (ranks : Ranks) (table : List ℕ) (yielding : List Bool) (bytes : List ℕ)
@@ -75,7 +69,7 @@ module _ (config : Config) (app : App) (ranks : Ranks) (table : List ℕ) (yield
       (with_more (CallsInTurn app body) (total (call_bytes app)) (in_table table body) (frame_bytes app body) context_bytes
       (greatest_calls body (has_body config app h.verified.in_range t declared).0))
 
-  pub length_is : (t : ℕ) → t < length config.tasks → IsLength (get_or bytes t 0)
+  length_is : (t : ℕ) → t < length config.tasks → IsLength (get_or bytes t 0)
   length_is t declared =
       let body = body_of app.funcs t in
       let known = (has_body config app h.verified.in_range t declared).0 in
@@ -90,93 +84,26 @@ module _ (config : Config) (app : App) (ranks : Ranks) (table : List ℕ) (yield
       let all : get_or bytes t 0 ≡ 4 * ((function app body).frame_words + whole.0 + 32) = omega (arith, is, e, f) in
       (omega (arith, is, small, frame), omega (arith, all))
 
-  pub lengths : All IsLength bytes
+  lengths : All IsLength bytes
   lengths t d l = let declared : t < length config.tasks = subst (λ (n : ℕ). t < n) h.bytes_count l in
       subst IsLength (get_or_default bytes t 0 d l) (length_is t declared)
 
-  pub stacks : AreStacks config.tasks yielding bytes
-  stacks = record {
-    few = h.verified.in_range.configuration.few_tasks;
-    yielding_count = h.yielding_count;
+  pub rows : AreRows config app ranks yielding bytes
+  rows = record {
+    verified = h.verified;
+    belong = h.belong;
     bytes_count = h.bytes_count;
-    small = λ t. ⊎_elim
-        (λ declared. let l = (length_is t declared).0 in omega (arith, l))
-        (λ past. let e = get_or_past bytes t 0 (let c = h.bytes_count in omega (arith, past, c)) in omega (arith, e))
-        (cases_lt t (length config.tasks));
+    lengths = lengths;
+    yielding_count = h.yielding_count;
+    yielding_are = h.yielding_are;
   }
 
-  -- ---- the stack of all basic tasks
-
-  abbrev pub priority : ℕ → ℕ
-  priority t = (declaration config t).priority
-
-  abbrev pub size : ℕ → ℕ
-  size t = get_or bytes t 0
-
-  abbrev pub counted : ℕ → ℕ → ℕ
-  counted = bytes_under config.tasks yielding bytes
-
-  abbrev test : ℕ → ℕ → Bool
-  test below t = get_or yielding t false && nat_lt (priority t) below
-
-  abbrev pub IsUnder : ℕ → ℕ → Type 0
-  IsUnder below t = IsBasic config t × MayBePreempted config app t × (priority t < below)
-
-  decides : (t : ℕ) → t < length config.tasks → Decides (get_or yielding t false) (IsBasic config t × MayBePreempted config app t)
-  decides t declared =
-      subst (λ b. Decides b (IsBasic config t × MayBePreempted config app t)) (sym (h.yielding_are t declared)) (Decides-gives_way config app h.verified ranks h.belong t declared)
-
-  pub counts : (below t : ℕ) → t < length config.tasks → (IsUnder below t × (counted below t ≡ size t)) ⊎ (counted below t ≡ 0)
-  counts below t declared = ⊎_elim
-      (λ yes.
-      let parts = and_parts (get_or yielding t false) (nat_lt (priority t) below) yes in
-      let may = (decides t declared).0 parts.0 in
-      inl ((may.0, may.1, ltb-true (priority t) below parts.1), ap (λ b. cond b (size t) 0) yes))
-      (λ no. inr (ap (λ b. cond b (size t) 0) no))
-      (cases_Bool (test below t))
-
-  pub under : (below t : ℕ) → IsUnder below t → counted below t ≡ size t
-  under below t is =
-      ap (λ b. cond b (size t) 0) (and_from _ _ ((decides t is.0.0).1 (is.0, is.1)) (lt-ltb (priority t) below is.2))
-
-  pub above : (below t : ℕ) → below ≤ priority t → counted below t ≡ 0
-  above below t l = ap (λ b. cond b (size t) 0) (and_right (get_or yielding t false) _ (le-ltb (priority t) below l))
-
-  pub more : (below other t : ℕ) → below ≤ other → counted below t ≤ counted other t
-  more below other t l = ⊎_elim
-      (λ yes.
-      let parts = and_parts (get_or yielding t false) (nat_lt (priority t) below) yes in
-      let less = ltb-true (priority t) below parts.1 in
-      let one : counted below t ≡ size t = ap (λ b. cond b (size t) 0) yes in
-      let two : counted other t ≡ size t = ap (λ b. cond b (size t) 0) (and_from _ _ parts.0 (lt-ltb (priority t) other (omega (arith, less, l)))) in
-      omega (arith, one, two))
-      (λ no. let one : counted below t ≡ 0 = ap (λ b. cond b (size t) 0) no in omega (arith, one))
-      (cases_Bool (test below t))
-
-  abbrev pub best : ℕ → ℕ
-  best = bytes_with_lower config.tasks yielding bytes
-
-  pub bests : (t : ℕ) → t < length config.tasks
-      → (IsBasic config t × (best t ≡ sum_below (length config.tasks) (counted (priority t)) + size t)) ⊎ ((IsBasic config t → ⊥) × (best t ≡ 0))
-  bests t declared = ⊎_elim
-      (λ extended. inr (λ basic. true≢false (sym extended ∙ basic.1), cond-true (declaration config t).extended 0 (sum_below (length config.tasks) (counted (priority t)) + size t) extended))
-      (λ basic. inl ((declared, basic), cond-false (declaration config t).extended 0 (sum_below (length config.tasks) (counted (priority t)) + size t) basic))
-      (cases_Bool (declaration config t).extended)
-
-  differ : (t u : ℕ) → t < u → u < length config.tasks → priority t ≡ priority u → ⊥
-  differ t u l m = h.verified.in_range.configuration.priorities_differ t u undeclared l m
-
-  greatest_shared : IsGreatest (AreStacked config app) (total size) (most_stacked config.tasks yielding bytes)
-  greatest_shared =
-      stacked.greatest (length config.tasks) priority size (IsBasic config) (MayBePreempted config app) counted best (record {
-        known = λ t basic. basic.0;
-        differ = differ;
-        counts = counts;
-        under = under;
-        above = above;
-        more = more;
-        bests = bests;
-      })
+  room : (shared : ℕ) → HaveRoom config app (record { bytes = bytes; shared = shared })
+  room shared t f callers declared called =
+      let whole = inwards app t f callers [] called tt in
+      let most = (greatest_bytes t declared).none_greater whole.0 whole.1 in
+      let e = whole.2 in
+      omega (arith, most, e)
 
   pub bounds : AreBounds config app (record { bytes = bytes; shared = most_stacked config.tasks yielding bytes })
   bounds = record {
@@ -185,12 +112,7 @@ module _ (config : Config) (app : App) (ranks : Ranks) (table : List ℕ) (yield
         let declared = h.verified.in_range.tasks.declared t body is in
         let same = h.verified.in_range.tasks.one t (body_of app.funcs t) body (has_body config app h.verified.in_range t declared) is in
         subst (λ (b : ℕ). IsGreatest (CallsInTurn app b) (used_bytes app b) (get_or bytes t 0)) same (greatest_bytes t declared);
-    shared = greatest_shared;
+    shared = greatest_shared config app ranks yielding bytes rows;
+    lengths = lengths;
+    room = room (most_stacked config.tasks yielding bytes);
   }
-
-  pub room : (shared : ℕ) → HaveRoom config app (record { bytes = bytes; shared = shared })
-  room shared t f callers declared called =
-      let whole = inwards app t f callers [] called tt in
-      let most = (greatest_bytes t declared).none_greater whole.0 whole.1 in
-      let e = whole.2 in
-      omega (arith, most, e)

@@ -4,5 +4,6 @@ pub mod Bodies
 pub mod Chains
 pub mod Stacked
 pub mod Yielding
+pub mod Rows
 pub mod Bounded
 pub mod Parts

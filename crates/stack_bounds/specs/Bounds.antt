@@ -1,11 +1,10 @@
 -- The bytes of stack that tasks may need: each for itself, and the basic tasks together on one stack.
-use Rattle.std.specs.Prelude.{ℕ, ◌+◌, ◌*◌, ◌%◌, ◌<◌, ◌≤◌, ◌≡◌, ◌⊎◌, true, false, List, [], ◌∷◌, length, get_or}
+use Rattle.std.specs.Prelude.{ℕ, ◌+◌, ◌*◌, ◌%◌, ◌<◌, ◌≤◌, ◌≡◌, ◌⊎◌, true, false, List, [], ◌∷◌, length, get_or, All}
 use Rattle.sloth_base.specs.declared.config.Config.{Config}
 use Rattle.sloth_base.specs.declared.app.App.{App}
 use Rattle.sloth_base.specs.declared.places.Bounds.{Bounds}
 use Rattle.sloth_base.specs.declared.service.Service.TheVariants as service
-use Rattle.stack_bounds.specs.declared.stacks.Stacks.{Stacks}
-use Rattle.sloth_base.specs.Named.{declaration, function, body_of, IsBodyOf}
+use Rattle.sloth_base.specs.Named.{declaration, function, IsBodyOf}
 use Rattle.code_rules.specs.Code.{IsItem, serve, Calls, IsCalledBy, TaskReaches}
 
 -- a size summed over a list
@@ -77,30 +76,6 @@ stacked_bytes bounds tasks = total (λ t. get_or bounds.bytes t 0) tasks
 
 -- ---- bounds
 
--- the bounds of all tasks, and the shared one: 0 where there is no basic task
-pub record AreBounds (config : Config) (app : App) (bounds : Bounds) : Type 0 where
-  pub count : length bounds.bytes ≡ length config.tasks
-  pub bytes : (t body : ℕ) → IsBodyOf app t body → IsGreatest (CallsInTurn app body) (used_bytes app body) (get_or bounds.bytes t 0)
-  pub shared : IsGreatest (AreStacked config app) (stacked_bytes bounds) bounds.shared
-
--- the bytes of a task
-abbrev pub bytes_of : Stacks → ℕ → ℕ
-bytes_of stacks t = get_or stacks.bounds.bytes t 0
-
--- the bytes from the end of a task's part to the end of its stack
-abbrev pub offset_of : Stacks → ℕ → ℕ
-offset_of stacks t = get_or stacks.offsets t 0
-
--- Each basic task has a part of the shared stack, in whole words. It lies below those of the basic tasks of lower priority that may be preempted.
-pub record AreParts (config : Config) (app : App) (stacks : Stacks) : Type 0 where
-  pub count : length stacks.offsets ≡ length config.tasks
-  pub own : (t : ℕ) → (declaration config t).extended ≡ true → offset_of stacks t ≡ 0
-  pub inside : (t : ℕ) → IsBasic config t → offset_of stacks t + bytes_of stacks t ≤ stacks.bounds.shared
-  pub below : (t u : ℕ) → IsBasic config t → IsBasic config u → MayBePreempted config app u
-      → (declaration config u).priority < (declaration config t).priority → offset_of stacks u + bytes_of stacks u ≤ offset_of stacks t
-  pub words : (t : ℕ) → offset_of stacks t % 4 ≡ 0
-  pub small : stacks.bounds.shared ≤ 269824
-
 -- no task needs more than its bytes: the frame of the function that it is in, a return address and a frame for each caller, and a context
 abbrev pub HaveRoom : Config → App → Bounds → Type 0
 HaveRoom config app bounds = (t f : ℕ) (callers : List ℕ) → t < length config.tasks → IsCalledBy app t f callers
@@ -109,3 +84,31 @@ HaveRoom config app bounds = (t f : ℕ) (callers : List ℕ) → t < length con
 -- whole words, and at most those of 63 calls with a body and a context
 abbrev pub IsLength : ℕ → Type 0
 IsLength bytes = (bytes ≤ 8572) × (bytes % 4 ≡ 0)
+
+-- the bounds of all tasks, and the shared one: 0 where there is no basic task
+pub record AreBounds (config : Config) (app : App) (bounds : Bounds) : Type 0 where
+  pub count : length bounds.bytes ≡ length config.tasks
+  pub bytes : (t body : ℕ) → IsBodyOf app t body → IsGreatest (CallsInTurn app body) (used_bytes app body) (get_or bounds.bytes t 0)
+  pub shared : IsGreatest (AreStacked config app) (stacked_bytes bounds) bounds.shared
+  pub lengths : All IsLength bounds.bytes
+  pub room : HaveRoom config app bounds
+
+-- ---- parts of the shared stack
+
+-- the bytes of a task
+abbrev pub bytes_of : Bounds → ℕ → ℕ
+bytes_of bounds t = get_or bounds.bytes t 0
+
+-- the bytes from the end of a task's part to the end of its stack
+abbrev pub offset_of : List ℕ → ℕ → ℕ
+offset_of offsets t = get_or offsets t 0
+
+-- Each basic task has a part of the shared stack, in whole words. It lies below those of the basic tasks of lower priority that may be preempted.
+pub record AreParts (config : Config) (app : App) (bounds : Bounds) (offsets : List ℕ) : Type 0 where
+  pub count : length offsets ≡ length config.tasks
+  pub own : (t : ℕ) → (declaration config t).extended ≡ true → offset_of offsets t ≡ 0
+  pub inside : (t : ℕ) → IsBasic config t → offset_of offsets t + bytes_of bounds t ≤ bounds.shared
+  pub below : (t u : ℕ) → IsBasic config t → IsBasic config u → MayBePreempted config app u
+      → (declaration config u).priority < (declaration config t).priority → offset_of offsets u + bytes_of bounds u ≤ offset_of offsets t
+  pub words : (t : ℕ) → offset_of offsets t % 4 ≡ 0
+  pub small : bounds.shared ≤ 269824

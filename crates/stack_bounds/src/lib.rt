@@ -1,34 +1,31 @@
 //! The bytes of stack that tasks may need: each for itself, and the basic tasks together on one stack.
 #![tactic(auto)]
 
-ghost use Rattle.std.specs.Prelude.{◌≡◌, All, IfOk};
+ghost use Rattle.std.specs.Prelude.{◌≡◌, IfOk};
 ghost use Rattle.call_graph.specs.Ranks.{RanksOf};
-ghost use Rattle.stack_bounds.specs.Bounds.{AreBounds, HaveRoom, IsLength, AreParts};
+ghost use Rattle.stack_bounds.specs.Bounds.{AreBounds};
 
 mod calls;
 mod shared;
-pub mod stacks;
+mod stacking;
 mod tasks;
 
 use crate::calls::most_calls;
-use crate::shared::{most_stacked, offsets_of_tasks};
-use crate::stacks::Stacks;
+use crate::shared::most_stacked;
 use crate::tasks::{bytes_of_tasks, yielding_tasks};
 use call_graph::ranking::Ranks;
 use sloth_base::list::List;
 use sloth_base::memory::NoMemory;
 use sloth_base::places::Bounds;
+pub use stacking::offsets;
 use std::alloc::Global;
 use task_verify::verified::Verified;
 
 /// The bytes that each task needs at most (128 to 8,572, in whole words), and those that all basic tasks need together (at most
-/// 269,824), with the part of each in the one stack that they share.
-pub fn bound(alloc: Global, verified: &Verified, ranks: &Ranks) -> Result<Stacks, NoMemory>
+/// 269,824).
+pub fn bound(alloc: Global, verified: &Verified, ranks: &Ranks) -> Result<Bounds, NoMemory>
     requires { RanksOf verified.now.app ranks.now }
-    ensures bounds { IfOk result (λ stacks. AreBounds verified.now.config verified.now.app stacks.bounds) }
-    ensures room { IfOk result (λ stacks. HaveRoom verified.now.config verified.now.app stacks.bounds) }
-    ensures lengths { IfOk result (λ stacks. All IsLength stacks.bounds.bytes) }
-    ensures parts { IfOk result (AreParts verified.now.config verified.now.app) }
+    ensures { IfOk result (AreBounds verified.now.config verified.now.app) }
 {
     let tasks = verified.config().tasks.items();
     let funcs = verified.app().funcs.items();
@@ -36,12 +33,8 @@ pub fn bound(alloc: Global, verified: &Verified, ranks: &Ranks) -> Result<Stacks
     let bytes = bytes_of_tasks(alloc, funcs, &table, tasks.len())?;
     let yielding = yielding_tasks(alloc, tasks, funcs, ranks.pauses.items())?;
     let shared = most_stacked(tasks, &yielding, &bytes);
-    let offsets = offsets_of_tasks(alloc, tasks, &yielding, &bytes)?;
-    Ok(Stacks {
-        bounds: Bounds {
-            bytes: List::from_vec(bytes),
-            shared,
-        },
-        offsets: List::from_vec(offsets),
+    Ok(Bounds {
+        bytes: List::from_vec(bytes),
+        shared,
     })
 }

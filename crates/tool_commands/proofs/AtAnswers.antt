@@ -13,6 +13,8 @@ use Rattle.image_file.proofs.Unique.{image-unique}
 use Rattle.trace_text.specs.ArrivalsText.{ArrivalsFault, arrivals_in}
 use Rattle.sloth_source.proofs.Least.{one_least}
 use Rattle.sloth_runner.specs.Sight.{IsSight}
+use Rattle.sloth_runner.specs.declared.sight.Sight.{Sight}
+use Rattle.sloth_runner.specs.declared.sight.Sight.TheVariants as sight
 use Rattle.sloth_runner.proofs.Sighted.{one_sight}
 use Rattle.tool_commands.specs.AtAnswers.{IsShown, IsRefused, IsAtAnswer, sight_answer}
 use Rattle.tool_commands.specs.declared.answer.ToolAnswer.{ToolAnswer}
@@ -43,7 +45,7 @@ one-shown img arr k a b h i =
     let sight : h.sight ≡ i.sight = one_sight i.image i.arrivals k h.sight i.sight (subst T arrivals (subst S image h.seen)) i.seen in
     h.answer_is ∙ ap (λ (x : Image). sight_answer x h.sight) image ∙ ap (sight_answer i.image) sight ∙ sym i.answer_is
 
-one-refused : (img arr : List ℕ) (r s : Refusal) → IsRefused img arr r → IsRefused img arr s → r ≡ s
+pub one-refused : (img arr : List ℕ) (r s : Refusal) → IsRefused img arr r → IsRefused img arr s → r ≡ s
 one-refused img arr r s h i =
     let image : h.0 ≡ i.0 = image-unique h.0 i.0 img h.1 i.1 in
     let L : Image → Type 0 = λ x. IsLeast (ArrivalsFault x.tasks arr) r in
@@ -78,3 +80,14 @@ at-image img arr k a h = by (at-view img arr k a h)
     by (AtView.shows s) = inl (s.image, s.is_image)
     by (AtView.faults fault e f) = inr (fault, e)
     by (AtView.refuses refusal e r) = inl (r.0, r.1)
+
+-- what a run shows of its tasks is the answer
+pub sight_is_answer : (img arr : List ℕ) (k : ℕ) (image : Image) (arrivals : List Arrival) (s : Sight) (a : ToolAnswer) → ImageText img image
+    → NoFault (ArrivalsFault image.tasks arr) → arrivals ≡ arrivals_in image.tasks arr → IsSight image arrivals k s → a ≡ sight_answer image s → IsAtAnswer img arr k a
+sight_is_answer img arr k image arrivals s a is none are seen at = subst (λ x. IsAtAnswer img arr k x) (sym at) (by s seen)
+  where
+    by : (x : Sight) → IsSight image arrivals k x → IsAtAnswer img arr k (sight_answer image x)
+    by (sight.At y) h = record { image = image; arrivals = arrivals; sight = sight.At y; is_image = is; no_fault = none; arrivals_are = are; seen = h; answer_is = refl }
+    by sight.Booting h = record { image = image; arrivals = arrivals; sight = sight.Booting; is_image = is; no_fault = none; arrivals_are = are; seen = h; answer_is = refl }
+    by (sight.Stopped pc stop) h =
+        record { image = image; arrivals = arrivals; sight = sight.Stopped pc stop; is_image = is; no_fault = none; arrivals_are = are; seen = h; answer_is = refl }

@@ -1,6 +1,8 @@
 pub mod Answers
 pub mod AtAnswers
+pub mod BoundsAnswers
 pub mod CheckAnswers
 pub mod ElfAnswers
 pub mod InferAnswers
 pub mod Lines
+pub mod WaveAnswers

@@ -1,12 +1,16 @@
 //! The command `at`.
 ghost use Rattle.std.specs.Prelude.{◌≡◌, ◌≤◌, IfOk, length};
 ghost use Rattle.sloth_base.specs.ImageRange.{InFormat};
+ghost use Rattle.sloth_base.specs.Arrivals.{AreArrivals};
+ghost use Rattle.sloth_base.specs.Owners.{owners_named};
+ghost use Rattle.sloth_runner.specs.Sight.{IsSight};
 ghost use Rattle.tool_commands.specs.AtAnswers.{IsAtAnswer, sight_answer};
 
 use crate::answer::{Outcome, ToolAnswer};
 use image_file::fault::ImageError;
 use image_file::read_image;
 use sight_text::seen_text;
+use sloth_base::event::Arrival;
 use sloth_base::image::Image;
 use sloth_base::list::List;
 use sloth_base::memory::NoMemory;
@@ -37,7 +41,19 @@ fn sight_answer(alloc: Global, image: &Image, sight: &Sight) -> Result<ToolAnswe
     }))
 }
 
+// What the run of an image with arrivals shows of its tasks.
+fn sight_of(alloc: Global, image: &Image, arrivals: &[Arrival], k: u32) -> Result<Sight, NoMemory>
+    requires format { InFormat image.now }
+    requires arrivals { AreArrivals (owners_named image.now) arrivals.now }
+    requires k { k ≤ 999999 }
+    ensures { IfOk result (IsSight image.now arrivals.now k) }
+{
+    let mut runner = Runner::new(alloc, image, arrivals)?;
+    Ok(runner.state_at(k))
+}
+
 /// The states of the tasks at the last count up to k, in the run of an image file with arrivals, that finds interrupts open.
+#[tactic(auto, using(crate::proofs::AtAnswers::sight_is_answer))]
 pub fn at(alloc: Global, img: &[u8], arr: &[u8], k: u32) -> Result<ToolAnswer, NoMemory>
     requires arr { length arr.now ≤ 4194304 }
     requires k { k ≤ 999999 }
@@ -53,7 +69,7 @@ pub fn at(alloc: Global, img: &[u8], arr: &[u8], k: u32) -> Result<ToolAnswer, N
         Err(BuildError::Refused(refusal)) => return Ok(ToolAnswer::Refused(refusal)),
         Err(BuildError::Memory) => return Err(NoMemory),
     };
-    let mut runner = Runner::new(alloc, &image, arrivals.as_slice())?;
-    let sight = runner.state_at(k);
-    sight_answer(alloc, &image, &sight)
+    let sight = sight_of(alloc, &image, arrivals.as_slice(), k)?;
+    let answer = sight_answer(alloc, &image, &sight)?;
+    Ok(answer)
 }

@@ -5,9 +5,11 @@ ghost use Rattle.tool_commands.specs.Answers.{IsAnswer};
 
 use crate::answer::ToolAnswer;
 use crate::at_command::at;
+use crate::bounds_command::bounds;
 use crate::check_command::check;
 use crate::elf_commands::{elf, unelf};
 use crate::infer_command::infer;
+use crate::wave_command::wave;
 use command_line::tool::Tool;
 use sloth_base::list::List;
 use sloth_base::memory::NoMemory;
@@ -35,6 +37,12 @@ pub fn judge(
             inputs[1].items(),
             number.unwrap_or(0),
         ),
+        Tool::Wave => wave(
+            alloc,
+            inputs[0].items(),
+            inputs[1].items(),
+            number.unwrap_or(0),
+        ),
         Tool::Check => check(
             alloc,
             inputs[0].items(),
@@ -43,5 +51,6 @@ pub fn judge(
             inputs[3].items(),
             number.unwrap_or(0),
         ),
+        Tool::Bounds => bounds(alloc, inputs[0].items(), inputs[1].items()),
     }
 }

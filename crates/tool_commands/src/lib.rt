@@ -3,12 +3,14 @@
 
 pub mod answer;
 mod at_command;
+mod bounds_command;
 mod check_command;
 mod elf_commands;
 mod infer_command;
 pub mod judging;
 pub mod laws;
 pub mod lines;
+mod wave_command;
 
 pub use answer::{Outcome, ToolAnswer, TraceFault};
 pub use judging::judge;

@@ -22,7 +22,7 @@ use Rattle.osek_scheduler.specs.Next.{is_ready, all_below}
 use Rattle.osek_scheduler.specs.Runs.{Leads, Follows, ReadySince, OsekRun, PassesOver, PassesOverArrivals}
 use Rattle.osek_scheduler.proofs.Tests.{Decides-is_ready, Decides-is_active}
 use Rattle.osek_scheduler.proofs.Leading.{follows_leads, one_end, one_step}
-use Rattle.osek_machine.specs.Above.{is_above}
+use Rattle.osek_plans.specs.Above.{is_above}
 use Rattle.trace_check.specs.Moments.{KeepsMoments, all_later, noted}
 use Rattle.trace_check.specs.Walk.{Walk, Walks, Walking, StraysAt, Stops, Walked, task_passes, event_passes}
 use Rattle.trace_check.proofs.Moments.{moments_more, no_moments}

@@ -12,9 +12,9 @@ ghost use Rattle.osek_scheduler.specs.Services.{if_suspended};
 ghost use Rattle.trace_check.specs.Moments.{all_later, noted};
 ghost use Rattle.trace_check.specs.Walk.{Stops, Walked, Walking, Walks, event_passes, task_passes, with_moment};
 
-use osek_machine::priority::is_active;
-use osek_machine::store::is_suspended;
 use osek_machine::{NotARun, Osek};
+use osek_plans::priority::is_active;
+use osek_plans::store::is_suspended;
 use osek_scheduler::state::TaskState;
 use sloth_base::app::App;
 use sloth_base::config::Config;

@@ -2,12 +2,11 @@
 use Rattle.std.proofs.Common.{◌≡◌, ◌∙◌, inl, inr, ℕ, zero, suc, ◌+◌, ◌-◌, ◌<◌, ◌≤◌, Bool, true, false, not, List, [], ◌∷◌, ◌++◌, Option, Some, None, take, length, length-append, arith, refl, sym, ap}
 use Rattle.std.specs.Prelude.{◌==◌, ◌&&◌, ◌||◌, nat_le, nat_lt, is_some, unwrap_or, bytes_eq, slice_index_or, IfSome}
 use Rattle.std.specs.List.{All}
-use Rattle.std.proofs.lemmas.Bool.{ltb-false, leb-false}
+use Rattle.std.proofs.lemmas.Bool.{ltb-false, leb-false, or_parts}
 use Rattle.std.proofs.lemmas.List.{length-take}
 use Rattle.std.proofs.lemmas.List.Elements.{All-nil, All-cons, All-append, All-head, All-tail}
 use Rattle.std.proofs.lemmas.List.Quantifiers.{position-Some}
 use Rattle.std.proofs.Math.Nat.{min-le_left, min-le_right}
-use Rattle.asm_lines.proofs.Cuts.{neither}
 use Rattle.sloth_base.specs.Arrivals.{AreArrivals, NeverFalls}
 use Rattle.sloth_base.specs.declared.event.Arrival.{Arrival}
 use Rattle.sloth_base.specs.declared.refusal.Part.TheVariants.{Arr}
@@ -67,8 +66,8 @@ module _ (tasks : List (List ℕ)) (before : List Arrival) (n : ℕ) (line : Lis
   is-in : (nat_le 100000 (length before) ≡ false) × (nat_lt (moment_of line) 1 ≡ false) × (nat_lt 1000000 (moment_of line) ≡ false)
   is-in =
       let t4 = case_false Arr (is_t4 before line) n T4 (λ r f. none r (inr (inr (inr f)))) in
-      let w = neither (nat_le 100000 (length before)) (is_outside line) (without (is_arrival line) (nat_le 100000 (length before) || is_outside line) is t4) in
-      let v = neither (nat_lt (moment_of line) 1) (nat_lt 1000000 (moment_of line)) w.1 in
+      let w = or_parts (nat_le 100000 (length before)) (is_outside line) (without (is_arrival line) (nat_le 100000 (length before) || is_outside line) is t4) in
+      let v = or_parts (nat_lt (moment_of line) 1) (nat_lt 1000000 (moment_of line)) w.1 in
       (w.0, v.0, v.1)
 
   pub moment-fits : moment_of line ≤ 1000000

@@ -9,9 +9,10 @@ use Rattle.sloth_region.specs.Layout.{idle_context, context_bytes, controller_ba
 use Rattle.rv32_instr.specs.declared.InstrKind.{InstrKind}
 use Rattle.rv32_instr.specs.declared.InstrKind.TheVariants.{Sb}
 use Rattle.sloth_base.specs.Arithmetic.{hi}
+use Rattle.sloth_base.specs.MemoryMap.{memory_base}
 use Rattle.masked_code.specs.Place.{at}
 use Rattle.masked_code.specs.Masked.{Masked, WithArrivals}
-use Rattle.masked_code.specs.Owes.{Owes, Pending, Enabled, Level}
+use Rattle.masked_code.specs.Owes.{◌▸◌, writes, raises, sets_enabled, sets_level, accesses, Owes}
 use Rattle.masked_code.proofs.Parts.{hi_lo}
 use Rattle.masked_code.proofs.Spread.{spread, spread_is, spread_from, others}
 use Rattle.masked_code.proofs.Routines.{handles}
@@ -39,11 +40,17 @@ module _ (from to : ℕ) (E : List ℕ → State → State → Type 0) (start : 
   abbrev with_x3 : ℕ → Core → Core
   with_x3 x3 c = record c { registers = 0 ∷ controller_base ∷ x2 ∷ x3 ∷ 1 ∷ tail }
 
-  raises_owe : (auto : Bool) (line o : ℕ) (code : List InstrKind) (c : Core) → line < 32 → ((o' : ℕ) → Owes from to o' code 0 E start (record c { pending = raised_if auto line c.pending })) → get_or c.registers 1 0 ≡ controller_base → get_or c.registers 4 0 ≡ 1 → Owes from to o (line_code line auto ++ code) 0 E start c
-  raises_owe true line o code c h go one four = (Pending line, (omega arith, h), inl ((λ e. absurd (omega arith)), go (o + 4)))
+  raises_owe : (auto : Bool) (line o : ℕ) (code : List InstrKind) (c : Core) → line < 32
+      → ((o' : ℕ) → Owes from to o' code 0 E start (record c { pending = raised_if auto line c.pending })) → get_or c.registers 1 0 ≡ controller_base
+      → get_or c.registers 4 0 ≡ 1 → Owes from to o (line_code line auto ++ code) 0 E start c
+  raises_owe true line o code c h go one four =
+      raises line (omega arith, h) (λ e. absurd (omega arith))
+      ▸ go (o + 4)
   raises_owe false line o code c h go one four = go o
 
-  starts_owe : (tasks : List TaskDecl) (line o x3 : ℕ) (code : List InstrKind) (c : Core) → line + length tasks ≤ 32 → ((o' x3' : ℕ) → Owes from to o' code 0 E start (with_x3 x3' (record c { levels = levels_with line tasks levels c.levels; enabled = enabled_with line tasks c.enabled; pending = pending_with line tasks c.pending }))) → Owes from to o (lines_code line tasks levels ++ code) 0 E start (with_x3 x3 c)
+  starts_owe : (tasks : List TaskDecl) (line o x3 : ℕ) (code : List InstrKind) (c : Core) → line + length tasks ≤ 32
+      → ((o' x3' : ℕ) → Owes from to o' code 0 E start (with_x3 x3' (record c { levels = levels_with line tasks levels c.levels; enabled = enabled_with line tasks c.enabled; pending = pending_with line tasks c.pending })))
+      → Owes from to o (lines_code line tasks levels ++ code) 0 E start (with_x3 x3 c)
   starts_owe [] line o x3 code c h go = go o x3
   starts_owe (task ∷ tasks) line o x3 code c h go =
       let v = get_or levels line 0 in
@@ -56,9 +63,12 @@ module _ (from to : ℕ) (E : List ℕ → State → State → Type 0) (start : 
       let raised = raises_owe task.autostart line o3 rest d (omega arith) (λ o'. starts_owe tasks (suc line) o' v code (record c { levels = set c.levels line v; enabled = set c.enabled line 1; pending = raised_if task.autostart line c.pending }) (omega arith) go) refl refl in
       let enabled = subst (λ l. Owes from to o3 l 0 E start d) (sym (append_assoc (line_code line task.autostart) (lines_code (suc line) tasks levels) code)) raised in
       let levelled : Owes from to o2 (Sb 1 4 (pos (enabled_byte line)) ∷ ((line_code line task.autostart ++ lines_code (suc line) tasks levels) ++ code)) 0 E start (with_x3 v (record c { levels = set c.levels line v })) =
-      (Enabled line, (omega arith, omega arith), enabled)
+      sets_enabled line (omega arith, omega arith)
+      ▸ enabled
       in
-      (v, omega arith, (Level line, (omega arith, omega arith), subst (λ b. Owes from to o2 (Sb 1 4 (pos (enabled_byte line)) ∷ ((line_code line task.autostart ++ lines_code (suc line) tasks levels) ++ code)) 0 E start (with_x3 v (record c { levels = set c.levels line b }))) (sym e) levelled))
+      writes v (omega arith)
+      ▸ sets_level line (omega arith, omega arith)
+      ▸ subst (λ b. Owes from to o2 (Sb 1 4 (pos (enabled_byte line)) ∷ ((line_code line task.autostart ++ lines_code (suc line) tasks levels) ++ code)) 0 E start (with_x3 v (record c { levels = set c.levels line b }))) (sym e) levelled
 
 -- ---- line by line
 
@@ -72,7 +82,8 @@ levels_other (task ∷ tasks) line levels bytes k h =
     levels_other tasks (suc line) levels (set bytes line (get_or levels line 0)) k (grind (arith, h))
     ∙ get_or-set_other bytes line k (get_or levels line 0) 0 (λ e. ⊎_elim (λ x. absurd (omega arith)) (λ x. absurd (omega arith)) h)
 
-levels_at : (tasks : List TaskDecl) (line : ℕ) (levels bytes : List ℕ) (k : ℕ) → line ≤ k → k < line + length tasks → line + length tasks ≤ length bytes → get_or (levels_with line tasks levels bytes) k 0 ≡ get_or levels k 0
+levels_at : (tasks : List TaskDecl) (line : ℕ) (levels bytes : List ℕ) (k : ℕ) → line ≤ k → k < line + length tasks → line + length tasks ≤ length bytes
+    → get_or (levels_with line tasks levels bytes) k 0 ≡ get_or levels k 0
 levels_at [] line levels bytes k l h long = absurd (omega arith)
 levels_at (task ∷ tasks) line levels bytes k l h long =
     let v = get_or levels line 0 in
@@ -127,7 +138,8 @@ pending_other (task ∷ tasks) line bytes k h =
     pending_other tasks (suc line) (raised_if task.autostart line bytes) k (grind (arith, h))
     ∙ raised_other task.autostart line bytes k (λ e. ⊎_elim (λ x. absurd (omega arith)) (λ x. absurd (omega arith)) h)
 
-pending_raised : (tasks : List TaskDecl) (line : ℕ) (bytes : List ℕ) (j : ℕ) (d : TaskDecl) → j < length tasks → line + length tasks ≤ length bytes → (get_or tasks j d).autostart ≡ true → get_or (pending_with line tasks bytes) (line + j) 0 ≡ 1
+pending_raised : (tasks : List TaskDecl) (line : ℕ) (bytes : List ℕ) (j : ℕ) (d : TaskDecl) → j < length tasks → line + length tasks ≤ length bytes
+    → (get_or tasks j d).autostart ≡ true → get_or (pending_with line tasks bytes) (line + j) 0 ≡ 1
 pending_raised [] line bytes j d h long auto = absurd (omega arith)
 pending_raised (task ∷ tasks) line bytes zero d h long auto =
     let e : line + 0 ≡ line = omega arith in
@@ -140,7 +152,8 @@ pending_raised (task ∷ tasks) line bytes (suc j) d h long auto =
     ap (λ k. get_or (pending_with (suc line) tasks (raised_if task.autostart line bytes)) k 0) e
     ∙ pending_raised tasks (suc line) (raised_if task.autostart line bytes) j d (omega arith) (omega arith) auto
 
-pending_kept : (tasks : List TaskDecl) (line : ℕ) (bytes : List ℕ) (j : ℕ) (d : TaskDecl) → j < length tasks → (get_or tasks j d).autostart ≡ false → get_or (pending_with line tasks bytes) (line + j) 0 ≡ get_or bytes (line + j) 0
+pending_kept : (tasks : List TaskDecl) (line : ℕ) (bytes : List ℕ) (j : ℕ) (d : TaskDecl) → j < length tasks → (get_or tasks j d).autostart ≡ false
+    → get_or (pending_with line tasks bytes) (line + j) 0 ≡ get_or bytes (line + j) 0
 pending_kept [] line bytes j d h auto = absurd (omega arith)
 pending_kept (task ∷ tasks) line bytes zero d h auto =
     let e : line + 0 ≡ line = omega arith in
@@ -172,72 +185,48 @@ boot_code tasks levels idle = register_code ++ (lines_code 0 tasks levels ++ fin
 
 -- the end of the idle loop's context
 abbrev idle_end : ℕ
-idle_end = 0x8000_0000 + (idle_context + context_bytes)
+idle_end = memory_base + (idle_context + context_bytes)
 
-module _ (tasks : List TaskDecl) (levels : List ℕ) (idle : ℕ) (few : length tasks ≤ 30) (small : (k : ℕ) → get_or levels k 0 < 256) (fits : idle < 2 ^ 32) (aligned : idle % 4 ≡ 0) (offset : ℕ) (c : Core) (h : MayBoot offset (boot_code tasks levels idle) c) where
-  end_owes : (from to o x2 x3 : ℕ) → Owes from to o (finishing_code idle) 0 (Booted tasks levels idle) (at offset (spread c)) (record (spread c) { registers = 0 ∷ controller_base ∷ x2 ∷ x3 ∷ 1 ∷ spread_from 27 5 c.registers; levels = levels_with 0 tasks levels c.levels; enabled = enabled_with 0 tasks c.enabled; pending = pending_with 0 tasks c.pending })
+module _ (tasks : List TaskDecl) (levels : List ℕ) (idle : ℕ) (few : length tasks ≤ 30) (small : (k : ℕ) → get_or levels k 0 < 256) (fits : idle < 2 ^ 32)
+    (aligned : idle % 4 ≡ 0) (offset : ℕ) (c : Core) (h : MayBoot offset (boot_code tasks levels idle) c) where
+  end_owes : (from to o x2 x3 : ℕ)
+      → Owes from to o (finishing_code idle) 0 (Booted tasks levels idle) (at offset (spread c))
+      (record (spread c) { registers = 0 ∷ controller_base ∷ x2 ∷ x3 ∷ 1 ∷ spread_from 27 5 c.registers; levels = levels_with 0 tasks levels c.levels; enabled = enabled_with 0 tasks c.enabled; pending = pending_with 0 tasks c.pending })
   end_owes from to o x2 x3 =
       let n = length tasks in
       let long_levels = h.levels in
       let long_enabled = h.enabled in
       let long_pending = h.can_run.lines in
-      let at_line : (line : ℕ) → 0 + line ≡ line = λ line. omega arith in (
-        0x8000_0000,
-        refl,
-        (
-          idle_end,
-          refl,
-          (
-            128,
-            refl,
-            (
-              _,
-              refl,
-              refl,
-              (
-                hi idle * 4096,
-                refl,
-                (
-                  idle,
-                  hi_lo idle fits,
-                  (
-                    c.mepc,
-                    refl,
-                    refl,
-                    record {
-                      touches = refl;
-                      level = λ line below. levels_at tasks 0 levels c.levels line (omega arith) (omega arith) (omega arith);
-                      other_levels = λ line past. levels_other tasks 0 levels c.levels line (inr (omega arith));
-                      enabled = λ line below. enabled_at tasks 0 c.enabled line (omega arith) (omega arith) (omega arith);
-                      other_enabled = λ line past. enabled_other tasks 0 c.enabled line (inr (omega arith));
-                      raised = λ line d below auto. subst (λ k. get_or (pending_with 0 tasks c.pending) k 0 ≡ 1) (at_line line) (pending_raised tasks 0 c.pending line d below (omega arith) auto);
-                      unraised = λ line d below auto. subst (λ k. get_or (pending_with 0 tasks c.pending) k 0 ≡ get_or c.pending k 0) (at_line line) (pending_kept tasks 0 c.pending line d below auto);
-                      other_pending = λ line past. pending_other tasks 0 c.pending line (inr (omega arith));
-                      lines = (length-pending tasks 0 c.pending ∙ h.can_run.lines, length-enabled tasks 0 c.enabled ∙ h.enabled, length-levels tasks 0 levels c.levels ∙ h.levels);
-                      pc = omega arith;
-                      left = record { zero = refl; registers = refl; opened = refl; previous = refl; running = refl; pending = refl; enabled = refl; levels = refl; ram = refl; scratch = refl; controller = refl };
-                      x2 = refl;
-                      kept = λ i past. others controller_base idle_end idle 1 (get_or c.registers 1 0) (get_or c.registers 2 0) (get_or c.registers 3 0) (get_or c.registers 4 0) (spread_from 27 5 c.registers) i past;
-                    },
-                  ),
-                ),
-              ),
-            ),
-          ),
-        ),
-      )
+      let at_line : (line : ℕ) → 0 + line ≡ line = λ line. omega arith in
+      writes memory_base refl
+      ▸ writes idle_end refl
+      ▸ writes 128 refl
+      ▸ accesses _ refl refl
+      ▸ writes (hi idle * 4096) refl
+      ▸ writes idle (hi_lo idle fits)
+      ▸ accesses c.mepc refl refl
+      ▸ record {
+        touches = refl;
+        level = λ line below. levels_at tasks 0 levels c.levels line (omega arith) (omega arith) (omega arith);
+        other_levels = λ line past. levels_other tasks 0 levels c.levels line (inr (omega arith));
+        enabled = λ line below. enabled_at tasks 0 c.enabled line (omega arith) (omega arith) (omega arith);
+        other_enabled = λ line past. enabled_other tasks 0 c.enabled line (inr (omega arith));
+        raised = λ line d below auto. subst (λ k. get_or (pending_with 0 tasks c.pending) k 0 ≡ 1) (at_line line) (pending_raised tasks 0 c.pending line d below (omega arith) auto);
+        unraised = λ line d below auto. subst (λ k. get_or (pending_with 0 tasks c.pending) k 0 ≡ get_or c.pending k 0) (at_line line) (pending_kept tasks 0 c.pending line d below auto);
+        other_pending = λ line past. pending_other tasks 0 c.pending line (inr (omega arith));
+        lines = (length-pending tasks 0 c.pending ∙ h.can_run.lines, length-enabled tasks 0 c.enabled ∙ h.enabled, length-levels tasks 0 levels c.levels ∙ h.levels);
+        pc = omega arith;
+        left = record { zero = refl; registers = refl; opened = refl; previous = refl; running = refl; pending = refl; enabled = refl; levels = refl; ram = refl; scratch = refl; controller = refl };
+        x2 = refl;
+        kept = λ i past. others controller_base idle_end idle 1 (get_or c.registers 1 0) (get_or c.registers 2 0) (get_or c.registers 3 0) (get_or c.registers 4 0) (spread_from 27 5 c.registers) i past;
+      }
 
   owes : (from to : ℕ) → Owes from to offset (boot_code tasks levels idle) 0 (Booted tasks levels idle) (at offset (spread c)) (spread c)
-  owes from to = (
-    controller_base,
-    refl,
-    (
-      1,
-      refl,
-      starts_owe from to (Booted tasks levels idle) (at offset (spread c)) (get_or c.registers 2 0) (spread_from 27 5 c.registers) levels small tasks 0 (offset + 4 + 4) (get_or c.registers 3 0) (finishing_code idle) (spread c) (omega arith)
-          (λ o x3. end_owes from to o (get_or c.registers 2 0) x3),
-    ),
-  )
+  owes from to =
+      writes controller_base refl
+      ▸ writes 1 refl
+      ▸ starts_owe from to (Booted tasks levels idle) (at offset (spread c)) (get_or c.registers 2 0) (spread_from 27 5 c.registers) levels small tasks 0 (offset + 4 + 4) (get_or c.registers 3 0) (finishing_code idle) (spread c) (omega arith)
+      (λ o x3. end_owes from to o (get_or c.registers 2 0) x3)
 
   pub runs_it : Masked 130 (at offset c) (WithArrivals (Booted tasks levels idle) (at offset c))
   runs_it =

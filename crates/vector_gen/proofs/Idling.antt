@@ -4,6 +4,7 @@ use Rattle.std.specs.Prelude.{pos}
 use Rattle.sloth_base.specs.Machine.{Core}
 use Rattle.rv32_instr.specs.declared.InstrKind.TheVariants.{Jal}
 use Rattle.sloth_base.specs.Arithmetic.{plus}
+use Rattle.sloth_base.specs.MemoryMap.{memory_base}
 use Rattle.rv32_instr.specs.Execute.{Going, step, touched, perform, touched_by, jumps}
 use Rattle.masked_code.specs.Place.{at, InPlace}
 use Rattle.masked_code.proofs.Machine.{step_at, touched_at, jump_at}
@@ -12,7 +13,7 @@ use Rattle.vector_gen.specs.Idle.{Idles}
 stays : (o : ℕ) (c : Core) → o % 4 ≡ 0 → o + 4 ≤ 0x20_0000 → InPlace c.ram o (Jal 0 (pos 0) ∷ []) → step (at o c) ≡ Going (at o c)
 unfolding perform
 stays o c al h p =
-    let e : plus (0x8000_0000 + o) (pos 0) ≡ 0x8000_0000 + o = omega arith in
+    let e : plus (memory_base + o) (pos 0) ≡ memory_base + o = omega arith in
     step_at o c (Jal 0 (pos 0)) (p.0, h) ∙ ap (λ a. jumps a c) e ∙ jump_at o c al
 
 untouched : (o : ℕ) (c : Core) → InPlace c.ram o (Jal 0 (pos 0) ∷ []) → touched (at o c) ≡ None

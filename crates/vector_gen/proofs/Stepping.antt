@@ -7,6 +7,7 @@ use Rattle.rv32_instr.specs.declared.InstrKind.TheVariants.{Jal}
 use Rattle.rv32_instr.specs.Ram.{word_at}
 use Rattle.rv32_instr.specs.Table.{Decode}
 use Rattle.sloth_base.specs.Arithmetic.{plus}
+use Rattle.sloth_base.specs.MemoryMap.{memory_base, vectors_base}
 use Rattle.rv32_instr.specs.Execute.{Going, step, touched, perform, touched_by, jumps}
 use Rattle.masked_code.specs.Place.{at, InPlace}
 use Rattle.masked_code.proofs.Machine.{step_at, touched_at, jump_at}
@@ -32,9 +33,9 @@ module _ (handlers : List ℕ) (code : List InstrKind) (reach : AreInReach handl
       let w = words.each k (Jal 0 (pos 0)) h in
       let a = reach.aligned k h in
       let b = reach.behind k h in
-      let o = get_or handlers k 0 - 0x8000_0000 in
-      let e : 0x8000_0000 + (0x400 + 4 * k) ≡ 0x8000_0400 + 4 * k = omega arith in
-      let f : get_or handlers k 0 ≡ 0x8000_0000 + o = omega arith in
+      let o = get_or handlers k 0 - memory_base in
+      let e : memory_base + (0x400 + 4 * k) ≡ vectors_base + 4 * k = omega arith in
+      let f : get_or handlers k 0 ≡ memory_base + o = omega arith in
       step_at (0x400 + 4 * k) c (Jal 0 w.0) (here k c h p, omega arith)
       ∙ ap (λ x. jumps (plus x w.0) c) e
       ∙ ap (λ x. jumps x c) (w.2 ∙ f)

@@ -1,6 +1,5 @@
-use Rattle.std.proofs.Common.{◌∙◌, ◌+◌, ap, take, length, length-take, count_by, arith}
+use Rattle.std.proofs.Common.{◌∙◌, ◌+◌, ap, take, length-take, arith}
 use Rattle.std.specs.Prelude.{if◌then◌else◌}
-use Rattle.std.proofs.Math.Seq.{take-length}
 use Rattle.std.proofs.lemmas.List.Sums.{count_by-le-length}
 use Rattle.asm_names.specs.Said.{is_item}
 use Rattle.asm_names.proofs.Fronts.{count_more}

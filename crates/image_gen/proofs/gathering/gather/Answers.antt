@@ -1,26 +1,32 @@
-use Rattle.std.proofs.Common.{rules, ◌≡◌, ◌∙◌, ap, ◌++◌, ◌∷◌, List}
+use Rattle.std.proofs.Common.{rules, ◌≡◌, ◌∙◌, ap, refl, sym, subst, length, ◌++◌, ◌∷◌, List, Bool}
 use Rattle.rv32_instr.specs.declared.block.Block.{Block}
+use Rattle.sloth_link.specs.Items.{item_blocks}
+use Rattle.image_gen.specs.Services.{AreServed, AreServices}
 use Rattle.image_gen.proofs.AllCode.{gathered}
+use Rattle.image_gen.proofs.Called.{served}
 use Rattle.image_gen.proofs.Starting.{may_start}
 use Rattle.image_gen.proofs.gathering.gather.Goals as goal
 
 pub prologues-requires : goal.prologues-requires
-prologues-requires c = record { may_start = may_start c.args.config.now c.args.app.now c.args.levels.now c.args.wanted.now c.args.map.now c.requires }
+prologues-requires c = record { may_start = may_start c.args.config.now c.args.app.now c.args.levels.now c.args.map.now c.requires }
+
+pub services-requires : goal.services-requires
+services-requires c = subst AreServed (sym c.wanted_blocks-wanted.ensures) (served c.args.config.now c.args.app.now c.requires.well_formed)
 
 pub returns : goal.returns
 returns c =
     let first : c.append.new.self.items ≡ c.in_ok-vectors.field-0 ∷ c.in_ok-boot.field-0 ∷ c.in_ok-idle.field-0 ∷ c.in_ok-starts.starts.items = search rules in
     let second = c.in_ok-append-2.ensures.items ∙ ap (λ (bs : List Block). bs ++ c.in_ok-served.served.items) first in
-    let third = c.in_ok-append-3.ensures.items ∙ ap (λ (bs : List Block). bs ++ c.in_ok-own.own.items) second in
-    gathered c.args.config.now c.args.app.now c.args.levels.now c.args.wanted.now c.args.map.now c.requires
-    c.in_ok-vectors.field-0 c.in_ok-boot.field-0 c.in_ok-idle.field-0 c.in_ok-starts.starts.items c.in_ok-served.served.items c.in_ok-own.own.items
+    gathered c.args.config.now c.args.app.now c.args.levels.now c.args.map.now c.requires
+    c.in_ok-vectors.field-0 c.in_ok-boot.field-0 c.in_ok-idle.field-0 c.in_ok-starts.starts.items c.in_ok-served.served.items
+    (item_blocks c.args.app.now c.args.map.now.places (length c.args.app.now.funcs))
     (record {
       vectors_made = record { at = c.in_ok-vectors.ensures.at; marks_are = c.in_ok-vectors.ensures.marks; effect = c.in_ok-vectors.ensures.effect };
       boot_made = record { at = c.in_ok-boot.ensures.at; marks_are = c.in_ok-boot.ensures.marks; effect = c.in_ok-boot.ensures.effect };
       idle_made = record { at = c.in_ok-idle.ensures.at; marks_are = c.in_ok-idle.ensures.marks; effect = c.in_ok-idle.ensures.effect };
       count = c.in_ok-starts.ensures.count;
       each = c.in_ok-starts.ensures.each;
-      serve = c.in_ok-served.ensures;
-      items = c.in_ok-own.ensures;
+      serve = subst (λ (w : List Bool). AreServices c.args.levels.now c.args.map.now w c.in_ok-served.served.items) c.wanted_blocks-wanted.ensures c.in_ok-served.ensures;
+      items = refl;
     })
-    c.append-3.new.self.items third
+    c.append-2.new.self.items second

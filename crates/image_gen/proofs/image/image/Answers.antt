@@ -5,5 +5,5 @@ use Rattle.image_gen.proofs.image.image.Goals as goal
 pub generate-requires : goal.generate-requires
 generate-requires c =
     let long : length c.assign-levels.result.task ≡ 30 = search rules in
-    may_generate c.args.config.now c.args.app.now c.args.stacks.now c.requires c.wanted-wanted.result c.in_ok-map.ensures.all_numbers c.wanted-wanted.ensures
-    c.assign-levels.result c.in_ok-map.map c.assign-levels.ensures.levels long c.assign-levels.ensures.within c.in_ok-map.ensures
+    may_generate c.args.config.now c.args.app.now c.args.bounds.now c.requires c.assign-levels.result c.in_ok-map.map c.assign-levels.ensures.levels long
+    c.assign-levels.ensures.within c.in_ok-map.ensures

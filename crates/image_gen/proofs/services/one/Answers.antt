@@ -7,4 +7,4 @@ pub returns : goal.returns
 returns c =
     let b = c.block.ensures in
     served_at c.args.levels.now c.args.map.now c.args.number c.block_object.result c.in-Some.service c.block.result (sym c.block_service.ensures ∙ c.in-Some.is)
-    c.block_object.ensures b.at b.marks b.few b.serves
+    c.block_object.ensures b.block b.serves

@@ -16,43 +16,43 @@ use Rattle.mem_map.proofs.planning.make_map.Goals as goal
 -- ---- what is called
 
 pub plan_code-requires-clause-small : goal.plan_code-requires-clause-small
-plan_code-requires-clause-small c = sizes_small _ _ _ _ _ c.requires c.told-wanted
+plan_code-requires-clause-small c = sizes_small _ _ _ _ _ _ c.requires c.told-wanted
 
 pub plan_code-requires-clause-services : goal.plan_code-requires-clause-services
 plan_code-requires-clause-services c =
     let e = ap (λ (l : List TaskDecl). items_at (length l) c.args.wanted.now) c.items-declared.ensures in
-    let a = items_above _ _ _ _ _ c.requires c.told-wanted in
-    let h = code_short _ _ _ _ _ c.requires c.told-wanted in
+    let a = items_above _ _ _ _ _ _ c.requires c.told-wanted in
+    let h = code_short _ _ _ _ _ _ c.requires c.told-wanted in
     omega (arith, e, a, h)
 
 pub plan_code-requires-clause-items : goal.plan_code-requires-clause-items
 plan_code-requires-clause-items c =
     let e = ap (λ (l : List TaskDecl). code_end (length l) c.args.wanted.now c.args.sizes.now) c.items-declared.ensures in
-    let h = code_short _ _ _ _ _ c.requires c.told-wanted in
+    let h = code_short _ _ _ _ _ _ c.requires c.told-wanted in
     omega (arith, e, h)
 
 pub plan_first-requires-clause-few : goal.plan_first-requires-clause-few
-plan_first-requires-clause-few c = counts_few _ _ _ _ _ c.requires c.told-wanted
+plan_first-requires-clause-few c = counts_few _ _ _ _ _ _ c.requires c.told-wanted
 
 pub plan_symbols-requires-clause-few : goal.plan_symbols-requires-clause-few
-plan_symbols-requires-clause-few c = symbols_few _ _ _ _ _ c.requires c.told-wanted
+plan_symbols-requires-clause-few c = symbols_few _ _ _ _ _ _ c.requires c.told-wanted
 
 pub plan_symbols-requires-clause-fits : goal.plan_symbols-requires-clause-fits
 plan_symbols-requires-clause-fits c =
     let e = c.in_ok-code.ensures.end ∙ ap (λ (l : List TaskDecl). code_end (length l) c.args.wanted.now c.args.sizes.now) c.items-declared.ensures in
     let f = ap (λ (from : ℕ). end_of from (map symbol_bytes c.args.app.now.symbols)) e in
-    let h = code_short _ _ _ _ _ c.requires c.told-wanted in
-    let s = symbols_short _ _ _ _ _ c.requires c.told-wanted in
+    let h = code_short _ _ _ _ _ _ c.requires c.told-wanted in
+    let s = symbols_short _ _ _ _ _ _ c.requires c.told-wanted in
     omega (arith, f, h, s)
 
 -- ---- where the zones end
 
 ends : (c : In_ok-symbols)
-    → AreEnds c.args.config.now c.args.app.now c.args.sizes.now c.args.wanted.now c.args.stacks.now c.requires c.told-wanted c.in_ok-code.code.end
+    → AreEnds c.args.config.now c.args.app.now c.args.sizes.now c.args.wanted.now c.args.bounds.now c.args.offsets.now c.requires c.told-wanted c.in_ok-code.code.end
     c.in_ok-symbols.symbols.end
 ends c =
     let e = c.in_ok-code.ensures.end ∙ ap (λ (l : List TaskDecl). code_end (length l) c.args.wanted.now c.args.sizes.now) c.items-declared.ensures in
-    ends_are _ _ _ _ _ c.requires c.told-wanted _ _ e c.in_ok-symbols.ensures.end
+    ends_are _ _ _ _ _ _ c.requires c.told-wanted _ _ e c.in_ok-symbols.ensures.end
 
 pub overflow_sub-code : goal.overflow_sub-code
 overflow_sub-code c =
@@ -73,12 +73,12 @@ overflow_sub-symbols c =
 
 pub stack_lengths-requires-clause-some : goal.stack_lengths-requires-clause-some
 stack_lengths-requires-clause-some c =
-    subst (λ (l : List TaskDecl). 0 < first_own l → 1 ≤ c.args.stacks.now.bounds.shared) (sym c.items-declared.ensures) (shared_some _ _ _ c.requires.needs)
+    subst (λ (l : List TaskDecl). 0 < first_own l → 1 ≤ c.args.bounds.now.shared) (sym c.items-declared.ensures) (shared_some _ _ _ _ c.requires.needs)
 
 pub stack_lengths-requires-clause-lengths : goal.stack_lengths-requires-clause-lengths
 stack_lengths-requires-clause-lengths c = λ t l.
     let tasks = ap (λ (l : List TaskDecl). length l) c.items-declared.ensures in
-    let p = part _ _ _ c.requires.needs t (omega (arith, tasks, l)) in
+    let p = part _ _ _ _ c.requires.needs t (omega (arith, tasks, l)) in
     let some = p.some in
     (omega (arith, some), p.small)
 
@@ -92,7 +92,7 @@ plan_zones-requires-clause-few c =
     omega (arith, few, tasks, count, least, same)
 
 are_placed : (c : In_ok-zones)
-    → ArePlaced c.args.config.now c.args.stacks.now c.items-declared.result.now c.in_ok-lengths.lengths.items c.in_ok-zones.zones.extents
+    → ArePlaced c.args.config.now c.args.bounds.now c.items-declared.result.now c.in_ok-lengths.lengths.items c.in_ok-zones.zones.extents
     c.in_ok-zones.zones.stacks
 are_placed c =
     record {
@@ -109,9 +109,9 @@ are_placed c =
 
 pub task_parts-requires-clause-fit : goal.task_parts-requires-clause-fit
 task_parts-requires-clause-fit c =
-    fit _ _ _ c.requires.needs _ c.in_ok-lengths.lengths.items c.in_ok-zones.zones.extents c.in_ok-zones.zones.stacks
+    fit _ _ _ _ c.requires.needs _ c.in_ok-lengths.lengths.items c.in_ok-zones.zones.extents c.in_ok-zones.zones.stacks
     (are_placed (goal.at.task_parts-requires-clause-fit c).In_ok-zones)
-    _ c.items.ensures _ c.items-2.ensures
+    _ c.items.ensures
 
 pub plan_zones-requires-clause-some : goal.plan_zones-requires-clause-some
 plan_zones-requires-clause-some c =
@@ -138,7 +138,7 @@ pub returns-clause-addresses : goal.returns-clause-addresses
 returns-clause-addresses c =
     let tasks = ap (λ (l : List TaskDecl). length l) c.items-declared.ensures in
     let e = c.in_ok-code.ensures.end ∙ ap (λ (l : List TaskDecl). code_end (length l) c.args.wanted.now c.args.sizes.now) c.items-declared.ensures in
-    addressed _ _ _ _ _ c.requires c.told-wanted _
+    addressed _ _ _ _ _ _ c.requires c.told-wanted _
     c.in_ok-zones.zones.code c.in_ok-zones.zones.data c.in_ok-code.code.end c.in_ok-symbols.symbols.end
     (record { all = c.in_ok-zones.zones.stacks; extents = c.in_ok-zones.ensures.extents; code_is = c.in_ok-zones.ensures.code; data_is = c.in_ok-zones.ensures.data_zone; code_end_is = e; data_end_is = c.in_ok-symbols.ensures.end })
     _ tasks c.idle_at.ensures c.handlers-handlers.ensures.lines c.handlers-handlers.ensures.prologues c.handlers-handlers.ensures.unused
@@ -147,7 +147,7 @@ returns-clause-addresses c =
 pub returns-clause-zones : goal.returns-clause-zones
 returns-clause-zones c =
     let e = c.in_ok-code.ensures.end ∙ ap (λ (l : List TaskDecl). code_end (length l) c.args.wanted.now c.args.sizes.now) c.items-declared.ensures in
-    zoned _ _ _ _ _ c.requires c.told-wanted _
+    zoned _ _ _ _ _ _ c.requires c.told-wanted _
     c.in_ok-zones.zones.code c.in_ok-zones.zones.data c.in_ok-code.code.end c.in_ok-symbols.symbols.end
     (record { all = c.in_ok-zones.zones.stacks; extents = c.in_ok-zones.ensures.extents; code_is = c.in_ok-zones.ensures.code; data_is = c.in_ok-zones.ensures.data_zone; code_end_is = e; data_end_is = c.in_ok-symbols.ensures.end })
     (returns-clause-addresses c)
@@ -155,6 +155,6 @@ returns-clause-zones c =
 
 pub returns-clause-stacks : goal.returns-clause-stacks
 returns-clause-stacks c =
-    placed _ _ _ c.requires.needs _ c.in_ok-lengths.lengths.items c.in_ok-zones.zones.extents c.in_ok-zones.zones.stacks
+    placed _ _ _ _ c.requires.needs _ c.in_ok-lengths.lengths.items c.in_ok-zones.zones.extents c.in_ok-zones.zones.stacks
     (are_placed (goal.at.returns-clause-stacks c).In_ok-zones)
-    _ c.items.ensures _ c.items-2.ensures _ c.in_ok-parts.ensures (ap (λ (l : List Extent). drop 3 l) c.in_ok-zones.ensures.extents)
+    _ c.items.ensures _ c.in_ok-parts.ensures (ap (λ (l : List Extent). drop 3 l) c.in_ok-zones.ensures.extents)

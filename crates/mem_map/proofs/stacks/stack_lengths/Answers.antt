@@ -11,7 +11,7 @@ use Rattle.mem_map.proofs.stacks.stack_lengths.Goals.{then-task+in_ok-push, else
 pub loop-number-preserved : goal.loop-number-preserved
 loop-number-preserved c =
     let tasks = c.args.tasks.now in
-    let stacks = c.args.stacks.now in
+    let bounds = c.args.bounds.now in
     let number = c.loop-number.number in
     let before = c.loop-number.lengths.items in
     let is : c.index-tasks-number.result.extended ≡ is_extended tasks number =
@@ -19,14 +19,14 @@ loop-number-preserved c =
     in
     let next : suc number ≡ number + 1 = omega arith in
     let len = get_or c.items-bytes.result.now number 0 in
-    let len_is : len ≡ bytes_of stacks number = ap (λ (l : List ℕ). get_or l number 0) c.items-bytes.ensures in
+    let len_is : len ≡ bytes_of bounds number = ap (λ (l : List ℕ). get_or l number 0) c.items-bytes.ensures in
     let range = c.requires.lengths number c.loop-number-test.true in
     elim c.if-task.branch [
       | then-task+in_ok-push w ↦
-          subst (AreLengths tasks stacks (number + 1)) (sym (ap (λ v. v.items) w.lengths-is ∙ w.in_ok-push.ensures.items))
-          (subst (λ e. AreLengths tasks stacks e (before ++ len ∷ [])) next
-          (more tasks stacks number before c.loop-number.invariant len (sym is ∙ w.if-task.true) len_is (omega (arith, len_is, range.0)) (omega (arith, len_is, range.1))))
+          subst (AreLengths tasks bounds (number + 1)) (sym (ap (λ v. v.items) w.lengths-is ∙ w.in_ok-push.ensures.items))
+          (subst (λ e. AreLengths tasks bounds e (before ++ len ∷ [])) next
+          (more tasks bounds number before c.loop-number.invariant len (sym is ∙ w.if-task.true) len_is (omega (arith, len_is, range.0)) (omega (arith, len_is, range.1))))
       | else-task w ↦
-          subst (AreLengths tasks stacks (number + 1)) (sym (ap (λ v. v.items) w.lengths-is))
-          (subst (λ e. AreLengths tasks stacks e before) next (same tasks stacks number before c.loop-number.invariant (sym is ∙ w.if-task.false)))
+          subst (AreLengths tasks bounds (number + 1)) (sym (ap (λ v. v.items) w.lengths-is))
+          (subst (λ e. AreLengths tasks bounds e before) next (same tasks bounds number before c.loop-number.invariant (sym is ∙ w.if-task.false)))
     ]

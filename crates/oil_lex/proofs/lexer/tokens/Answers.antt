@@ -1,25 +1,34 @@
-use Rattle.std.proofs.Common.{arith, map}
+use Rattle.std.proofs.Common.{◌∙◌, List, ℕ, sym, subst}
+use Rattle.std.specs.Borrow.{Bor}
+use Rattle.std.proofs.lemmas.Bool.{leb-true}
 use Rattle.std.proofs.lemmas.Result.{err_from_is_err_and}
-use Rattle.oil_lex.specs.Tokens.{lexeme}
-use Rattle.oil_lex.proofs.Cuts.{next, refused, cut_ends}
+use Rattle.least_fault.specs.Order.{NoFault, ErrorIs}
+use Rattle.oil_lex.specs.Tokens.{AreSlices, TextFault}
+use Rattle.oil_lex.proofs.Cuts.{goes, within_next, lines_next, stops, ends, seen}
 use Rattle.oil_lex.proofs.lexer.tokens.Goals as goal
 
-pub returns-in_err-keep-clause-refused : goal.returns-in_err-keep-clause-refused
-returns-in_err-keep-clause-refused c =
-    let p = err_from_is_err_and c.from_residual.result c.from_residual.ensures.1 in
-    rw (p.1, p.2) (refused c.args.text.now c.loop-rest.rest.now c.loop-rest.line (map lexeme c.loop-rest.tokens.items) c.first_piece-kind.result
-    c.loop-rest.invariant.reads c.first_piece-kind.ensures c.meaning_of.result c.split_at.result.0.now c.split_at.ensures.front c.meaning_of.ensures c.in_err-keep.field-0.0 c.in_err-keep.ensures.fault)
-
-pub loop-rest-preserved : goal.loop-rest-preserved
-loop-rest-preserved c = record {
-  lines = omega (arith, c.line_ends.ensures.within, c.split_at.ensures.front_len, c.split_at.ensures.back_len, c.loop-rest.invariant.lines);
-  reads = next c.args.text.now c.loop-rest.rest.now c.loop-rest.line (map lexeme c.loop-rest.tokens.items) c.first_piece-kind.result
-      c.loop-rest.invariant.reads c.first_piece-kind.ensures c.meaning_of.result c.split_at.result.0.now c.split_at.result.1.now (map lexeme c.keep.new.tokens.items) c.line_ends.result
-      c.split_at.ensures.front c.split_at.ensures.back c.meaning_of.ensures c.in_ok-keep.ensures.kept.1 c.in_ok-keep.ensures.kept.0 c.line_ends.ensures.value;
+pub loop-cutter-preserved : goal.loop-cutter-preserved
+loop-cutter-preserved c = record {
+  within = within_next c.loop-cutter.cutter c.cut.new.self c.in_ok-cut.ensures.more c.loop-cutter.invariant.within;
+  lines = lines_next c.loop-cutter.cutter c.cut.new.self c.in_ok-cut.ensures.more c.loop-cutter.invariant.lines;
+  goes = goes c.new-cutter.result.text c.loop-cutter.cutter c.cut.new.self c.loop-cutter.invariant.goes c.in_ok-cut.ensures.more;
 }
 
+pub returns-in_err-cut-clause-refused : goal.returns-in_err-cut-clause-refused
+returns-in_err-cut-clause-refused c =
+    let p = err_from_is_err_and c.from_residual.result c.from_residual.ensures.1 in
+    rw (p.1, p.2) (subst (λ (text : Bor (List ℕ)). ErrorIs (TextFault text.now) c.in_err-cut.field-0.0) c.new-cutter.ensures.text
+    (stops c.new-cutter.result.text c.loop-cutter.cutter c.in_err-cut.field-0.0 c.loop-cutter.invariant.goes c.in_err-cut.ensures.stopped))
+
+pub returns-clause-slices : goal.returns-clause-slices
+returns-clause-slices c =
+    subst (λ (text : Bor (List ℕ)). AreSlices text c.loop-cutter.cutter.tokens.items) c.new-cutter.ensures.text
+    (ends c.new-cutter.result.text c.loop-cutter.cutter c.loop-cutter.invariant.goes (leb-true _ _ (sym c.is_done.ensures ∙ c.loop-cutter-test.false))).0
+
 pub returns-clause-tokens : goal.returns-clause-tokens
-returns-clause-tokens c = (cut_ends c.args.text.now c.loop-rest.rest.now c.loop-rest.line (map lexeme c.loop-rest.tokens.items) c.loop-rest.invariant.reads c.loop-rest-test.ensures).0
+returns-clause-tokens c = seen c.args.text c.loop-cutter.cutter.tokens.items (returns-clause-slices c)
 
 pub returns-clause-none : goal.returns-clause-none
-returns-clause-none c = (cut_ends c.args.text.now c.loop-rest.rest.now c.loop-rest.line (map lexeme c.loop-rest.tokens.items) c.loop-rest.invariant.reads c.loop-rest-test.ensures).1
+returns-clause-none c =
+    subst (λ (text : Bor (List ℕ)). NoFault (TextFault text.now)) c.new-cutter.ensures.text
+    (ends c.new-cutter.result.text c.loop-cutter.cutter c.loop-cutter.invariant.goes (leb-true _ _ (sym c.is_done.ensures ∙ c.loop-cutter-test.false))).1

@@ -1,11 +1,9 @@
-use Rattle.std.proofs.Common.{◌≤◌, ◌+◌, length}
-use Rattle.std.specs.Prelude.{map}
-use Rattle.oil_lex.specs.Tokens.{lexeme}
-use Rattle.oil_lex.proofs.Cuts.{GoesOn}
+use Rattle.std.proofs.Common.{◌≤◌, ◌+◌, ◌-◌, length}
+use Rattle.oil_lex.proofs.Cuts.{Goes}
 use Rattle.oil_lex.proofs.lexer.tokens.Given as goal
 
-abbrev pub invariant-loop-rest : goal.invariant-loop-rest
-invariant-loop-rest l = record { lines : l.line + length l.rest ≤ 1 + length l.fn.text; reads : GoesOn l.fn.text l.rest l.line (map lexeme l.tokens.items) }
+abbrev pub invariant-loop-cutter : goal.invariant-loop-cutter
+invariant-loop-cutter l = record { within : l.cutter.place ≤ length l.cutter.text.now; lines : l.cutter.line ≤ l.cutter.place + 1; goes : Goes l.initial.cutter.text l.cutter }
 
-abbrev pub decreases-loop-rest : goal.decreases-loop-rest
-decreases-loop-rest l = length l.rest
+abbrev pub decreases-loop-cutter : goal.decreases-loop-cutter
+decreases-loop-cutter l = length l.cutter.text.now - l.cutter.place

@@ -4,4 +4,4 @@ use Rattle.sloth_build.proofs.building.build.Goals as goal
 pub image-requires : goal.image-requires
 image-requires c =
     let read = c.in_ok-config.ensures in
-    may_build _ _ read.well_formed read.named _ read.bounds read.room read.lengths read.parts
+    may_build _ _ read.well_formed read.named _ read.bounds

@@ -2,7 +2,9 @@ use Rattle.std.proofs.Common.{◌∙◌, ℕ, List, sym, subst}
 use Rattle.sloth_base.specs.Arrivals.{AreArrivals}
 use Rattle.sloth_source.specs.OilText.{OilText}
 use Rattle.sample_tasks.proofs.Declared.{thirty-tasks}
-use Rattle.sloth_cli.proofs.Ceilings.{runs-keep}
+use Rattle.checked_runs.proofs.Printed.{runs_are_checked}
+use Rattle.sloth_cli.proofs.Ceilings.{runs-keep, runs-keep_bounds}
+use Rattle.sloth_cli.proofs.OnlyRuns.{runs-only}
 use Rattle.sloth_cli.proofs.sample_command.generate.Goals as goal
 
 pub returns-clause-image : goal.returns-clause-image
@@ -12,6 +14,9 @@ returns-clause-image c =
       sound = built.sound;
       shows = built.shows;
       protocol = runs-keep _ _ _ _ _ built.in_range built.accepted built.sound;
+      bounds = runs-keep_bounds _ _ _ _ _ built.in_range built.accepted built.sound;
+      only = runs-only _ _ _ _ _ built.in_range built.accepted built.sound;
+      checked = runs_are_checked _ _ _ built.in_range built.sound built.items built.bytes;
       items = built.items;
       format = built.format;
       names = built.tasks;

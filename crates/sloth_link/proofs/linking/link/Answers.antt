@@ -1,14 +1,63 @@
-use Rattle.std.proofs.Common.{subst, sym, List, ℕ}
-use Rattle.sloth_link.specs.Linked.{AreLinked, sections_of}
-use Rattle.sloth_link.proofs.Stand.{blocks_stand, symbols_stand}
+use Rattle.std.proofs.Common.{◌≡◌, ◌∙◌, sym, subst, ℕ, List, ◌++◌, length}
+use Rattle.std.specs.Prelude.{All}
+use Rattle.std.specs.List.Sorted.{IsPermutation}
+use Rattle.rv32_instr.specs.Range.{InRange}
+use Rattle.rv32_instr.specs.declared.block.Block.{Block}
+use Rattle.sloth_link.specs.declared.datum.Datum.{Datum}
+use Rattle.sloth_link.specs.Image.{all_blocks, all_data, memory_size}
+use Rattle.sloth_link.specs.Items.{item_blocks}
+use Rattle.sloth_link.specs.Linked.{AreLinked, BlockStands, HaveOwnAddresses, HaveRoom, Holds, datum_section, marks_of, sections_of}
+use Rattle.sloth_link.proofs.InPlace.{stand, in_place}
+use Rattle.sloth_link.proofs.linking.link.Goals.{In_ok-symbols}
 use Rattle.sloth_link.proofs.linking.link.Goals as goal
 
-pub returns-clause-code : goal.returns-clause-code
-returns-clause-code c =
-    let P : List ℕ → Type 0 = λ m. AreLinked c.args.size (sections_of c.args.blocks.now c.args.symbols.now) m in
-    blocks_stand c.args.size _ c.args.symbols.now _ c.are_in_range.ensures (subst P (sym c.from_vec.ensures) c.in_ok-memory.ensures)
+pub items-requires-clause-verified : goal.items-requires-clause-verified
+items-requires-clause-verified c = (c.args.config.now, c.requires.well_formed)
 
-pub returns-clause-symbols : goal.returns-clause-symbols
-returns-clause-symbols c =
-    let P : List ℕ → Type 0 = λ m. AreLinked c.args.size (sections_of c.args.blocks.now c.args.symbols.now) m in
-    symbols_stand c.args.size c.args.blocks.now _ _ (subst P (sym c.from_vec.ensures) c.in_ok-memory.ensures)
+pub link_all-requires-clause-room : goal.link_all-requires-clause-room
+link_all-requires-clause-room c =
+    let blocks = c.args.blocks.now in
+    let items_are = c.deref.ensures.value ∙ c.in_ok-items.ensures in
+    let symbols_are = c.deref-2.ensures.value ∙ c.in_ok-symbols.ensures in
+    subst (λ (bs : List Block). HaveRoom c.memory_size.result (blocks ++ bs) c.deref-2.result.now) (sym items_are)
+    (subst (λ (ds : List Datum). HaveRoom c.memory_size.result (all_blocks c.args.app.now c.args.map.now blocks) ds) (sym symbols_are)
+    (subst (λ (n : ℕ). HaveRoom n (all_blocks c.args.app.now c.args.map.now blocks) (all_data c.args.app.now c.args.map.now)) (sym c.memory_size.ensures)
+    c.requires.room))
+
+pub link_all-requires-clause-marks : goal.link_all-requires-clause-marks
+link_all-requires-clause-marks c =
+    subst (λ (bs : List Block). HaveOwnAddresses (marks_of (c.args.blocks.now ++ bs))) (sym (c.deref.ensures.value ∙ c.in_ok-items.ensures)) c.requires.own_addresses
+
+pub returns : goal.returns
+returns c =
+    let config = c.args.config.now in
+    let app = c.args.app.now in
+    let map = c.args.map.now in
+    let blocks = c.args.blocks.now in
+    let memory = c.in_ok-linked.linked.memory in
+    let marks = c.in_ok-linked.linked.marks in
+    let h = c.in_ok-linked.ensures in
+    let items_are = c.deref.ensures.value ∙ c.in_ok-items.ensures in
+    let symbols_are = c.deref-2.ensures.value ∙ c.in_ok-symbols.ensures in
+    let linked =
+    subst (λ (n : ℕ). AreLinked n (sections_of (all_blocks app map blocks) (all_data app map)) memory) c.memory_size.ensures
+    (subst (λ (ds : List Datum). AreLinked c.memory_size.result (sections_of (all_blocks app map blocks) ds) memory) symbols_are
+    (subst (λ (bs : List Block). AreLinked c.memory_size.result (sections_of (blocks ++ bs) c.deref-2.result.now) memory) items_are h.linked)) in
+    let code = subst (λ (bs : List Block). All (BlockStands memory) (blocks ++ bs)) items_are h.code in
+    let moved = subst (λ (bs : List Block). IsPermutation (marks_of (blocks ++ bs)) marks) items_are h.marks in
+    let stands = stand config app map blocks c.requires memory marks linked code moved in
+    record {
+      items = in_place config app map blocks c.requires
+          (record { tasks = c.in_ok-task_names.field-0; funcs = c.in_ok-function_names.field-0; memory = memory; marks = marks })
+          stands c.in_ok-task_names.ensures c.in_ok-function_names.ensures;
+      stand = stands;
+      range = subst (λ (bs : List Block). All (λ b. All InRange b.code) (blocks ++ bs)) items_are h.range;
+      code = code;
+      symbols = subst (λ (ds : List Datum). All (λ d. Holds memory (datum_section d)) ds) symbols_are h.symbols;
+      linked = linked;
+      bytes = h.bytes;
+      marks = moved;
+      ascending = h.ascending;
+      tasks = c.in_ok-task_names.ensures;
+      functions = c.in_ok-function_names.ensures;
+    }

@@ -2,7 +2,7 @@ use Rattle.std.proofs.Common.{◌≡◌, ◌∙◌, ℕ, true, sym, subst, get_o
 use Rattle.std.specs.Prelude.{◌==◌, ◌||◌, not, ltb}
 use Rattle.std.specs.Int.{bit_at}
 use Rattle.osek_scheduler.specs.Next.{all_below}
-use Rattle.osek_machine.proofs.Below.{not_all}
+use Rattle.osek_plans.proofs.Below.{not_all}
 use Rattle.trace_check.specs.Moments.{all_later}
 use Rattle.trace_check.proofs.walk.all_later.Goals as goal
 

@@ -16,9 +16,9 @@ pub returns-in-Ok-clause-went : goal.returns-in-Ok-clause-went
 returns-in-Ok-clause-went c =
     let r = c.args.self.now in
     let a = c.arrive_now.new.self in
-    let q = c.execute.new.self in
-    let step = c.in-Ok.step in
-    let observer : q.observer ≡ r.observer = c.execute.ensures.observer ∙ c.arrive_now.ensures.observer in
+    let q = c.record.new.self in
+    let step = q.shown in
+    let observer : q.observer ≡ r.observer = c.record.ensures.observer ∙ c.arrive_now.ensures.observer in
     let F : Observer → Type 0 = λ o. (steps : List Step) (events : List Stamped) → Fed o steps events → Fed c.feed.new.self (steps ++ step ∷ []) events in
     let behind : Runner = record q { observer = c.feed.new.self } in
     let ok = c.in-Ok.ensures.ok in
@@ -30,7 +30,7 @@ returns-in-Ok-clause-went c =
       view = c.feed.ensures.view ∙ ap view_of observer;
       expected = c.feed.ensures.expected ∙ ap (λ (o : Observer). expected_of o + 1) observer;
       ran = machine-more r a behind (image_of r) step c.requires.running.ran c.arrive_now.ensures.arrived executed
-          (c.feed.ensures.arrivals ∙ ap arrivals_of observer) c.execute.ensures.coming;
+          (c.feed.ensures.arrivals ∙ ap arrivals_of observer) c.record.ensures.coming;
     }
 
 pub returns-in-Err-clause-halted : goal.returns-in-Err-clause-halted

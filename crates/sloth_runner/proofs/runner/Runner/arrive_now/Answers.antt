@@ -1,18 +1,8 @@
-use Rattle.std.proofs.Common.{List, ◌∙◌, ap, take, drop, refl, subst, sym}
-use Rattle.sloth_base.specs.declared.event.Arrival.{Arrival}
-use Rattle.sloth_runner.specs.Runner.{AreLines, count_of, image_of}
-use Rattle.sloth_runner.proofs.Turning.{arrived-is, lines-drop}
+use Rattle.std.proofs.Common.{arith}
+use Rattle.sloth_runner.proofs.Turning.{none-arrive}
 use Rattle.sloth_runner.proofs.runner.Runner.arrive_now.Goals as goal
 
-pub returns-clause-arrived : goal.returns-clause-arrived
-returns-clause-arrived c =
-    let r = c.args.self.now in
-    let L : List Arrival → Type 0 = AreLines in
-    record {
-      state = arrived-is r (image_of r) (count_of r) c.split_at.result.0.now _ c.requires
-          (c.split_at.ensures.front ∙ ap (λ n. take n r.coming.now) c.passing.ensures) c.arrive.ensures.state;
-      coming = c.split_at.ensures.back ∙ ap (λ n. drop n r.coming.now) c.passing.ensures;
-      lines = subst L (sym c.split_at.ensures.back) (lines-drop _ r.coming.now c.requires.lines);
-      count = refl;
-      executed = c.arrive.ensures.count;
-    }
+pub returns-else-due-gt0-clause-arrived : goal.returns-else-due-gt0-clause-arrived
+returns-else-due-gt0-clause-arrived c =
+    let e = c.passing-due.ensures in
+    none-arrive c.args.self.now c.requires (omega (arith, e))

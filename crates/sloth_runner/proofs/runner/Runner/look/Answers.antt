@@ -5,4 +5,4 @@ use Rattle.sloth_runner.proofs.runner.Runner.look.Goals as goal
 pub returns-clause-same : goal.returns-clause-same
 returns-clause-same c =
     let runner = c.args.self.now in
-    ap (λ (bus : Memory). record runner { machine = record runner.machine { bus = bus } }) (c.states.ensures.same ∙ c.bus_mut.ensures.value)
+    ap (λ (bus : Memory). record runner { machine = record runner.machine { bus = bus } }) (c.seen_of.ensures.same ∙ c.bus_mut.ensures.value)

@@ -46,7 +46,7 @@ loop-self-preserved c =
     let r = c.loop-self.self in
     let p = c.advance.new.self in
     let advanced : Advanced r p = c.in_default.ensures.went in
-    let q : Runner = record { image = p.image; machine = p.machine; observer = c.count_events.new.observer; coming = p.coming; count = p.count } in
+    let q : Runner = record p { observer = c.count_events.new.observer } in
     let P : ℕ → Type 0 = λ k. Ran r0 q k in
     let running = running-behind r p q c.loop-self.invariant.ran.running advanced c.advance.ensures.image c.advance.ensures.arrivals c.count_events.ensures.fed
     c.count_events.ensures.view c.count_events.ensures.arrivals c.count_events.ensures.expected c.count_events.ensures.drained refl refl refl in

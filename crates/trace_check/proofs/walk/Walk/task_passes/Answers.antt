@@ -2,7 +2,7 @@ use Rattle.std.proofs.Common.{◌≡◌, ◌∙◌, true, length, cond, sym, ap,
 use Rattle.std.specs.Prelude.{◌&&◌, ltb}
 use Rattle.osek_scheduler.specs.State.{task}
 use Rattle.osek_scheduler.specs.Priority.{is_active}
-use Rattle.osek_machine.specs.Above.{is_above}
+use Rattle.osek_plans.specs.Above.{is_above}
 use Rattle.trace_check.specs.Moments.{all_later}
 use Rattle.trace_check.specs.Walk.{Walk, task_passes}
 use Rattle.trace_check.proofs.Walking.{same_row}

@@ -1,0 +1,266 @@
+//! The blocking bound of each task.
+ghost use Rattle.std.specs.Prelude.{◌≡◌, ◌≤◌, ◌<◌, ◌||◌, ◌&&◌, ℕ, true, length, Some, None, IfOk};
+ghost use Rattle.sloth_base.specs.Options.{is_number};
+ghost use Rattle.sloth_base.specs.Named.{body_of};
+ghost use Rattle.code_rules.specs.WellFormed.{WellFormed};
+ghost use Rattle.osek_valid.specs.Apart.{static_priority};
+ghost use Rattle.call_graph.specs.Ranks.{RanksOf};
+ghost use Rattle.call_graph.specs.Reached.{any_below};
+ghost use Rattle.stack_bounds.specs.Tables.{HasBody};
+ghost use Rattle.block_bounds.specs.CallOrder.{IsCallOrder};
+ghost use Rattle.block_bounds.specs.Known.{AreKnownBodies, AreSummaries};
+ghost use Rattle.block_bounds.specs.Computed.{summary_of};
+ghost use Rattle.block_bounds.specs.Bounds.{IsTold, AreBounds, task_at, is_below, task_summary, some_endless, greatest_section, greatest_sections, told};
+
+use crate::bodies::{Body, bodies};
+use crate::levels::{own_summaries, whole_summaries};
+use crate::order::callees_first;
+use crate::sizes::Summary;
+use call_graph::ranking::Ranks;
+use sloth_base::app::{App, Func};
+use sloth_base::config::{Config, TaskDecl};
+use sloth_base::list::List;
+use sloth_base::memory::NoMemory;
+use std::alloc::Global;
+use task_verify::verified::Verified;
+use text_pieces::growth::push;
+
+/// How much work of lower tasks may stand between a task's becoming Ready and its entry.
+#[derive(Clone, Copy)]
+pub enum Bound {
+    /// At most so many items, 0 to 1,000,000: 0 where no task is lower.
+    Items(u32),
+    /// More than 1,000,000 items, but not without limit.
+    Huge,
+    /// Without limit.
+    Endless,
+}
+
+/// The least size of sections that is told as huge, with the one item of a service that was running.
+const HUGE: u32 = 1_000_000;
+
+fn belongs_to(func: &Func, task: usize) -> bool
+    ensures { result ≡ is_number task func.now.task }
+{
+    match func.task {
+        Some(owner) => owner.0 as usize == task,
+        None => false,
+    }
+}
+
+/// The number of the task's body. There is one.
+fn body_of(funcs: &[Func], task: usize) -> usize
+    requires { HasBody funcs.now task }
+    ensures is { result ≡ body_of funcs.now task }
+    ensures known { result < length funcs.now }
+{
+    for (number, func) in funcs.iter().enumerate() {
+        if belongs_to(func, task) {
+            return number;
+        }
+    }
+    funcs.len()
+}
+
+/// The summary of a task's body: a task that is not preemptable counts as always raised.
+fn task_summary(
+    tasks: &[TaskDecl],
+    funcs: &[Func],
+    whole: &[Summary],
+    own: &[Summary],
+    task: usize,
+) -> Summary
+    requires inside { task < length tasks.now }
+    requires body { HasBody funcs.now task }
+    requires whole_count { length whole.now ≡ length funcs.now }
+    requires own_count { length own.now ≡ length funcs.now }
+    ensures { result ≡ task_summary tasks.now funcs.now whole.now own.now task }
+{
+    let body = body_of(funcs, task);
+    if tasks[task].non {
+        whole[body]
+    } else {
+        own[body]
+    }
+}
+
+/// Whether the task is lower than this priority.
+fn is_below(tasks: &[TaskDecl], priority: u32, task: usize) -> bool
+    requires { task < length tasks.now }
+    ensures { result ≡ is_below tasks.now priority task }
+{
+    tasks[task].priority < priority
+}
+
+/// Whether some task is.
+fn has_lower(tasks: &[TaskDecl], priority: u32) -> bool
+    ensures { result ≡ any_below (length tasks.now) (is_below tasks.now priority) }
+{
+    let mut lower = false;
+    for task in 0..tasks.len() {
+        lower = lower || is_below(tasks, priority, task);
+    }
+    lower
+}
+
+/// Whether sections of some lower task have no limit.
+fn some_endless(
+    tasks: &[TaskDecl],
+    funcs: &[Func],
+    whole: &[Summary],
+    own: &[Summary],
+    priority: u32,
+) -> bool
+    requires bodies { (t : ℕ) → t < length tasks.now → HasBody funcs.now t }
+    requires whole_count { length whole.now ≡ length funcs.now }
+    requires own_count { length own.now ≡ length funcs.now }
+    ensures { result ≡ some_endless tasks.now funcs.now whole.now own.now priority }
+{
+    let mut endless = false;
+    for task in 0..tasks.len() {
+        let summary = task_summary(tasks, funcs, whole, own, task);
+        endless = endless || (is_below(tasks, priority, task) && summary.is_endless);
+    }
+    endless
+}
+
+/// The greatest size of sections of a lower task.
+fn greatest_section(
+    tasks: &[TaskDecl],
+    funcs: &[Func],
+    whole: &[Summary],
+    own: &[Summary],
+    priority: u32,
+    task: usize,
+) -> u32
+    requires inside { task < length tasks.now }
+    requires body { HasBody funcs.now task }
+    requires whole_count { length whole.now ≡ length funcs.now }
+    requires own_count { length own.now ≡ length funcs.now }
+    ensures { result ≡ greatest_section tasks.now funcs.now whole.now own.now priority task }
+{
+    if is_below(tasks, priority, task) {
+        task_summary(tasks, funcs, whole, own, task).most
+    } else {
+        0
+    }
+}
+
+/// That of all lower tasks.
+fn greatest_sections(
+    tasks: &[TaskDecl],
+    funcs: &[Func],
+    whole: &[Summary],
+    own: &[Summary],
+    priority: u32,
+) -> u32
+    requires bodies { (t : ℕ) → t < length tasks.now → HasBody funcs.now t }
+    requires whole_count { length whole.now ≡ length funcs.now }
+    requires own_count { length own.now ≡ length funcs.now }
+    ensures { result ≡ greatest_sections tasks.now funcs.now whole.now own.now priority }
+{
+    let mut most = 0;
+    for task in 0..tasks.len() {
+        most = greatest_section(tasks, funcs, whole, own, priority, task).max(most);
+    }
+    most
+}
+
+fn told(most: u32) -> Bound
+    ensures { result ≡ told most }
+{
+    if most < HUGE {
+        Bound::Items(most + 1)
+    } else {
+        Bound::Huge
+    }
+}
+
+fn priority_of(config: &Config, task: usize) -> u32
+    requires { task < length config.now.tasks }
+    ensures { result ≡ static_priority config.now task }
+{
+    config.tasks.items()[task].priority
+}
+
+/// The bound of a task above others, from the summaries at its priority.
+fn bound_above(
+    config: &Config,
+    app: &App,
+    whole: &[Summary],
+    own: &[Summary],
+    task: usize,
+    priority: u32,
+) -> Bound
+    requires well_formed { WellFormed config.now app.now }
+    requires inside { task < length config.now.tasks }
+    requires priority { priority ≡ static_priority config.now task }
+    requires lower { any_below (length config.now.tasks) (is_below config.now.tasks priority) ≡ true }
+    requires whole { AreSummaries config.now app.now None whole.now }
+    requires own { AreSummaries config.now app.now (Some priority) own.now }
+    ensures { IsTold config.now app.now task result }
+{
+    let tasks = config.tasks.items();
+    let funcs = app.funcs.items();
+    if some_endless(tasks, funcs, whole, own, priority) {
+        return Bound::Endless;
+    }
+    told(greatest_sections(tasks, funcs, whole, own, priority))
+}
+
+/// The bound of one task.
+fn bound_of(
+    alloc: Global,
+    config: &Config,
+    app: &App,
+    bodies: &[Body],
+    order: &[usize],
+    whole: &[Summary],
+    task: usize,
+) -> Result<Bound, NoMemory>
+    requires well_formed { WellFormed config.now app.now }
+    requires inside { task < length config.now.tasks }
+    requires bodies { AreKnownBodies config.now app.now bodies.now }
+    requires order { IsCallOrder app.now order.now }
+    requires whole { AreSummaries config.now app.now None whole.now }
+    ensures { IfOk result (IsTold config.now app.now task) }
+{
+    let priority = priority_of(config, task);
+    if has_lower(config.tasks.items(), priority) {
+        let own = own_summaries(alloc, config, app, bodies, order, priority, whole)?;
+        Ok(bound_above(config, app, whole, &own, task, priority))
+    } else {
+        Ok(Bound::Items(0))
+    }
+}
+
+/// The bounds of all tasks of well-formed task code.
+fn bounds_of(
+    alloc: Global,
+    config: &Config,
+    app: &App,
+    ranks: &Ranks,
+) -> Result<Vec<Bound>, NoMemory>
+    requires well_formed { WellFormed config.now app.now }
+    requires belong { RanksOf app.now ranks.now }
+    ensures { IfOk result (λ bounds. AreBounds config.now app.now bounds.items) }
+{
+    let order = callees_first(alloc, app, ranks)?;
+    let bodies = bodies(alloc, config, app, &order)?;
+    let whole = whole_summaries(alloc, config, app, &bodies, &order)?;
+    let mut bounds = Vec::new(alloc);
+    for task in 0..config.tasks.items().len() {
+        let bound = bound_of(alloc, config, app, &bodies, &order, &whole, task)?;
+        push(&mut bounds, bound)?;
+    }
+    Ok(bounds)
+}
+
+/// The blocking bound of each task, 0 to 1,000,000 items, or that it is above that, or that there is none.
+pub fn bounds(alloc: Global, verified: &Verified, ranks: &Ranks) -> Result<List<Bound>, NoMemory>
+    requires { RanksOf verified.now.app ranks.now }
+    ensures { IfOk result (AreBounds verified.now.config verified.now.app) }
+{
+    let bounds = bounds_of(alloc, verified.config(), verified.app(), ranks)?;
+    Ok(List::from_vec(bounds))
+}

@@ -1,0 +1,3 @@
+mod Lines
+pub mod Meaning
+pub mod OneText

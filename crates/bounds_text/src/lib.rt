@@ -1,0 +1,117 @@
+//! The lines of the command `bounds`, from the texts of a configuration and its task source.
+#![tactic(auto)]
+
+ghost use Rattle.std.specs.Prelude.{◌≡◌, ◌≤◌, ◌<◌, ◌++◌, ℕ, List, length, get_or, IfOk, IfErr};
+ghost use Rattle.call_graph.specs.Ranks.{RanksOf};
+ghost use Rattle.sloth_source.specs.Texts.{Accepted, ErrorIs};
+ghost use Rattle.bounds_text.specs.BoundsText.{IsTellable, AreTellable, HasLines, bound_text, bound_line, bound_lines, IsBoundsText};
+
+pub mod laws;
+
+use block_bounds::bound::{Bound, bounds};
+use call_graph::ranking::Ranks;
+use itoa::Buffer;
+use sloth_base::config::TaskDecl;
+use sloth_base::memory::NoMemory;
+use sloth_base::refusal::BuildError;
+use sloth_source::{Ranked, read_ranked};
+use std::alloc::Global;
+use task_verify::verified::Verified;
+use task_verify::verify;
+
+/// The most counts of an item: 40 of its own, and 160 of the generated code behind it.
+const ITEM_COUNTS: u32 = 200;
+
+// A bound in items and in counts.
+fn bound_text(alloc: Global, bound: Bound) -> Result<Vec<u8>, NoMemory>
+    requires { IsTellable bound }
+    ensures { IfOk result (λ text. text.items ≡ bound_text bound) }
+{
+    match bound {
+        Bound::Items(items) => {
+            let mut items_buffer = Buffer::new();
+            let mut counts_buffer = Buffer::new();
+            let mut text = Vec::from_slice(alloc, b" ")?;
+            text.extend_from_slice(items_buffer.format(items).as_bytes())?;
+            text.extend_from_slice(b" ")?;
+            text.extend_from_slice(counts_buffer.format(ITEM_COUNTS * items).as_bytes())?;
+            Ok(text)
+        }
+        Bound::Huge => Ok(Vec::from_slice(alloc, b" huge")?),
+        Bound::Endless => Ok(Vec::from_slice(alloc, b" endless")?),
+    }
+}
+
+// The line of a task.
+#[tactic(auto, unfolding(crate::specs::BoundsText::bound_line))]
+fn bound_line(
+    alloc: Global,
+    tasks: &[TaskDecl],
+    bounds: &[Bound],
+    task: usize,
+) -> Result<Vec<u8>, NoMemory>
+    requires there { task < length tasks.now }
+    requires same { length bounds.now ≡ length tasks.now }
+    requires tellable { AreTellable bounds.now }
+    ensures { IfOk result (λ line. line.items ≡ bound_line tasks.now bounds.now task) }
+{
+    let mut line = Vec::from_slice(alloc, tasks[task].name.bytes())?;
+    line.extend_from_slice(bound_text(alloc, bounds[task])?.as_slice())?;
+    line.extend_from_slice(b"\n")?;
+    Ok(line)
+}
+
+// The lines of all tasks.
+fn bound_lines(alloc: Global, tasks: &[TaskDecl], bounds: &[Bound]) -> Result<Vec<u8>, NoMemory>
+    requires same { length bounds.now ≡ length tasks.now }
+    requires tellable { AreTellable bounds.now }
+    ensures { IfOk result (λ text. text.items ≡ bound_lines tasks.now bounds.now (length tasks.now)) }
+{
+    let mut text = Vec::new(alloc);
+    for task in 0..tasks.len() {
+        text.extend_from_slice(bound_line(alloc, tasks, bounds, task)?.as_slice())?;
+    }
+    Ok(text)
+}
+
+// Task code that keeps all rules, and the ranks of its functions.
+#[derive(Drop)]
+struct Checked {
+    verified: Verified,
+    ranks: Ranks,
+}
+
+// What both texts mean, where they are accepted.
+fn read_checked(alloc: Global, oil: &[u8], src: &[u8]) -> Result<Checked, BuildError>
+    requires oil { length oil.now < 4294967295 }
+    requires src { length src.now < 4294967295 }
+    ensures accepted { IfOk result (λ checked. Accepted oil.now src.now checked.verified.config checked.verified.app) }
+    ensures belong { IfOk result (λ checked. RanksOf checked.verified.app checked.ranks) }
+    ensures refused { IfErr result (ErrorIs oil.now src.now) }
+{
+    let Ranked { config, app, ranks } = read_ranked(alloc, oil, src)?;
+    let verified = verify(alloc, &config, &app, &ranks)?;
+    Ok(Checked { verified, ranks })
+}
+
+// The lines of task code.
+fn checked_text(alloc: Global, verified: &Verified, ranks: &Ranks) -> Result<Vec<u8>, NoMemory>
+    requires { RanksOf verified.now.app ranks.now }
+    ensures { IfOk result (λ text. HasLines verified.now.config verified.now.app text.items) }
+{
+    let bounds = bounds(alloc, verified, ranks)?;
+    let text = bound_lines(alloc, verified.config().tasks.items(), bounds.items())?;
+    Ok(text)
+}
+
+/// The lines of the bounds of all tasks, of texts of at most 4,294,967,294 bytes; or the first refusal (O1 to O15, A1 to A7, V1 to V12).
+pub fn bounds_text(alloc: Global, oil: &[u8], src: &[u8]) -> Result<Vec<u8>, BuildError>
+    requires oil { length oil.now < 4294967295 }
+    requires src { length src.now < 4294967295 }
+    ensures text { IfOk result (λ text. IsBoundsText oil.now src.now text.items) }
+    ensures refused { IfErr result (ErrorIs oil.now src.now) }
+{
+    let checked = read_checked(alloc, oil, src)?;
+    let text = checked_text(alloc, &checked.verified, &checked.ranks)?;
+    Ok(text)
+}

@@ -1,6 +1,0 @@
-use Rattle.std.proofs.Common.{◌≡◌}
-use Rattle.image_gen.specs.Items.{item_blocks}
-use Rattle.image_gen.proofs.items.items.Given as goal
-
-abbrev pub invariant-loop-func : goal.invariant-loop-func
-invariant-loop-func l = l.blocks.items ≡ item_blocks l.app l.places l.func

@@ -1,0 +1,158 @@
+-- The drawing of a picture: SVG 1.1, a line for each element.
+use Rattle.std.specs.Prelude.{ℕ, ◌+◌, ◌-◌, ◌*◌, ◌/◌, ◌==◌, ltb, leb, Bool, ◌||◌, ◌&&◌, List, [], ◌∷◌, ◌++◌, codes, decimal, slice_index, filter}
+use Rattle.std.specs.List.{flat_map, range_with_len}
+use Rattle.sloth_base.specs.declared.event.Arrival.{Arrival}
+use Rattle.lane_drawing.specs.declared.bars.Bar.{Bar}
+use Rattle.lane_drawing.specs.declared.bars.Look.{Look}
+use Rattle.lane_drawing.specs.declared.bars.Look.TheVariants as look
+use Rattle.lane_drawing.specs.declared.scale.Scale.{Scale}
+use Rattle.lane_drawing.specs.Scale.{place, pixels, axis_step, first_multiple, last_multiple}
+
+-- ---- bars
+
+-- the class of a look, which has its colours
+abbrev pub look_class : Look → List ℕ
+look_class look.Runs = codes "run"
+look_class look.Preempted = codes "pre"
+look_class look.Ready = codes "ready"
+look_class look.Waiting = codes "wait"
+look_class look.Kernel = codes "k"
+
+-- the word of a look
+abbrev pub look_word : Look → List ℕ
+look_word look.Runs = codes "runs"
+look_word look.Preempted = codes "preempted"
+look_word look.Ready = codes "ready"
+look_word look.Waiting = codes "waiting"
+look_word look.Kernel = codes "code"
+
+-- the height of a bar, in pixels
+abbrev pub look_height : Look → ℕ
+look_height look.Runs = 24
+look_height look.Preempted = 12
+look_height look.Ready = 12
+look_height look.Waiting = 2
+look_height look.Kernel = 12
+
+-- a bar in the lane of a name whose middle is so many pixels from the top
+unfoldable pub bar_line : Scale → (name : List ℕ) (middle : ℕ) → Bar → List ℕ
+bar_line scale name middle bar =
+    codes "<rect class=\"" ++ look_class bar.look
+    ++ codes "\" x=\"" ++ pixels (place scale bar.from)
+    ++ codes "\" y=\"" ++ decimal (middle - look_height bar.look / 2)
+    ++ codes "\" width=\"" ++ pixels (place scale bar.to - place scale bar.from)
+    ++ codes "\" height=\"" ++ decimal (look_height bar.look)
+    ++ codes "\"><title>" ++ name ++ codes " " ++ look_word bar.look ++ codes ", " ++ decimal bar.from ++ codes " to " ++ decimal (bar.to - 1)
+    ++ codes "</title></rect>\n"
+
+-- an arrival in the lane of a name, at its moment
+unfoldable pub arrival_line : Scale → (name : List ℕ) (middle : ℕ) → Arrival → List ℕ
+arrival_line scale name middle arrival =
+    codes "<path class=\"a\" d=\"M" ++ pixels (place scale arrival.at) ++ codes " " ++ decimal (middle - 12)
+    ++ codes "l-5 -8h10z\"><title>" ++ name ++ codes " arrives at " ++ decimal arrival.at ++ codes "</title></path>\n"
+
+-- ---- lanes
+
+-- the middle of a row, in pixels from the top
+abbrev pub row_middle : ℕ → ℕ
+row_middle row = 61 + 34 * row
+
+-- the name of a lane, and the line below it
+unfoldable pub lane_line : Scale → (name : List ℕ) (middle : ℕ) → List ℕ
+lane_line scale name middle =
+    codes "<text x=\"" ++ decimal (scale.left - 12) ++ codes "\" y=\"" ++ decimal (middle + 5) ++ codes "\" text-anchor=\"end\">" ++ name
+    ++ codes "</text><path class=\"g\" d=\"M" ++ decimal scale.left ++ codes " " ++ decimal (middle + 17) ++ codes "h1020\"/>\n"
+
+-- a lane with its bars and arrivals
+abbrev pub lane_text : Scale → (name : List ℕ) (middle : ℕ) → List Bar → List Arrival → List ℕ
+lane_text scale name middle bars arrivals =
+    lane_line scale name middle ++ flat_map (bar_line scale name middle) bars ++ flat_map (arrival_line scale name middle) arrivals
+
+-- a task stands above another: on a higher level, or on the same with a lesser number
+abbrev pub is_above : (levels : List ℕ) (task other : ℕ) → Bool
+is_above levels task other =
+    ltb (slice_index levels other) (slice_index levels task) || ((slice_index levels other == slice_index levels task) && ltb task other)
+
+-- an arrival is a task's, in the counts of a picture
+abbrev pub is_shown : Scale → (task : ℕ) → Arrival → Bool
+is_shown scale task arrival = (arrival.line == task) && (leb scale.from arrival.at && ltb arrival.at scale.to)
+
+-- the arrivals of a task in the counts of a picture
+abbrev pub shown_arrivals : Scale → List Arrival → (task : ℕ) → List Arrival
+shown_arrivals scale arrivals task = filter (is_shown scale task) arrivals
+
+-- ---- the frame
+
+-- how far the lanes begin from the left, for the length of the longest name
+abbrev pub left_of : (longest : ℕ) → ℕ
+left_of longest = 24 + 8 * longest
+
+-- the first line, with the size in pixels: so many rows behind the axis, and the legend
+unfoldable pub head_line : Scale → (rows : ℕ) → List ℕ
+head_line scale rows =
+    codes "<svg xmlns=\"http://www.w3.org/2000/svg\" width=\"" ++ decimal (scale.left + 1040) ++ codes "\" height=\"" ++ decimal (94 + 34 * rows)
+    ++ codes "\" viewBox=\"0 0 " ++ decimal (scale.left + 1040) ++ codes " " ++ decimal (94 + 34 * rows)
+    ++ codes "\" font-family=\"system-ui, sans-serif\" font-size=\"13\">\n"
+
+-- lines, one behind the other
+abbrev pub all_lines : List (List ℕ) → List ℕ
+all_lines lines = flat_map (λ line. line) lines
+
+-- how each class looks, on light and on dark screens, and what is behind all
+abbrev pub style_lines : List ℕ
+style_lines = all_lines (
+    codes "<style>\n"
+    ∷ codes "text,.a{fill:#1a2433}\n"
+    ∷ codes ".p{fill:#fff}\n"
+    ∷ codes ".g{stroke:#d8dee6}\n"
+    ∷ codes ".run{fill:#2266aa}\n"
+    ∷ codes ".pre{fill:#9dbfe0;stroke:#2266aa;stroke-width:.6}\n"
+    ∷ codes ".ready{fill:none;stroke:#2266aa;stroke-width:1.4;stroke-dasharray:4 3}\n"
+    ∷ codes ".wait{fill:#8a94a3}\n"
+    ∷ codes ".k{fill:#c2571a}\n"
+    ∷ codes "@media screen and (prefers-color-scheme:dark){\n"
+    ∷ codes "text,.a{fill:#e6ebf2}\n"
+    ∷ codes ".p{fill:#12161c}\n"
+    ∷ codes ".g{stroke:#2c3542}\n"
+    ∷ codes ".run{fill:#5aa2e6}\n"
+    ∷ codes ".pre{fill:#2f4d6e;stroke:#5aa2e6}\n"
+    ∷ codes ".ready{stroke:#5aa2e6}\n"
+    ∷ codes ".wait{fill:#7b8796}\n"
+    ∷ codes ".k{fill:#e08a4d}\n"
+    ∷ codes "}\n"
+    ∷ codes "</style>\n"
+    ∷ codes "<rect class=\"p\" width=\"100%\" height=\"100%\"/>\n"
+    ∷ []
+    )
+
+-- a count on the axis, with a line down through so many rows
+unfoldable pub count_line : Scale → (rows count : ℕ) → List ℕ
+count_line scale rows count =
+    codes "<path class=\"g\" d=\"M" ++ pixels (place scale count) ++ codes " 38V" ++ decimal (44 + 34 * rows)
+    ++ codes "\"/><text x=\"" ++ pixels (place scale count) ++ codes "\" y=\"32\" text-anchor=\"middle\" font-size=\"11\">" ++ decimal count
+    ++ codes "</text>\n"
+
+-- the line of a multiple of the axis' step
+unfoldable pub axis_line : Scale → (rows i : ℕ) → List ℕ
+axis_line scale rows i = count_line scale rows (i * axis_step scale)
+
+-- the axis: each multiple of its step that is a count of the picture, or the one behind all
+abbrev pub axis_lines : Scale → (rows : ℕ) → List ℕ
+axis_lines scale rows = flat_map (axis_line scale rows) (range_with_len (first_multiple scale) (last_multiple scale + 1 - first_multiple scale))
+
+-- where the legend stands, below so many rows
+unfoldable pub legend_line : Scale → (rows : ℕ) → List ℕ
+legend_line scale rows = codes "<g transform=\"translate(" ++ decimal scale.left ++ codes " " ++ decimal (60 + 34 * rows) ++ codes ")\">\n"
+
+-- what the looks and the marks mean
+abbrev pub legend_lines : Scale → (rows : ℕ) → List ℕ
+legend_lines scale rows = legend_line scale rows ++ all_lines (
+    codes "<rect class=\"run\" x=\"0\" y=\"0\" width=\"28\" height=\"24\"/><text x=\"36\" y=\"16\">runs</text>\n"
+    ∷ codes "<rect class=\"pre\" x=\"96\" y=\"6\" width=\"28\" height=\"12\"/><text x=\"132\" y=\"16\">preempted</text>\n"
+    ∷ codes "<rect class=\"ready\" x=\"237\" y=\"6\" width=\"28\" height=\"12\"/><text x=\"273\" y=\"16\">ready</text>\n"
+    ∷ codes "<rect class=\"wait\" x=\"342\" y=\"11\" width=\"28\" height=\"2\"/><text x=\"378\" y=\"16\">waiting</text>\n"
+    ∷ codes "<rect class=\"k\" x=\"465\" y=\"6\" width=\"28\" height=\"12\"/><text x=\"501\" y=\"16\">kernel code</text>\n"
+    ∷ codes "<path class=\"a\" d=\"M616 16l-5 -9h10z\"/><text x=\"628\" y=\"16\">arrival</text>\n"
+    ∷ codes "</g>\n"
+    ∷ []
+    )

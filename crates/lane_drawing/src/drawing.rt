@@ -1,0 +1,179 @@
+//! The lanes of a picture, a line for each bar and mark.
+ghost use Rattle.std.specs.Prelude.{◌≡◌, ◌≤◌, ◌<◌, ◌+◌, ◌++◌, OnOk, All, length};
+ghost use Rattle.std.specs.List.{flat_map};
+ghost use Rattle.lane_drawing.specs.Bars.{IsInside};
+ghost use Rattle.lane_drawing.specs.Scale.{IsScale};
+ghost use Rattle.lane_drawing.specs.Drawing.{look_class, look_word, look_height, bar_line, arrival_line, lane_line, shown_arrivals, is_shown};
+
+use crate::bars::{Bar, Look};
+use crate::scale::{Scale, push_pixels};
+use sloth_base::event::Arrival;
+use sloth_base::memory::NoMemory;
+use trace_text::line_text::LineText;
+
+fn look_class(look: Look) -> &'static [u8]
+    ensures is { result.now ≡ look_class look }
+    ensures short { length result.now ≤ 5 }
+{
+    match look {
+        Look::Runs => b"run",
+        Look::Preempted => b"pre",
+        Look::Ready => b"ready",
+        Look::Waiting => b"wait",
+        Look::Kernel => b"k",
+    }
+}
+
+fn look_word(look: Look) -> &'static [u8]
+    ensures is { result.now ≡ look_word look }
+    ensures short { length result.now ≤ 9 }
+{
+    match look {
+        Look::Runs => b"runs",
+        Look::Preempted => b"preempted",
+        Look::Ready => b"ready",
+        Look::Waiting => b"waiting",
+        Look::Kernel => b"code",
+    }
+}
+
+fn look_height(look: Look) -> u32
+    ensures is { result ≡ look_height look }
+    ensures low { result ≤ 24 }
+{
+    match look {
+        Look::Runs => 24,
+        Look::Preempted | Look::Ready | Look::Kernel => 12,
+        Look::Waiting => 2,
+    }
+}
+
+// A bar in the lane of a name whose middle is so many pixels from the top.
+#[tactic(auto, unfolding(crate::specs::Drawing::bar_line))]
+fn bar_line(scale: Scale, name: &[u8], middle: u32, bar: Bar) -> LineText
+    requires scale { IsScale scale }
+    requires name { length name.now ≤ 64 }
+    requires low { 12 ≤ middle }
+    requires inside { IsInside scale.from scale.to bar }
+    ensures { result ≡ bar_line scale name.now middle bar }
+{
+    let mut line = LineText::new();
+    line.push(b"<rect class=\"");
+    line.push(look_class(bar.look));
+    line.push(b"\" x=\"");
+    push_pixels(&mut line, scale.place(bar.from));
+    line.push(b"\" y=\"");
+    line.push_number(middle - look_height(bar.look) / 2);
+    line.push(b"\" width=\"");
+    push_pixels(&mut line, scale.place(bar.to) - scale.place(bar.from));
+    line.push(b"\" height=\"");
+    line.push_number(look_height(bar.look));
+    line.push(b"\"><title>");
+    line.push(name);
+    line.push(b" ");
+    line.push(look_word(bar.look));
+    line.push(b", ");
+    line.push_number(bar.from);
+    line.push(b" to ");
+    line.push_number(bar.to - 1);
+    line.push(b"</title></rect>\n");
+    line
+}
+
+// An arrival in the lane of a name, at its moment.
+#[tactic(auto, unfolding(crate::specs::Drawing::arrival_line))]
+fn arrival_line(scale: Scale, name: &[u8], middle: u32, arrival: Arrival) -> LineText
+    requires scale { IsScale scale }
+    requires name { length name.now ≤ 64 }
+    requires low { 12 ≤ middle }
+    requires behind { scale.from ≤ arrival.at }
+    requires within { arrival.at ≤ scale.to }
+    ensures { result ≡ arrival_line scale name.now middle arrival }
+{
+    let mut line = LineText::new();
+    line.push(b"<path class=\"a\" d=\"M");
+    push_pixels(&mut line, scale.place(arrival.at));
+    line.push(b" ");
+    line.push_number(middle - 12);
+    line.push(b"l-5 -8h10z\"><title>");
+    line.push(name);
+    line.push(b" arrives at ");
+    line.push_number(arrival.at);
+    line.push(b"</title></path>\n");
+    line
+}
+
+// The name of a lane, and the line below it.
+#[tactic(auto, unfolding(crate::specs::Drawing::lane_line))]
+fn lane_line(scale: Scale, name: &[u8], middle: u32) -> LineText
+    requires scale { IsScale scale }
+    requires name { length name.now ≤ 64 }
+    requires low { middle ≤ 2000 }
+    ensures { result ≡ lane_line scale name.now middle }
+{
+    let mut line = LineText::new();
+    line.push(b"<text x=\"");
+    line.push_number(scale.left - 12);
+    line.push(b"\" y=\"");
+    line.push_number(middle + 5);
+    line.push(b"\" text-anchor=\"end\">");
+    line.push(name);
+    line.push(b"</text><path class=\"g\" d=\"M");
+    line.push_number(scale.left);
+    line.push(b" ");
+    line.push_number(middle + 17);
+    line.push(b"h1020\"/>\n");
+    line
+}
+
+/// Appends a lane with its bars.
+pub fn push_lane(
+    text: &mut Vec<u8>,
+    scale: Scale,
+    name: &[u8],
+    middle: u32,
+    bars: &[Bar],
+) -> Result<(), NoMemory>
+    requires scale { IsScale scale }
+    requires name { length name.now ≤ 64 }
+    requires high { 12 ≤ middle }
+    requires low { middle ≤ 2000 }
+    requires inside { All (IsInside scale.from scale.to) bars.now }
+    ensures { OnOk result (text.new.items ≡ text.old.items ++ (lane_line scale name.now middle ++ flat_map (bar_line scale name.now middle) bars.now)) }
+{
+    text.extend_from_slice(lane_line(scale, name, middle).bytes())?;
+    for bar in bars {
+        text.extend_from_slice(bar_line(scale, name, middle, *bar).bytes())?;
+    }
+    Ok(())
+}
+
+// Whether an arrival is a task's, in the counts of a picture.
+fn is_shown(scale: Scale, task: u8, arrival: &Arrival) -> bool
+    ensures { result ≡ is_shown scale task arrival.now }
+{
+    arrival.line.0 == task && arrival.at >= scale.from && arrival.at < scale.to
+}
+
+/// Appends the arrivals of a task in the counts of a picture.
+pub fn push_arrivals(
+    text: &mut Vec<u8>,
+    scale: Scale,
+    name: &[u8],
+    middle: u32,
+    arrivals: &[Arrival],
+    task: u8,
+) -> Result<(), NoMemory>
+    requires scale { IsScale scale }
+    requires name { length name.now ≤ 64 }
+    requires high { 12 ≤ middle }
+    ensures { OnOk result (text.new.items ≡ text.old.items
+        ++ flat_map (arrival_line scale name.now middle) (shown_arrivals scale arrivals.now task)) }
+{
+    for arrival in arrivals {
+        if is_shown(scale, task, arrival) {
+            text.extend_from_slice(arrival_line(scale, name, middle, *arrival).bytes())?;
+        }
+    }
+    Ok(())
+}

@@ -1,0 +1,157 @@
+//! What stands round the lanes: the size, the looks, the axis and the legend.
+ghost use Rattle.std.specs.Prelude.{◌≡◌, ◌≤◌, ◌+◌, ◌++◌, OnOk, map, length};
+ghost use Rattle.lane_drawing.specs.Scale.{IsScale, first_multiple, last_multiple};
+ghost use Rattle.lane_drawing.specs.Drawing.{all_lines, head_line, style_lines, count_line, axis_line, axis_lines, legend_line, legend_lines};
+
+use crate::scale::{Scale, push_pixels};
+use sloth_base::memory::NoMemory;
+use trace_text::line_text::LineText;
+
+// The first line, with the size in pixels: so many rows behind the axis, and the legend.
+#[tactic(auto, unfolding(crate::specs::Drawing::head_line))]
+fn head_line(scale: Scale, rows: u32) -> LineText
+    requires scale { IsScale scale }
+    requires rows { rows ≤ 31 }
+    ensures { result ≡ head_line scale rows }
+{
+    let (width, height) = (scale.left + 1040, 94 + 34 * rows);
+    let mut line = LineText::new();
+    line.push(b"<svg xmlns=\"http://www.w3.org/2000/svg\" width=\"");
+    line.push_number(width);
+    line.push(b"\" height=\"");
+    line.push_number(height);
+    line.push(b"\" viewBox=\"0 0 ");
+    line.push_number(width);
+    line.push(b" ");
+    line.push_number(height);
+    line.push(b"\" font-family=\"system-ui, sans-serif\" font-size=\"13\">\n");
+    line
+}
+
+// How each class looks, on light and on dark screens, and what is behind all.
+const STYLE: [&[u8]; 21] = [
+    b"<style>\n",
+    b"text,.a{fill:#1a2433}\n",
+    b".p{fill:#fff}\n",
+    b".g{stroke:#d8dee6}\n",
+    b".run{fill:#2266aa}\n",
+    b".pre{fill:#9dbfe0;stroke:#2266aa;stroke-width:.6}\n",
+    b".ready{fill:none;stroke:#2266aa;stroke-width:1.4;stroke-dasharray:4 3}\n",
+    b".wait{fill:#8a94a3}\n",
+    b".k{fill:#c2571a}\n",
+    b"@media screen and (prefers-color-scheme:dark){\n",
+    b"text,.a{fill:#e6ebf2}\n",
+    b".p{fill:#12161c}\n",
+    b".g{stroke:#2c3542}\n",
+    b".run{fill:#5aa2e6}\n",
+    b".pre{fill:#2f4d6e;stroke:#5aa2e6}\n",
+    b".ready{stroke:#5aa2e6}\n",
+    b".wait{fill:#7b8796}\n",
+    b".k{fill:#e08a4d}\n",
+    b"}\n",
+    b"</style>\n",
+    b"<rect class=\"p\" width=\"100%\" height=\"100%\"/>\n",
+];
+
+// Appends lines.
+fn push_lines(text: &mut Vec<u8>, lines: &[&[u8]]) -> Result<(), NoMemory>
+    ensures { OnOk result (text.new.items ≡ text.old.items ++ all_lines (map (λ line. line.now) lines.now)) }
+{
+    for line in lines {
+        text.extend_from_slice(line)?;
+    }
+    Ok(())
+}
+
+/// Appends the first line, and how each class looks, on light and on dark screens.
+pub fn push_head(text: &mut Vec<u8>, scale: Scale, rows: u32) -> Result<(), NoMemory>
+    requires scale { IsScale scale }
+    requires rows { rows ≤ 31 }
+    ensures { OnOk result (text.new.items ≡ text.old.items ++ (head_line scale rows ++ style_lines)) }
+{
+    text.extend_from_slice(head_line(scale, rows).bytes())?;
+    push_lines(text, &STYLE)
+}
+
+// A count on the axis, with a line down through so many rows.
+#[tactic(auto, unfolding(crate::specs::Drawing::count_line))]
+fn count_line(scale: Scale, rows: u32, count: u32) -> LineText
+    requires scale { IsScale scale }
+    requires rows { rows ≤ 31 }
+    requires behind { scale.from ≤ count }
+    requires within { count ≤ scale.to }
+    ensures { result ≡ count_line scale rows count }
+{
+    let mut line = LineText::new();
+    line.push(b"<path class=\"g\" d=\"M");
+    push_pixels(&mut line, scale.place(count));
+    line.push(b" 38V");
+    line.push_number(44 + 34 * rows);
+    line.push(b"\"/><text x=\"");
+    push_pixels(&mut line, scale.place(count));
+    line.push(b"\" y=\"32\" text-anchor=\"middle\" font-size=\"11\">");
+    line.push_number(count);
+    line.push(b"</text>\n");
+    line
+}
+
+// The line of a multiple of the axis' step.
+#[tactic(auto, unfolding(crate::specs::Drawing::axis_line))]
+fn axis_line(scale: Scale, rows: u32, i: u32) -> LineText
+    requires scale { IsScale scale }
+    requires rows { rows ≤ 31 }
+    requires behind { first_multiple scale ≤ i }
+    requires within { i ≤ last_multiple scale }
+    ensures { result ≡ axis_line scale rows i }
+{
+    count_line(scale, rows, i * scale.axis_step())
+}
+
+/// Appends the axis.
+pub fn push_axis(text: &mut Vec<u8>, scale: Scale, rows: u32) -> Result<(), NoMemory>
+    requires scale { IsScale scale }
+    requires rows { rows ≤ 31 }
+    ensures { OnOk result (text.new.items ≡ text.old.items ++ axis_lines scale rows) }
+{
+    for i in scale.first_multiple()..scale.last_multiple() + 1 {
+        text.extend_from_slice(axis_line(scale, rows, i).bytes())?;
+    }
+    Ok(())
+}
+
+// Where the legend stands, below so many rows.
+#[tactic(auto, unfolding(crate::specs::Drawing::legend_line))]
+fn legend_line(scale: Scale, rows: u32) -> LineText
+    requires scale { IsScale scale }
+    requires rows { rows ≤ 31 }
+    ensures { result ≡ legend_line scale rows }
+{
+    let mut line = LineText::new();
+    line.push(b"<g transform=\"translate(");
+    line.push_number(scale.left);
+    line.push(b" ");
+    line.push_number(60 + 34 * rows);
+    line.push(b")\">\n");
+    line
+}
+
+// What the looks and the marks mean.
+const LEGEND: [&[u8]; 7] = [
+    b"<rect class=\"run\" x=\"0\" y=\"0\" width=\"28\" height=\"24\"/><text x=\"36\" y=\"16\">runs</text>\n",
+    b"<rect class=\"pre\" x=\"96\" y=\"6\" width=\"28\" height=\"12\"/><text x=\"132\" y=\"16\">preempted</text>\n",
+    b"<rect class=\"ready\" x=\"237\" y=\"6\" width=\"28\" height=\"12\"/><text x=\"273\" y=\"16\">ready</text>\n",
+    b"<rect class=\"wait\" x=\"342\" y=\"11\" width=\"28\" height=\"2\"/><text x=\"378\" y=\"16\">waiting</text>\n",
+    b"<rect class=\"k\" x=\"465\" y=\"6\" width=\"28\" height=\"12\"/><text x=\"501\" y=\"16\">kernel code</text>\n",
+    b"<path class=\"a\" d=\"M616 16l-5 -9h10z\"/><text x=\"628\" y=\"16\">arrival</text>\n",
+    b"</g>\n",
+];
+
+/// Appends what the looks and the marks mean.
+pub fn push_legend(text: &mut Vec<u8>, scale: Scale, rows: u32) -> Result<(), NoMemory>
+    requires scale { IsScale scale }
+    requires rows { rows ≤ 31 }
+    ensures { OnOk result (text.new.items ≡ text.old.items ++ legend_lines scale rows) }
+{
+    text.extend_from_slice(legend_line(scale, rows).bytes())?;
+    push_lines(text, &LEGEND)
+}

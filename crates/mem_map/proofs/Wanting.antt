@@ -1,0 +1,49 @@
+-- What is wanted has a caller, so its object is one of few.
+use Rattle.std.proofs.Common.{◌≡◌, ◌≤◌, ◌<◌, ◌%◌, ℕ, Bool, true, false, List, length, get_or, ap, subst, arith}
+use Rattle.std.proofs.lemmas.List.FromFn.{length-map-range_with_len, get_or-map-range_with_len, fill_by_all}
+use Rattle.sloth_base.specs.Named.{function, missing, no_item, operation}
+use Rattle.sloth_base.specs.ServiceCodes.{object_kind}
+use Rattle.sloth_base.specs.declared.app.App.{App}
+use Rattle.sloth_base.specs.declared.app.Call.{Call}
+use Rattle.sloth_base.specs.declared.app.Op.TheVariants as op
+use Rattle.sloth_base.specs.declared.config.Config.{Config}
+use Rattle.sloth_base.specs.Blocks.{block_count, block_object}
+use Rattle.sloth_base.proofs.Services.{object_number_few}
+use Rattle.code_rules.specs.AppRange.{AreOperands, IsOp}
+use Rattle.code_rules.specs.WellFormed.{WellFormed}
+use Rattle.code_rules.proofs.Objects.{object_number}
+use Rattle.rv32_expand.specs.InPlace.{IsItem}
+use Rattle.mem_map.specs.Wanted.{is_wanted, wanted_blocks}
+use Rattle.mem_map.proofs.Callers.{Caller, marked}
+
+-- there is one entry for each place
+pub all_places : (app : App) → length (wanted_blocks app) ≡ block_count
+unfolding wanted_blocks
+all_places app = length-map-range_with_len (λ number. is_wanted number app) 0 block_count
+
+-- and it tells what is wanted
+pub at_place : (app : App) (number : ℕ) → number < block_count → get_or (wanted_blocks app) number false ≡ is_wanted number app
+unfolding wanted_blocks
+at_place app number below = get_or-map-range_with_len (λ n. is_wanted n app) 0 block_count number number false below (omega arith)
+
+-- a list with these entries is that one
+pub places_are : (app : App) (xs : List Bool) → length xs ≡ block_count → ((number : ℕ) → number < block_count → get_or xs number false ≡ is_wanted number app)
+    → xs ≡ wanted_blocks app
+unfolding wanted_blocks
+places_are app xs long are = fill_by_all (λ number. is_wanted number app) xs block_count false long are
+
+-- an object that an item names is small
+object_few : (config : Config) (app : App) → WellFormed config app → (func item : ℕ) (call : Call) → IsItem app func item → operation app func item ≡ op.Serve call
+    → call.object ≤ 32
+object_few config app well func item call is e =
+    let own = (well.in_range.bodies func missing is.declared).items item no_item is.inside in
+    let operands : AreOperands config call.service call.object call.mask = subst (IsOp config app (function app func)) e own in
+    object_number_few (object_kind call.service) call.object (object_number config well.in_range.configuration (object_kind call.service) call.object operands.0)
+
+-- so is that of a place that is wanted
+pub wanted_objects : (config : Config) (app : App) → WellFormed config app → (number : ℕ) → get_or (wanted_blocks app) number false ≡ true → block_object number ≤ 32
+wanted_objects config app well number is =
+    let c = marked app (wanted_blocks app) (all_places app) (at_place app) number is in
+    let small = object_few config app well c.func c.item c.call c.is_item c.is in
+    let n = c.numbered in
+    omega (arith, small, n)

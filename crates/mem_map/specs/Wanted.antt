@@ -1,0 +1,39 @@
+-- Which code of services task code needs.
+use Rattle.std.specs.Prelude.{ℕ, ◌==◌, Bool, false, List, map}
+use Rattle.std.specs.List.{list_any, range_with_len}
+use Rattle.sloth_base.specs.declared.app.App.{App}
+use Rattle.sloth_base.specs.declared.app.Func.{Func}
+use Rattle.sloth_base.specs.declared.app.Item.{Item}
+use Rattle.sloth_base.specs.declared.app.Op.{Op}
+use Rattle.sloth_base.specs.declared.app.Op.TheVariants as op
+use Rattle.sloth_base.specs.Blocks.{block_count, block_number}
+
+-- an operation calls the service with its object that has this place in the table of blocks
+abbrev pub calls : ℕ → Op → Bool
+calls number (op.Serve call) = block_number call.service call.object == number
+calls number (op.Alu kind rd rs1 rs2) = false
+calls number (op.AluImm kind rd rs1 imm) = false
+calls number (op.Lui rd imm) = false
+calls number (op.Li rd value) = false
+calls number (op.FrameLoad rd word) = false
+calls number (op.FrameStore rs word) = false
+calls number (op.Load width rd symbol offset) = false
+calls number (op.Store width rs symbol offset) = false
+calls number (op.LoadAt width rd symbol index mask) = false
+calls number (op.StoreAt width rs symbol index mask) = false
+calls number (op.Branch kind rs1 rs2 label) = false
+calls number (op.Jump label) = false
+calls number (op.Invoke callee) = false
+calls number op.Return = false
+
+-- an item of the function does
+abbrev pub is_called_by : ℕ → Func → Bool
+is_called_by number func = list_any (λ (item : Item). calls number item.op) func.items
+
+-- an item of the task code does
+abbrev pub is_wanted : ℕ → App → Bool
+is_wanted number app = list_any (is_called_by number) app.funcs
+
+-- whether one does, for each place in the table of blocks
+unfoldable pub wanted_blocks : App → List Bool
+wanted_blocks app = map (λ number. is_wanted number app) (range_with_len 0 block_count)

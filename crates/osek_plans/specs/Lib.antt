@@ -1,0 +1,6 @@
+pub mod Above
+pub mod Changes
+pub mod Frames
+pub mod Plans
+pub mod Running
+pub mod Steps

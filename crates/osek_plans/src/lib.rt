@@ -1,0 +1,17 @@
+//! What an event of the abstract scheduler changes, as a plan, and the tasks and data that plans are carried out on, which take all memory
+//! at the start.
+#![tactic(auto)]
+
+pub mod above;
+pub mod arithmetic;
+pub mod data;
+pub mod events;
+pub mod frame;
+pub mod fresh;
+pub mod held;
+pub mod items;
+pub mod priority;
+pub mod room;
+pub mod services;
+pub mod stack;
+pub mod store;

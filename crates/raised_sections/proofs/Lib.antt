@@ -1,0 +1,10 @@
+pub mod Reached
+pub mod Frames
+pub mod Stepping
+pub mod Placed
+pub mod Raised
+pub mod Window
+pub mod Sectioned
+pub mod KeptBounds
+pub mod Counts
+pub mod Examples

@@ -1,0 +1,70 @@
+-- Events that keep the pace, joined.
+use Rattle.std.proofs.Common.{◌≡◌, ℕ, ◌+◌, ◌≤◌, List, [], ◌∷◌, ◌++◌, map, true, false, cond, refl, sym, ap, ◌∙◌, subst, arith}
+use Rattle.std.specs.List.{AllByRecursion}
+use Rattle.std.proofs.lemmas.Bool.{true≢false}
+use Rattle.sloth_base.specs.declared.config.Config.{Config}
+use Rattle.sloth_base.specs.declared.event.Arrival.{Arrival}
+use Rattle.sloth_base.specs.declared.event.Event.{Event}
+use Rattle.sloth_base.specs.declared.event.Stamped.{Stamped}
+use Rattle.sloth_base.specs.declared.lines.LineKind.{LineKind}
+use Rattle.sloth_base.specs.declared.lines.LineKind.TheVariants as line_of
+use Rattle.sloth_base.specs.Events.{is_boot}
+use Rattle.sloth_base.specs.Owners.{line_kind}
+use Rattle.observe.specs.Observe.{View, stamp, admission, arrival_event}
+use Rattle.osek_scheduler.specs.InTime.{is_admit}
+use Rattle.raised_sections.specs.Pace.{item_counts, last_count, IsPaced}
+use Rattle.run_bounds.specs.PacedRun.{LastsBriefly, BeginsWithBoot}
+
+-- the events keep the pace behind count `at`, and the last of them ends at this one
+pub record Continues (config : Config) (at : ℕ) (events : List Stamped) (to : ℕ) : Type 0 where
+  pub paced : IsPaced at events
+  pub last : last_count at events ≡ to
+  pub brief : AllByRecursion (LastsBriefly config) events
+
+module _ (config : Config) where
+  pub nothing : (at : ℕ) → Continues config at [] at
+  nothing at = record { paced = tt; last = refl; brief = tt }
+
+  pub joined : (a b : List Stamped) (at between to : ℕ) → Continues config at a between → Continues config between b to → Continues config at (a ++ b) to
+  joined [] b at between to f g = subst (λ k. Continues config k b to) (sym f.last) g
+  joined (e ∷ a) b at between to f g =
+      let rest = joined a b (cond (is_admit e) at e.stamp.at) between to (record { paced = f.paced.1; last = f.last; brief = f.brief.1 }) g in
+      record { paced = (f.paced.0, rest.paced); last = rest.last; brief = (f.brief.0, rest.brief) }
+
+  -- an admit in front leaves the pace as it is
+  admit_in_front : (e : Stamped) (events : List Stamped) (at to : ℕ) → is_admit e ≡ true → LastsBriefly config e → Continues config at events to
+      → Continues config at (e ∷ events) to
+  admit_in_front e events at to is brief f =
+      let here : cond (is_admit e) at e.stamp.at ≡ at = ap (λ b. cond b at e.stamp.at) is in
+      record {
+        paced = (λ other. absurd (true≢false (sym is ∙ other)), subst (λ k. IsPaced k events) (sym here) f.paced);
+        last = ap (λ k. last_count k events) here ∙ f.last;
+        brief = (brief, f.brief);
+      }
+
+  pub admissions : (view : View) (at : ℕ) (arrivals : List Arrival) → Continues config at (map (admission view) arrivals) at
+  admissions view at [] = nothing at
+  admissions view at (a ∷ arrivals) = by (line_kind view.owners a.line) (admissions view at arrivals)
+    where
+      by : (kind : LineKind) → Continues config at (map (admission view) arrivals) at
+          → Continues config at (stamp a.at a.at (arrival_event kind) ∷ map (admission view) arrivals) at
+      by (line_of.Task t) f = admit_in_front (stamp a.at a.at (arrival_event (line_of.Task t))) (map (admission view) arrivals) at at refl (omega arith) f
+      by line_of.Unused f = admit_in_front (stamp a.at a.at (arrival_event line_of.Unused)) (map (admission view) arrivals) at at refl (omega arith) f
+
+  -- an event that is no admit
+  pub one_event : (at from to : ℕ) (what : Event) → is_admit (stamp from to what) ≡ false → (is_boot what ≡ false → to ≤ at + item_counts)
+      → LastsBriefly config (stamp from to what) → Continues config at (stamp from to what ∷ []) to
+  one_event at from to what other soon brief = record {
+    paced = ((λ _ later. soon later), tt);
+    last = ap (λ b. cond b at to) other;
+    brief = (brief, tt);
+  }
+
+-- what begins with an arrival does not begin with boot
+pub admissions_alone : (view : View) (arrivals : List Arrival) → BeginsWithBoot (map (admission view) arrivals) → ⊥
+admissions_alone view [] h = h
+admissions_alone view (a ∷ arrivals) h = by (line_kind view.owners a.line) h
+  where
+    by : (kind : LineKind) → is_boot (arrival_event kind) ≡ true → ⊥
+    by (line_of.Task t) h = cc
+    by line_of.Unused h = cc

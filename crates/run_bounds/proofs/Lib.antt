@@ -1,0 +1,6 @@
+pub mod Continuing
+pub mod Paced
+pub mod Turns
+pub mod Waiting
+pub mod Entering
+pub mod Runs

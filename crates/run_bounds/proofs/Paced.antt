@@ -1,0 +1,220 @@
+-- The events of a run whose stretches and gaps are short keep the pace.
+use Rattle.std.proofs.Common.{◌≡◌, ℕ, suc, ◌+◌, ◌==◌, ◌<◌, ◌≤◌, ◌⊎◌, List, [], ◌∷◌, ◌++◌, map, length, Bool, true, false, cond, Option, Some, None, refl, sym, ap, ◌∙◌, subst, arith, inl, inr}
+use Rattle.std.specs.Prelude.{filter, not}
+use Rattle.std.specs.List.{AllByRecursion, flat_map}
+use Rattle.std.proofs.lemmas.Bool.{false≢true, cases_lt}
+use Rattle.std.proofs.lemmas.List.{append_assoc, length-append}
+use Rattle.sloth_base.specs.declared.config.Config.{Config}
+use Rattle.sloth_base.specs.declared.event.Arrival.{Arrival}
+use Rattle.sloth_base.specs.declared.event.Event.{Event}
+use Rattle.sloth_base.specs.declared.event.Event.TheVariants as event
+use Rattle.sloth_base.specs.declared.event.Stamped.{Stamped}
+use Rattle.sloth_base.specs.declared.image.Mark.{Mark}
+use Rattle.sloth_base.specs.declared.image.MarkKind.{MarkKind}
+use Rattle.sloth_base.specs.declared.image.MarkKind.TheVariants as kind
+use Rattle.sloth_base.specs.declared.step.Step.{Step}
+use Rattle.sloth_base.specs.Arrivals.{moments}
+use Rattle.sloth_base.specs.Events.{is_boot}
+use Rattle.sloth_base.specs.Stretches.{Boots, beginning_of, later_beginning, stretch_limit, longest_stretch}
+use Rattle.sloth_base.proofs.Stretches.{begins_later, within_longest}
+use Rattle.rv32_machine.specs.Coherent.{Coherent}
+use Rattle.observe.specs.Pieces.{Piece, Outside, Stretch, steps_of, IsPiece}
+use Rattle.observe.specs.Observe.{View, stamp, admission, is_early, masked_from, last_of, stretch_event, later_event, stretch_events, events_of_kind, outside_events, mark_at, piece_events}
+use Rattle.sim_induction.specs.Short.{IsShort, IsShortPiece, passed_by, passed_length, HasShortGaps}
+use Rattle.sim_induction.proofs.Shown.{stretch_long}
+use Rattle.raised_sections.specs.Pace.{item_counts}
+use Rattle.run_bounds.specs.PacedRun.{LastsBriefly}
+use Rattle.run_bounds.proofs.Continuing.{Continues, nothing, joined, admissions, one_event}
+
+module _ (config : Config) (view : View) (arrivals : List Arrival) where
+  -- the events go on to a count, behind which so many steps have shown none before the next one
+  record Reaches (at : ℕ) (events : List Stamped) (count passed : ℕ) : Type 0 where
+    to : ℕ
+    goes : Continues config at events to
+    near : count ≤ to + 1 + passed
+
+  -- ---- a step outside the stretches
+
+  shown_by : (k : MarkKind) (mark : Mark) (step : Step) (at before : ℕ) → step.count ≤ at + 1 + before → before ≤ 40
+      → Reaches at (map (stamp step.count step.count) (events_of_kind k view mark step)) (step.count + 1) (passed_by (events_of_kind k view mark step) before)
+  shown_by kind.Item mark step at before near few = record {
+    to = step.count;
+    goes = one_event config at step.count step.count _ refl (λ _. omega (arith, near, few)) (omega arith);
+    near = omega arith;
+  }
+  shown_by kind.Idle mark step at before near few = record {
+    to = step.count;
+    goes = one_event config at step.count step.count event.Idle refl (λ _. omega (arith, near, few)) (omega arith);
+    near = omega arith;
+  }
+  shown_by kind.Jump mark step at before near few = record { to = at; goes = nothing config at; near = omega (arith, near) }
+  shown_by kind.Opening mark step at before near few = record { to = at; goes = nothing config at; near = omega (arith, near) }
+  shown_by kind.Back mark step at before near few = record { to = at; goes = nothing config at; near = omega (arith, near) }
+
+  outside_shows : (m : Option Mark) (step : Step) (at before : ℕ) → step.count ≤ at + 1 + before → before ≤ 40
+      → Reaches at (map (stamp step.count step.count) (outside_events m view step)) (step.count + 1) (passed_by (outside_events m view step) before)
+  outside_shows (Some mark) step at before near few = shown_by mark.kind mark step at before near few
+  outside_shows None step at before near few = record { to = at; goes = nothing config at; near = omega (arith, near) }
+
+  -- events behind admits
+  behind_admits : (found : List Arrival) (at : ℕ) (events : List Stamped) (count passed : ℕ) → Reaches at events count passed
+      → Reaches at (map (admission view) found ++ events) count passed
+  behind_admits found at events count passed r = record {
+    to = r.to;
+    goes = joined config (map (admission view) found) events at at r.to (admissions config view at found) r.goes;
+    near = r.near;
+  }
+
+  -- ---- a stretch
+
+  -- the steps of a stretch and those behind it follow one another
+  record Follow (first : Step) (more tail : List Step) (count : ℕ) : Type 0 where
+    last : (last_of first more).count ≡ count + length more
+    enabled : Bool
+    behind : Coherent (count + suc (length more)) enabled tail
+
+  follow : (first : Step) (more tail : List Step) (count : ℕ) (enabled : Bool) → Coherent count enabled (first ∷ (more ++ tail)) → Follow first more tail count
+  follow first [] tail count enabled c = record {
+    last = let e = c.0 in omega (arith, e);
+    enabled = first.enabled_after;
+    behind = subst (λ k. Coherent k first.enabled_after tail) (omega arith) c.2;
+  }
+  follow first (next ∷ more) tail count enabled c =
+      let f = follow next more tail (count + 1) first.enabled_after c.2 in
+      record {
+        last = let e = f.last in omega (arith, e);
+        enabled = f.enabled;
+        behind = subst (λ k. Coherent k f.enabled tail) (omega arith) f.behind;
+      }
+
+  -- how long it may be
+  pub later_limit : (first : Step) (more : List Step) → IsShort config (first ∷ more) → 0 < first.count → suc (length more) ≤ longest_stretch config
+  later_limit first more short later =
+      let le = short.0 in
+      let is = ap (stretch_limit config) (begins_later first later) in
+      let most = within_longest config first.entered in
+      omega (arith, le, is, most)
+
+  either_limit : (b : Bool) (from to : ℕ) → to < from + longest_stretch config → to < from + cond b (stretch_limit config Boots) (longest_stretch config)
+  either_limit true from to lt = omega (arith, lt)
+  either_limit false from to lt = lt
+
+  -- its event
+  stretch_shows : (first : Step) (more : List Step) (at before : ℕ) → IsShort config (first ∷ more) → (last_of first more).count ≡ first.count + length more
+      → first.count ≤ at + 1 + before → before ≤ 40
+      → Reaches at (stamp first.count (last_of first more).count (stretch_event view first (last_of first more)) ∷ []) (first.count + suc (length more)) 0
+  stretch_shows first more at before short last near few = by (cases_lt 0 first.count)
+    where
+      what : Event
+      what = stretch_event view first (last_of first more)
+
+      shows : (is_boot what ≡ false → (last_of first more).count ≤ at + item_counts) → LastsBriefly config (stamp first.count (last_of first more).count what)
+          → Reaches at (stamp first.count (last_of first more).count what ∷ []) (first.count + suc (length more)) 0
+      shows soon brief = record {
+        to = (last_of first more).count;
+        goes = one_event config at first.count (last_of first more).count what (stretch_long view first (last_of first more)).0 soon brief;
+        near = omega (arith, last);
+      }
+
+      by : (0 < first.count) ⊎ (first.count ≤ 0)
+          → Reaches at (stamp first.count (last_of first more).count what ∷ []) (first.count + suc (length more)) 0
+      by (inl later) =
+          let le = later_limit first more short later in
+          shows (λ _. omega (arith, le, last, near, few)) (either_limit (is_boot what) first.count (last_of first more).count (omega (arith, le, last)))
+      by (inr zero_count) =
+          let z : first.count ≡ 0 = omega (arith, zero_count) in
+          let is : what ≡ event.Boot = ap (λ k. cond (k == 0) event.Boot (later_event first.entered view first (last_of first more))) z in
+          let boots : is_boot what ≡ true = ap is_boot is in
+          let le = short.0 in
+          let limit : stretch_limit config (beginning_of first) ≡ 400 = ap (λ k. stretch_limit config (cond (k == 0) Boots (later_beginning first.entered))) z in
+          shows (λ no. absurd (false≢true (sym no ∙ boots)))
+          (subst (λ b. (last_of first more).count < first.count + cond b (stretch_limit config Boots) (longest_stretch config)) (sym boots)
+          (omega (arith, le, limit, last)))
+
+  stretch_reaches : (first : Step) (more : List Step) (at before : ℕ) → IsShort config (first ∷ more) → (last_of first more).count ≡ first.count + length more
+      → first.count ≤ at + 1 + before → before ≤ 40 → Reaches at (piece_events view arrivals (Stretch (first ∷ more))) (first.count + suc (length more)) 0
+  stretch_reaches first more at before short last near few =
+      let last_step = last_of first more in
+      let inside = moments (masked_from first) (last_step.count + 1) arrivals in
+      let shown = stretch_shows first more at before short last near few in
+      let late = filter (λ arrival. not (is_early (first ∷ more) arrival)) inside in
+      behind_admits (moments first.count (masked_from first) arrivals) at (stretch_events view arrivals (first ∷ more)) (first.count + suc (length more)) 0
+      (behind_admits (filter (is_early (first ∷ more)) inside) at
+      (stamp first.count last_step.count (stretch_event view first last_step) ∷ map (admission view) late) (first.count + suc (length more)) 0
+      (record {
+        to = shown.to;
+        goes = joined config (stamp first.count last_step.count (stretch_event view first last_step) ∷ []) (map (admission view) late) at shown.to shown.to
+            shown.goes (admissions config view shown.to late);
+        near = shown.near;
+      }))
+
+  -- ---- all pieces
+
+  -- the events of the pieces keep the pace, and the steps behind them go on from there
+  pub record Paces (at : ℕ) (parts : List Piece) (count : ℕ) (rest : List Step) : Type 0 where
+    pub to : ℕ
+    pub passed : ℕ
+    pub next : ℕ
+    pub enabled : Bool
+    pub goes : Continues config at (flat_map (piece_events view arrivals) parts) to
+    pub near : next ≤ to + 1 + passed
+    pub few : passed ≤ 40
+    pub behind : Coherent next enabled rest
+    pub counted : next ≡ count + length (flat_map steps_of parts)
+    pub onward : parts ≡ [] ⊎ (count < next)
+
+  -- one more piece in front
+  in_front : (piece : Piece) (parts : List Piece) (rest : List Step) (at count middle passed : ℕ) → Reaches at (piece_events view arrivals piece) middle passed
+      → middle ≡ count + length (steps_of piece) → count < middle → ((to : ℕ) → middle ≤ to + 1 + passed → Paces to parts middle rest)
+      → Paces at (piece ∷ parts) count rest
+  in_front piece parts rest at count middle passed r is less go =
+      let p = go r.to r.near in
+      let e = p.counted in
+      let l = length-append (steps_of piece) (flat_map steps_of parts) in
+      record {
+        to = p.to;
+        passed = p.passed;
+        next = p.next;
+        enabled = p.enabled;
+        goes = joined config (piece_events view arrivals piece) (flat_map (piece_events view arrivals) parts) at r.to p.to r.goes p.goes;
+        near = p.near;
+        few = p.few;
+        behind = p.behind;
+        counted = omega (arith, e, is, l);
+        onward = inr (omega (arith, e, less));
+      }
+
+  pub paces : (parts : List Piece) (rest : List Step) (at before count : ℕ) (enabled : Bool) → Coherent count enabled (flat_map steps_of parts ++ rest)
+      → AllByRecursion IsPiece parts → AllByRecursion (IsShortPiece config) parts → HasShortGaps view before parts → count ≤ at + 1 + before → before ≤ 40
+      → Paces at parts count rest
+  paces [] rest at before count enabled c each short gaps near few = record {
+    to = at;
+    passed = before;
+    next = count;
+    enabled = enabled;
+    goes = nothing config at;
+    near = near;
+    few = few;
+    behind = c;
+    counted = omega arith;
+    onward = inl refl;
+  }
+  paces (Outside step ∷ parts) rest at before count enabled c each short gaps near few =
+      let e = c.0 in
+      let shown = outside_shows (mark_at view step.pc) step at before (omega (arith, near, e)) few in
+      let passed = passed_length view (Outside step) before in
+      in_front (Outside step) parts rest at count (step.count + 1) passed
+      (behind_admits (moments step.count (step.count + 1) arrivals) at _ (step.count + 1) passed shown) (omega (arith, e)) (omega (arith, e))
+      (λ to le. paces parts rest to passed (step.count + 1) step.enabled_after
+      (subst (λ k. Coherent (k + 1) step.enabled_after (flat_map steps_of parts ++ rest)) (sym e) c.2) each.1 short.1 gaps.1 le gaps.0)
+  paces (Stretch [] ∷ parts) rest at before count enabled c each short gaps near few = absurd each.0.first
+  paces (Stretch (first ∷ more) ∷ parts) rest at before count enabled c each short gaps near few =
+      let tail = flat_map steps_of parts ++ rest in
+      let whole = subst (Coherent count enabled) (append_assoc (first ∷ more) (flat_map steps_of parts) rest) c in
+      let f = follow first more tail count enabled whole in
+      let e = whole.0 in
+      let l = f.last in
+      in_front (Stretch (first ∷ more)) parts rest at count (first.count + suc (length more)) 0
+      (stretch_reaches first more at before short.0 (omega (arith, e, l)) (omega (arith, near, e)) few) (omega (arith, e)) (omega (arith, e))
+      (λ to le. paces parts rest to 0 (first.count + suc (length more)) f.enabled
+      (subst (λ k. Coherent (k + suc (length more)) f.enabled tail) (sym e) f.behind) each.1 short.1 gaps.1 le (omega arith))

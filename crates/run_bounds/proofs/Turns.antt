@@ -1,0 +1,178 @@
+-- While the task of highest priority is Ready: whose turn each event is, and what it leaves.
+use Rattle.std.proofs.Common.{◌≡◌, ℕ, ◌<◌, ◌⊎◌, ◌&&◌, [], true, false, not, cond, length, map, is_some, Some, None, refl, sym, ap, ◌∙◌, subst, arith, inl, inr}
+use Rattle.std.specs.Prelude.{◌≢◌}
+use Rattle.std.proofs.lemmas.Bool.{cases_Bool, eqb-false, false≢true}
+use Rattle.sloth_base.specs.declared.config.Config.{Config}
+use Rattle.sloth_base.specs.declared.app.App.{App}
+use Rattle.sloth_base.specs.declared.event.Event.{Event}
+use Rattle.sloth_base.specs.declared.event.Event.TheVariants as event
+use Rattle.sloth_base.specs.Named.{declaration}
+use Rattle.sloth_base.specs.Events.{admitted_line, is_boot}
+use Rattle.osek_scheduler.specs.declared.state.TaskState.{TaskState}
+use Rattle.osek_scheduler.specs.declared.state.TaskState.TheVariants as mode
+use Rattle.osek_scheduler.specs.State.{System, task}
+use Rattle.osek_scheduler.specs.Priority.{greatest, ceiling, highest_priority, IsTop}
+use Rattle.osek_scheduler.specs.Steps.{OsekStep}
+use Rattle.osek_valid.specs.Valid.{InState, Valid}
+use Rattle.osek_valid.specs.Apart.{IsActive}
+use Rattle.osek_valid.proofs.Apart.{rank_active, rank_ready}
+use Rattle.osek_valid.proofs.Excluding.{among, excludes}
+use Rattle.osek_valid.proofs.Facts.{Facts}
+use Rattle.osek_valid.proofs.Steps.{step_valid}
+use Rattle.osek_blocking.specs.Blocking.{working_task, is_call, is_entry_of, IsRaisedTo}
+use Rattle.osek_blocking.proofs.Effects.{IsReady, Ordered, Calls, Effect, effect, step_ordered}
+use Rattle.osek_blocking.proofs.Once.{Blocks, stays}
+use Rattle.raised_sections.specs.Sections.{IsLower}
+use Rattle.raised_sections.proofs.Raised.{owing}
+use Rattle.raised_sections.proofs.Placed.{Placed, Advances, FrameEffect, frame_effect, step_placed}
+use Rattle.run_bounds.specs.Latency.{IsHighest}
+
+module _ (config : Config) (app : App) (w : Facts config app) (h : ℕ) (declared : h < length config.tasks) (highest : IsHighest config h) where
+  pub record Awaits (s : System) : Type 0 where
+    pub valid : Valid config app s
+    pub ordered : Ordered config s
+    pub placed : Placed app s
+    pub ready : IsReady s h
+
+  module _ (s next : System) (x : Awaits s) where
+    pub next_awaits : (e : Event) → OsekStep config app e s next → is_entry_of h e ≡ false → Awaits next
+    next_awaits e step away = record {
+      valid = step_valid config app e s next w step x.valid;
+      ordered = step_ordered config app s next x.ordered e step;
+      placed = step_placed config app s next e (frame_effect config app w s next x.valid e step) x.placed;
+      ready = stays config app h declared s next x.ready e (effect config app s next x.ordered e step) away;
+    }
+
+    clash : (m : TaskState) → m ≡ mode.Ready → (m ≡ mode.Active) ⊎ (m ≡ mode.Suspended) → ⊥
+    clash mode.Suspended a (inl b) = absurd cc
+    clash mode.Suspended a (inr b) = absurd cc
+    clash mode.Ready a (inl b) = absurd cc
+    clash mode.Ready a (inr b) = absurd cc
+    clash mode.Active a (inl b) = absurd cc
+    clash mode.Active a (inr b) = absurd cc
+    clash (mode.Waiting mask) a (inl b) = absurd cc
+    clash (mode.Waiting mask) a (inr b) = absurd cc
+
+    -- an Active task is another one, and lower
+    lower_of : (t : ℕ) → t < length config.tasks → IsActive s t → IsLower config h t
+    lower_of t there active =
+        (there, highest t there (λ e. clash (task s h).state x.ready (inl (subst (λ v. (task s v).state ≡ mode.Active) e active))))
+
+    no_other_entry : (t : ℕ) → IsTop config s [] t → IsReady s t → is_entry_of h (event.Enter t) ≡ false → ⊥
+    no_other_entry t top ready away =
+        let le = top.is_greatest h declared (inl x.ready) refl in
+        let e = rank_ready config s h x.ready in
+        let f = rank_ready config s t ready in
+        let lt = highest t top.declared (eqb-false t h away) in
+        omega (arith, le, e, f, lt)
+
+    no_back : (t : ℕ) → IsTop config s [] t → IsActive s t → (task s t).owed ≡ true → ⊥
+    no_back t top active owed =
+        let le = top.is_greatest h declared (inl x.ready) refl in
+        let e = rank_ready config s h x.ready in
+        let f = rank_active config s t active in
+        let g = owing config app s t x.valid top.declared active owed in
+        let lt = (lower_of t top.declared active).1 in
+        omega (arith, le, e, f, g, lt)
+
+    -- ---- whose turn it is
+
+    -- a lower task goes one step on
+    pub record Working (e : Event) (t : ℕ) : Type 0 where
+      pub works : working_task e ≡ Some t
+      pub lower : IsLower config h t
+      pub active : IsActive s t
+      pub free : (task s t).owed ≡ false
+      pub step : Advances app t s next
+      pub settles : next.fresh ≡ []
+      pub calls : is_call e ≡ true → Calls config t s next
+
+    -- a lower task leaves
+    pub record Leaving (e : Event) (t : ℕ) : Type 0 where
+      pub works_not : working_task e ≡ None
+      pub lower : IsLower config h t
+      pub calls : Calls config t s next
+      pub gone : (task next t).state ≢ mode.Active
+      pub held : (task next t).held ≡ (task s t).held
+
+    pub data Turn (e : Event) : Type 0 where
+      turn_admit : working_task e ≡ None → is_some (admitted_line e) ≡ true → Turn e
+      turn_work : (t : ℕ) → is_some (admitted_line e) ≡ false → Working e t → Turn e
+      turn_leave : (t : ℕ) → is_some (admitted_line e) ≡ false → Leaving e t → Turn e
+
+    -- no other event comes
+    pub turn : (e : Event) → OsekStep config app e s next → is_entry_of h e ≡ false → (is_boot e ≡ false) × Turn e
+    turn e step away = by e step away (effect config app s next x.ordered e step) (frame_effect config app w s next x.valid e step)
+      where
+        by : (e : Event) → OsekStep config app e s next → is_entry_of h e ≡ false → Effect config s next e → FrameEffect app s next e → (is_boot e ≡ false) × Turn e
+        by event.Boot step away f p = absurd (clash (task s h).state x.ready (inr (x.valid.asleep step.0 h)))
+        by (event.Admit t) step away f p = (refl, turn_admit refl refl)
+        by (event.Enter t) step away f p = absurd (no_other_entry t f.moves.top f.was away)
+        by (event.Run t func item result) step away f p = (
+          refl,
+          turn_work t refl
+              (record {
+                works = refl;
+                lower = lower_of t f.moves.top.declared f.was;
+                active = f.was;
+                free = step.1.at.free;
+                step = p;
+                settles = f.moves.acts.settles;
+                calls = λ is. absurd (false≢true is);
+              }),
+        )
+        by (event.Call t served status) step away f p = (
+          refl,
+          turn_work t refl
+              (record {
+                works = refl;
+                lower = lower_of t f.moves.top.declared f.was;
+                active = f.was;
+                free = step.1.1.at.free;
+                step = p;
+                settles = f.moves.acts.settles;
+                calls = λ _. f;
+              }),
+        )
+        by (event.Left t served) step away f p = (
+          refl,
+          turn_leave t refl
+              (record { works_not = refl; lower = lower_of t f.moves.top.declared f.was; calls = f; gone = p.gone; held = p.held }),
+        )
+        by (event.Back t) step away f p = absurd (no_back t f.moves.top f.was step.3)
+        by event.Idle step away f p = absurd (step.1 h declared (inl x.ready))
+        by event.Stray step away f p = absurd f
+
+    -- ---- tasks that are not preemptable
+
+    in_state : (t : ℕ) → t < length config.tasks → IsActive s t → InState config t (task s t) mode.Active
+    in_state t there active = subst (InState config t (task s t)) active (x.valid.each t there).in_state
+
+    -- one that goes on is raised to h
+    pub raised_non : (t : ℕ) → t < length config.tasks → IsActive s t → (task s t).owed ≡ false → (declaration config t).non ≡ true → IsRaisedTo config s t h
+    raised_non t there active free non =
+        let raised = (in_state t there active).1 ∙ ap (λ b. b && not (task s t).owed) non ∙ ap not free in
+        let le = among config.tasks h declared in
+        let top = ap (λ b. cond b (highest_priority config) 0) raised in
+        omega (arith, le, top)
+
+    -- one that leaves, raised to h, is not preemptable
+    pub leaves_non : (e : Event) (t : ℕ) → OsekStep config app e s next → is_entry_of h e ≡ false → Leaving e t → Blocks config h s t
+        → (declaration config t).non ≡ true
+    leaves_non e t step away l b = by (cases_Bool (declaration config t).non)
+      where
+        after : Awaits next
+        after = next_awaits e step away
+
+        none : (task s t).held ≡ []
+        none = sym l.held ∙ (excludes config app next after.valid after.ordered.apart).idle_holds_none t l.lower.0 l.gone
+
+        by : ((declaration config t).non ≡ true) ⊎ ((declaration config t).non ≡ false) → (declaration config t).non ≡ true
+        by (inl is) = is
+        by (inr preempts) =
+            let raised = (in_state t l.lower.0 b.active).1 ∙ ap (λ v. v && not (task s t).owed) preempts in
+            let holds = ap (λ r. greatest (map (ceiling config) r)) none in
+            let lifts = ap (λ v. cond v (highest_priority config) 0) raised in
+            let le = b.raised in
+            let lt = l.lower.1 in
+            absurd (omega (arith, le, lt, holds, lifts))

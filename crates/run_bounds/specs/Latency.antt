@@ -1,0 +1,45 @@
+-- How long the task of highest priority may wait for its entry (OSEK OS 2.2.3, section 4.6).
+use Rattle.std.specs.Prelude.{ℕ, ◌+◌, ◌*◌, ◌<◌, ◌≤◌, ◌≡◌, ◌≢◌, ◌&&◌, leb, List, [], ◌∷◌, ◌++◌, true, cond, length}
+use Rattle.sloth_base.specs.declared.config.Config.{Config}
+use Rattle.sloth_base.specs.declared.app.App.{App}
+use Rattle.sloth_base.specs.declared.event.Stamped.{Stamped}
+use Rattle.sloth_base.specs.Events.{is_boot}
+use Rattle.sloth_base.specs.Stretches.{Boots, stretch_limit, longest_stretch}
+use Rattle.osek_scheduler.specs.State.{System, opening}
+use Rattle.osek_scheduler.specs.InTime.{is_admit}
+use Rattle.osek_scheduler.specs.Runs.{Leads}
+use Rattle.osek_valid.specs.Apart.{static_priority}
+use Rattle.osek_blocking.specs.Blocking.{is_entry_of, up_to_entry, MakesReady}
+use Rattle.raised_sections.specs.Sections.{IsBound}
+use Rattle.raised_sections.specs.Pace.{item_counts}
+
+-- every other task of the configuration is of lower static priority
+abbrev pub IsHighest : Config → (h : ℕ) → Type 0
+IsHighest config h = (t : ℕ) → t < length config.tasks → t ≢ h → static_priority config t < static_priority config h
+
+-- The most counts of a stretch that may be running at a moment, behind these events: that of boot, where boot ends at the moment or later.
+abbrev pub running_limit : Config → (moment : ℕ) → List Stamped → ℕ
+running_limit config moment [] = longest_stretch config
+running_limit config moment (e ∷ before) =
+    cond (is_boot e.event && leb moment e.stamp.at) (stretch_limit config Boots) (running_limit config moment before)
+
+-- the most counts from a moment to the end of the entry: the stretch that is running, an item for each event of the bound, and the entry
+abbrev pub latency : (running bound : ℕ) → ℕ
+latency running bound = running + item_counts * bound + item_counts
+
+-- task h is entered among these events, for the first time, and its entry ends before this count
+pub record EntersBefore (h limit : ℕ) (events : List Stamped) : Type 0 where
+  pub entry : Stamped
+  pub rest : List Stamped
+  pub is_entry : is_entry_of h entry.event ≡ true
+  pub first : events ≡ up_to_entry h events ++ entry ∷ rest
+  pub in_time : entry.stamp.at < limit
+
+-- From the moment of an arrival that makes the task of highest priority Ready its entry ends within its latency, if the run has that many
+-- instructions.
+abbrev pub EntersInTime : Config → App → (n : ℕ) → List Stamped → Type 0
+EntersInTime config app n events =
+    (before behind : List Stamped) (made : Stamped) (h b : ℕ) (found s : System) → events ≡ before ++ made ∷ behind
+    → Leads config app before (opening config app) found → MakesReady config app h made.event found s → is_admit made ≡ true
+    → IsHighest config h → IsBound config app h b → made.stamp.at + latency (running_limit config made.stamp.at before) b ≤ n
+    → EntersBefore h (made.stamp.at + latency (running_limit config made.stamp.at before) b) behind

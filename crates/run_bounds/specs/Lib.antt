@@ -1,0 +1,3 @@
+pub mod PacedRun
+pub mod Latency
+pub mod BlockingBounds

@@ -1,0 +1,2 @@
+pub mod NextSample
+pub mod OneSample

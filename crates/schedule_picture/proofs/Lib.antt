@@ -1,0 +1,3 @@
+pub mod Drawing
+pub mod Every
+pub mod Sampling

@@ -1,0 +1,182 @@
+-- Samples that are given, and lanes that show them.
+use Rattle.std.proofs.Common.{◌≡◌, ◌≤◌, ◌<◌, ◌+◌, ◌∙◌, ◌++◌, ◌∷◌, [], ℕ, List, length, get_or, refl, sym, ap, subst, arith}
+use Rattle.std.proofs.lemmas.List.{length-append, get_or_append_left}
+use Rattle.std.proofs.Math.Seq.{get_or-append_seam}
+use Rattle.std.specs.Prelude.{Option, All}
+use Rattle.std.specs.List.{AllByRecursion}
+use Rattle.std.proofs.lemmas.List.Elements.{All-from_recursion}
+use Rattle.sloth_base.specs.declared.event.Arrival.{Arrival}
+use Rattle.sloth_base.specs.declared.image.Image.{Image}
+use Rattle.rv32_machine.specs.Start.{start}
+use Rattle.rv32_machine.proofs.Runs.{stop_none}
+use Rattle.sloth_runner.specs.Runner.{HasRun, run_end, end_of, sloth_state}
+use Rattle.sloth_runner.specs.declared.runner.Halt.{Halt}
+use Rattle.sloth_runner.specs.declared.runner.RunEnd.TheVariants as ends
+use Rattle.run_samples.specs.declared.sampling.Sample.{Sample}
+use Rattle.run_samples.specs.declared.sampling.Sampler.{Sampler}
+use Rattle.run_samples.specs.Samples.{AreLevels, IsSample, IsSampling, StopsAt, sampled_image, sampled_arrivals, sampled_count}
+use Rattle.run_samples.proofs.OneSample.{samples-more}
+use Rattle.lane_drawing.specs.declared.bars.Bar.{Bar}
+use Rattle.lane_drawing.specs.declared.bars.Look.{Look}
+use Rattle.lane_drawing.specs.declared.scale.Scale.{Scale}
+use Rattle.lane_drawing.specs.Bars.{AreBars, IsInside}
+use Rattle.lane_drawing.specs.Strips.{Lane, IsStrip, IsFresh, ShowsMore, empty_lane, last_bar}
+use Rattle.lane_drawing.proofs.Growing.{same_strip}
+use Rattle.schedule_picture.specs.Lanes.{HaveChanged}
+use Rattle.schedule_picture.specs.Looks.{lane_look, look_at, no_sample}
+use Rattle.schedule_picture.specs.Picture.{IsPictureOf, picture_text, scale_of}
+use Rattle.schedule_picture.specs.Samples.{HasGiven, HasGivenFirst, HasShown, HasBars, StopsBefore}
+
+-- ---- samples
+
+pub given_none : (s : Sampler) → IsSampling s → sampled_count s ≡ 0 → HasGivenFirst (sampled_image s) (sampled_arrivals s) 0 s
+given_none s sampling count = record {
+  samples = [];
+  counted = refl;
+  given = record { sampling = sampling; image_is = refl; arrivals_are = refl; count = count; are_samples = tt };
+}
+
+-- the bars of a strip that was closed
+strip_bars_of : (looks : ℕ → Option Look) (from to : ℕ) (old new : Lane) → IsStrip looks from to old → new.bars ≡ old.bars ++ last_bar old to
+    → AreBars looks from to new.bars
+strip_bars_of looks from to old new is more = let B : List Bar → Type 0 = AreBars looks from to in subst B (sym more) is.are_bars
+
+module _ (image : Image) (A : List Arrival) where
+  -- one sample more
+  given_more : (xs : List Sample) (s t : Sampler) (x : Sample) → HasGiven image A xs s → IsSampling t
+      → IsSample (sampled_image s) (sampled_arrivals s) (sampled_count s) x → sampled_image t ≡ sampled_image s → sampled_arrivals t ≡ sampled_arrivals s
+      → sampled_count t ≡ sampled_count s + 1 → HasGiven image A (xs ++ x ∷ []) t
+  given_more xs s t x h sampling sample i a count =
+      let S : Image → Type 0 = λ j. IsSample j (sampled_arrivals s) (sampled_count s) x in
+      let T : List Arrival → Type 0 = λ B. IsSample image B (sampled_count s) x in
+      let U : ℕ → Type 0 = λ n. IsSample image A n x in
+      let place : length xs ≡ 0 + length xs = omega arith in
+      let mine : IsSample image A (0 + length xs) x = subst U (h.count ∙ place) (subst T h.arrivals_are (subst S h.image_is sample)) in
+      record {
+        sampling = sampling;
+        image_is = i ∙ h.image_is;
+        arrivals_are = a ∙ h.arrivals_are;
+        count = count ∙ ap (λ n. n + 1) h.count ∙ sym (length-append xs (x ∷ []));
+        are_samples = samples-more image A 0 xs x h.are_samples mine;
+      }
+
+  pub first_more : (k : ℕ) (s t : Sampler) (x : Sample) → HasGivenFirst image A k s → IsSampling t
+      → IsSample (sampled_image s) (sampled_arrivals s) (sampled_count s) x → sampled_image t ≡ sampled_image s → sampled_arrivals t ≡ sampled_arrivals s
+      → sampled_count t ≡ sampled_count s + 1 → HasGivenFirst image A (k + 1) t
+  first_more k s t x h sampling sample i a count = record {
+    samples = h.samples ++ x ∷ [];
+    counted = length-append h.samples (x ∷ []) ∙ ap (λ n. n + 1) h.counted;
+    given = given_more h.samples s t x h.given sampling sample i a count;
+  }
+
+  -- a run that stops at the next count stops before each later one
+  pub stops_before : (k to : ℕ) (xs : List Sample) (s : Sampler) (halt : Halt) → HasGiven image A xs s → length xs ≡ k → k < to
+      → StopsAt (sampled_image s) (sampled_arrivals s) (sampled_count s) halt → StopsBefore image A to halt
+  stops_before k to xs s halt h counted below stops n past =
+      let c = h.count in
+      let E : Image → Type 0 = λ j. run_end j (sampled_arrivals s) n ≡ ends.Stopped halt.pc halt.stop in
+      let F : List Arrival → Type 0 = λ B. run_end image B n ≡ ends.Stopped halt.pc halt.stop in
+      subst F h.arrivals_are (subst E h.image_is (stops n (omega (arith, c, counted, below, past))))
+
+  -- ---- lanes
+
+  pub shown_none : (from : ℕ) (s : Sampler) (strips : List Lane) → HasGivenFirst image A from s → length strips ≡ length image.tasks + 1
+      → ((lane : ℕ) → lane < length image.tasks + 1 → IsFresh from (get_or strips lane empty_lane)) → HasShown image A from from s strips
+  shown_none from s strips h lanes fresh = record {
+    samples = h.samples;
+    counted = h.counted;
+    given = h.given;
+    lanes = lanes;
+    are_strips = λ lane few. fresh lane (omega (arith, few)) (look_at (length image.tasks) h.samples lane);
+  }
+
+  -- the looks at earlier counts are the same with one sample more
+  same_looks : (xs : List Sample) (x : Sample) (lane count : ℕ) → count < length xs
+      → look_at (length image.tasks) xs lane count ≡ look_at (length image.tasks) (xs ++ x ∷ []) lane count
+  same_looks xs x lane count below =
+      ap (λ (y : Sample). lane_look (length image.tasks) y lane) (sym (get_or_append_left xs (x ∷ []) no_sample count below))
+
+  last_look : (xs : List Sample) (x : Sample) (lane k : ℕ) → length xs ≡ k → look_at (length image.tasks) (xs ++ x ∷ []) lane k ≡ lane_look (length image.tasks) x lane
+  last_look xs x lane k counted =
+      let L : ℕ → Type 0 = λ n. look_at (length image.tasks) (xs ++ x ∷ []) lane n ≡ lane_look (length image.tasks) x lane in
+      subst L counted (ap (λ (y : Sample). lane_look (length image.tasks) y lane) (get_or-append_seam xs x [] no_sample))
+
+  -- one count more
+  pub shown_more : (from k tasks : ℕ) (s t : Sampler) (x : Sample) (old new : List Lane) → HasShown image A from k s old → from ≤ k → tasks ≡ length image.tasks
+      → IsSampling t → IsSample (sampled_image s) (sampled_arrivals s) (sampled_count s) x → sampled_image t ≡ sampled_image s → sampled_arrivals t ≡ sampled_arrivals s
+      → sampled_count t ≡ sampled_count s + 1 → HaveChanged (λ lane. ShowsMore k (lane_look tasks x lane)) (tasks + 1) old new → HasShown image A from (k + 1) t new
+  shown_more from k tasks s t x old new h past same sampling sample i a count changed =
+      let H : ℕ → Type 0 = λ n. HaveChanged (λ lane. ShowsMore k (lane_look n x lane)) (n + 1) old new in
+      let all = subst H same changed in
+      let c = h.counted in
+      record {
+        samples = h.samples ++ x ∷ [];
+        counted = length-append h.samples (x ∷ []) ∙ ap (λ n. n + 1) h.counted;
+        given = given_more h.samples s t x h.given sampling sample i a count;
+        lanes = all.lanes ∙ h.lanes;
+        are_strips = λ lane few.
+            all.changed lane (omega (arith, few)) (look_at (length image.tasks) (h.samples ++ x ∷ []) lane) from past
+            (same_strip (look_at (length image.tasks) h.samples lane) (look_at (length image.tasks) (h.samples ++ x ∷ []) lane) from k (get_or old lane empty_lane)
+            (λ n low high. same_looks h.samples x lane n (omega (arith, high, c))) (h.are_strips lane few))
+            (last_look h.samples x lane k h.counted);
+      }
+
+  -- the bars are those of all counts where what was shown last has its own
+  pub shown_all : (from to : ℕ) (s : Sampler) (old new : List Lane) → HasShown image A from to s old
+      → HaveChanged (λ lane before after. after.bars ≡ before.bars ++ last_bar before to) (length old) old new → HasBars image A from to s new
+  shown_all from to s old new h changed =
+      let l = h.lanes in
+      record {
+        samples = h.samples;
+        counted = h.counted;
+        given = h.given;
+        lanes = changed.lanes ∙ h.lanes;
+        are_bars = λ lane few.
+            let is = h.are_strips lane few in
+            let more = changed.changed lane (omega (arith, few, l)) in
+            strip_bars_of (look_at (length image.tasks) h.samples lane) from to (get_or old lane empty_lane) (get_or new lane empty_lane) is more;
+      }
+
+  -- ---- the picture
+
+  -- the run gets to the last count
+  whole_run : (to : ℕ) (xs : List Sample) (s : Sampler) → HasGiven image A xs s → length xs ≡ to → run_end image A to ≡ ends.Whole
+  whole_run to xs s h counted =
+      let R : Image → Type 0 = λ i. HasRun s.runner i (sampled_count s) in
+      let ran : HasRun s.runner image (sampled_count s) = subst R h.image_is h.sampling.ran in
+      let E : ℕ → List Arrival → Type 0 = λ k B. run_end image B k ≡ ends.Whole in
+      let whole : E (sampled_count s) (sampled_arrivals s) = ap end_of (stop_none (sampled_count s) (sampled_arrivals s) 0 (start image) (sloth_state s.runner.machine) ran.after) in
+      subst (λ k. E k A) (h.count ∙ counted) (subst (E (sampled_count s)) h.arrivals_are whole)
+
+  pub picture_of : (from to : ℕ) (s : Sampler) (strips : List Lane) (levels : List ℕ) (scale : Scale) (text : List ℕ) → HasBars image A from to s strips
+      → AreLevels (sampled_image s) (sampled_arrivals s) (sampled_count s) levels → scale ≡ scale_of image from to
+      → text ≡ picture_text (record { image = image; arrivals = A; levels = levels; scale = scale; bars = λ lane. (get_or strips lane empty_lane).bars })
+      → IsPictureOf image A from to text
+  picture_of from to s strips levels scale text h are at is =
+      let L : Image → Type 0 = λ i. AreLevels i (sampled_arrivals s) (sampled_count s) levels in
+      let M : List Arrival → Type 0 = λ B. AreLevels image B (sampled_count s) levels in
+      let N : ℕ → Type 0 = λ n. AreLevels image A n levels in
+      let D : Scale → List ℕ = λ x. picture_text (record { image = image; arrivals = A; levels = levels; scale = x; bars = λ lane. (get_or strips lane empty_lane).bars }) in
+      record {
+        whole = whole_run to h.samples s h.given h.counted;
+        samples = h.samples;
+        counted = h.counted;
+        are_samples = h.given.are_samples;
+        levels = levels;
+        are_levels = subst N (h.given.count ∙ h.counted) (subst M h.given.arrivals_are (subst L h.given.image_is are));
+        bars = λ lane. (get_or strips lane empty_lane).bars;
+        are_bars = h.are_bars;
+        is = is ∙ ap D at;
+      }
+
+-- ---- bars within the counts
+
+inside : (looks : ℕ → Option Look) (first from to : ℕ) (bars : List Bar) → first ≤ from → AreBars looks from to bars → AllByRecursion (IsInside first to) bars
+inside looks first from to [] h are = tt
+inside looks first from to (bar ∷ bars) h are =
+    let behind = are.0.behind in
+    let some = are.0.some in
+    (record { behind = omega (arith, h, behind); some = some; within = are.0.within }, inside looks first bar.to to bars (omega (arith, h, behind, some)) are.1)
+
+pub all_inside : (looks : ℕ → Option Look) (from to : ℕ) (bars : List Bar) → AreBars looks from to bars → All (IsInside from to) bars
+all_inside looks from to bars are = All-from_recursion (IsInside from to) bars (inside looks from from to bars (omega arith) are)

@@ -1,0 +1,27 @@
+use Rattle.std.proofs.Common.{All, get_or, length, sym, subst}
+use Rattle.lane_drawing.specs.declared.scale.Scale.{Scale}
+use Rattle.lane_drawing.specs.Bars.{IsInside}
+use Rattle.lane_drawing.specs.Strips.{empty_lane}
+use Rattle.schedule_picture.specs.Looks.{look_at}
+use Rattle.schedule_picture.proofs.Sampling.{picture_of, all_inside}
+use Rattle.schedule_picture.proofs.picture.text_with.Goals as goal
+
+pub text_of-requires : goal.text_of-requires
+text_of-requires c =
+    let image = c.args.image.now in
+    let strips = c.args.strips.now in
+    let bars = c.requires.bars in
+    record {
+      format = c.requires.format;
+      scale = c.scale_of.ensures.scale;
+      lanes = bars.lanes;
+      inside = λ lane few.
+          let I : Scale → Type 0 = λ x. All (IsInside x.from x.to) (get_or strips lane empty_lane).bars in
+          subst I (sym c.scale_of.ensures.is)
+          (all_inside (look_at (length image.tasks) bars.samples lane) c.args.from c.args.to (get_or strips lane empty_lane).bars (bars.are_bars lane few));
+    }
+
+pub returns : goal.returns
+returns c =
+    picture_of c.args.image.now c.args.arrivals.now c.args.from c.args.to c.args.sampler.now c.args.strips.now c.levels.result c.scale_of.result _ c.requires.bars
+    c.levels.ensures.levels c.scale_of.ensures.is c.in_ok-text.ensures

@@ -1,0 +1,26 @@
+-- What a picture's text is made of.
+use Rattle.std.specs.Prelude.{ℕ, ◌≡◌, ◌≤◌, ◌+◌, All, length, get_or}
+use Rattle.sloth_base.specs.ImageRange.{InFormat}
+use Rattle.lane_drawing.specs.Bars.{IsInside}
+use Rattle.lane_drawing.specs.Scale.{IsScale}
+use Rattle.lane_drawing.specs.Strips.{empty_lane}
+use Rattle.schedule_picture.specs.declared.text.Drawn.{Drawn}
+use Rattle.schedule_picture.specs.Picture.{Drawing}
+
+-- the drawing, with each strip's bars in its lane
+abbrev pub drawing_of : Drawn → Drawing
+drawing_of drawn = record {
+  image = drawn.image.now;
+  arrivals = drawn.arrivals.now;
+  levels = drawn.levels;
+  scale = drawn.scale;
+  bars = λ lane. (get_or drawn.strips.now lane empty_lane).bars;
+}
+
+-- it can be drawn: a lane for each task of the image and one more, and bars within the counts of the picture
+pub record IsDrawable (drawn : Drawn) : Type 0 where
+  pub format : InFormat drawn.image.now
+  pub scale : IsScale drawn.scale
+  pub lanes : length drawn.strips.now ≡ length drawn.image.now.tasks + 1
+  pub inside : (lane : ℕ) → lane ≤ length drawn.image.now.tasks
+      → All (IsInside drawn.scale.from drawn.scale.to) (get_or drawn.strips.now lane empty_lane).bars

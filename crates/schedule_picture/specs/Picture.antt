@@ -1,0 +1,78 @@
+-- The picture of a part of a run.
+use Rattle.std.specs.Prelude.{ℕ, zero, suc, ◌+◌, ◌≡◌, ◌≤◌, max, cond, List, [], ◌++◌, codes, length, get_or}
+use Rattle.std.specs.List.{flat_map}
+use Rattle.sloth_base.specs.declared.event.Arrival.{Arrival}
+use Rattle.sloth_base.specs.declared.image.Image.{Image}
+use Rattle.sloth_runner.specs.declared.runner.RunEnd.TheVariants as ends
+use Rattle.sloth_runner.specs.Runner.{run_end}
+use Rattle.run_samples.specs.declared.sampling.Sample.{Sample}
+use Rattle.run_samples.specs.Samples.{AreLevels, AreSamples}
+use Rattle.lane_drawing.specs.declared.bars.Bar.{Bar}
+use Rattle.schedule_picture.specs.declared.picture.Picture.{Picture}
+use Rattle.schedule_picture.specs.declared.picture.Picture.TheVariants as picture
+use Rattle.lane_drawing.specs.Bars.{AreBars}
+use Rattle.schedule_picture.specs.Looks.{look_at}
+use Rattle.lane_drawing.specs.declared.scale.Scale.{Scale}
+use Rattle.lane_drawing.specs.Drawing.{left_of, head_line, style_lines, axis_lines, lane_text, lane_line, bar_line, row_middle, is_above, shown_arrivals, legend_lines}
+
+-- the length of the longest of the first names, so many of them, and at least that of `kernel`
+unfoldable pub longest_of : List (List ℕ) → ℕ → ℕ
+longest_of names zero = 6
+longest_of names (suc k) = max (longest_of names k) (length (get_or names k []))
+
+-- where the counts of a picture stand
+abbrev pub scale_of : Image → (from to : ℕ) → Scale
+scale_of image from to = record { left = left_of (longest_of image.tasks (length image.tasks)); from = from; to = to }
+
+-- how many of the first tasks, so many of them, stand above a task
+unfoldable pub tasks_above : (levels : List ℕ) (task : ℕ) → ℕ → ℕ
+tasks_above levels task zero = 0
+tasks_above levels task (suc k) = tasks_above levels task k + cond (is_above levels k task) 1 0
+
+-- what is drawn: an image's run with its arrivals, the levels of the tasks' lines, where the counts stand, and the bars of each lane
+pub record Drawing : Type 0 where
+  pub image : Image
+  pub arrivals : List Arrival
+  pub levels : List ℕ
+  pub scale : Scale
+  pub bars : (lane : ℕ) → List Bar
+
+-- the lane of a task, in the row behind all that stand above it
+unfoldable pub task_lane : Drawing → (task : ℕ) → List ℕ
+task_lane d task =
+    lane_text d.scale (get_or d.image.tasks task []) (row_middle (tasks_above d.levels task (length d.image.tasks))) (d.bars task)
+    (shown_arrivals d.scale d.arrivals task)
+
+-- those of the first tasks, so many of them
+unfoldable pub task_lanes : Drawing → ℕ → List ℕ
+task_lanes d zero = []
+task_lanes d (suc task) = task_lanes d task ++ task_lane d task
+
+-- the lane of kernel code, below all others
+abbrev pub kernel_lane : Drawing → List ℕ
+kernel_lane d =
+    lane_line d.scale (codes "kernel") (row_middle (length d.image.tasks))
+    ++ flat_map (bar_line d.scale (codes "kernel") (row_middle (length d.image.tasks))) (d.bars (length d.image.tasks))
+
+-- The text: the axis, a lane for each task, that of the highest level on top, a lane for kernel code, and what they mean.
+abbrev pub picture_text : Drawing → List ℕ
+picture_text d =
+    (head_line d.scale (length d.image.tasks + 1) ++ style_lines) ++ axis_lines d.scale (length d.image.tasks + 1) ++ task_lanes d (length d.image.tasks)
+    ++ kernel_lane d ++ legend_lines d.scale (length d.image.tasks + 1) ++ codes "</svg>\n"
+
+-- A text is the picture of a run from one count to below another: the run gets there, and each lane has the bars of what it shows.
+pub record IsPictureOf (image : Image) (arrivals : List Arrival) (from to : ℕ) (text : List ℕ) : Type 0 where
+  pub whole : run_end image arrivals to ≡ ends.Whole
+  pub samples : List Sample
+  pub counted : length samples ≡ to
+  pub are_samples : AreSamples image arrivals 0 samples
+  pub levels : List ℕ
+  pub are_levels : AreLevels image arrivals to levels
+  pub bars : (lane : ℕ) → List Bar
+  pub are_bars : (lane : ℕ) → lane ≤ length image.tasks → AreBars (look_at (length image.tasks) samples lane) from to (bars lane)
+  pub is : text ≡ picture_text (record { image = image; arrivals = arrivals; levels = levels; scale = scale_of image from to; bars = bars })
+
+-- the picture of a run, or where and why it stops in front of the last count
+abbrev pub IsPicture : Image → List Arrival → (from to : ℕ) → Picture → Type 0
+IsPicture image arrivals from to (picture.Text text) = IsPictureOf image arrivals from to text.items
+IsPicture image arrivals from to (picture.Stopped halt) = run_end image arrivals to ≡ ends.Stopped halt.pc halt.stop

@@ -1,0 +1,54 @@
+//! The lanes of a picture, as the counts of a run come.
+ghost use Rattle.std.specs.Prelude.{ℕ, ◌≡◌, ◌≤◌, ◌<◌, ◌+◌, ◌++◌, OnOk, IfOk, length, get_or};
+ghost use Rattle.lane_drawing.specs.Strips.{empty_lane, last_bar, ShowsMore, IsFresh};
+ghost use Rattle.schedule_picture.specs.Lanes.{HaveChanged};
+ghost use Rattle.schedule_picture.specs.Looks.{lane_look};
+
+use crate::looks::lane_look;
+use lane_drawing::Strip;
+use run_samples::Sample;
+use sloth_base::memory::NoMemory;
+use std::alloc::Global;
+
+/// A lane for each task, and one for kernel code, that have shown nothing yet.
+pub fn empty_strips(alloc: Global, tasks: usize, from: u32) -> Result<Vec<Strip>, NoMemory>
+    requires { tasks ≤ 30 }
+    ensures lanes { IfOk result (λ strips. length strips.items ≡ tasks + 1) }
+    ensures fresh { IfOk result (λ strips. (lane : ℕ) → lane < tasks + 1 → IsFresh from (get_or strips.items lane empty_lane)) }
+{
+    let mut strips = Vec::new(alloc);
+    for _ in 0..tasks + 1 {
+        match strips.push(Strip::new(alloc, from)) {
+            Ok(()) => {}
+            Err(_) => return Err(NoMemory),
+        }
+    }
+    Ok(strips)
+}
+
+/// What each lane shows at a count.
+pub fn show(
+    strips: &mut Vec<Strip>,
+    tasks: usize,
+    count: u32,
+    sample: &Sample,
+) -> Result<(), NoMemory>
+    requires tasks { tasks ≤ 30 }
+    requires lanes { length strips.old.items ≡ tasks + 1 }
+    ensures shows { OnOk result (HaveChanged (λ lane. ShowsMore count (lane_look tasks sample.now lane)) (tasks + 1) strips.old.items strips.new.items) }
+{
+    for lane in 0..tasks + 1 {
+        strips[lane].show(count, lane_look(tasks, sample, lane))?;
+    }
+    Ok(())
+}
+
+/// The bars of what was shown last end below this count.
+pub fn close(strips: &mut Vec<Strip>, count: u32) -> Result<(), NoMemory>
+    ensures bars { OnOk result (HaveChanged (λ lane old new. new.bars ≡ old.bars ++ last_bar old count) (length strips.old.items) strips.old.items strips.new.items) }
+{
+    for lane in 0..strips.len() {
+        strips[lane].close(count)?;
+    }
+    Ok(())
+}

@@ -1,0 +1,137 @@
+//! The picture of a part of a run.
+ghost use Rattle.std.specs.Prelude.{ℕ, ◌≡◌, ◌≤◌, ◌<◌, ◌+◌, IfOk, IfErr, IfSome, IfNone, OnOk, All, length, get_or};
+ghost use Rattle.sloth_base.specs.ImageRange.{InFormat};
+ghost use Rattle.sloth_base.specs.Arrivals.{AreArrivals};
+ghost use Rattle.sloth_base.specs.Owners.{owners_named};
+ghost use Rattle.run_samples.specs.Samples.{IsSampling, sampled_image, sampled_arrivals, sampled_count};
+ghost use Rattle.lane_drawing.specs.Bars.{AreBars};
+ghost use Rattle.lane_drawing.specs.Strips.{IsFresh, empty_lane};
+ghost use Rattle.schedule_picture.specs.Looks.{look_at};
+ghost use Rattle.schedule_picture.specs.Samples.{HasGivenFirst, HasBars, StopsBefore};
+ghost use Rattle.schedule_picture.specs.Picture.{IsPicture, IsPictureOf};
+
+use crate::lanes::{close, empty_strips, show};
+use crate::text::{Drawn, scale_of, text_of};
+use lane_drawing::Strip;
+use run_samples::Sampler;
+use sloth_base::event::Arrival;
+use sloth_base::image::Image;
+use sloth_base::memory::NoMemory;
+use sloth_runner::runner::Halt;
+use std::alloc::Global;
+
+/// The picture of a part of a run, or where and why the run stops in front of its last count.
+#[derive(Drop)]
+pub enum Picture {
+    Text(Vec<u8>),
+    Stopped(Halt),
+}
+
+// Takes the first samples, so many of them.
+fn skip(sampler: &mut Sampler, from: u32) -> Result<(), Halt>
+    requires few { from ≤ 1000000 }
+    requires sampling { IsSampling sampler.old }
+    requires fresh { sampled_count sampler.old ≡ 0 }
+    ensures given { OnOk result (HasGivenFirst (sampled_image sampler.old) (sampled_arrivals sampler.old) from sampler.new) }
+    ensures stops { IfErr result (StopsBefore (sampled_image sampler.old) (sampled_arrivals sampler.old) from) }
+{
+    for _ in 0..from {
+        match sampler.next() {
+            Ok(_) => {}
+            Err(halt) => return Err(halt),
+        }
+    }
+    Ok(())
+}
+
+// What the lanes show from one count to below another, or where and why the run stops.
+fn show_all(
+    sampler: &mut Sampler,
+    strips: &mut Vec<Strip>,
+    tasks: usize,
+    from: u32,
+    to: u32,
+) -> Result<Option<Halt>, NoMemory>
+    requires given { HasGivenFirst (sampled_image sampler.old) (sampled_arrivals sampler.old) from sampler.old }
+    requires tasks { tasks ≡ length (sampled_image sampler.old).tasks }
+    requires few_tasks { tasks ≤ 30 }
+    requires lanes { length strips.old.items ≡ tasks + 1 }
+    requires fresh { (lane : ℕ) → lane < tasks + 1 → IsFresh from (get_or strips.old.items lane empty_lane) }
+    requires ordered { from ≤ to }
+    requires few { to ≤ 1000000 }
+    ensures stops { IfOk result (λ end. IfSome end (StopsBefore (sampled_image sampler.old) (sampled_arrivals sampler.old) to)) }
+    ensures bars { IfOk result (λ end. IfNone end (HasBars (sampled_image sampler.old) (sampled_arrivals sampler.old) from to sampler.new strips.new.items)) }
+{
+    for count in from..to {
+        match sampler.next() {
+            Ok(sample) => show(strips, tasks, count, &sample)?,
+            Err(halt) => return Ok(Some(halt)),
+        }
+    }
+    close(strips, to)?;
+    Ok(None)
+}
+
+// The text of the picture, with the bars of each lane.
+fn text_with(
+    alloc: Global,
+    image: &Image,
+    arrivals: &[Arrival],
+    from: u32,
+    to: u32,
+    sampler: &mut Sampler,
+    strips: &[Strip],
+) -> Result<Vec<u8>, NoMemory>
+    requires format { InFormat image.now }
+    requires ordered { from ≤ to }
+    requires short { to ≤ from + 100000 }
+    requires few { to ≤ 1000000 }
+    requires bars { HasBars image.now arrivals.now from to sampler.old strips.now }
+    ensures { IfOk result (λ text. IsPictureOf image.now arrivals.now from to text.items) }
+{
+    let drawn = Drawn {
+        image,
+        arrivals,
+        levels: sampler.levels(),
+        scale: scale_of(image, from, to),
+        strips,
+    };
+    let text = text_of(alloc, &drawn)?;
+    Ok(text)
+}
+
+/// The picture of a run of an image with arrivals, from one count to below another: at most 1,000,000, and 100,000 more than the first.
+pub fn draw(
+    alloc: Global,
+    image: &Image,
+    arrivals: &[Arrival],
+    from: u32,
+    to: u32,
+) -> Result<Picture, NoMemory>
+    requires format { InFormat image.now }
+    requires arrivals { AreArrivals (owners_named image.now) arrivals.now }
+    requires ordered { from ≤ to }
+    requires short { to ≤ from + 100000 }
+    requires few { to ≤ 1000000 }
+    ensures { IfOk result (IsPicture image.now arrivals.now from to) }
+{
+    let tasks = image.tasks.items().len();
+    let mut sampler = Sampler::new(alloc, image, arrivals)?;
+    if let Err(halt) = skip(&mut sampler, from) {
+        return Ok(Picture::Stopped(halt));
+    }
+    let mut strips = empty_strips(alloc, tasks, from)?;
+    if let Some(halt) = show_all(&mut sampler, &mut strips, tasks, from, to)? {
+        return Ok(Picture::Stopped(halt));
+    }
+    let text = text_with(
+        alloc,
+        image,
+        arrivals,
+        from,
+        to,
+        &mut sampler,
+        strips.as_slice(),
+    )?;
+    Ok(Picture::Text(text))
+}

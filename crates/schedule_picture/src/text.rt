@@ -1,0 +1,144 @@
+//! The text of a picture.
+ghost use Rattle.std.specs.Prelude.{ℕ, ◌≡◌, ◌≤◌, ◌<◌, ◌+◌, ◌*◌, ◌++◌, IfOk, OnOk, All, length, get_or};
+ghost use Rattle.sloth_base.specs.ImageRange.{InFormat};
+ghost use Rattle.lane_drawing.specs.Bars.{IsInside};
+ghost use Rattle.lane_drawing.specs.Drawing.{is_above};
+ghost use Rattle.lane_drawing.specs.Scale.{IsScale};
+ghost use Rattle.schedule_picture.specs.Drawn.{IsDrawable, drawing_of};
+ghost use Rattle.schedule_picture.specs.Picture.{longest_of, scale_of, tasks_above, task_lane, kernel_lane, picture_text};
+
+use lane_drawing::{
+    Bar, Scale, Strip, push_arrivals, push_axis, push_head, push_lane, push_legend,
+};
+use sloth_base::event::Arrival;
+use sloth_base::image::Image;
+use sloth_base::memory::NoMemory;
+use sloth_base::name::Name;
+use sloth_inspect::TASKS;
+use std::alloc::Global;
+
+/// What is drawn.
+#[derive(Clone, Copy)]
+pub struct Drawn<'a> {
+    pub image: &'a Image,
+    pub arrivals: &'a [Arrival],
+    pub levels: [u8; TASKS],
+    pub scale: Scale,
+    pub strips: &'a [Strip],
+}
+
+// The length of the longest name, and at least that of `kernel`.
+#[tactic(auto, using(crate::proofs::Drawing::no_names, crate::proofs::Drawing::one_name_more))]
+fn longest_name(names: &[Name]) -> usize
+    requires { All (λ name. length name ≤ 64) names.now }
+    ensures is { result ≡ longest_of names.now (length names.now) }
+    ensures some { 6 ≤ result }
+    ensures short { result ≤ 64 }
+{
+    let mut longest = 6;
+    for i in 0..names.len() {
+        longest = longest.max(names[i].bytes().len());
+    }
+    longest
+}
+
+/// Where the counts of a picture stand.
+pub fn scale_of(image: &Image, from: u32, to: u32) -> Scale
+    requires format { InFormat image.now }
+    requires ordered { from ≤ to }
+    requires short { to ≤ from + 100000 }
+    requires few { to ≤ 1000000 }
+    ensures is { result ≡ scale_of image.now from to }
+    ensures scale { IsScale result }
+{
+    Scale {
+        left: 24 + 8 * longest_name(image.tasks.items()) as u32,
+        from,
+        to,
+    }
+}
+
+// Whether a task stands above another.
+fn is_above(levels: &[u8; TASKS], task: usize, other: usize) -> bool
+    requires task { task < 30 }
+    requires other { other < 30 }
+    ensures { result ≡ is_above levels.now task other }
+{
+    levels[task] > levels[other] || levels[task] == levels[other] && task < other
+}
+
+// How many of the tasks stand above one.
+#[tactic(auto, using(crate::proofs::Drawing::no_tasks, crate::proofs::Drawing::one_task_more))]
+fn tasks_above(levels: &[u8; TASKS], tasks: usize, task: usize) -> u32
+    requires few { tasks ≤ 30 }
+    requires task { task < 30 }
+    ensures is { result ≡ tasks_above levels.now task tasks }
+    ensures few { result ≤ tasks }
+{
+    let mut above = 0;
+    for other in 0..tasks {
+        if is_above(levels, other, task) {
+            above += 1;
+        }
+    }
+    above
+}
+
+// The middle of a row, in pixels from the top.
+fn row_middle(row: u32) -> u32
+    requires { row ≤ 30 }
+    ensures { result ≡ 61 + 34 * row }
+{
+    61 + 34 * row
+}
+
+// The bars of a lane.
+fn lane_bars<'a>(drawn: &Drawn<'a>, lane: usize) -> &'a [Bar]
+    requires drawable { IsDrawable drawn.now }
+    requires lane { lane ≤ length drawn.now.image.now.tasks }
+    ensures bars { result.now ≡ (drawing_of drawn.now).bars lane }
+    ensures inside { All (IsInside drawn.now.scale.from drawn.now.scale.to) result.now }
+{
+    drawn.strips[lane].bars()
+}
+
+// Appends the lane of a task.
+#[tactic(auto, unfolding(crate::specs::Picture::task_lane))]
+fn push_task(text: &mut Vec<u8>, drawn: &Drawn, task: usize) -> Result<(), NoMemory>
+    requires drawable { IsDrawable drawn.now }
+    requires task { task < length drawn.now.image.now.tasks }
+    ensures { OnOk result (text.new.items ≡ text.old.items ++ task_lane (drawing_of drawn.now) task) }
+{
+    let names = drawn.image.tasks.items();
+    let name = names[task].bytes();
+    let middle = row_middle(tasks_above(&drawn.levels, names.len(), task));
+    push_lane(text, drawn.scale, name, middle, lane_bars(drawn, task))?;
+    push_arrivals(text, drawn.scale, name, middle, drawn.arrivals, task as u8)
+}
+
+/// The text of a picture.
+#[tactic(auto, using(crate::proofs::Drawing::no_lanes, crate::proofs::Drawing::one_lane_more))]
+pub fn text_of(alloc: Global, drawn: &Drawn) -> Result<Vec<u8>, NoMemory>
+    requires { IsDrawable drawn.now }
+    ensures { IfOk result (λ text. text.items ≡ picture_text (drawing_of drawn.now)) }
+{
+    let tasks = drawn.image.tasks.items().len();
+    let rows = tasks as u32 + 1;
+    let mut text = Vec::new(alloc);
+    push_head(&mut text, drawn.scale, rows)?;
+    push_axis(&mut text, drawn.scale, rows)?;
+    for task in 0..tasks {
+        push_task(&mut text, drawn, task)?;
+    }
+    let middle = row_middle(tasks as u32);
+    push_lane(
+        &mut text,
+        drawn.scale,
+        b"kernel",
+        middle,
+        lane_bars(drawn, tasks),
+    )?;
+    push_legend(&mut text, drawn.scale, rows)?;
+    text.extend_from_slice(b"</svg>\n")?;
+    Ok(text)
+}

@@ -1,0 +1,45 @@
+-- What is linked into an image: the blocks of routines, the items of the task code, and the bytes of its symbols.
+use Rattle.std.specs.Prelude.{ℕ, ◌+◌, ◌-◌, ◌<◌, ◌≤◌, ◌≡◌, List, ◌++◌, length, All}
+use Rattle.sloth_base.specs.Named.{declaration}
+use Rattle.sloth_base.specs.declared.app.App.{App}
+use Rattle.sloth_base.specs.declared.config.Config.{Config}
+use Rattle.sloth_base.specs.MemoryMap.{memory_base}
+use Rattle.sloth_region.specs.declared.map.Map.{Map}
+use Rattle.code_rules.specs.WellFormed.{WellFormed}
+use Rattle.rv32_instr.specs.declared.block.Block.{Block}
+use Rattle.rv32_expand.specs.InPlace.{IsBodyName}
+use Rattle.rv32_expand.specs.Sizes.{AgreeWithSizes, Covers}
+use Rattle.mem_map.specs.Zones.{data_zone}
+use Rattle.sloth_link.specs.declared.datum.Datum.{Datum}
+use Rattle.sloth_link.specs.Items.{MarksAreOfItems, item_blocks}
+use Rattle.sloth_link.specs.Linked.{HaveOwnAddresses, HaveRoom, marks_of}
+use Rattle.sloth_link.specs.Symbols.{data_of}
+
+-- the blocks of routines, and behind them the items, each as a block of its own at its address in the map
+abbrev pub all_blocks : App → Map → List Block → List Block
+all_blocks app map blocks = blocks ++ item_blocks app map.places (length app.funcs)
+
+-- the bytes of the symbols at their addresses in the map
+abbrev pub all_data : App → Map → List Datum
+all_data app map = data_of map.places.symbols app.symbols
+
+-- the bytes of memory up to the end of the zone of data
+abbrev pub memory_size : Map → ℕ
+memory_size map = (data_zone map).base + (data_zone map).len - memory_base
+
+-- Routines that can be linked with well-formed task code by its map: all blocks and symbols have room apart from one another. The body of
+-- each task has the task's name.
+pub record MayLink (config : Config) (app : App) (map : Map) (blocks : List Block) : Type 0 where
+  pub well_formed : WellFormed config app
+  pub named : (t : ℕ) → t < length config.tasks → IsBodyName app t (declaration config t).name
+  -- what the map has of the task code
+  pub agree : AgreeWithSizes app map.places
+  pub covers : Covers app map.places
+  pub symbols : length map.places.symbols ≡ length app.symbols
+  pub zones : 2 < length map.extents
+  pub above : memory_base ≤ (data_zone map).base
+  pub below : (data_zone map).base + (data_zone map).len < 4294967296
+  pub room : HaveRoom (memory_size map) (all_blocks app map blocks) (all_data app map)
+  -- no mark of a routine is one of an item, and no two marks have one address
+  pub routines : All (MarksAreOfItems app map.places) blocks
+  pub own_addresses : HaveOwnAddresses (marks_of (all_blocks app map blocks))

@@ -1,0 +1,133 @@
+//! The items of task code, each as a block of its own.
+ghost use Rattle.std.specs.Prelude.{◌≡◌, ◌*◌, ◌<◌, ◌++◌, ◌∷◌, [], IfOk, OnOk, length};
+ghost use Rattle.sloth_base.specs.Named.{function, item_of};
+ghost use Rattle.rv32_expand.specs.Expansion.{expansion, item_address};
+ghost use Rattle.rv32_expand.specs.InPlace.{IsItem, mark_of, result_register};
+ghost use Rattle.rv32_expand.specs.Sizes.{AgreeWithSizes, Covers, IsVerified};
+ghost use Rattle.sloth_link.specs.Items.{item_block, items_of, item_blocks};
+
+use rv32_expand::addresses::item_address;
+use rv32_expand::expand;
+use rv32_instr::Block;
+use sloth_base::app::{App, Item, Op};
+use sloth_base::image::{Mark, MarkKind};
+use sloth_base::list::List;
+use sloth_base::memory::NoMemory;
+use sloth_base::places::Places;
+use std::alloc::{AllocError, Global};
+
+/// The bytes of an instruction.
+const INSTRUCTION: u32 = 4;
+
+// One more block.
+fn push(blocks: &mut Vec<Block>, block: Block) -> Result<(), NoMemory>
+    ensures { OnOk result (blocks.new.items ≡ blocks.old.items ++ block ∷ []) }
+{
+    match blocks.push(block) {
+        Ok(()) => Ok(()),
+        Err(failed) => Err(AllocError::from(failed).into()),
+    }
+}
+
+// The register of an item's result, or 0.
+fn result_register(op: Op) -> u8
+    ensures { result ≡ result_register op }
+{
+    match op {
+        Op::Alu { rd, .. } | Op::AluImm { rd, .. } | Op::Lui { rd, .. } | Op::Li { rd, .. } => rd.0,
+        Op::FrameLoad { rd, .. } | Op::Load { rd, .. } | Op::LoadAt { rd, .. } => rd.0,
+        Op::FrameStore { rs, .. } | Op::Store { rs, .. } | Op::StoreAt { rs, .. } => rs.0,
+        Op::Branch { .. } | Op::Jump { .. } | Op::Invoke { .. } | Op::Return | Op::Serve(_) => 0,
+    }
+}
+
+// The mark of an item at an address.
+fn mark(op: Op, address: u32, func: u32, index: u32) -> Mark
+    requires { func < 64 }
+    ensures { result ≡ mark_of op address func index }
+{
+    let (kind, a) = match op {
+        Op::Serve(call) => (MarkKind::Jump, call.service.code()),
+        _ => (MarkKind::Item, result_register(op)),
+    };
+    Mark {
+        address,
+        kind,
+        a,
+        b: func as u16,
+        c: index,
+    }
+}
+
+// An item of a function: its code where it stands, and its mark on the last instruction.
+fn one(
+    alloc: Global,
+    item: &Item,
+    func: u32,
+    index: u32,
+    app: &App,
+    places: &Places,
+) -> Result<Block, NoMemory>
+    requires verified { IsVerified app.now }
+    requires few { func < 64 }
+    requires is_item { IsItem app.now func index }
+    requires is { item.now ≡ item_of (function app.now func) index }
+    requires covers { Covers app.now places.now }
+    requires agree { AgreeWithSizes app.now places.now }
+    ensures { IfOk result (λ block. block ≡ item_block app.now places.now func index) }
+{
+    let expansion = expand(item, func, index, app, places);
+    let code = Vec::from_slice(alloc, &expansion.code[..expansion.len as usize])?;
+    let at = item_address(places, func, index);
+    let last = at + INSTRUCTION * (expansion.len - 1);
+    let marks = Vec::from_slice(alloc, &[mark(item.op, last, func, index)])?;
+    Ok(Block {
+        at,
+        code: List::from_vec(code),
+        marks: List::from_vec(marks),
+    })
+}
+
+// The items of a function.
+fn items_in(app: &App, func: u32) -> &[Item]
+    requires { func < length app.now.funcs }
+    ensures { result.now ≡ (function app.now func).items }
+{
+    app.funcs.items()[func as usize].items.items()
+}
+
+// The blocks of the items of a function.
+fn of_function(alloc: Global, func: u32, app: &App, places: &Places) -> Result<Vec<Block>, NoMemory>
+    requires verified { IsVerified app.now }
+    requires exists { func < length app.now.funcs }
+    requires covers { Covers app.now places.now }
+    requires agree { AgreeWithSizes app.now places.now }
+    ensures { IfOk result (λ blocks. blocks.items ≡ items_of app.now places.now func) }
+{
+    let items = items_in(app, func);
+    let mut blocks = Vec::new(alloc);
+    let count = items.len() as u32;
+    for index in 0..count {
+        push(
+            &mut blocks,
+            one(alloc, &items[index as usize], func, index, app, places)?,
+        )?;
+    }
+    Ok(blocks)
+}
+
+/// Each item of the task code, in the order of the functions and of their items: its code at its address in the places, and
+/// its mark.
+pub fn items(alloc: Global, app: &App, places: &Places) -> Result<Vec<Block>, NoMemory>
+    requires verified { IsVerified app.now }
+    requires covers { Covers app.now places.now }
+    requires agree { AgreeWithSizes app.now places.now }
+    ensures { IfOk result (λ blocks. blocks.items ≡ item_blocks app.now places.now (length app.now.funcs)) }
+{
+    let mut blocks = Vec::new(alloc);
+    let count = app.funcs.items().len() as u32;
+    for func in 0..count {
+        blocks.append(&mut of_function(alloc, func, app, places)?)?;
+    }
+    Ok(blocks)
+}

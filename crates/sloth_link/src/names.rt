@@ -1,0 +1,42 @@
+//! The names in an image.
+ghost use Rattle.std.specs.Prelude.{◌≡◌, ◌++◌, ◌∷◌, [], IfOk, OnOk};
+ghost use Rattle.sloth_link.specs.Names.{task_names, function_names};
+
+use sloth_base::app::App;
+use sloth_base::config::Config;
+use sloth_base::list::List;
+use sloth_base::memory::NoMemory;
+use sloth_base::name::Name;
+use std::alloc::{AllocError, Global};
+
+// One more name.
+fn push(names: &mut Vec<Name>, name: Name) -> Result<(), NoMemory>
+    ensures { OnOk result (names.new.items ≡ names.old.items ++ name ∷ []) }
+{
+    match names.push(name) {
+        Ok(()) => Ok(()),
+        Err(failed) => Err(AllocError::from(failed).into()),
+    }
+}
+
+/// The name of each task.
+pub fn task_names(alloc: Global, config: &Config) -> Result<List<Name>, NoMemory>
+    ensures { IfOk result (λ names. names ≡ task_names config.now) }
+{
+    let mut names = Vec::new(alloc);
+    for task in config.tasks.items() {
+        push(&mut names, Name::new(alloc, task.name.bytes())?)?;
+    }
+    Ok(List::from_vec(names))
+}
+
+/// The name of each function.
+pub fn function_names(alloc: Global, app: &App) -> Result<List<Name>, NoMemory>
+    ensures { IfOk result (λ names. names ≡ function_names app.now) }
+{
+    let mut names = Vec::new(alloc);
+    for func in app.funcs.items() {
+        push(&mut names, Name::new(alloc, func.name.bytes())?)?;
+    }
+    Ok(List::from_vec(names))
+}

@@ -1,0 +1,46 @@
+//! The parts of the shared stack.
+ghost use Rattle.std.specs.Prelude.{◌≡◌, IfOk};
+ghost use Rattle.code_rules.specs.WellFormed.{WellFormed};
+ghost use Rattle.call_graph.specs.Ranks.{RanksOf};
+ghost use Rattle.stack_bounds.specs.Bounds.{AreBounds, AreParts};
+
+use crate::shared::offsets_of_tasks;
+use crate::tasks::yielding_tasks;
+use call_graph::ranking::Ranks;
+use call_graph::ranks;
+use sloth_base::app::App;
+use sloth_base::config::Config;
+use sloth_base::memory::NoMemory;
+use sloth_base::places::Bounds;
+use sloth_base::refusal::BuildError;
+use std::alloc::Global;
+
+// What the calls of well-formed task code reach.
+fn reached(alloc: Global, config: &Config, app: &App) -> Result<Ranks, NoMemory>
+    requires { WellFormed config.now app.now }
+    ensures { IfOk result (RanksOf app.now) }
+{
+    match ranks(alloc, app) {
+        Ok(ranks) => Ok(ranks),
+        Err(BuildError::Memory) => Err(NoMemory),
+        Err(BuildError::Refused(_)) => unreachable!(),
+    }
+}
+
+/// For each basic task the bytes from the end of its part to the end of the stack that all basic tasks share, and 0 for an extended one.
+pub fn offsets(
+    alloc: Global,
+    config: &Config,
+    app: &App,
+    bounds: &Bounds,
+) -> Result<Vec<u32>, NoMemory>
+    requires well_formed { WellFormed config.now app.now }
+    requires bounds { AreBounds config.now app.now bounds.now }
+    ensures { IfOk result (λ offsets. AreParts config.now app.now bounds.now offsets.items) }
+{
+    let ranks = reached(alloc, config, app)?;
+    let tasks = config.tasks.items();
+    let funcs = app.funcs.items();
+    let yielding = yielding_tasks(alloc, tasks, funcs, ranks.pauses.items())?;
+    offsets_of_tasks(alloc, tasks, &yielding, bounds.bytes.items())
+}

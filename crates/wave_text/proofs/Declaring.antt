@@ -1,0 +1,15 @@
+-- The declarations of a scope, one signal after the other.
+use Rattle.std.proofs.Common.{◌≡◌, ◌+◌, ◌∙◌, ℕ, List, [], ◌++◌, get_or, refl, ap}
+use Rattle.std.proofs.Math.Numerals.{add-one}
+use Rattle.wave_text.specs.declared.signals.Scope.{Scope}
+use Rattle.wave_text.specs.Header.{variable_line, variable_lines}
+use Rattle.wave_text.specs.Signals.{first_code, width_of}
+
+pub no-variables : (s : Scope) (names : List (List ℕ)) → variable_lines s names 0 ≡ []
+unfolding variable_lines
+no-variables s names = refl
+
+pub variables-more : (s : Scope) (names : List (List ℕ)) (k : ℕ)
+    → variable_lines s names (k + 1) ≡ variable_lines s names k ++ variable_line (width_of s) (first_code s + k) (get_or names k [])
+unfolding variable_lines
+variables-more s names k = ap (variable_lines s names) (add-one k)

@@ -1,0 +1,4 @@
+mod Declaring
+mod Dumping
+pub mod ReadBack
+mod Waving

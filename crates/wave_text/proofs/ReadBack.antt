@@ -1,0 +1,244 @@
+-- A dump gives each signal at each count the value that it has in the sample of the count.
+use Rattle.std.proofs.Common.{◌≡◌, ◌≤◌, ◌<◌, ◌+◌, ◌∙◌, ℕ, zero, suc, List, [], ◌∷◌, ◌++◌, Option, Some, None, length, refl, sym, ap, subst, arith, append_assoc, ⊎_elim, ◌⊎◌, inl, inr}
+use Rattle.std.specs.Prelude.{Bool, true, false, ◌==◌, nat_le, if◌then◌else◌, slice_get}
+use Rattle.std.proofs.lemmas.Bool.{cases_lt, false≢true}
+use Rattle.std.proofs.lemmas.Bool.Decides.{eqb_tells, leb_tells}
+use Rattle.run_samples.specs.declared.sampling.Sample.{Sample}
+use Rattle.wave_text.specs.declared.signals.Scope.{Scope}
+use Rattle.wave_text.specs.declared.signals.Scope.TheVariants as scope
+use Rattle.wave_text.specs.declared.signals.Width.{Width}
+use Rattle.wave_text.specs.declared.signals.Width.TheVariants as width
+use Rattle.wave_text.specs.Changes.{Entry, same_value, changed, changes, scope_changes, with_moment, entries, entries_from}
+use Rattle.wave_text.specs.Reading.{value_behind, value_at, ReadsBack}
+use Rattle.wave_text.specs.Signals.{first_code, level_code, masked_code, width_of, value_of, level_value, masked_value}
+
+-- ---- tests
+
+is-one : (c : ℕ) → (c == c) ≡ true
+is-one c = ⊎_elim (λ h. h.0) (λ h. absurd (h.1 refl)) (eqb_tells c c)
+
+is-other : (c d : ℕ) → (c ≡ d → ⊥) → (c == d) ≡ false
+is-other c d apart = ⊎_elim (λ h. absurd (apart h.1)) (λ h. h.0) (eqb_tells c d)
+
+is-within : (a b : ℕ) → a ≤ b → nat_le a b ≡ true
+is-within a b le = ⊎_elim (λ h. h.0) (λ h. absurd (let l = h.1 in omega arith)) (leb_tells a b)
+
+is-beyond : (a b : ℕ) → b < a → nat_le a b ≡ false
+is-beyond a b lt = ⊎_elim (λ h. absurd (let l = h.1 in omega arith)) (λ h. h.0) (leb_tells a b)
+
+same-values : (x y : Option ℕ) → same_value x y ≡ true → x ≡ y
+same-values None None e = refl
+same-values None (Some n) e = absurd (false≢true e)
+same-values (Some m) None e = absurd (false≢true e)
+same-values (Some m) (Some n) e = ⊎_elim (λ h. ap Some h.1) (λ h. absurd (false≢true (sym h.0 ∙ e))) (eqb_tells m n)
+
+module _ (code at : ℕ) where
+  abbrev V : Option ℕ → List Entry → Option ℕ
+  V = value_behind code at
+
+  -- ---- one signal
+
+  -- another signal's change says nothing
+  other-change : (c : ℕ) (w : Width) (x y v : Option ℕ) (rest : List Entry) → (c ≡ code → ⊥) → V v (changed c w x y ++ rest) ≡ V v rest
+  other-change c w x y v rest apart = by (same_value x y)
+    where
+      by : (b : Bool) → V v ((if b then [] else Entry.change c w y ∷ []) ++ rest) ≡ V v rest
+      by true = refl
+      by false = ap (λ d. V (if d then y else v) rest) (is-other c code apart)
+
+  -- its own gives it its value
+  own-change : (w : Width) (x y : Option ℕ) (rest : List Entry) → V x (changed code w x y ++ rest) ≡ V y rest
+  own-change w x y rest = by (same_value x y) refl
+    where
+      by : (b : Bool) → same_value x y ≡ b → V x ((if b then [] else Entry.change code w y ∷ []) ++ rest) ≡ V y rest
+      by true e = ap (λ v. V v rest) (same-values x y e)
+      by false e = ap (λ d. V (if d then y else x) rest) (is-one code)
+
+  -- ---- a scope
+
+  task-more : (s : Scope) (old new : Option Sample) (n : ℕ) (rest : List Entry) → scope_changes s old new (suc n) ++ rest
+      ≡ scope_changes s old new n ++ (changed (first_code s + n) (width_of s) (value_of s old n) (value_of s new n) ++ rest)
+  unfolding scope_changes
+  task-more s old new n rest = append_assoc (scope_changes s old new n) (changed (first_code s + n) (width_of s) (value_of s old n) (value_of s new n)) rest
+
+  no-task : (s : Scope) (old new : Option Sample) (rest : List Entry) → scope_changes s old new 0 ++ rest ≡ rest
+  unfolding scope_changes
+  no-task s old new rest = refl
+
+  other-scope : (s : Scope) (old new : Option Sample) (n : ℕ) (v : Option ℕ) (rest : List Entry) → ((t : ℕ) → t < n → first_code s + t ≡ code → ⊥)
+      → V v (scope_changes s old new n ++ rest) ≡ V v rest
+  other-scope s old new zero v rest apart = ap (V v) (no-task s old new rest)
+  other-scope s old new (suc n) v rest apart =
+      let own : List Entry = changed (first_code s + n) (width_of s) (value_of s old n) (value_of s new n) in
+      ap (V v) (task-more s old new n rest) ∙ other-scope s old new n v (own ++ rest) (λ t l. apart t (omega arith))
+      ∙ other-change (first_code s + n) (width_of s) (value_of s old n) (value_of s new n) v rest (apart n (omega arith))
+
+-- the signal of a task
+own-scope : (s : Scope) (old new : Option Sample) (n task at : ℕ) (rest : List Entry) → task < n
+    → value_behind (first_code s + task) at (value_of s old task) (scope_changes s old new n ++ rest) ≡ value_behind (first_code s + task) at (value_of s new task) rest
+own-scope s old new zero task at rest below = absurd (omega arith)
+own-scope s old new (suc n) task at rest below =
+    let code : ℕ = first_code s + task in
+    let last : List Entry = changed (first_code s + n) (width_of s) (value_of s old n) (value_of s new n) in
+    let V : Option ℕ → List Entry → Option ℕ = value_behind code at in
+    ap (V (value_of s old task)) (task-more code at s old new n rest)
+    ∙ ⊎_elim
+    (λ (l : task < n).
+    own-scope s old new n task at (last ++ rest) l
+    ∙ other-change code at (first_code s + n) (width_of s) (value_of s old n) (value_of s new n) (value_of s new task) rest (λ (e : first_code s + n ≡ first_code s + task). omega arith))
+    (λ (l : n ≤ task).
+    let same : n ≡ task = omega arith in
+    let P : ℕ → Type 0 = λ m. V (value_of s old task) (changed (first_code s + m) (width_of s) (value_of s old m) (value_of s new m) ++ rest) ≡ V (value_of s new task) rest in
+    other-scope code at s old new n (value_of s old task) (last ++ rest) (λ t below_n (e : first_code s + t ≡ first_code s + task). omega arith)
+    ∙ subst P (sym same) (own-change code at (width_of s) (value_of s old task) (value_of s new task) rest))
+    (cases_lt task n)
+
+-- ---- all signals
+
+-- a signal whose value this is: the changes from one sample to the next bring it from the one value to the other
+pub record IsFollowed (tasks code : ℕ) (val : Option Sample → Option ℕ) : Type 0 where
+  pub follows : (at : ℕ) (old new : Option Sample) (rest : List Entry) → value_behind code at (val old) (changes tasks old new ++ rest) ≡ value_behind code at (val new) rest
+  pub unknown : val None ≡ None
+
+parts : (a b c d e rest : List Entry) → (a ++ b ++ c ++ d ++ e) ++ rest ≡ a ++ (b ++ (c ++ (d ++ (e ++ rest))))
+parts a b c d e rest =
+    append_assoc (a ++ b ++ c ++ d) e rest ∙ append_assoc (a ++ b ++ c) d (e ++ rest) ∙ append_assoc (a ++ b) c (d ++ (e ++ rest)) ∙ append_assoc a b (c ++ (d ++ (e ++ rest)))
+
+module _ (tasks : ℕ) (few : tasks ≤ 30) (at : ℕ) (old new : Option Sample) (rest : List Entry) where
+  abbrev A : List Entry
+  A = scope_changes scope.State old new tasks
+
+  abbrev B : List Entry
+  B = scope_changes scope.Runs old new tasks
+
+  abbrev C : List Entry
+  C = scope_changes scope.Pending old new tasks
+
+  abbrev D : List Entry
+  D = changed level_code width.Eight (level_value old) (level_value new)
+
+  abbrev E : List Entry
+  E = changed masked_code width.One (masked_value old) (masked_value new)
+
+  -- the last two, for a task's signal
+  behind-tasks : (code : ℕ) (v : Option ℕ) → code < 123 → value_behind code at v (D ++ (E ++ rest)) ≡ value_behind code at v rest
+  behind-tasks code v below =
+      other-change code at level_code width.Eight (level_value old) (level_value new) v (E ++ rest) (λ (e : 123 ≡ code). omega arith)
+      ∙ other-change code at masked_code width.One (masked_value old) (masked_value new) v rest (λ (e : 124 ≡ code). omega arith)
+
+  of-state : (task : ℕ) → task < tasks
+      → value_behind (33 + task) at (value_of scope.State old task) (changes tasks old new ++ rest) ≡ value_behind (33 + task) at (value_of scope.State new task) rest
+  of-state task l =
+      let v : Option ℕ = value_of scope.State new task in
+      ap (value_behind (33 + task) at (value_of scope.State old task)) (parts A B C D E rest)
+      ∙ own-scope scope.State old new tasks task at (B ++ (C ++ (D ++ (E ++ rest)))) l
+      ∙ other-scope (33 + task) at scope.Runs old new tasks v (C ++ (D ++ (E ++ rest))) (λ t b (e : 63 + t ≡ 33 + task). omega arith)
+      ∙ other-scope (33 + task) at scope.Pending old new tasks v (D ++ (E ++ rest)) (λ t b (e : 93 + t ≡ 33 + task). omega arith)
+      ∙ behind-tasks (33 + task) v (omega arith)
+
+  of-runs : (task : ℕ) → task < tasks
+      → value_behind (63 + task) at (value_of scope.Runs old task) (changes tasks old new ++ rest) ≡ value_behind (63 + task) at (value_of scope.Runs new task) rest
+  of-runs task l =
+      let v : Option ℕ = value_of scope.Runs new task in
+      ap (value_behind (63 + task) at (value_of scope.Runs old task)) (parts A B C D E rest)
+      ∙ other-scope (63 + task) at scope.State old new tasks (value_of scope.Runs old task) (B ++ (C ++ (D ++ (E ++ rest)))) (λ t b (e : 33 + t ≡ 63 + task). omega arith)
+      ∙ own-scope scope.Runs old new tasks task at (C ++ (D ++ (E ++ rest))) l
+      ∙ other-scope (63 + task) at scope.Pending old new tasks v (D ++ (E ++ rest)) (λ t b (e : 93 + t ≡ 63 + task). omega arith)
+      ∙ behind-tasks (63 + task) v (omega arith)
+
+  of-pending : (task : ℕ) → task < tasks
+      → value_behind (93 + task) at (value_of scope.Pending old task) (changes tasks old new ++ rest) ≡ value_behind (93 + task) at (value_of scope.Pending new task) rest
+  of-pending task l =
+      let v : Option ℕ = value_of scope.Pending old task in
+      ap (value_behind (93 + task) at v) (parts A B C D E rest)
+      ∙ other-scope (93 + task) at scope.State old new tasks v (B ++ (C ++ (D ++ (E ++ rest)))) (λ t b (e : 33 + t ≡ 93 + task). omega arith)
+      ∙ other-scope (93 + task) at scope.Runs old new tasks v (C ++ (D ++ (E ++ rest))) (λ t b (e : 63 + t ≡ 93 + task). omega arith)
+      ∙ own-scope scope.Pending old new tasks task at (D ++ (E ++ rest)) l
+      ∙ behind-tasks (93 + task) (value_of scope.Pending new task) (omega arith)
+
+  -- all scopes, for a signal of the kernel
+  behind-scopes : (code : ℕ) (v : Option ℕ) (more : List Entry) → 123 ≤ code → value_behind code at v (A ++ (B ++ (C ++ more))) ≡ value_behind code at v more
+  behind-scopes code v more above =
+      other-scope code at scope.State old new tasks v (B ++ (C ++ more)) (λ t b (e : 33 + t ≡ code). omega arith)
+      ∙ other-scope code at scope.Runs old new tasks v (C ++ more) (λ t b (e : 63 + t ≡ code). omega arith)
+      ∙ other-scope code at scope.Pending old new tasks v more (λ t b (e : 93 + t ≡ code). omega arith)
+
+  of-level : value_behind level_code at (level_value old) (changes tasks old new ++ rest) ≡ value_behind level_code at (level_value new) rest
+  of-level =
+      ap (value_behind level_code at (level_value old)) (parts A B C D E rest) ∙ behind-scopes level_code (level_value old) (D ++ (E ++ rest)) (omega arith)
+      ∙ own-change level_code at width.Eight (level_value old) (level_value new) (E ++ rest)
+      ∙ other-change level_code at masked_code width.One (masked_value old) (masked_value new) (level_value new) rest (λ (e : 124 ≡ 123). omega arith)
+
+  of-masked : value_behind masked_code at (masked_value old) (changes tasks old new ++ rest) ≡ value_behind masked_code at (masked_value new) rest
+  of-masked =
+      ap (value_behind masked_code at (masked_value old)) (parts A B C D E rest) ∙ behind-scopes masked_code (masked_value old) (D ++ (E ++ rest)) (omega arith)
+      ∙ other-change masked_code at level_code width.Eight (level_value old) (level_value new) (masked_value old) (E ++ rest) (λ (e : 123 ≡ 124). omega arith)
+      ∙ own-change masked_code at width.One (masked_value old) (masked_value new) rest
+
+task-followed : (tasks : ℕ) → tasks ≤ 30 → (s : Scope) (task : ℕ) → task < tasks → IsFollowed tasks (first_code s + task) (λ sample. value_of s sample task)
+task-followed tasks few scope.State task l = record { follows = λ at old new rest. of-state tasks few at old new rest task l; unknown = refl }
+task-followed tasks few scope.Runs task l = record { follows = λ at old new rest. of-runs tasks few at old new rest task l; unknown = refl }
+task-followed tasks few scope.Pending task l = record { follows = λ at old new rest. of-pending tasks few at old new rest task l; unknown = refl }
+
+-- ---- moments
+
+module _ (code at : ℕ) where
+  -- a moment up to this one
+  moment-passed : (count : ℕ) (v : Option ℕ) (es rest : List Entry) → count ≤ at → value_behind code at v (with_moment count false es ++ rest) ≡ value_behind code at v (es ++ rest)
+  moment-passed count v [] rest le = refl
+  moment-passed count v (e ∷ es) rest le = ap (λ b. if b then value_behind code at v (e ∷ es ++ rest) else v) (is-within count at le)
+
+  -- a later one
+  moment-beyond : (count : ℕ) (v : Option ℕ) (es rest : List Entry) → at < count → value_behind code at v rest ≡ v → value_behind code at v (with_moment count false es ++ rest) ≡ v
+  moment-beyond count v [] rest lt same = same
+  moment-beyond count v (e ∷ es) rest lt same = ap (λ b. if b then value_behind code at v (e ∷ es ++ rest) else v) (is-beyond count at lt)
+
+  abbrev last : ℕ → List Entry
+  last n = Entry.moment n ∷ []
+
+  -- all samples of later counts
+  all-beyond : (tasks n count : ℕ) (v : Option ℕ) (old : Option Sample) (xs : List Sample) → at < count → at < n → value_behind code at v (entries_from tasks count old xs ++ last n) ≡ v
+  all-beyond tasks n count v old [] lt ends = ap (λ b. if b then v else v) (is-beyond n at ends)
+  all-beyond tasks n count v old (x ∷ xs) lt ends =
+      let es : List Entry = changes tasks old (Some x) in
+      let rest : List Entry = entries_from tasks (count + 1) (Some x) xs in
+      ap (value_behind code at v) (append_assoc (with_moment count false es) rest (last n))
+      ∙ moment-beyond count v es (rest ++ last n) lt (all-beyond tasks n (count + 1) v (Some x) xs (omega arith) ends)
+
+-- the value of a signal that is followed, at a count
+pub value-at : (tasks n code : ℕ) (val : Option Sample → Option ℕ) → IsFollowed tasks code val → (xs : List Sample) (count k : ℕ) (old : Option Sample) → k < length xs → count + k < n
+    → value_behind code (count + k) (val old) (entries_from tasks count old xs ++ Entry.moment n ∷ []) ≡ val (slice_get xs k)
+value-at tasks n code val follow [] count k old below ends = absurd (omega arith)
+value-at tasks n code val follow (x ∷ xs) count zero old below ends =
+    let es : List Entry = changes tasks old (Some x) in
+    let rest : List Entry = entries_from tasks (count + 1) (Some x) xs in
+    let at : ℕ = count + 0 in
+    ap (value_behind code at (val old)) (append_assoc (with_moment count false es) rest (last code at n))
+    ∙ moment-passed code at count (val old) es (rest ++ last code at n) (omega arith)
+    ∙ follow.follows at old (Some x) (rest ++ last code at n)
+    ∙ all-beyond code at tasks n (count + 1) (val (Some x)) (Some x) xs (omega arith) ends
+value-at tasks n code val follow (x ∷ xs) count (suc k) old below ends =
+    let es : List Entry = changes tasks old (Some x) in
+    let rest : List Entry = entries_from tasks (count + 1) (Some x) xs in
+    let at : ℕ = count + suc k in
+    let P : ℕ → Type 0 = λ m. value_behind code m (val (Some x)) (rest ++ Entry.moment n ∷ []) ≡ val (slice_get xs k) in
+    let same : count + 1 + k ≡ count + suc k = omega arith in
+    ap (value_behind code at (val old)) (append_assoc (with_moment count false es) rest (last code at n))
+    ∙ moment-passed code at count (val old) es (rest ++ last code at n) (omega arith)
+    ∙ follow.follows at old (Some x) (rest ++ last code at n)
+    ∙ subst P same (value-at tasks n code val follow xs (count + 1) k (Some x) (omega arith) (omega arith))
+
+signal-reads : (tasks code : ℕ) (val : Option Sample → Option ℕ) → IsFollowed tasks code val → (xs : List Sample) (k : ℕ) → k < length xs
+    → value_at code k (entries tasks xs) ≡ val (slice_get xs k)
+signal-reads tasks code val follow xs k below =
+    let es : List Entry = entries_from tasks 0 None xs ++ Entry.moment (length xs) ∷ [] in
+    let P : ℕ → Type 0 = λ m. value_behind code m (val None) es ≡ val (slice_get xs k) in
+    let same : 0 + k ≡ k = omega arith in
+    ap (λ v. value_behind code k v es) (sym follow.unknown) ∙ subst P same (value-at tasks (length xs) code val follow xs 0 k None below (omega (arith, below)))
+
+pub reads-back : (tasks : ℕ) (samples : List Sample) (k : ℕ) → tasks ≤ 30 → k < length samples → ReadsBack tasks samples k
+reads-back tasks samples k few below = record {
+  of_task = λ s task l. signal-reads tasks (first_code s + task) (λ sample. value_of s sample task) (task-followed tasks few s task l) samples k below;
+  of_level = signal-reads tasks level_code level_value (record { follows = λ at old new rest. of-level tasks few at old new rest; unknown = refl }) samples k below;
+  of_masked = signal-reads tasks masked_code masked_value (record { follows = λ at old new rest. of-masked tasks few at old new rest; unknown = refl }) samples k below;
+}

@@ -1,0 +1,21 @@
+use Rattle.std.proofs.Common.{◌≡◌, ◌∙◌, ◌++◌, ℕ, List, Some, length, ap, subst, arith}
+use Rattle.std.specs.Prelude.{false}
+use Rattle.wave_text.specs.Changes.{changes, with_moment}
+use Rattle.wave_text.specs.Text.{entry_lines}
+use Rattle.wave_text.proofs.Waving.{IsDumping, dumping-more, waves-whole}
+use Rattle.wave_text.proofs.recording.waves.Goals as goal
+
+pub loop-count-preserved : goal.loop-count-preserved
+loop-count-preserved c =
+    let l = c.loop-count in
+    let text = c.in_ok-sample-in-Ok.ensures
+    ∙ ap (λ (names : List (List ℕ)). l.dump.text.items ++ entry_lines (with_moment l.count false (changes (length names) l.old (Some c.in-Ok.sample)))) c.items-tasks.ensures in
+    dumping-more c.args.image.now c.args.arrivals.now l.count l.sampler c.next.new.self l.dump c.sample.new.self l.old c.in-Ok.sample l.invariant
+    c.in-Ok.ensures.sampling c.in-Ok.ensures.sample c.next.ensures.image c.next.ensures.arrivals c.in-Ok.ensures.count text
+
+pub returns : goal.returns
+returns c =
+    let l = c.loop-count in
+    let P : ℕ → Type 0 = λ k. IsDumping c.args.image.now c.args.arrivals.now k l.sampler l.dump l.old in
+    let same : l.count ≡ c.args.n = omega (arith, c.loop-count-test.false, l.auto.count-end) in
+    waves-whole c.args.image.now c.args.arrivals.now c.args.n l.sampler l.dump c.end.new.self l.old (subst P same l.invariant) c.in_ok-end.ensures

@@ -1,0 +1,60 @@
+-- The changes of signals in time.
+use Rattle.std.specs.Prelude.{ℕ, zero, suc, ◌+◌, ◌==◌, Bool, true, false, cond, if◌then◌else◌, List, [], ◌∷◌, ◌++◌, length, Option, Some, None}
+use Rattle.run_samples.specs.declared.sampling.Sample.{Sample}
+use Rattle.wave_text.specs.declared.signals.Scope.{Scope}
+use Rattle.wave_text.specs.declared.signals.Scope.TheVariants as scope
+use Rattle.wave_text.specs.declared.signals.Width.{Width}
+use Rattle.wave_text.specs.declared.signals.Width.TheVariants as width
+use Rattle.wave_text.specs.Signals.{first_code, level_code, masked_code, width_of, value_of, level_value, masked_value}
+
+-- what a dump says: it is this moment from here on, or a signal has this value from here on
+pub data Entry : Type 0 where
+  moment : ℕ → Entry
+  change : (code : ℕ) → Width → Option ℕ → Entry
+
+-- two values are the same
+abbrev pub same_value : Option ℕ → Option ℕ → Bool
+same_value None None = true
+same_value None (Some n) = false
+same_value (Some m) None = false
+same_value (Some m) (Some n) = m == n
+
+-- the entry of a signal, where it changes
+abbrev pub changed : (code : ℕ) → Width → (old new : Option ℕ) → List Entry
+changed code width old new = if same_value old new then [] else Entry.change code width new ∷ []
+
+-- those of a scope, for the first tasks, so many of them
+unfoldable pub scope_changes : Scope → (old new : Option Sample) → ℕ → List Entry
+scope_changes s old new zero = []
+scope_changes s old new (suc task) =
+    scope_changes s old new task ++ changed (first_code s + task) (width_of s) (value_of s old task) (value_of s new task)
+
+-- those of all signals, from one sample to the next
+abbrev pub changes : (tasks : ℕ) → (old new : Option Sample) → List Entry
+changes tasks old new =
+    scope_changes scope.State old new tasks ++ scope_changes scope.Runs old new tasks ++ scope_changes scope.Pending old new tasks
+    ++ changed level_code width.Eight (level_value old) (level_value new) ++ changed masked_code width.One (masked_value old) (masked_value new)
+
+-- the entry of a moment, unless it stands already
+abbrev pub due : (count : ℕ) (stands : Bool) → List Entry
+due count stands = cond stands [] (Entry.moment count ∷ [])
+
+-- entries behind that of their moment; where there is none, the moment has no entry
+abbrev pub with_moment : (count : ℕ) (stands : Bool) → List Entry → List Entry
+with_moment count stands [] = []
+with_moment count stands (e ∷ entries) = due count stands ++ e ∷ entries
+
+-- the moment's entry stands behind these
+abbrev pub stands_behind : Bool → List Entry → Bool
+stands_behind stands [] = stands
+stands_behind stands (e ∷ entries) = true
+
+-- the entries of samples in turn, the first at a count, behind another sample
+abbrev pub entries_from : (tasks count : ℕ) → Option Sample → List Sample → List Entry
+entries_from tasks count old [] = []
+entries_from tasks count old (new ∷ samples) =
+    with_moment count false (changes tasks old (Some new)) ++ entries_from tasks (count + 1) (Some new) samples
+
+-- those of all samples of a run: only what changes, and at last the moment of the end
+abbrev pub entries : (tasks : ℕ) → List Sample → List Entry
+entries tasks samples = entries_from tasks 0 None samples ++ Entry.moment (length samples) ∷ []

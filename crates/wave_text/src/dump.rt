@@ -1,0 +1,211 @@
+//! The changes of signals, written as they come.
+ghost use Rattle.std.specs.Prelude.{◌≡◌, ◌<◌, ◌≤◌, ◌+◌, ◌++◌, ◌∷◌, [], true, false, Some, None, OnOk, length};
+ghost use Rattle.wave_text.specs.Changes.{Entry, same_value, changed, changes, scope_changes, due, with_moment};
+ghost use Rattle.wave_text.specs.Text.{digit, entry_line, entry_lines};
+ghost use Rattle.wave_text.specs.Waves.{Gets};
+
+use crate::keeping::keeps;
+use crate::signals::{
+    LEVEL, MASKED, Scope, Width, first_code, level_value, masked_value, value_of, width_of,
+};
+use itoa::Buffer;
+use run_samples::Sample;
+use sloth_base::memory::NoMemory;
+
+// Whether two values are the same.
+fn same_value(one: Option<u8>, other: Option<u8>) -> bool
+    ensures { result ≡ same_value one other }
+{
+    match one {
+        Some(one) => match other {
+            Some(other) => one == other,
+            None => false,
+        },
+        None => other.is_none(),
+    }
+}
+
+// The digit of a number's last binary place.
+fn digit(number: u8) -> u8
+    ensures { result ≡ digit number }
+{
+    b'0' + number % 2
+}
+
+// Appends the line of a signal with a value.
+#[tactic(auto, unfolding(crate::specs::Text::value_text, crate::specs::Text::entry_line))]
+fn push_number(text: &mut Vec<u8>, code: u8, width: Width, n: u8) -> Result<(), NoMemory>
+    ensures { OnOk result (text.new.items ≡ text.old.items ++ entry_line (Entry.change code width (Some n))) }
+{
+    match width {
+        Width::One => text.extend_from_slice(&[digit(n), code, b'\n'])?,
+        Width::Two => {
+            text.extend_from_slice(&[b'b', digit(n / 2), digit(n), b' ', code, b'\n'])?;
+        }
+        Width::Eight => text.extend_from_slice(&[
+            b'b',
+            digit(n / 128),
+            digit(n / 64),
+            digit(n / 32),
+            digit(n / 16),
+            digit(n / 8),
+            digit(n / 4),
+            digit(n / 2),
+            digit(n),
+            b' ',
+            code,
+            b'\n',
+        ])?,
+    }
+    Ok(())
+}
+
+// Appends the line of a signal whose value is unknown.
+#[tactic(auto, unfolding(crate::specs::Text::value_text, crate::specs::Text::entry_line))]
+fn push_unknown(text: &mut Vec<u8>, code: u8, width: Width) -> Result<(), NoMemory>
+    ensures { OnOk result (text.new.items ≡ text.old.items ++ entry_line (Entry.change code width None)) }
+{
+    match width {
+        Width::One => text.extend_from_slice(&[b'x', code, b'\n'])?,
+        Width::Two => text.extend_from_slice(&[b'b', b'x', b' ', code, b'\n'])?,
+        Width::Eight => text.extend_from_slice(&[b'b', b'x', b' ', code, b'\n'])?,
+    }
+    Ok(())
+}
+
+// Appends the line of a signal that changes.
+fn push_change(
+    text: &mut Vec<u8>,
+    code: u8,
+    width: Width,
+    value: Option<u8>,
+) -> Result<(), NoMemory>
+    ensures { OnOk result (text.new.items ≡ text.old.items ++ entry_line (Entry.change code width value)) }
+{
+    match value {
+        Some(n) => push_number(text, code, width, n),
+        None => push_unknown(text, code, width),
+    }
+}
+
+// Appends the line of a moment.
+#[tactic(auto, unfolding(crate::specs::Text::entry_line))]
+fn push_moment(text: &mut Vec<u8>, count: u32) -> Result<(), NoMemory>
+    ensures { OnOk result (text.new.items ≡ text.old.items ++ entry_line (Entry.moment count)) }
+{
+    let mut buffer = Buffer::new();
+    text.extend_from_slice(b"#")?;
+    text.extend_from_slice(buffer.format(count).as_bytes())?;
+    text.extend_from_slice(b"\n")?;
+    Ok(())
+}
+
+/// The text of waves so far, and whether the moment that is written has its line.
+#[derive(Drop)]
+pub struct Dump {
+    pub text: Vec<u8>,
+    pub count: u32,
+    pub stamped: bool,
+}
+
+impl Dump {
+    // Appends the line of the moment.
+    fn stamp(&mut self) -> Result<(), NoMemory>
+        ensures text { OnOk result (self.new.text.items ≡ self.old.text.items ++ entry_line (Entry.moment self.old.count)) }
+        ensures count { OnOk result (self.new.count ≡ self.old.count) }
+        ensures stamped { OnOk result (self.new.stamped ≡ true) }
+    {
+        push_moment(&mut self.text, self.count)?;
+        self.stamped = true;
+        Ok(())
+    }
+
+    // Appends it unless it stands.
+    fn stand(&mut self) -> Result<(), NoMemory>
+        ensures text { OnOk result (self.new.text.items ≡ self.old.text.items ++ entry_lines (due self.old.count self.old.stamped)) }
+        ensures count { OnOk result (self.new.count ≡ self.old.count) }
+        ensures stamped { OnOk result (self.new.stamped ≡ true) }
+    {
+        if self.stamped {
+            return Ok(());
+        }
+        self.stamp()
+    }
+
+    // Appends the line of a signal that has another value than before.
+    fn change(
+        &mut self,
+        code: u8,
+        width: Width,
+        before: Option<u8>,
+        after: Option<u8>,
+    ) -> Result<(), NoMemory>
+        ensures { OnOk result (Gets self.old self.new (changed code width before after)) }
+    {
+        if same_value(before, after) {
+            return Ok(());
+        }
+        self.stand()?;
+        push_change(&mut self.text, code, width, after)
+    }
+
+    // Appends the changes of a scope that has a signal for each task.
+    fn scope(
+        &mut self,
+        scope: Scope,
+        tasks: usize,
+        before: &Option<Sample>,
+        after: &Option<Sample>,
+    ) -> Result<(), NoMemory>
+        requires { tasks ≤ 30 }
+        ensures { OnOk result (Gets self.old self.new (scope_changes scope before.now after.now tasks)) }
+    {
+        if keeps(scope, tasks, before, after) {
+            return Ok(());
+        }
+        for task in 0..tasks {
+            self.change(
+                first_code(scope) + task as u8,
+                width_of(scope),
+                value_of(scope, before, task),
+                value_of(scope, after, task),
+            )?;
+        }
+        Ok(())
+    }
+
+    /// Appends the changes from one sample to the next, whose count it is.
+    pub fn sample(
+        &mut self,
+        count: u32,
+        tasks: usize,
+        before: &Option<Sample>,
+        after: &Option<Sample>,
+    ) -> Result<(), NoMemory>
+        requires { tasks ≤ 30 }
+        ensures { OnOk result
+            (self.new.text.items ≡ self.old.text.items ++ entry_lines (with_moment count false (changes tasks before.now after.now))) }
+    {
+        self.count = count;
+        self.stamped = false;
+        self.scope(Scope::State, tasks, before, after)?;
+        self.scope(Scope::Runs, tasks, before, after)?;
+        self.scope(Scope::Pending, tasks, before, after)?;
+        self.change(LEVEL, Width::Eight, level_value(before), level_value(after))?;
+        self.change(
+            MASKED,
+            Width::One,
+            masked_value(before),
+            masked_value(after),
+        )?;
+        Ok(())
+    }
+
+    /// Appends the line of the end.
+    pub fn end(&mut self, count: u32) -> Result<(), NoMemory>
+        ensures { OnOk result (self.new.text.items ≡ self.old.text.items ++ entry_line (Entry.moment count)) }
+    {
+        self.count = count;
+        self.stamp()
+    }
+}

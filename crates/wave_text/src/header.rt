@@ -1,0 +1,101 @@
+//! The declarations of signals.
+ghost use Rattle.std.specs.Prelude.{◌≡◌, ◌<◌, ◌≤◌, ◌+◌, ◌++◌, IfOk, OnOk, All, length};
+ghost use Rattle.sloth_base.specs.ImageRange.{InFormat, IsName};
+ghost use Rattle.wave_text.specs.Header.{scope_name, width_digit, variable_line, variable_lines, scope_line, scope_text, header};
+
+use crate::signals::{Scope, Width, first_code, width_of};
+use sloth_base::image::Image;
+use sloth_base::memory::NoMemory;
+use sloth_base::name::Name;
+use std::alloc::Global;
+use trace_text::line_text::LineText;
+
+fn scope_name(scope: Scope) -> &'static [u8]
+    ensures is { result.now ≡ scope_name scope }
+    ensures short { length result.now ≤ 7 }
+{
+    match scope {
+        Scope::State => b"state",
+        Scope::Runs => b"runs",
+        Scope::Pending => b"pending",
+    }
+}
+
+fn width_digit(width: Width) -> &'static [u8]
+    ensures is { result.now ≡ width_digit width }
+    ensures short { length result.now ≤ 1 }
+{
+    match width {
+        Width::One => b"1",
+        Width::Two => b"2",
+        Width::Eight => b"8",
+    }
+}
+
+// The line that declares a signal.
+#[tactic(auto, unfolding(crate::specs::Header::variable_line))]
+fn variable_line(width: Width, code: u8, name: &Name) -> LineText
+    requires { length name.now ≤ 64 }
+    ensures { result ≡ variable_line width code name.now }
+{
+    let mut line = LineText::new();
+    line.push(b"$var wire ");
+    line.push(width_digit(width));
+    line.push(b" ");
+    line.push(&[code]);
+    line.push(b" ");
+    line.push(name.bytes());
+    line.push(b" $end\n");
+    line
+}
+
+// The line that opens a scope.
+#[tactic(auto, unfolding(crate::specs::Header::scope_line))]
+fn scope_line(scope: Scope) -> LineText
+    ensures { result ≡ scope_line scope }
+{
+    let mut line = LineText::new();
+    line.push(b"$scope module ");
+    line.push(scope_name(scope));
+    line.push(b" $end\n");
+    line
+}
+
+// Appends the declarations of a scope that has a signal for each task.
+fn push_scope(text: &mut Vec<u8>, scope: Scope, names: &[Name]) -> Result<(), NoMemory>
+    requires few { length names.now ≤ 30 }
+    requires short { All IsName names.now }
+    ensures { OnOk result (text.new.items ≡ text.old.items ++ scope_text scope names.now) }
+{
+    text.extend_from_slice(scope_line(scope).bytes())?;
+    for task in 0..names.len() {
+        let line = variable_line(
+            width_of(scope),
+            first_code(scope) + task as u8,
+            &names[task],
+        );
+        text.extend_from_slice(line.bytes())?;
+    }
+    text.extend_from_slice(b"$upscope $end\n")?;
+    Ok(())
+}
+
+/// The declarations of all signals, with the names of an image.
+#[tactic(auto, unfolding(crate::specs::Header::header))]
+pub fn header(alloc: Global, image: &Image) -> Result<Vec<u8>, NoMemory>
+    requires { InFormat image.now }
+    ensures { IfOk result (λ text. text.items ≡ header image.now) }
+{
+    let mut text = Vec::from_slice(
+        alloc,
+        b"$comment One time unit is one instruction. $end\n$timescale 1 ns $end\n",
+    )?;
+    let names = image.tasks.items();
+    push_scope(&mut text, Scope::State, names)?;
+    push_scope(&mut text, Scope::Runs, names)?;
+    push_scope(&mut text, Scope::Pending, names)?;
+    text.extend_from_slice(
+        b"$scope module kernel $end\n$var wire 8 { level $end\n$var wire 1 | masked $end\n$upscope $end\n$enddefinitions $end\n",
+    )?;
+    Ok(text)
+}

@@ -1,0 +1,93 @@
+//! Whether signals keep their values: told by one look at the parts of two samples, since most counts change nothing.
+ghost use Rattle.std.specs.Prelude.{ℕ, ◌≡◌, ◌<◌, ◌≤◌, IsTrue, false, get_or};
+ghost use Rattle.osek_scheduler.specs.declared.state.TaskState.TheVariants as mode;
+ghost use Rattle.wave_text.specs.Signals.{KeepValues, state_number, seen_state, seen_running, value_in};
+
+use crate::signals::{Scope, state_number};
+use osek_scheduler::state::TaskState;
+use run_samples::Sample;
+use sloth_inspect::TASKS;
+use sloth_runner::sight::Seen;
+
+// Whether the states of the tasks have the same numbers.
+fn same_states(tasks: usize, one: &[TaskState; TASKS], other: &[TaskState; TASKS]) -> bool
+    requires { tasks ≤ 30 }
+    ensures { IsTrue result → (t : ℕ) → t < tasks → state_number (get_or one.now t mode.Suspended) ≡ state_number (get_or other.now t mode.Suspended) }
+{
+    for task in 0..tasks {
+        if state_number(one[task]) != state_number(other[task]) {
+            return false;
+        }
+    }
+    true
+}
+
+// Whether the same lines are pending.
+fn same_pending(tasks: usize, one: &[bool; TASKS], other: &[bool; TASKS]) -> bool
+    requires { tasks ≤ 30 }
+    ensures { IsTrue result → (t : ℕ) → t < tasks → get_or one.now t false ≡ get_or other.now t false }
+{
+    for task in 0..tasks {
+        if one[task] != other[task] {
+            return false;
+        }
+    }
+    true
+}
+
+// Whether the tasks were seen before and are seen in the same states.
+fn keeps_states(tasks: usize, before: &Option<Seen>, after: &Option<Seen>) -> bool
+    requires { tasks ≤ 30 }
+    ensures { IsTrue result → (t : ℕ) → t < tasks → seen_state before.now t ≡ seen_state after.now t }
+{
+    match before {
+        Some(before) => match after {
+            Some(after) => same_states(tasks, &before.tasks, &after.tasks),
+            None => false,
+        },
+        None => false,
+    }
+}
+
+// Whether the tasks were seen before and the same one is seen to run.
+fn keeps_running(before: &Option<Seen>, after: &Option<Seen>) -> bool
+    ensures { IsTrue result → (t : ℕ) → seen_running before.now t ≡ seen_running after.now t }
+{
+    match before {
+        Some(before) => match after {
+            Some(after) => before.running == after.running,
+            None => false,
+        },
+        None => false,
+    }
+}
+
+// The same of two samples.
+fn keeps_values(scope: Scope, tasks: usize, before: &Sample, after: &Sample) -> bool
+    requires { tasks ≤ 30 }
+    ensures { IsTrue result → (t : ℕ) → t < tasks → value_in scope before.now t ≡ value_in scope after.now t }
+{
+    match scope {
+        Scope::State => keeps_states(tasks, &before.seen, &after.seen),
+        Scope::Runs => keeps_running(&before.seen, &after.seen),
+        Scope::Pending => same_pending(
+            tasks,
+            &before.interrupts.pending,
+            &after.interrupts.pending,
+        ),
+    }
+}
+
+/// Whether the signals of a scope are known to keep their values from one sample to the next.
+pub fn keeps(scope: Scope, tasks: usize, before: &Option<Sample>, after: &Option<Sample>) -> bool
+    requires { tasks ≤ 30 }
+    ensures { IsTrue result → KeepValues scope tasks before.now after.now }
+{
+    match before {
+        Some(before) => match after {
+            Some(after) => keeps_values(scope, tasks, before, after),
+            None => false,
+        },
+        None => false,
+    }
+}

@@ -1,0 +1,56 @@
+//! The waves of a run.
+ghost use Rattle.std.specs.Prelude.{◌≡◌, ◌≤◌, IfOk, length};
+ghost use Rattle.sloth_base.specs.ImageRange.{InFormat};
+ghost use Rattle.sloth_base.specs.Arrivals.{AreArrivals};
+ghost use Rattle.sloth_base.specs.Owners.{owners_named};
+ghost use Rattle.wave_text.specs.Waves.{AreWaves};
+
+use crate::dump::Dump;
+use crate::header::header;
+use run_samples::Sampler;
+use sloth_base::event::Arrival;
+use sloth_base::image::Image;
+use sloth_base::memory::NoMemory;
+use sloth_runner::runner::Halt;
+use std::alloc::Global;
+
+/// The waves of a run, or where and why it stops.
+#[derive(Drop)]
+pub enum Recorded {
+    Text(Vec<u8>),
+    Stopped(Halt),
+}
+
+/// The waves of the first n instructions, at most 1,000,000, of the run of an image with arrivals.
+pub fn waves(
+    alloc: Global,
+    image: &Image,
+    arrivals: &[Arrival],
+    n: u32,
+) -> Result<Recorded, NoMemory>
+    requires format { InFormat image.now }
+    requires arrivals { AreArrivals (owners_named image.now) arrivals.now }
+    requires few { n ≤ 1000000 }
+    ensures { IfOk result (AreWaves image.now arrivals.now n) }
+{
+    let tasks = image.tasks.items().len();
+    let mut dump = Dump {
+        text: header(alloc, image)?,
+        count: 0,
+        stamped: false,
+    };
+    let mut sampler = Sampler::new(alloc, image, arrivals)?;
+    let mut old = None;
+    for count in 0..n {
+        match sampler.next() {
+            Ok(sample) => {
+                let new = Some(sample);
+                dump.sample(count, tasks, &old, &new)?;
+                old = new;
+            }
+            Err(halt) => return Ok(Recorded::Stopped(halt)),
+        }
+    }
+    dump.end(n)?;
+    Ok(Recorded::Text(dump.text))
+}

@@ -1,0 +1,112 @@
+//! The signals of waves, and their values.
+ghost use Rattle.std.specs.Prelude.{◌≡◌, ◌<◌};
+ghost use Rattle.wave_text.specs.Signals.{first_code, width_of, value_in, value_of, level_value, masked_value, state_number};
+
+use osek_scheduler::state::TaskState;
+use run_samples::Sample;
+
+/// How many binary digits a signal has.
+#[derive(Clone, Copy)]
+pub enum Width {
+    One,
+    Two,
+    Eight,
+}
+
+/// A scope that has a signal for each task.
+#[derive(Clone, Copy)]
+pub enum Scope {
+    State,
+    Runs,
+    Pending,
+}
+
+/// The code of the signal `level`.
+pub const LEVEL: u8 = b'{';
+
+/// The code of the signal `masked`.
+pub const MASKED: u8 = b'|';
+
+/// The code of the first task's signal. Those of the other tasks follow.
+pub fn first_code(scope: Scope) -> u8
+    ensures is { result ≡ first_code scope }
+    ensures small { result < 94 }
+{
+    match scope {
+        Scope::State => b'!',
+        Scope::Runs => b'?',
+        Scope::Pending => b']',
+    }
+}
+
+/// How many digits the signals of a scope have.
+pub fn width_of(scope: Scope) -> Width
+    ensures { result ≡ width_of scope }
+{
+    match scope {
+        Scope::State => Width::Two,
+        Scope::Runs => Width::One,
+        Scope::Pending => Width::One,
+    }
+}
+
+/// The number of a task's state.
+pub fn state_number(state: TaskState) -> u8
+    ensures { result ≡ state_number state }
+{
+    match state {
+        TaskState::Suspended => 0,
+        TaskState::Ready => 1,
+        TaskState::Active => 2,
+        TaskState::Waiting(_) => 3,
+    }
+}
+
+// The value of a task's signal in a sample.
+fn value_in(scope: Scope, sample: &Sample, task: usize) -> Option<u8>
+    requires { task < 30 }
+    ensures { result ≡ value_in scope sample.now task }
+{
+    match scope {
+        Scope::State => match &sample.seen {
+            Some(seen) => Some(state_number(seen.tasks[task])),
+            None => None,
+        },
+        Scope::Runs => match &sample.seen {
+            Some(seen) => Some(u8::from(seen.running == task as u32 + 1)),
+            None => None,
+        },
+        Scope::Pending => Some(u8::from(sample.interrupts.pending[task])),
+    }
+}
+
+/// The value of a task's signal; before the first sample it has none.
+pub fn value_of(scope: Scope, sample: &Option<Sample>, task: usize) -> Option<u8>
+    requires { task < 30 }
+    ensures { result ≡ value_of scope sample.now task }
+{
+    match sample {
+        Some(sample) => value_in(scope, sample, task),
+        None => None,
+    }
+}
+
+/// The value of `level`.
+pub fn level_value(sample: &Option<Sample>) -> Option<u8>
+    ensures { result ≡ level_value sample.now }
+{
+    match sample {
+        Some(sample) => Some(sample.interrupts.level),
+        None => None,
+    }
+}
+
+/// The value of `masked`.
+pub fn masked_value(sample: &Option<Sample>) -> Option<u8>
+    ensures { result ≡ masked_value sample.now }
+{
+    match sample {
+        Some(sample) => Some(u8::from(sample.interrupts.masked)),
+        None => None,
+    }
+}
