@@ -1,13 +1,12 @@
 -- Moments and lines of the arrivals.
-use Rattle.std.proofs.Common.{◌≡◌, ◌∙◌, ℕ, zero, suc, ◌+◌, ◌*◌, ◌/◌, ◌%◌, ◌<◌, ◌≤◌, List, [], ◌∷◌, ◌++◌, map, add-one, arith, refl, sym, ap}
+use Rattle.std.proofs.Common.{◌≡◌, ◌∙◌, ℕ, zero, suc, ◌+◌, ◌*◌, ◌<◌, ◌≤◌, List, [], ◌∷◌, ◌++◌, map, add-one, arith, refl, sym, ap}
 use Rattle.std.specs.List.{All, range_with_len}
 use Rattle.std.proofs.lemmas.List.Elements.{All-nil, All-cons}
 use Rattle.std.proofs.lemmas.List.FromFn.{length-map-range_with_len, map-range_with_len_more}
 use Rattle.sloth_base.specs.Arrivals.{AreArrivals, NeverFalls}
 use Rattle.sloth_base.specs.declared.event.Arrival.{Arrival}
 use Rattle.sloth_base.proofs.Owners.{task_owned}
-use Rattle.app_gen.specs.Draws.{draw, next_draw}
-use Rattle.app_gen.specs.Load.{high_bits, gap, moment_before, line_of, arrival, first_arrivals, owners_of}
+use Rattle.app_gen.specs.Load.{gap, moment_before, line_of, arrival, first_arrivals, owners_of}
 
 pub gap_short : (x k : ℕ) → gap x k ≤ 900
 unfolding gap

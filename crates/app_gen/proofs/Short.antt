@@ -1,19 +1,19 @@
 -- The lengths of the texts.
-use Rattle.std.proofs.Common.{◌≡◌, ℕ, zero, suc, ◌+◌, ◌*◌, ◌-◌, ◌%◌, ◌^◌, ◌<◌, ◌≤◌, Bool, true, false, List, [], ◌∷◌, ◌++◌, length, length-append, arith}
+use Rattle.std.proofs.Common.{◌≡◌, ℕ, zero, suc, ◌+◌, ◌*◌, ◌-◌, ◌%◌, ◌^◌, ◌<◌, ◌≤◌, Bool, true, false, List, [], ◌++◌, length, length-append, arith}
 use Rattle.std.specs.Prelude.{◌==◌, if◌then◌else◌, decimal, codes}
 use Rattle.std.specs.List.{flat_map, range_with_len}
 use Rattle.std.proofs.lemmas.Fmt.{length-decimal-le}
-use Rattle.app_gen.specs.Draws.{draw, next_draw}
-use Rattle.app_gen.specs.Pieces.{numbered, has_event}
+use Rattle.app_gen.specs.Draws.{draw}
+use Rattle.app_gen.specs.Pieces.{number_behind, has_event}
 use Rattle.app_gen.specs.Oil.{is_non, event_object, resource_object, resource_objects, schedule_of, autostart_of, event_attribute, task_object, oil_text}
 use Rattle.app_gen.specs.Source.{setting_text, waking_text, first_body, waiting_text, body_head, adding_text, body_end, numbered_body, body, source_text}
 
 short-decimal : (n : ℕ) → n < 2 ^ 32 → length (decimal n) ≤ 10
 short-decimal n h = length-decimal-le 10 n (omega arith) (omega (arith, h)) (omega (arith, h))
 
-short-numbered : (t : List ℕ) (n : ℕ) → n < 2 ^ 32 → length (numbered t n) ≤ length t + 10
-unfolding numbered
-short-numbered t n h = let d = short-decimal n h in let l = length-append t (decimal n) in omega (arith, d, l)
+short-number_behind : (t : List ℕ) (n : ℕ) → n < 2 ^ 32 → length (number_behind t n) ≤ length t + 10
+unfolding number_behind
+short-number_behind t n h = let d = short-decimal n h in let l = length-append t (decimal n) in omega (arith, d, l)
 
 short-if : (b : Bool) (t e : List ℕ) (most : ℕ) → length t ≤ most → length e ≤ most → length (if b then t else e) ≤ most
 short-if true t e most h g = h
@@ -36,12 +36,12 @@ short-each f a (suc n) h =
 short-event : (i : ℕ) → i < 2 ^ 32 → length (event_object i) ≤ 512
 unfolding event_object
 short-event i h =
-    let n = short-numbered (codes "EVENT E") i h in
-    short-if (has_event i) (numbered (codes "EVENT E") i ++ codes " { MASK = AUTO; };\n") [] 512 (omega (arith, n, length-append {A = ℕ})) (omega arith)
+    let n = short-number_behind (codes "EVENT E") i h in
+    short-if (has_event i) (number_behind (codes "EVENT E") i ++ codes " { MASK = AUTO; };\n") [] 512 (omega (arith, n, length-append {A = ℕ})) (omega arith)
 
 short-resource : (k : ℕ) → k < 2 ^ 32 → length (resource_object k) ≤ 512
 unfolding resource_object
-short-resource k h = let n = short-numbered (codes "RESOURCE R") k h in omega (arith, n, length-append {A = ℕ})
+short-resource k h = let n = short-number_behind (codes "RESOURCE R") k h in omega (arith, n, length-append {A = ℕ})
 
 short-schedule : (i : ℕ) → length (schedule_of i) ≤ 50
 unfolding schedule_of
@@ -54,17 +54,17 @@ short-autostart i = short-if (i == 0) (codes "TRUE { APPMODE = OSDEFAULTAPPMODE;
 short-attribute : (i : ℕ) → i < 2 ^ 32 → length (event_attribute i) ≤ 50
 unfolding event_attribute
 short-attribute i h =
-    let n = short-numbered (codes " EVENT = E") i h in
-    short-if (has_event i) (numbered (codes " EVENT = E") i ++ codes ";") [] 50 (omega (arith, n, length-append {A = ℕ})) (omega arith)
+    let n = short-number_behind (codes " EVENT = E") i h in
+    short-if (has_event i) (number_behind (codes " EVENT = E") i ++ codes ";") [] 50 (omega (arith, n, length-append {A = ℕ})) (omega arith)
 
 short-task : (i : ℕ) → i + 1 < 2 ^ 32 → length (task_object i) ≤ 512
 unfolding task_object
 short-task i h =
-    let name = short-numbered (codes "TASK T") i (omega (arith, h)) in
-    let priority = short-numbered (codes " { PRIORITY = ") (i + 1) h in
+    let name = short-number_behind (codes "TASK T") i (omega (arith, h)) in
+    let priority = short-number_behind (codes " { PRIORITY = ") (i + 1) h in
     let schedule = short-schedule i in
     let autostart = short-autostart i in
-    let resource = short-numbered (codes "; RESOURCE = R") (i % 4) (omega arith) in
+    let resource = short-number_behind (codes "; RESOURCE = R") (i % 4) (omega arith) in
     let event = short-attribute i (omega (arith, h)) in
     omega (arith, name, priority, schedule, autostart, resource, event, length-append {A = ℕ})
 
@@ -88,37 +88,37 @@ short-oil n h =
 short-sets : (j : ℕ) → j < 2 ^ 32 → length (setting_text j) ≤ 100
 unfolding setting_text
 short-sets j h =
-    let task = short-numbered (codes "SetEvent T") j h in
-    let event = short-numbered (codes ", E") j h in
-    short-if (has_event j) (numbered (codes "SetEvent T") j ++ numbered (codes ", E") j ++ codes "\n") [] 100
+    let task = short-number_behind (codes "SetEvent T") j h in
+    let event = short-number_behind (codes ", E") j h in
+    short-if (has_event j) (number_behind (codes "SetEvent T") j ++ number_behind (codes ", E") j ++ codes "\n") [] 100
     (omega (arith, task, event, length-append {A = ℕ})) (omega arith)
 
 short-wakes : (j : ℕ) → j < 2 ^ 32 → length (waking_text j) ≤ 512
 unfolding waking_text
 short-wakes j h =
-    let task = short-numbered (codes "ActivateTask T") j h in
+    let task = short-number_behind (codes "ActivateTask T") j h in
     let event = short-sets j h in omega (arith, task, event, length-append {A = ℕ})
 
 short-waits : (i : ℕ) → i < 2 ^ 32 → length (waiting_text i) ≤ 100
 unfolding waiting_text
 short-waits i h =
-    let first = short-numbered (codes "WaitEvent E") i h in
-    let second = short-numbered (codes "\nClearEvent E") i h in
-    short-if (has_event i) (numbered (codes "WaitEvent E") i ++ numbered (codes "\nClearEvent E") i ++ codes "\n") [] 100
+    let first = short-number_behind (codes "WaitEvent E") i h in
+    let second = short-number_behind (codes "\nClearEvent E") i h in
+    short-if (has_event i) (number_behind (codes "WaitEvent E") i ++ number_behind (codes "\nClearEvent E") i ++ codes "\n") [] 100
     (omega (arith, first, second, length-append {A = ℕ})) (omega arith)
 
 short-begins : (i number : ℕ) → i < 2 ^ 32 → number < 2 ^ 32 → length (body_head i number) ≤ 100
 unfolding body_head
 short-begins i number h g =
-    let task = short-numbered (codes "task T") i h in
-    let value = short-numbered (codes ", 2\nli t0, ") number g in omega (arith, task, value, length-append {A = ℕ})
+    let task = short-number_behind (codes "task T") i h in
+    let value = short-number_behind (codes ", 2\nli t0, ") number g in omega (arith, task, value, length-append {A = ℕ})
 
 short-adds : (i : ℕ) → i < 2 ^ 30 → length (adding_text i) ≤ 200
 unfolding adding_text
 short-adds i h =
-    let taken = short-numbered (codes "GetResource R") (i % 4) (omega arith) in
-    let stored = short-numbered (codes "sw t1, tab+") (4 * i) (omega (arith, h)) in
-    let released = short-numbered (codes "\nReleaseResource R") (i % 4) (omega arith) in
+    let taken = short-number_behind (codes "GetResource R") (i % 4) (omega arith) in
+    let stored = short-number_behind (codes "sw t1, tab+") (4 * i) (omega (arith, h)) in
+    let released = short-number_behind (codes "\nReleaseResource R") (i % 4) (omega arith) in
     omega (arith, taken, stored, released, length-append {A = ℕ})
 
 -- a draw is a word

@@ -34,6 +34,6 @@ first_arrivals x n count = map (arrival x n) (range_with_len 0 count)
 abbrev pub arrivals : ℕ → ℕ → List Arrival
 arrivals seed n = first_arrivals (draw seed (n - 1)) n 1000
 
--- the owners of lines where there are so many tasks
+-- the owners of lines where there are so many tasks and no counter
 abbrev pub owners_of : ℕ → Owners
-owners_of tasks = record { tasks = tasks }
+owners_of tasks = record { tasks = tasks; counters = 0 }

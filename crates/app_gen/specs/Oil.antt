@@ -1,7 +1,7 @@
 -- The OIL text of a generated application of n tasks, T0 to T(n - 1).
 use Rattle.std.specs.Prelude.{ℕ, ◌+◌, ◌%◌, ◌==◌, Bool, if◌then◌else◌, List, [], ◌++◌, codes}
 use Rattle.std.specs.List.{flat_map, range_with_len}
-use Rattle.app_gen.specs.Pieces.{numbered, has_event}
+use Rattle.app_gen.specs.Pieces.{number_behind, has_event}
 
 -- every seventh task is NON
 abbrev pub is_non : ℕ → Bool
@@ -9,11 +9,11 @@ is_non i = i % 7 == 3
 
 -- the event of a task that has one
 unfoldable pub event_object : ℕ → List ℕ
-event_object i = if has_event i then numbered (codes "EVENT E") i ++ codes " { MASK = AUTO; };\n" else []
+event_object i = if has_event i then number_behind (codes "EVENT E") i ++ codes " { MASK = AUTO; };\n" else []
 
 -- a resource
 unfoldable pub resource_object : ℕ → List ℕ
-resource_object k = numbered (codes "RESOURCE R") k ++ codes " { RESOURCEPROPERTY = STANDARD; };\n"
+resource_object k = number_behind (codes "RESOURCE R") k ++ codes " { RESOURCEPROPERTY = STANDARD; };\n"
 
 -- the four resources
 abbrev pub resource_objects : List ℕ
@@ -29,16 +29,16 @@ autostart_of i = if i == 0 then codes "TRUE { APPMODE = OSDEFAULTAPPMODE; }" els
 
 -- the attribute EVENT of a task that has one
 unfoldable pub event_attribute : ℕ → List ℕ
-event_attribute i = if has_event i then numbered (codes " EVENT = E") i ++ codes ";" else []
+event_attribute i = if has_event i then number_behind (codes " EVENT = E") i ++ codes ";" else []
 
 -- a task, on one line
 unfoldable pub task_object : ℕ → List ℕ
 task_object i =
-    numbered (codes "TASK T") i
-    ++ numbered (codes " { PRIORITY = ") (i + 1)
+    number_behind (codes "TASK T") i
+    ++ number_behind (codes " { PRIORITY = ") (i + 1)
     ++ codes "; SCHEDULE = " ++ schedule_of i
     ++ codes "; ACTIVATION = 1; AUTOSTART = " ++ autostart_of i
-    ++ numbered (codes "; RESOURCE = R") (i % 4)
+    ++ number_behind (codes "; RESOURCE = R") (i % 4)
     ++ codes ";" ++ event_attribute i
     ++ codes " };\n"
 

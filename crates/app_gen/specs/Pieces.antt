@@ -2,8 +2,8 @@
 use Rattle.std.specs.Prelude.{ℕ, ◌%◌, ◌==◌, Bool, List, ◌++◌, decimal}
 
 -- a text and a number in decimal digits, as `T12`
-unfoldable pub numbered : List ℕ → ℕ → List ℕ
-numbered text number = text ++ decimal number
+unfoldable pub number_behind : List ℕ → ℕ → List ℕ
+number_behind text number = text ++ decimal number
 
 -- every fifth task has an event of its own, so it is extended
 abbrev pub has_event : ℕ → Bool

@@ -2,15 +2,15 @@
 use Rattle.std.specs.Prelude.{ℕ, ◌-◌, ◌*◌, ◌%◌, if◌then◌else◌, List, [], ◌++◌, codes}
 use Rattle.std.specs.List.{flat_map, range_with_len}
 use Rattle.app_gen.specs.Draws.{draw}
-use Rattle.app_gen.specs.Pieces.{numbered, has_event}
+use Rattle.app_gen.specs.Pieces.{number_behind, has_event}
 
 -- the first task sets the event of another that has one
 unfoldable pub setting_text : ℕ → List ℕ
-setting_text j = if has_event j then numbered (codes "SetEvent T") j ++ numbered (codes ", E") j ++ codes "\n" else []
+setting_text j = if has_event j then number_behind (codes "SetEvent T") j ++ number_behind (codes ", E") j ++ codes "\n" else []
 
 -- what the first task does with another in each round
 unfoldable pub waking_text : ℕ → List ℕ
-waking_text j = numbered (codes "ActivateTask T") j ++ codes "\n" ++ setting_text j
+waking_text j = number_behind (codes "ActivateTask T") j ++ codes "\n" ++ setting_text j
 
 -- the body of the first task
 unfoldable pub first_body : ℕ → List ℕ
@@ -23,23 +23,23 @@ first_body n =
 unfoldable pub waiting_text : ℕ → List ℕ
 waiting_text i =
     if has_event i
-    then numbered (codes "WaitEvent E") i ++ numbered (codes "\nClearEvent E") i ++ codes "\n"
+    then number_behind (codes "WaitEvent E") i ++ number_behind (codes "\nClearEvent E") i ++ codes "\n"
     else []
 
 -- how the body of task i begins: it keeps a number in its frame
 unfoldable pub body_head : ℕ → ℕ → List ℕ
 body_head i number =
-    numbered (codes "task T") i
-    ++ numbered (codes ", 2\nli t0, ") number
+    number_behind (codes "task T") i
+    ++ number_behind (codes ", 2\nli t0, ") number
     ++ codes "\nsw t0, frame[1]\n"
 
 -- with a resource held it adds the number to one of a table, and stores the sum at its own place there
 unfoldable pub adding_text : ℕ → List ℕ
 adding_text i =
-    numbered (codes "GetResource R") (i % 4)
+    number_behind (codes "GetResource R") (i % 4)
     ++ codes "\nlw t1, tab[t0 & 252]\nadd t1, t1, t0\n"
-    ++ numbered (codes "sw t1, tab+") (4 * i)
-    ++ numbered (codes "\nReleaseResource R") (i % 4)
+    ++ number_behind (codes "sw t1, tab+") (4 * i)
+    ++ number_behind (codes "\nReleaseResource R") (i % 4)
     ++ codes "\n"
 
 -- how each body ends

@@ -8,10 +8,10 @@ use Rattle.std.proofs.lemmas.Option.{cond_some}
 use mathlib.Core.Bool.{and-false}
 use Rattle.text_pieces.specs.Digits.{capped_value, value_from}
 use Rattle.asm_lines.specs.Numbers.{number, magnitude, signed_number, is_hexadecimal, all_some, is_within}
-use Rattle.asm_lines.specs.Grammar.{IsNumber, is_decimal, is_hex, is_minus, is_minus_hex, cut, is_near}
+use Rattle.asm_lines.specs.Grammar.{IsNumber, is_decimal, is_hex, is_minus, is_minus_hex, capped_integer, is_near}
 use borrow.Author.Tests.{ltb-true}
 
-neg_capped : (n : ℕ) → neg_ℤ (pos (capped_value n)) ≡ cut (neg_ℤ (pos n))
+neg_capped : (n : ℕ) → neg_ℤ (pos (capped_value n)) ≡ capped_integer (neg_ℤ (pos n))
 neg_capped zero = refl
 neg_capped (suc n) = ap (λ k. neg_ℤ (pos (capped_value k))) (sym (add-one n))
 
@@ -54,7 +54,7 @@ minus : (t : List ℕ) (n : ℕ) → magnitude t ≡ Some n → number (45 ∷ t
 unfolding number
 minus t n m = rw m refl
 
-pub number_made : (t : List ℕ) (z : ℤ) → IsNumber t z → number t ≡ Some (cut z)
+pub number_made : (t : List ℕ) (z : ℤ) → IsNumber t z → number t ≡ Some (capped_integer z)
 number_made t z (is_decimal d h) =
     plain d (capped_value (value_from 10 0 d)) (not_minus d (and_parts (not (length d == 0)) (list_all is_ascii_digit d) h).1) (decimal_magnitude d h)
 number_made t z (is_hex d h) = plain (48 ∷ 120 ∷ d) (capped_value (value_from 16 0 d)) refl (hex_magnitude d h)
@@ -75,14 +75,14 @@ below (negsuc l) high n g k =
     let e : ltb l n ≡ true = lt-ltb l n (omega (arith, m)) in
     ap (λ v. not v && not (int_lt high (negsuc n))) e
 
-pub cut_within : (low high z : ℤ) → is_near low ≡ true → is_near high ≡ true → is_within low high (cut z) ≡ is_within low high z
-cut_within low high (pos n) l h = elim (cases_lt n 4294967296) [
+pub capped_within : (low high z : ℤ) → is_near low ≡ true → is_near high ≡ true → is_within low high (capped_integer z) ≡ is_within low high z
+capped_within low high (pos n) l h = elim (cases_lt n 4294967296) [
   | inl g ↦ let e : capped_value n ≡ n = omega arith in ap (λ k. is_within low high (pos k)) e
   | inr g ↦
       let e : capped_value n ≡ 4294967296 = omega arith in
       ap (λ k. is_within low high (pos k)) e ∙ (above low high 4294967296 (omega arith) h ∙ sym (above low high n g h))
 ]
-cut_within low high (negsuc n) l h = elim (cases_lt (n + 1) 4294967296) [
+capped_within low high (negsuc n) l h = elim (cases_lt (n + 1) 4294967296) [
   | inl g ↦ let e : capped_value (n + 1) ≡ suc n = omega arith in ap (λ k. is_within low high (neg_ℤ (pos k))) e
   | inr g ↦
       let e : capped_value (n + 1) ≡ 4294967296 = omega arith in
@@ -91,7 +91,7 @@ cut_within low high (negsuc n) l h = elim (cases_lt (n + 1) 4294967296) [
 
 -- the number that a text is, if a reading of it is w
 abbrev pub Reads : List ℕ → ℤ → Type 0
-Reads t w = (z : ℤ) × IsNumber t z × (w ≡ cut z)
+Reads t w = (z : ℤ) × IsNumber t z × (w ≡ capped_integer z)
 
 -- the digits of a magnitude
 abbrev Digits : List ℕ → ℕ → Type 0

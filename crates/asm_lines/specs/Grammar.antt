@@ -86,9 +86,9 @@ pub data IsNumber : List ℕ → ℤ → Type 0 where
   is_minus_hex : (d : List ℕ) → all_some is_ascii_hexdigit d ≡ true → IsNumber (45 ∷ 48 ∷ 120 ∷ d) (neg_ℤ (pos (value_from 16 0 d)))
 
 -- a number as the reader keeps it: no further from 0 than 4,294,967,296
-abbrev pub cut : ℤ → ℤ
-cut (pos n) = pos (capped_value n)
-cut (negsuc n) = neg_ℤ (pos (capped_value (n + 1)))
+abbrev pub capped_integer : ℤ → ℤ
+capped_integer (pos n) = pos (capped_value n)
+capped_integer (negsuc n) = neg_ℤ (pos (capped_value (n + 1)))
 
 -- ranges that end within 4,294,967,295 of 0
 abbrev pub is_near : ℤ → Bool

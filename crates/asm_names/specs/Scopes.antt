@@ -45,6 +45,7 @@ abbrev pub object_name : ObjectKind → Kind
 object_name object.Nothing = kind.Task
 object_name object.Task = kind.Task
 object_name object.Resource = kind.Resource
+object_name object.Alarm = kind.Alarm
 
 -- what the operand at place i of a service names: its object, or an event behind that
 abbrev pub operand_kind : (has_mask : Bool) → ObjectKind → ℕ → Kind
@@ -70,7 +71,7 @@ kind_of _ i = kind.Declared
 abbrev pub is_scheduler : Scope → List ℕ → Bool
 is_scheduler scope name = scope.has_scheduler && bytes_eq name (codes "RES_SCHEDULER")
 
--- an object of the kind has the name
+-- an object of the kind has the name; no alarm has one
 abbrev pub is_named : Scope → List (List ℕ) → Kind → List ℕ → Bool
 is_named scope labels kind.Declared name = true
 is_named scope labels kind.Symbol name = list_any (bytes_eq name) scope.symbols
@@ -79,6 +80,7 @@ is_named scope labels kind.Function name = list_any (bytes_eq name) scope.called
 is_named scope labels kind.Task name = list_any (bytes_eq name) scope.tasks
 is_named scope labels kind.Resource name = is_scheduler scope name || list_any (bytes_eq name) scope.resources
 is_named scope labels kind.Event name = list_any (bytes_eq name) scope.events
+is_named scope labels kind.Alarm name = false
 
 -- a name is written here that no object of the wanted kind has
 abbrev pub is_lacking : Scope → List (List ℕ) → Kind → Option (List ℕ) → Bool

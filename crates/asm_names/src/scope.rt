@@ -19,6 +19,8 @@ pub enum Kind {
     Task,
     Resource,
     Event,
+    /// No name stands for an alarm.
+    Alarm,
 }
 
 /// The names that a source may use, each kind in the order of its numbers.
@@ -41,6 +43,7 @@ fn object_name(kind: ObjectKind) -> Kind
     match kind {
         ObjectKind::Nothing | ObjectKind::Task => Kind::Task,
         ObjectKind::Resource => Kind::Resource,
+        ObjectKind::Alarm => Kind::Alarm,
     }
 }
 
@@ -53,7 +56,7 @@ fn service_kind(service: Service, place: usize) -> Kind
     }
     match object {
         ObjectKind::Nothing => Kind::Event,
-        ObjectKind::Task | ObjectKind::Resource => {
+        ObjectKind::Task | ObjectKind::Resource | ObjectKind::Alarm => {
             if place == 0 {
                 object_name(object)
             } else {
@@ -96,6 +99,7 @@ impl<'t> Scope<'t> {
             Kind::Task => self.tasks.has(name),
             Kind::Resource => self.is_scheduler(name) || self.resources.has(name),
             Kind::Event => self.events.has(name),
+            Kind::Alarm => false,
         }
     }
 

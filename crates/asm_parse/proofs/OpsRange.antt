@@ -1,6 +1,6 @@
 -- A statement that was read, whose names are known, is an operation in range.
 use Rattle.std.proofs.Common.{true≢false, ◌≡◌, sym, refl, ⊎_elim, inl, ℕ, ℤ, pos, negsuc, ◌-◌, ◌≤◌, Bool, true, false, List, [], ◌∷◌, length, Some, arith}
-use Rattle.std.specs.Prelude.{◌==◌, not, nat_le, nat_lt, int_lt, if◌then◌else◌}
+use Rattle.std.specs.Prelude.{◌==◌, ◌||◌, not, nat_le, nat_lt, int_lt, if◌then◌else◌}
 use Rattle.std.proofs.lemmas.Bool.{eqb-true, leb-true, ltb-false, not-true, or_parts, and_parts}
 use Rattle.std.proofs.lemmas.Bool.Decides.{leb_tells, eqb_tells}
 use Rattle.sloth_base.specs.declared.app.App.{App}
@@ -26,8 +26,10 @@ use Rattle.asm_names.specs.declared.scope.Kind.TheVariants as kind
 use Rattle.asm_names.specs.declared.scope.Scope.{Scope}
 use Rattle.asm_names.specs.Said.{is_action}
 use Rattle.asm_names.specs.Scopes.{is_named, any_unknown}
-use Rattle.asm_parse.specs.Operations.{as_word, as_short, number_of, op_by}
-use Rattle.code_rules.specs.AppRange.{IsRegister, IsShort, IsAmount, IsOp}
+use Rattle.asm_parse.specs.declared.operations.Access.{Access}
+use Rattle.asm_parse.specs.declared.operations.Access.TheVariants.{Load, Store}
+use Rattle.asm_parse.specs.Operations.{as_word, as_short, number_of, frame_op, symbol_op, element_op, access_op, op_by}
+use Rattle.code_rules.specs.AppRange.{IsRegister, IsShort, IsAmount, IsStored, IsSymbol, IsOp}
 use Rattle.asm_parse.proofs.Fit.{FitsPlace, FitsWord, AllFit}
 use Rattle.asm_parse.proofs.MnemonicKinds.{HasKind}
 use Rattle.asm_parse.proofs.Known.{IsKnown}
@@ -125,85 +127,59 @@ module _ (config : Config) (app : App) (f : Func) (scope : Scope) (labels : List
 
   -- ---- accesses
 
-  store_place : (w : Width) (s : ℕ) (p : Operand) → HasKind (m.Store w) → IsRegister s → FitsPlace p → any_unknown scope labels (m.Store w) 0 (Register s ∷ p ∷ []) ≡ false
-      → Ranged (m.Store w) (Register s ∷ p ∷ [])
-  store_place w s (Direct name k) d r h u =
-      (op.Store w s (number_of scope.symbols name) k, by w, (d, r, known.symbol name (does_exist (is_named scope labels kind.Symbol name) false u), h.1))
-    where
-      by : (w : Width) → op_by config scope labels (m.Store w) (Register s ∷ Direct name k ∷ []) ≡ Some (op.Store w s (number_of scope.symbols name) k)
-      by width.Byte = refl
-      by width.Half = refl
-      by width.Word = refl
-      by width.ByteU = refl
-      by width.HalfU = refl
-  store_place w s (Indexed name i k) d r h u =
-      (op.StoreAt w s (number_of scope.symbols name) i k, by w, (d, r, known.symbol name (does_exist (is_named scope labels kind.Symbol name) false u), h.1, h.2))
-    where
-      by : (w : Width) → op_by config scope labels (m.Store w) (Register s ∷ Indexed name i k ∷ []) ≡ Some (op.StoreAt w s (number_of scope.symbols name) i k)
-      by width.Byte = refl
-      by width.Half = refl
-      by width.Word = refl
-      by width.ByteU = refl
-      by width.HalfU = refl
-  store_place w s o d r h u = absurd h
+  -- the operation of a load or store, in range
+  abbrev Accessed : Access → Width → List Operand → Type 0
+  Accessed a w os = (o : Op) × (access_op scope.symbols a w os ≡ Some o) × IsOp config app f o
 
-  store_word : (s : ℕ) (p : Operand) → IsRegister s → FitsWord p → any_unknown scope labels (m.Store width.Word) 0 (Register s ∷ p ∷ []) ≡ false
-      → Ranged (m.Store width.Word) (Register s ∷ p ∷ [])
-  store_word s (Frame k) r h u = (op.FrameStore s k, refl, (r, h))
-  store_word s (Direct name k) r h u = store_place width.Word s (Direct name k) tt r h u
-  store_word s (Indexed name i k) r h u = store_place width.Word s (Indexed name i k) tt r h u
-  store_word s o r h u = absurd h
+  -- a width that this access has
+  abbrev HasWidth : Access → Width → Type 0
+  HasWidth Load w = Unit {0}
+  HasWidth Store w = IsStored w
 
-  store_range : (w : Width) → HasKind (m.Store w) → (a b : Operand) → Ranges (m.Store w) (a ∷ b ∷ [])
-  store_range w g a b h = register_case (λ a. any_unknown scope labels (m.Store w) 0 (a ∷ b ∷ []) ≡ false → Ranged (m.Store w) (a ∷ b ∷ [])) (λ s x. by w s x g h.1) a h.0
-    where
-      by : (w : Width) (s : ℕ) → IsRegister s → HasKind (m.Store w) → AllFit (m.Store w) 1 (b ∷ []) → any_unknown scope labels (m.Store w) 0 (Register s ∷ b ∷ []) ≡ false
-          → Ranged (m.Store w) (Register s ∷ b ∷ [])
-      by width.Byte s x g h = store_place width.Byte s b g x h.0
-      by width.Half s x g h = store_place width.Half s b g x h.0
-      by width.Word s x g h = store_word s b x h.0
-      by width.ByteU s x g h = absurd g
-      by width.HalfU s x g h = absurd g
+  frame_range : (a : Access) (s k : ℕ) → IsRegister s → k ≤ 65535 → IsOp config app f (frame_op a s k)
+  frame_range Load s k r h = (r, h)
+  frame_range Store s k r h = (r, h)
 
-  load_place : (w : Width) (s : ℕ) (p : Operand) → IsRegister s → FitsPlace p → any_unknown scope labels (m.Load w) 0 (Register s ∷ p ∷ []) ≡ false
-      → Ranged (m.Load w) (Register s ∷ p ∷ [])
-  load_place w s (Direct name k) r h u =
-      (op.Load w s (number_of scope.symbols name) k, by w, (r, known.symbol name (does_exist (is_named scope labels kind.Symbol name) false u), h.1))
-    where
-      by : (w : Width) → op_by config scope labels (m.Load w) (Register s ∷ Direct name k ∷ []) ≡ Some (op.Load w s (number_of scope.symbols name) k)
-      by width.Byte = refl
-      by width.Half = refl
-      by width.Word = refl
-      by width.ByteU = refl
-      by width.HalfU = refl
-  load_place w s (Indexed name i k) r h u =
-      (op.LoadAt w s (number_of scope.symbols name) i k, by w, (r, known.symbol name (does_exist (is_named scope labels kind.Symbol name) false u), h.1, h.2))
-    where
-      by : (w : Width) → op_by config scope labels (m.Load w) (Register s ∷ Indexed name i k ∷ []) ≡ Some (op.LoadAt w s (number_of scope.symbols name) i k)
-      by width.Byte = refl
-      by width.Half = refl
-      by width.Word = refl
-      by width.ByteU = refl
-      by width.HalfU = refl
-  load_place w s o r h u = absurd h
+  symbol_range : (a : Access) (w : Width) (s y k : ℕ) → HasWidth a w → IsRegister s → IsSymbol app y → k ≤ 65535 → IsOp config app f (symbol_op a w s y k)
+  symbol_range Load w s y k g r e h = (r, e, h)
+  symbol_range Store w s y k g r e h = (g, r, e, h)
 
-  load_word : (s : ℕ) (p : Operand) → IsRegister s → FitsWord p → any_unknown scope labels (m.Load width.Word) 0 (Register s ∷ p ∷ []) ≡ false
-      → Ranged (m.Load width.Word) (Register s ∷ p ∷ [])
-  load_word s (Frame k) r h u = (op.FrameLoad s k, refl, (r, h))
-  load_word s (Direct name k) r h u = load_place width.Word s (Direct name k) r h u
-  load_word s (Indexed name i k) r h u = load_place width.Word s (Indexed name i k) r h u
-  load_word s o r h u = absurd h
+  element_range : (a : Access) (w : Width) (s y i k : ℕ) → HasWidth a w → IsRegister s → IsSymbol app y → IsRegister i → k ≤ 65535
+      → IsOp config app f (element_op a w s y i k)
+  element_range Load w s y i k g r e j h = (r, e, j, h)
+  element_range Store w s y i k g r e j h = (g, r, e, j, h)
 
-  load_range : (w : Width) (a b : Operand) → Ranges (m.Load w) (a ∷ b ∷ [])
-  load_range w a b h = register_case (λ a. any_unknown scope labels (m.Load w) 0 (a ∷ b ∷ []) ≡ false → Ranged (m.Load w) (a ∷ b ∷ [])) (λ s x. by w s x h.1) a h.0
+  -- what a name that exists and stands for a symbol is
+  is_symbol : (name : List ℕ) → (not (is_named scope labels kind.Symbol name) || false) ≡ false → IsSymbol app (number_of scope.symbols name)
+  is_symbol name u = known.symbol name (does_exist (is_named scope labels kind.Symbol name) false u)
+
+  -- loads and stores use the same operands
+  place_range : (a : Access) (w : Width) (s : ℕ) (p : Operand) → HasWidth a w → IsRegister s → FitsPlace p
+      → any_unknown scope labels (m.Load w) 0 (Register s ∷ p ∷ []) ≡ false → Accessed a w (Register s ∷ p ∷ [])
+  place_range a w s (Direct name k) g r h u =
+      (symbol_op a w s (number_of scope.symbols name) k, refl, symbol_range a w s (number_of scope.symbols name) k g r (is_symbol name u) h.1)
+  place_range a w s (Indexed name i k) g r h u =
+      (element_op a w s (number_of scope.symbols name) i k, refl, element_range a w s (number_of scope.symbols name) i k g r (is_symbol name u) h.1 h.2)
+  place_range a w s o g r h u = absurd h
+
+  word_range : (a : Access) (s : ℕ) (p : Operand) → HasWidth a width.Word → IsRegister s → FitsWord p
+      → any_unknown scope labels (m.Load width.Word) 0 (Register s ∷ p ∷ []) ≡ false → Accessed a width.Word (Register s ∷ p ∷ [])
+  word_range a s (Frame k) g r h u = (frame_op a s k, refl, frame_range a s k r h)
+  word_range a s (Direct name k) g r h u = place_range a width.Word s (Direct name k) g r h u
+  word_range a s (Indexed name i k) g r h u = place_range a width.Word s (Indexed name i k) g r h u
+  word_range a s o g r h u = absurd h
+
+  access_range : (a : Access) (w : Width) → HasWidth a w → (x p : Operand) → AllFit (m.Load w) 0 (x ∷ p ∷ [])
+      → any_unknown scope labels (m.Load w) 0 (x ∷ p ∷ []) ≡ false → Accessed a w (x ∷ p ∷ [])
+  access_range a w g x p h = register_case (λ x. any_unknown scope labels (m.Load w) 0 (x ∷ p ∷ []) ≡ false → Accessed a w (x ∷ p ∷ [])) (λ s r. by w s r g h.1) x h.0
     where
-      by : (w : Width) (s : ℕ) → IsRegister s → AllFit (m.Load w) 1 (b ∷ []) → any_unknown scope labels (m.Load w) 0 (Register s ∷ b ∷ []) ≡ false
-          → Ranged (m.Load w) (Register s ∷ b ∷ [])
-      by width.Byte s x h = load_place width.Byte s b x h.0
-      by width.Half s x h = load_place width.Half s b x h.0
-      by width.Word s x h = load_word s b x h.0
-      by width.ByteU s x h = load_place width.ByteU s b x h.0
-      by width.HalfU s x h = load_place width.HalfU s b x h.0
+      by : (w : Width) (s : ℕ) → IsRegister s → HasWidth a w → AllFit (m.Load w) 1 (p ∷ []) → any_unknown scope labels (m.Load w) 0 (Register s ∷ p ∷ []) ≡ false
+          → Accessed a w (Register s ∷ p ∷ [])
+      by width.Byte s r g h = place_range a width.Byte s p g r h.0
+      by width.Half s r g h = place_range a width.Half s p g r h.0
+      by width.Word s r g h = word_range a s p g r h.0
+      by width.ByteU s r g h = place_range a width.ByteU s p g r h.0
+      by width.HalfU s r g h = place_range a width.HalfU s p g r h.0
 
   -- ---- ways
 
@@ -288,6 +264,27 @@ module _ (config : Config) (app : App) (f : Func) (scope : Scope) (labels : List
       some_of (Ranges (m.Serve service.WaitEvent))
       (λ a os h u. (_, refl, (refl, is_mask config scope labels known.event a os (all_names scope labels kind.Event (m.Serve service.WaitEvent) 0 (a ∷ os) (λ j l. (refl, refl)) h u))))
       os (leb-true 1 (length os) t) h u
+  -- no alarm has a name
+  serve_range service.SetRelAlarm os t h u =
+      one_of (Ranges (m.Serve service.SetRelAlarm))
+      (λ a h. name_case (λ a. any_unknown scope labels (m.Serve service.SetRelAlarm) 0 (a ∷ []) ≡ false → Ranged (m.Serve service.SetRelAlarm) (a ∷ []))
+      (λ n w v. absurd (true≢false v)) a h.0)
+      os (eqb-true (length os) 1 t) h u
+  serve_range service.SetAbsAlarm os t h u =
+      one_of (Ranges (m.Serve service.SetAbsAlarm))
+      (λ a h. name_case (λ a. any_unknown scope labels (m.Serve service.SetAbsAlarm) 0 (a ∷ []) ≡ false → Ranged (m.Serve service.SetAbsAlarm) (a ∷ []))
+      (λ n w v. absurd (true≢false v)) a h.0)
+      os (eqb-true (length os) 1 t) h u
+  serve_range service.CancelAlarm os t h u =
+      one_of (Ranges (m.Serve service.CancelAlarm))
+      (λ a h. name_case (λ a. any_unknown scope labels (m.Serve service.CancelAlarm) 0 (a ∷ []) ≡ false → Ranged (m.Serve service.CancelAlarm) (a ∷ []))
+      (λ n w v. absurd (true≢false v)) a h.0)
+      os (eqb-true (length os) 1 t) h u
+  serve_range service.GetAlarm os t h u =
+      one_of (Ranges (m.Serve service.GetAlarm))
+      (λ a h. name_case (λ a. any_unknown scope labels (m.Serve service.GetAlarm) 0 (a ∷ []) ≡ false → Ranged (m.Serve service.GetAlarm) (a ∷ []))
+      (λ n w v. absurd (true≢false v)) a h.0)
+      os (eqb-true (length os) 1 t) h u
 
   -- ---- all
 
@@ -304,8 +301,8 @@ module _ (config : Config) (app : App) (f : Func) (scope : Scope) (labels : List
   ranged m.Li os d t g = two_of (Ranges m.Li) li_range os (eqb-true (length os) 2 t)
   ranged m.Move os d t g = two_of (Ranges m.Move) move_range os (eqb-true (length os) 2 t)
   ranged m.Nop os d t g = none_of (Ranges m.Nop) (λ h u. (op.AluImm Addi 0 0 (pos 0), refl, (inl refl, inl refl, omega arith))) os (eqb-true (length os) 0 t)
-  ranged (m.Load w) os d t g = two_of (Ranges (m.Load w)) (load_range w) os (eqb-true (length os) 2 t)
-  ranged (m.Store w) os d t g = two_of (Ranges (m.Store w)) (store_range w g) os (eqb-true (length os) 2 t)
+  ranged (m.Load w) os d t g = two_of (Ranges (m.Load w)) (access_range Load w tt) os (eqb-true (length os) 2 t)
+  ranged (m.Store w) os d t g = two_of (Ranges (m.Store w)) (access_range Store w g) os (eqb-true (length os) 2 t)
   ranged (m.Branch k) os d t g = three_of (Ranges (m.Branch k)) (branch_range k) os (eqb-true (length os) 3 t)
   ranged m.Jump os d t g = one_of (Ranges m.Jump) jump_range os (eqb-true (length os) 1 t)
   ranged m.Invoke os d t g = one_of (Ranges m.Invoke) invoke_range os (eqb-true (length os) 1 t)

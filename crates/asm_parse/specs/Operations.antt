@@ -6,6 +6,7 @@ use Rattle.sloth_base.specs.declared.app.Op.{Op}
 use Rattle.sloth_base.specs.declared.app.Op.TheVariants as op
 use Rattle.sloth_base.specs.declared.app.Call.{Call}
 use Rattle.sloth_base.specs.declared.app.ImmKind.TheVariants.{Addi}
+use Rattle.sloth_base.specs.declared.app.Width.{Width}
 use Rattle.sloth_base.specs.declared.app.Width.TheVariants.{Word}
 use Rattle.sloth_base.specs.ServiceCodes.{object_kind, has_mask}
 use Rattle.sloth_base.specs.declared.service.ObjectKind.{ObjectKind}
@@ -24,6 +25,8 @@ use Rattle.asm_lines.specs.Numbers.{is_within}
 use Rattle.asm_names.specs.declared.scope.Scope.{Scope}
 use Rattle.asm_names.specs.Said.{first_name, written_name}
 use Rattle.asm_names.specs.Scopes.{is_scheduler}
+use Rattle.asm_parse.specs.declared.operations.Access.{Access}
+use Rattle.asm_parse.specs.declared.operations.Access.TheVariants.{Load, Store}
 
 -- the word of a number from -2,147,483,648 to 4,294,967,295
 abbrev pub as_word : ℤ → ℕ
@@ -70,11 +73,12 @@ abbrev pub behind_first : List Operand → List Operand
 behind_first [] = []
 behind_first (x ∷ os) = os
 
--- the number of an object of a kind, or 0
+-- the number of an object of a kind, or 0; no alarm has a name
 abbrev pub object_number : Scope → ObjectKind → List Operand → ℕ
 object_number scope object.Nothing os = 0
 object_number scope object.Task os = number_of scope.tasks (first_name os)
 object_number scope object.Resource os = resource_number scope (first_name os)
+object_number scope object.Alarm os = 0
 
 -- the task or resource that a service names, or 0
 abbrev pub object_of : Scope → Service → List Operand → ℕ
@@ -85,6 +89,7 @@ abbrev pub behind_object : ObjectKind → List Operand → List Operand
 behind_object object.Nothing os = os
 behind_object object.Task os = behind_first os
 behind_object object.Resource os = behind_first os
+behind_object object.Alarm os = behind_first os
 
 -- the mask of the events that a service names, or 0
 abbrev pub events_of : Config → Scope → Service → List Operand → ℕ
@@ -110,19 +115,27 @@ number_op m.Lui (Register d ∷ Number n ∷ []) = Some (op.Lui d (as_word n))
 number_op m.Li (Register d ∷ Number n ∷ []) = Some (op.Li d (as_word n))
 number_op _ _ = None
 
--- the operation of a load
-abbrev pub load_op : List (List ℕ) → Mnemonic → List Operand → Option Op
-load_op symbols (m.Load Word) (Register d ∷ Frame k ∷ []) = Some (op.FrameLoad d k)
-load_op symbols (m.Load w) (Register d ∷ Direct name k ∷ []) = Some (op.Load w d (number_of symbols name) k)
-load_op symbols (m.Load w) (Register d ∷ Indexed name r k ∷ []) = Some (op.LoadAt w d (number_of symbols name) r k)
-load_op _ _ _ = None
+-- a load or store of a word of the frame
+abbrev pub frame_op : Access → ℕ → ℕ → Op
+frame_op Load r k = op.FrameLoad r k
+frame_op Store r k = op.FrameStore r k
 
--- the operation of a store
-abbrev pub store_op : List (List ℕ) → Mnemonic → List Operand → Option Op
-store_op symbols (m.Store Word) (Register s ∷ Frame k ∷ []) = Some (op.FrameStore s k)
-store_op symbols (m.Store w) (Register s ∷ Direct name k ∷ []) = Some (op.Store w s (number_of symbols name) k)
-store_op symbols (m.Store w) (Register s ∷ Indexed name r k ∷ []) = Some (op.StoreAt w s (number_of symbols name) r k)
-store_op _ _ _ = None
+-- a load or store of a symbol at a fixed offset
+abbrev pub symbol_op : Access → Width → ℕ → ℕ → ℕ → Op
+symbol_op Load w r y k = op.Load w r y k
+symbol_op Store w r y k = op.Store w r y k
+
+-- a load or store of a symbol at the offset that a register has under a mask
+abbrev pub element_op : Access → Width → ℕ → ℕ → ℕ → ℕ → Op
+element_op Load w r y i k = op.LoadAt w r y i k
+element_op Store w r y i k = op.StoreAt w r y i k
+
+-- the operation of a load or store
+abbrev pub access_op : List (List ℕ) → Access → Width → List Operand → Option Op
+access_op symbols a w (Register r ∷ Direct name k ∷ []) = Some (symbol_op a w r (number_of symbols name) k)
+access_op symbols a w (Register r ∷ Indexed name i k ∷ []) = Some (element_op a w r (number_of symbols name) i k)
+access_op symbols a Word (Register r ∷ Frame k ∷ []) = Some (frame_op a r k)
+access_op _ _ _ _ = None
 
 -- the operation of a branch, a jump or a call, in a body with these labels
 abbrev pub jump_op : Scope → List (List ℕ) → Mnemonic → List Operand → Option Op
@@ -133,8 +146,8 @@ jump_op _ _ _ _ = None
 
 -- the operation of a statement, if it is an item
 abbrev pub op_by : Config → Scope → List (List ℕ) → Mnemonic → List Operand → Option Op
-op_by config scope labels (m.Load w) os = load_op scope.symbols (m.Load w) os
-op_by config scope labels (m.Store w) os = store_op scope.symbols (m.Store w) os
+op_by config scope labels (m.Load w) os = access_op scope.symbols Load w os
+op_by config scope labels (m.Store w) os = access_op scope.symbols Store w os
 op_by config scope labels (m.Branch k) os = jump_op scope labels (m.Branch k) os
 op_by config scope labels m.Jump os = jump_op scope labels m.Jump os
 op_by config scope labels m.Invoke os = jump_op scope labels m.Invoke os

@@ -164,6 +164,27 @@ struct Content {
     labels: Vec<Label>,
 }
 
+// The items and the labels of a body whose labels have these names.
+fn content_with(
+    alloc: Global,
+    config: &Config,
+    scope: &Scope,
+    labels: &Names,
+    body: &Body,
+) -> Result<Content, NoMemory>
+    requires few { body.now.line + length body.now.lines < 2 ^ 32 }
+    requires labels { labels.now ≡ label_names body.now.lines }
+    requires numbered { IsNumbered scope.now }
+    ensures items { IfOk result (λ content. content.items.items
+        ≡ items_from config.now scope.now (label_names body.now.lines) (body.now.line + 1) body.now.lines) }
+    ensures labels { IfOk result (λ content. content.labels.items
+        ≡ labels_from config.now scope.now (label_names body.now.lines) (body.now.line + 1) 0 body.now.lines) }
+{
+    let items = items_of(alloc, config, scope, labels, body.line(), body.lines())?;
+    let labels = labels_of(alloc, config, scope, labels, body.line(), body.lines())?;
+    Ok(Content { items, labels })
+}
+
 fn content_of(
     alloc: Global,
     config: &Config,
@@ -178,9 +199,7 @@ fn content_of(
         ≡ labels_from config.now scope.now (label_names body.now.lines) (body.now.line + 1) 0 body.now.lines) }
 {
     let names = label_names(alloc, body.lines())?;
-    let items = items_of(alloc, config, scope, &names, body.line(), body.lines())?;
-    let labels = labels_of(alloc, config, scope, &names, body.line(), body.lines())?;
-    Ok(Content { items, labels })
+    content_with(alloc, config, scope, &names, body)
 }
 
 /// The function that a body is.

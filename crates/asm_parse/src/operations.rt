@@ -1,7 +1,7 @@
 //! What an item does.
 ghost use Rattle.std.specs.Prelude.{◌≡◌, ◌<◌, ◌^◌, length};
 ghost use Rattle.asm_parse.specs.Numbered.{IsNumbered};
-ghost use Rattle.asm_parse.specs.Operations.{as_word, as_short, register_op, number_op, load_op, store_op, jump_op, op_by, op_of};
+ghost use Rattle.asm_parse.specs.Operations.{as_word, as_short, register_op, number_op, frame_op, symbol_op, element_op, access_op, jump_op, op_by, op_of};
 
 use crate::services::{call_of, number_of};
 use asm_lines::{Mnemonic, Operand, SourceLine};
@@ -109,74 +109,96 @@ fn number_op(mnemonic: Mnemonic, operands: &[Operand]) -> Option<Op>
     }
 }
 
-fn load_op(symbols: &Names, mnemonic: Mnemonic, operands: &[Operand]) -> Option<Op>
-    requires { length symbols.now < 2 ^ 32 }
-    ensures { result ≡ load_op symbols.now mnemonic operands.now }
+/// Which way a value goes: from memory to a register, or back.
+#[derive(Clone, Copy)]
+enum Access {
+    Load,
+    Store,
+}
+
+// An access to a word of the frame.
+fn frame_op(access: Access, register: Reg, word: u32) -> Op
+    ensures { result ≡ frame_op access register word }
 {
-    match (mnemonic, operands) {
-        (Mnemonic::Load(Width::Word), [Operand::Register(rd), Operand::Frame(word)]) => Some(
-            Op::FrameLoad {
-                rd: *rd,
-                word: *word,
-            },
-        ),
-        (Mnemonic::Load(width), [Operand::Register(rd), Operand::Direct { name, offset }]) => Some(
-            Op::Load {
-                width,
-                rd: *rd,
-                symbol: SymId(number_of(symbols, name.bytes())),
-                offset: *offset,
-            },
-        ),
-        (
-            Mnemonic::Load(width),
-            [
-                Operand::Register(rd),
-                Operand::Indexed { name, index, mask },
-            ],
-        ) => Some(Op::LoadAt {
-            width,
-            rd: *rd,
-            symbol: SymId(number_of(symbols, name.bytes())),
-            index: *index,
-            mask: *mask,
-        }),
-        _ => None,
+    match access {
+        Access::Load => Op::FrameLoad { rd: register, word },
+        Access::Store => Op::FrameStore { rs: register, word },
     }
 }
 
-fn store_op(symbols: &Names, mnemonic: Mnemonic, operands: &[Operand]) -> Option<Op>
-    requires { length symbols.now < 2 ^ 32 }
-    ensures { result ≡ store_op symbols.now mnemonic operands.now }
+// An access to a symbol at a fixed offset.
+fn symbol_op(access: Access, width: Width, register: Reg, symbol: u32, offset: u32) -> Op
+    ensures { result ≡ symbol_op access width register symbol offset }
 {
-    match (mnemonic, operands) {
-        (Mnemonic::Store(Width::Word), [Operand::Register(rs), Operand::Frame(word)]) => Some(
-            Op::FrameStore {
-                rs: *rs,
-                word: *word,
-            },
-        ),
-        (Mnemonic::Store(width), [Operand::Register(rs), Operand::Direct { name, offset }]) => Some(
-            Op::Store {
-                width,
-                rs: *rs,
-                symbol: SymId(number_of(symbols, name.bytes())),
-                offset: *offset,
-            },
-        ),
+    let symbol = SymId(symbol);
+    match access {
+        Access::Load => Op::Load {
+            width,
+            rd: register,
+            symbol,
+            offset,
+        },
+        Access::Store => Op::Store {
+            width,
+            rs: register,
+            symbol,
+            offset,
+        },
+    }
+}
+
+// An access to a symbol at the offset that a register has under a mask.
+fn element_op(access: Access, width: Width, register: Reg, symbol: u32, index: Reg, mask: u32) -> Op
+    ensures { result ≡ element_op access width register symbol index mask }
+{
+    let symbol = SymId(symbol);
+    match access {
+        Access::Load => Op::LoadAt {
+            width,
+            rd: register,
+            symbol,
+            index,
+            mask,
+        },
+        Access::Store => Op::StoreAt {
+            width,
+            rs: register,
+            symbol,
+            index,
+            mask,
+        },
+    }
+}
+
+// The operation of a load or store.
+fn access_op(symbols: &Names, access: Access, width: Width, operands: &[Operand]) -> Option<Op>
+    requires { length symbols.now < 2 ^ 32 }
+    ensures { result ≡ access_op symbols.now access width operands.now }
+{
+    match (width, operands) {
         (
-            Mnemonic::Store(width),
+            _,
             [
-                Operand::Register(rs),
+                Operand::Register(register),
+                Operand::Direct { name, offset },
+            ],
+        ) => {
+            let symbol = number_of(symbols, name.bytes());
+            Some(symbol_op(access, width, *register, symbol, *offset))
+        },
+        (
+            _,
+            [
+                Operand::Register(register),
                 Operand::Indexed { name, index, mask },
             ],
-        ) => Some(Op::StoreAt {
-            width,
-            rs: *rs,
-            symbol: SymId(number_of(symbols, name.bytes())),
-            index: *index,
-            mask: *mask,
-        }),
+        ) => {
+            let symbol = number_of(symbols, name.bytes());
+            Some(element_op(access, width, *register, symbol, *index, *mask))
+        },
+        (Width::Word, [Operand::Register(register), Operand::Frame(word)]) => {
+            Some(frame_op(access, *register, *word))
+        },
         _ => None,
     }
 }
@@ -223,8 +245,8 @@ fn op_by(
     ensures { result ≡ op_by config.now scope.now labels.now mnemonic operands.now }
 {
     match mnemonic {
-        Mnemonic::Load(_) => load_op(&scope.symbols, mnemonic, operands),
-        Mnemonic::Store(_) => store_op(&scope.symbols, mnemonic, operands),
+        Mnemonic::Load(width) => access_op(&scope.symbols, Access::Load, width, operands),
+        Mnemonic::Store(width) => access_op(&scope.symbols, Access::Store, width, operands),
         Mnemonic::Branch(_) | Mnemonic::Jump | Mnemonic::Invoke => {
             jump_op(scope, labels, mnemonic, operands)
         },

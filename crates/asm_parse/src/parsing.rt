@@ -4,19 +4,63 @@ ghost use Rattle.sloth_base.specs.ConfigRange.{InRange};
 ghost use Rattle.sloth_base.specs.declared.config.Config.{Config};
 ghost use Rattle.sloth_base.specs.declared.app.App.{App};
 ghost use Rattle.least_fault.specs.Order.{ErrorIs, NoFault, IsLeast};
+ghost use Rattle.asm_names.specs.Bodies.{bodies_of};
 ghost use Rattle.asm_names.specs.NameFaults.{NameFault};
+ghost use Rattle.asm_names.specs.Scopes.{scope_of};
 ghost use Rattle.code_rules.specs.AppRange.{AppInRange};
 ghost use Rattle.asm_parse.specs.Apps.{app_of};
 ghost use Rattle.asm_parse.specs.AppTexts.{AppText, SourceTextFault};
 
 use crate::apps::app_of;
 use asm_lines::{SourceLine, read};
-use asm_names::{bodies_of, judge, scope_of};
+use asm_names::{Body, Scope, bodies_of, judge, scope_of};
 use sloth_base::app::App;
 use sloth_base::config::Config;
 use sloth_base::memory::NoMemory;
 use sloth_base::refusal::{BuildError, Refusal};
 use std::alloc::Global;
+
+// The task code of lines with these bodies, which may use these names, or the least fault of names and limits.
+fn app_in_scope(
+    alloc: Global,
+    config: &Config,
+    lines: &[SourceLine],
+    bodies: &[Body],
+    scope: &Scope,
+) -> Result<Result<App, Refusal>, NoMemory>
+    requires few { length lines.now < 2 ^ 32 }
+    requires config { InRange config.now }
+    requires bodies { bodies.now ≡ bodies_of lines.now }
+    requires scope { scope.now ≡ scope_of config.now lines.now bodies.now }
+    ensures app { IfOk result (λ found. IfOk found (λ app. app ≡ app_of config.now lines.now)) }
+    ensures none { IfOk result (λ found. OnOk found (NoFault (NameFault config.now lines.now))) }
+    ensures refused { IfOk result (λ found. IfErr found (IsLeast (NameFault config.now lines.now))) }
+{
+    let refusal = judge(alloc, config, lines, bodies, scope)?;
+    if let Some(refusal) = refusal {
+        return Ok(Err(refusal));
+    }
+    let app = app_of(alloc, config, lines, bodies, scope)?;
+    Ok(Ok(app))
+}
+
+// The task code of lines with these bodies, or the least fault of names and limits.
+fn app_of_bodies(
+    alloc: Global,
+    config: &Config,
+    lines: &[SourceLine],
+    bodies: &[Body],
+) -> Result<Result<App, Refusal>, NoMemory>
+    requires few { length lines.now < 2 ^ 32 }
+    requires config { InRange config.now }
+    requires bodies { bodies.now ≡ bodies_of lines.now }
+    ensures app { IfOk result (λ found. IfOk found (λ app. app ≡ app_of config.now lines.now)) }
+    ensures none { IfOk result (λ found. OnOk found (NoFault (NameFault config.now lines.now))) }
+    ensures refused { IfOk result (λ found. IfErr found (IsLeast (NameFault config.now lines.now))) }
+{
+    let scope = scope_of(alloc, config, lines, bodies)?;
+    app_in_scope(alloc, config, lines, bodies, &scope)
+}
 
 // The task code of lines, or the least fault of names and limits.
 fn app_or_refusal(
@@ -31,13 +75,7 @@ fn app_or_refusal(
     ensures refused { IfOk result (λ found. IfErr found (IsLeast (NameFault config.now lines.now))) }
 {
     let bodies = bodies_of(alloc, lines)?;
-    let scope = scope_of(alloc, config, lines, bodies.as_slice())?;
-    let refusal = judge(alloc, config, lines, bodies.as_slice(), &scope)?;
-    if let Some(refusal) = refusal {
-        return Ok(Err(refusal));
-    }
-    let app = app_of(alloc, config, lines, bodies.as_slice(), &scope)?;
-    Ok(Ok(app))
+    app_of_bodies(alloc, config, lines, bodies.as_slice())
 }
 
 /// The task code of a text, in range of the configuration, or its least refusal: A1 to A4 of its lines, and where they have none A5 to A7

@@ -85,7 +85,7 @@ fn object_number(scope: &Scope, kind: ObjectKind, operands: &[Operand]) -> u32
     ensures { result ≡ object_number scope.now kind operands.now }
 {
     match kind {
-        ObjectKind::Nothing => 0,
+        ObjectKind::Nothing | ObjectKind::Alarm => 0,
         ObjectKind::Task => number_of(&scope.tasks, first_name(operands)),
         ObjectKind::Resource => resource_number(scope, first_name(operands)),
     }
@@ -97,7 +97,7 @@ fn behind_object(kind: ObjectKind, operands: &[Operand]) -> &[Operand]
 {
     match kind {
         ObjectKind::Nothing => operands,
-        ObjectKind::Task | ObjectKind::Resource => behind_first(operands),
+        ObjectKind::Task | ObjectKind::Resource | ObjectKind::Alarm => behind_first(operands),
     }
 }
 

@@ -1,9 +1,15 @@
 -- The objects of services have small numbers.
-use Rattle.std.proofs.Common.{ℕ, ◌≤◌, Bool, true, false}
+use Rattle.std.proofs.Common.{ℕ, ◌≤◌, Bool, true, false, arith}
 use Rattle.sloth_base.specs.declared.service.ObjectKind.{ObjectKind}
-use Rattle.sloth_base.proofs.Services.{object_number_few}
-use Rattle.block_parts.specs.Objects.{HasBlockUnless}
+use Rattle.sloth_base.specs.declared.service.ObjectKind.TheVariants as object
+use Rattle.block_parts.specs.Objects.{HasCode, HasBlockUnless}
 
-pub few_objects : (elsewhere : Bool) (kind : ObjectKind) (object : ℕ) → HasBlockUnless elsewhere kind object → object ≤ 32
-few_objects true kind object h = absurd h
-few_objects false kind object h = object_number_few kind object h
+pub code_few : (kind : ObjectKind) (number : ℕ) → HasCode kind number → number ≤ 32
+code_few object.Nothing number h = omega (arith, h)
+code_few object.Task number h = omega (arith, h)
+code_few object.Resource number h = h
+code_few object.Alarm number h = absurd h
+
+pub few_objects : (elsewhere : Bool) (kind : ObjectKind) (number : ℕ) → HasBlockUnless elsewhere kind number → number ≤ 32
+few_objects true kind number h = absurd h
+few_objects false kind number h = code_few kind number h

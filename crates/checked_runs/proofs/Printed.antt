@@ -18,22 +18,28 @@ use Rattle.osek_scheduler.specs.State.{System, opening}
 use Rattle.osek_scheduler.specs.Steps.{OsekStep}
 use Rattle.osek_scheduler.specs.Runs.{Follows}
 use Rattle.sim_induction.specs.Sound.{events_of}
-use Rattle.trace_text.specs.EventLines.{Has32Bits, HasNumbers, IsPlace, IsTaskNumber}
+use Rattle.trace_text.specs.EventLines.{Has32Bits, HasNumbers, IsNumberOrNone, IsPlace}
 use Rattle.trace_text.specs.Texts.{lines_with}
-use Rattle.trace_text.specs.declared.print.Form.TheVariants as form
+use Rattle.trace_text.specs.declared.printing.Form.TheVariants as form
 use Rattle.trace_check.specs.TraceText.{HasLine}
-use Rattle.trace_check.specs.Verdicts.{func_names, task_names}
+use Rattle.trace_check.specs.Verdicts.{counter_names, func_names, task_names}
 use Rattle.checked_runs.specs.CheckedRuns.{SoundRunsAreChecked}
 use Rattle.code_rules.specs.AppRange.{AppInRange}
 use Rattle.osek_scheduler.specs.InTime.{IsStamped}
 use Rattle.checked_runs.proofs.Registers.{HasValue, HasValueAt, values_fit}
 
 module _ (config : Config) (app : App) (in_range : AppInRange config app) where
-  task_number : (t : ℕ) → t < length config.tasks → IsTaskNumber (length (task_names config)) t
+  task_number : (t : ℕ) → t < length config.tasks → IsNumberOrNone (length (task_names config)) t
   task_number t declared =
       let long = length-map config.tasks (λ d. d.name) in
       let few = in_range.configuration.few_tasks in
       record { word = omega (arith, declared, few); names = inl (omega (arith, declared, long)) }
+
+  counter_place : (c : ℕ) → c < length config.counters → IsPlace (length (counter_names config)) c
+  counter_place c declared =
+      let long = length-map config.counters (λ d. d.name) in
+      let few = in_range.configuration.few_counters in
+      record { word = omega (arith, declared, few); inside = omega (arith, declared, long) }
 
   -- a function with an item is declared
   has_item : (f item : ℕ) → item < length (function app f).items → f < length app.funcs
@@ -60,7 +66,7 @@ module _ (config : Config) (app : App) (in_range : AppInRange config app) where
       omega (arith, inside, within, same, few)
 
   -- the numbers of an event that is a step
-  numbers_of : (e : Event) (s next : System) → OsekStep config app e s next → HasValue e → HasNumbers (length (task_names config)) (length (func_names app)) e
+  numbers_of : (e : Event) (s next : System) → OsekStep config app e s next → HasValue e → HasNumbers (length (task_names config)) (length (func_names app)) (length (counter_names config)) e
   numbers_of event.Boot s next step value = tt
   numbers_of (event.Admit t) s next step value = task_number t step.1
   numbers_of (event.Enter t) s next step value = task_number t step.1.declared
@@ -74,15 +80,18 @@ module _ (config : Config) (app : App) (in_range : AppInRange config app) where
   numbers_of (event.Back t) s next step value = task_number t step.1.declared
   numbers_of event.Idle s next step value = tt
   numbers_of event.Stray s next step value = tt
+  numbers_of (event.Due c) s next step value = counter_place c step.1
+  numbers_of (event.Tick c) s next step value =
+      let at = counter_place c step.1.declared in record { word = at.word; names = inl at.inside }
 
   lines_of_run : (n : ℕ) → n ≤ 1000000 → (past events : List Stamped) (s end : System) → Follows config app past s events end → All (IsStamped n) events
-      → AllByRecursion HasValueAt events → All (HasLine (task_names config) (func_names app)) events
+      → AllByRecursion HasValueAt events → All (HasLine (task_names config) (func_names app) (counter_names config)) events
   lines_of_run n few past [] s end h stamped values = λ k d l. absurd (omega (arith, l))
   lines_of_run n few past (e ∷ events) s end h stamped values =
       let stamp = All-head (IsStamped n) e events stamped in
       let ordered = stamp.ordered in
       let below = stamp.below in
-      All-cons (HasLine (task_names config) (func_names app)) e events
+      All-cons (HasLine (task_names config) (func_names app) (counter_names config)) e events
       (record { from = omega (arith, ordered, below, few); at = omega (arith, below, few); numbers = numbers_of e.event s h.0 h.1 values.0; prints = refl })
       (lines_of_run n few (past ++ e ∷ []) events h.0 end h.3 (All-tail (IsStamped n) e events stamped) values.1)
 
@@ -95,8 +104,9 @@ runs_are_checked config app image in_range sound items bytes arrivals n are few 
       shows = record {
         lines = lines_of_run config app in_range n few [] events (opening config app) run.osek.0 run.osek.1 run.in_time.stamped (values_fit image arrivals n bytes);
         is =
-            ap (λ (l : List (List ℕ)). lines_with l image.funcs form.Counted events) items.tasks
-            ∙ ap (λ (l : List (List ℕ)). lines_with (task_names config) l form.Counted events) items.functions;
+            ap (λ (l : List (List ℕ)). lines_with l image.funcs image.counters form.Counted events) items.tasks
+            ∙ ap (λ (l : List (List ℕ)). lines_with (task_names config) l image.counters form.Counted events) items.functions
+            ∙ ap (λ (l : List (List ℕ)). lines_with (task_names config) (func_names app) l form.Counted events) sound.counters;
       };
       run = run.osek;
       in_time = run.in_time;

@@ -1,10 +1,10 @@
 -- The results and statuses that are observed of a run are values of registers, and so below 2^32.
 use Rattle.std.proofs.Common.{◌≡◌, ◌∙◌, ℕ, zero, suc, ◌+◌, ◌<◌, List, [], ◌∷◌, ◌++◌, Bool, true, false, Option, Some, None, map, refl, sym, ap, subst, arith, replicate}
-use Rattle.std.specs.Prelude.{◌==◌, if◌then◌else◌, not, filter, slice_index}
+use Rattle.std.specs.Prelude.{◌==◌, nat_lt, if◌then◌else◌, not, filter, slice_index}
 use Rattle.std.specs.List.{AllByRecursion, flat_map}
 use Rattle.sloth_base.specs.Arrivals.{moments}
 use Rattle.sloth_base.specs.Machine.{State}
-use Rattle.sloth_base.specs.Owners.{line_kind}
+use Rattle.sloth_base.specs.Owners.{first_counter_line, line_kind}
 use Rattle.sloth_base.specs.ServiceCodes.{service_of}
 use Rattle.sloth_base.specs.Take.{entered}
 use Rattle.sloth_base.specs.declared.event.Arrival.{Arrival}
@@ -25,7 +25,7 @@ use Rattle.rv32_machine.specs.Run.{arrived, moment, moment_of, on_goes, run_from
 use Rattle.rv32_machine.specs.Start.{start}
 use Rattle.observe.specs.Pieces.{Piece, Outside, Stretch, cut_off, is_outside, pieces}
 use Rattle.observe.specs.Pieces as cut
-use Rattle.observe.specs.Observe.{View, admission, arrival_event, entry_event, events_of_kind, found_admits, is_early, last_of, later_event, mark_at, marked_event, masked_from, observe, outside_events, piece_events, running_task, service_event, stamp, stretch_event, unentered_event, view_of_image}
+use Rattle.observe.specs.Observe.{NO_COUNTER, NO_TASK, View, admission, arrival_event, entry_event, events_of_kind, found_admits, is_early, last_of, later_event, mark_at, marked_event, masked_from, observe, outside_events, piece_events, running_task, service_event, stamp, stretch_event, unentered_event, view_of_image}
 use Rattle.sim_entries.proofs.Boot.{ram_at}
 use Rattle.sim_entries.proofs.Spot.{zero_at}
 use Rattle.sim_induction.specs.Sound.{events_of}
@@ -96,6 +96,8 @@ HasValue (event.Left t called) = Unit {0}
 HasValue (event.Back t) = Unit {0}
 HasValue event.Idle = Unit {0}
 HasValue event.Stray = Unit {0}
+HasValue (event.Due c) = Unit {0}
+HasValue (event.Tick c) = Unit {0}
 
 abbrev pub HasValueAt : Stamped → Type 0
 HasValueAt e = HasValue e.event
@@ -114,11 +116,17 @@ last_fits first (next ∷ more) h k = last_fits next more k.0 k.1
 
 arrival_fits : (k : LineKind) → HasValue (arrival_event k)
 arrival_fits (line_of.Task t) = tt
+arrival_fits (line_of.Counter c) = tt
 arrival_fits line_of.Unused = tt
 
-entry_fits : (k : LineKind) → HasValue (entry_event k)
-entry_fits (line_of.Task t) = tt
-entry_fits line_of.Unused = tt
+entry_fits : (line : ℕ) (k : LineKind) → HasValue (entry_event line k)
+entry_fits line (line_of.Task t) = tt
+entry_fits line (line_of.Counter c) = tt
+entry_fits line line_of.Unused = by (nat_lt line first_counter_line)
+  where
+    by : (b : Bool) → HasValue (if b then event.Enter NO_TASK else event.Tick NO_COUNTER)
+    by true = tt
+    by false = tt
 
 module _ (view : View) where
   admits_fit : (arrivals : List Arrival) → AllByRecursion HasValueAt (map (admission view) arrivals)
@@ -160,7 +168,7 @@ module _ (view : View) where
   unentered_fits None first last h = tt
 
   later_fits : (o : Option ℕ) (first last : Step) → AreWords last → HasValue (later_event o view first last)
-  later_fits (Some line) first last h = entry_fits (line_kind view.owners line)
+  later_fits (Some line) first last h = entry_fits line (line_kind view.owners line)
   later_fits None first last h = unentered_fits (mark_at view first.pc) first last h
 
   stretch_fits : (first last : Step) → AreWords last → HasValue (stretch_event view first last)

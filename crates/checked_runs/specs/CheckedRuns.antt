@@ -10,7 +10,7 @@ use Rattle.code_rules.specs.AppRange.{AppInRange}
 use Rattle.rv32_expand.specs.InPlace.{ItemsInPlace}
 use Rattle.sim_induction.specs.Sound.{Sound}
 use Rattle.sim_relation.specs.Bounds.{AreBelow}
-use Rattle.trace_text.specs.declared.print.Form.TheVariants.{Counted}
+use Rattle.trace_text.specs.declared.printing.Form.TheVariants.{Counted}
 use Rattle.trace_check.specs.Verdicts.{Checked}
 use Rattle.sloth_runner.specs.Runner.{run_text}
 

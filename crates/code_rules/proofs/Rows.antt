@@ -41,6 +41,8 @@ config = record {
   resources = (82 ∷ []) ∷ (83 ∷ []) ∷ [];
   events = record { name = 69 ∷ []; mask = 1 } ∷ record { name = 70 ∷ []; mask = 2 } ∷ [];
   res_scheduler = true;
+  counters = [];
+  alarms = [];
 }
 
 -- `task Main, 4` on line 1

@@ -1,7 +1,6 @@
 -- When task code is in range of a configuration: what its text may have said.
 use Rattle.std.specs.Prelude.{ℕ, ℤ, pos, negsuc, ◌<◌, ◌≤◌, ◌≡◌, ◌⊎◌, List, [], ◌∷◌, length, map, sum, All, Bool, true, false, IsTrue, None, get_or, bit_or}
 use Rattle.sloth_base.specs.declared.config.Config.{Config}
-use Rattle.sloth_base.specs.declared.config.EventDecl.{EventDecl}
 use Rattle.sloth_base.specs.declared.app.App.{App}
 use Rattle.sloth_base.specs.declared.app.Func.{Func}
 use Rattle.sloth_base.specs.declared.app.ImmKind.{ImmKind}
@@ -15,6 +14,7 @@ use Rattle.sloth_base.specs.declared.service.ObjectKind.{ObjectKind}
 use Rattle.sloth_base.specs.declared.service.ObjectKind.TheVariants as object
 use Rattle.sloth_base.specs.declared.service.Service.{Service}
 use Rattle.sloth_base.specs.ConfigRange.{InRange, scheduler_number}
+pub use Rattle.sloth_base.specs.ConfigRange.{no_event}
 use Rattle.sloth_base.specs.ImageRange.{AreNames}
 use Rattle.sloth_base.specs.Named.{function, IsBodyOf}
 use Rattle.sloth_base.specs.ServiceCodes.{object_kind, has_mask}
@@ -63,6 +63,10 @@ IsDeclared config t = t < length config.tasks
 abbrev pub IsResource : Config → ℕ → Type 0
 IsResource config r = (r < length config.resources) ⊎ ((r ≡ scheduler_number) × IsTrue config.res_scheduler)
 
+-- an alarm of the configuration
+abbrev pub IsDeclaredAlarm : Config → ℕ → Type 0
+IsDeclaredAlarm config a = a < length config.alarms
+
 -- a named piece of data of the task code
 abbrev pub IsSymbol : App → ℕ → Type 0
 IsSymbol app y = y < length app.symbols
@@ -74,10 +78,6 @@ IsLabel f k = k < length f.labels
 -- a function that may be called: it is no task's body
 abbrev pub IsCallable : App → ℕ → Type 0
 IsCallable app g = (g < length app.funcs) × ((function app g).task ≡ None)
-
--- what stands in the place of an event that is not there
-abbrev pub no_event : EventDecl
-no_event = record { name = []; mask = 0 }
 
 -- the union of the masks of these events
 abbrev pub mask_of : Config → List ℕ → ℕ
@@ -96,13 +96,14 @@ abbrev pub IsObject : Config → ObjectKind → ℕ → Type 0
 IsObject config object.Nothing o = o ≡ 0
 IsObject config object.Task t = IsDeclared config t
 IsObject config object.Resource r = IsResource config r
+IsObject config object.Alarm a = IsDeclaredAlarm config a
 
 -- the mask of a service's events; where it has none it is 0
 abbrev pub AreEvents : Config → (has : Bool) → ℕ → Type 0
 AreEvents config true mask = IsMask config mask
 AreEvents config false mask = mask ≡ 0
 
--- the operands of a service: its task or resource, and the mask of its events
+-- the operands of a service: its task, resource or alarm, and the mask of its events
 abbrev pub AreOperands : Config → Service → (object mask : ℕ) → Type 0
 AreOperands config s object mask = IsObject config (object_kind s) object × AreEvents config (has_mask s) mask
 

@@ -2,8 +2,8 @@
 use Rattle.std.proofs.Common.{◌≡◌, ◌≤◌, ◌∙◌, ℕ, List, ◌∷◌, [], Option, None, Some, refl, sym, ap, subst, get_or, arith}
 use Rattle.std.specs.Prelude.{codes, decimal}
 use Rattle.std.proofs.lemmas.Fmt.{decimal_injective}
-use Rattle.trace_text.specs.declared.print.Form.{Form}
-use Rattle.trace_text.specs.declared.print.Form.TheVariants as form
+use Rattle.trace_text.specs.declared.printing.Form.{Form}
+use Rattle.trace_text.specs.declared.printing.Form.TheVariants as form
 use Rattle.std.specs.Prelude.{Bool, true, false, ◌||◌}
 use Rattle.std.specs.Str.{bytes_eq}
 use Rattle.std.proofs.lemmas.Bool.{true≢false}
@@ -87,6 +87,7 @@ tool-apart tool.Unelf = refl
 tool-apart tool.Infer = refl
 tool-apart tool.At = refl
 tool-apart tool.Wave = refl
+tool-apart tool.Picture = refl
 tool-apart tool.Check = refl
 tool-apart tool.Bounds = refl
 

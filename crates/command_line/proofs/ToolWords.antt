@@ -5,14 +5,19 @@ use Rattle.std.specs.Str.{bytes_eq}
 use Rattle.std.proofs.Math.Seq.{take-append_seam, drop-append_seam}
 use Rattle.std.proofs.lemmas.List.{length-append, drop-map}
 use Rattle.std.proofs.lemmas.Fmt.{decimal_injective}
+use Rattle.command_line.specs.declared.counts.Counts.{Counts}
+use Rattle.command_line.specs.declared.counts.Counts.TheVariants as counts
+use Rattle.command_line.specs.declared.counts.Limit.{Limit}
+use Rattle.command_line.specs.declared.counts.Limit.TheVariants as limit
+use Rattle.command_line.specs.declared.counts.Window.{Window}
 use Rattle.command_line.specs.declared.tool.Tool.{Tool}
 use Rattle.command_line.specs.declared.tool.Tool.TheVariants as tool
 use Rattle.command_line.specs.Command.{NoTool, words_of}
-use Rattle.command_line.specs.Tools.{ToolUse, tool_word, tool_words, input_count, number_limit, writes_file, number_words, output_words, IsNumber, IsOutput, IsToolUse}
+use Rattle.command_line.specs.Tools.{ToolUse, tool_word, tool_words, input_count, counts_limit, writes_file, counts_words, output_words, AreCounts, IsOutput, IsToolUse, IsWindow}
 
 -- the tools
 abbrev all_tools : List Tool
-all_tools = tool.Elf ∷ tool.Unelf ∷ tool.Infer ∷ tool.At ∷ tool.Wave ∷ tool.Check ∷ tool.Bounds ∷ []
+all_tools = tool.Elf ∷ tool.Unelf ∷ tool.Infer ∷ tool.At ∷ tool.Wave ∷ tool.Picture ∷ tool.Check ∷ tool.Bounds ∷ []
 
 -- the first of these that has a word
 abbrev first_with : List ℕ → List Tool → Option Tool
@@ -25,23 +30,26 @@ found tool.Unelf = refl
 found tool.Infer = refl
 found tool.At = refl
 found tool.Wave = refl
+found tool.Picture = refl
 found tool.Check = refl
 found tool.Bounds = refl
 
 pub same-tool : (t u : Tool) → tool_word t ≡ tool_word u → t ≡ u
 same-tool t u e = let both : Some t ≡ Some u = sym (found t) ∙ (ap (λ w. first_with w all_tools) e ∙ found u) in cc
 
--- the limits of numbers are words of 32 bits
-abbrev IsWordLimit : Option ℕ → Type 0
+-- the limits of counts are words of 32 bits
+abbrev IsWordLimit : Option Limit → Type 0
 IsWordLimit None = Unit {0}
-IsWordLimit (Some limit) = limit ≤ 4294967295
+IsWordLimit (Some (limit.One most)) = most ≤ 4294967295
+IsWordLimit (Some (limit.Window most apart)) = most ≤ 4294967295
 
-word-limit : (t : Tool) → IsWordLimit (number_limit t)
+word-limit : (t : Tool) → IsWordLimit (counts_limit t)
 word-limit tool.Elf = tt
 word-limit tool.Unelf = tt
 word-limit tool.Infer = tt
 word-limit tool.At = omega arith
 word-limit tool.Wave = omega arith
+word-limit tool.Picture = omega arith
 word-limit tool.Check = omega arith
 word-limit tool.Bounds = tt
 
@@ -62,57 +70,85 @@ same-output true None p h i e = absurd h
 same-output true (Some o) None h i e = absurd i
 same-output true (Some o) (Some p) h i e = let a : o ∷ [] ≡ p ∷ [] = e in let same : o ≡ p = cc in ap Some same
 
-same-behind : (limit : Option ℕ) (n m : Option ℕ) (r s : List (List ℕ)) → IsWordLimit limit → IsNumber limit n → IsNumber limit m
-    → number_words n ++ r ≡ number_words m ++ s → (n ≡ m) × (r ≡ s)
+-- words of numbers that are words of 32 bits
+same-number : (n m most : ℕ) → most ≤ 4294967295 → n ≤ most → m ≤ most → decimal n ≡ decimal m → n ≡ m
+same-number n m most l h i e = decimal_injective n m (omega (arith, l, h)) (omega (arith, l, i)) e
+
+-- the ends of a window in words
+pub same-ends : (from to most apart : ℕ) (w : Window) → most ≤ 4294967295 → from ≤ most → to ≤ most → IsWindow most apart w → decimal from ≡ decimal w.from
+    → decimal to ≡ decimal w.to → (from ≡ w.from) × (to ≡ w.to)
+same-ends from to most apart w l h i is f t =
+    let ordered = is.ordered in
+    let within = is.within in
+    (same-number from w.from most l h (omega (arith, ordered, within)) f, same-number to w.to most l i within t)
+
+same-window : (v w : Window) → v.from ≡ w.from → v.to ≡ w.to → v ≡ w
+same-window v w f t = ap (λ x. record { from = x; to = v.to }) f ∙ ap (λ x. record { from = w.from; to = x }) t
+
+pub same-behind : (limit : Option Limit) (c d : Option Counts) (r s : List (List ℕ)) → IsWordLimit limit → AreCounts limit c → AreCounts limit d
+    → counts_words c ++ r ≡ counts_words d ++ s → (c ≡ d) × (r ≡ s)
 same-behind None None None r s l h i e = (refl, e)
-same-behind None (Some n) m r s l h i e = absurd h
-same-behind None None (Some m) r s l h i e = absurd i
-same-behind (Some limit) None m r s l h i e = absurd h
-same-behind (Some limit) (Some n) None r s l h i e = absurd i
-same-behind (Some limit) (Some n) (Some m) r s l h i e =
+same-behind None (Some c) d r s l h i e = absurd h
+same-behind None None (Some d) r s l h i e = absurd i
+same-behind (Some limit) None d r s l h i e = absurd h
+same-behind (Some limit) (Some c) None r s l h i e = absurd i
+same-behind (Some (limit.One most)) (Some (counts.One n)) (Some (counts.One m)) r s l h i e =
     let words : decimal n ∷ r ≡ decimal m ∷ s = e in
     let digits : decimal n ≡ decimal m = cc in
     let rest : r ≡ s = cc in
-    (ap Some (decimal_injective n m (omega (arith, l, h)) (omega (arith, l, i)) digits), rest)
+    (ap (λ x. Some (counts.One x)) (same-number n m most l h i digits), rest)
+same-behind (Some (limit.One most)) (Some (counts.One n)) (Some (counts.Window w)) r s l h i e = absurd i
+same-behind (Some (limit.One most)) (Some (counts.Window v)) (Some d) r s l h i e = absurd h
+same-behind (Some (limit.Window most apart)) (Some (counts.One n)) (Some d) r s l h i e = absurd h
+same-behind (Some (limit.Window most apart)) (Some (counts.Window v)) (Some (counts.One m)) r s l h i e = absurd i
+same-behind (Some (limit.Window most apart)) (Some (counts.Window v)) (Some (counts.Window w)) r s l h i e =
+    let words : decimal v.from ∷ decimal v.to ∷ r ≡ decimal w.from ∷ decimal w.to ∷ s = e in
+    let first : decimal v.from ≡ decimal w.from = cc in
+    let second : decimal v.to ≡ decimal w.to = cc in
+    let rest : r ≡ s = cc in
+    let ordered = h.ordered in
+    let within = h.within in
+    let ends = same-ends v.from v.to most apart w l (omega (arith, ordered, within)) within i first second in
+    (ap (λ x. Some (counts.Window x)) (same-window v w ends.0 ends.1), rest)
 
-same-parts : (u w : ToolUse) → u.tool ≡ w.tool → u.inputs ≡ w.inputs → u.number ≡ w.number → u.output ≡ w.output → u ≡ w
+same-parts : (u w : ToolUse) → u.tool ≡ w.tool → u.inputs ≡ w.inputs → u.counts ≡ w.counts → u.output ≡ w.output → u ≡ w
 same-parts u w a b c d =
-    ap (λ x. record { tool = x; inputs = u.inputs; number = u.number; output = u.output }) a
-    ∙ ap (λ x. record { tool = w.tool; inputs = x; number = u.number; output = u.output }) b
-    ∙ ap (λ x. record { tool = w.tool; inputs = w.inputs; number = x; output = u.output }) c
-    ∙ ap (λ x. record { tool = w.tool; inputs = w.inputs; number = w.number; output = x }) d
+    ap (λ x. record { tool = x; inputs = u.inputs; counts = u.counts; output = u.output }) a
+    ∙ ap (λ x. record { tool = w.tool; inputs = x; counts = u.counts; output = u.output }) b
+    ∙ ap (λ x. record { tool = w.tool; inputs = w.inputs; counts = x; output = u.output }) c
+    ∙ ap (λ x. record { tool = w.tool; inputs = w.inputs; counts = w.counts; output = x }) d
 
 -- behind the same word
-pub same-rest : (t : Tool) (xs ys : List (List ℕ)) (n m : Option ℕ) (o p : Option (List ℕ)) → length xs ≡ input_count t → length ys ≡ input_count t
-    → IsNumber (number_limit t) n → IsNumber (number_limit t) m → IsOutput (writes_file t) o → IsOutput (writes_file t) p
-    → xs ++ (number_words n ++ output_words o) ≡ ys ++ (number_words m ++ output_words p) → (xs ≡ ys) × (n ≡ m) × (o ≡ p)
-same-rest t xs ys n m o p a b h i j k e =
+pub same-rest : (t : Tool) (xs ys : List (List ℕ)) (c d : Option Counts) (o p : Option (List ℕ)) → length xs ≡ input_count t → length ys ≡ input_count t
+    → AreCounts (counts_limit t) c → AreCounts (counts_limit t) d → IsOutput (writes_file t) o → IsOutput (writes_file t) p
+    → xs ++ (counts_words c ++ output_words o) ≡ ys ++ (counts_words d ++ output_words p) → (xs ≡ ys) × (c ≡ d) × (o ≡ p)
+same-rest t xs ys c d o p a b h i j k e =
     let inputs = fronts xs ys _ _ (a ∙ sym b) e in
-    let numbers = same-behind (number_limit t) n m _ _ (word-limit t) h i inputs.1 in
+    let numbers = same-behind (counts_limit t) c d _ _ (word-limit t) h i inputs.1 in
     (inputs.0, numbers.0, same-output (writes_file t) o p j k numbers.1)
 
 pub same-use : (u w : ToolUse) → tool_words u ≡ tool_words w → IsToolUse u → IsToolUse w → u ≡ w
 same-use u w e l m =
-    let words : tool_word u.tool ∷ u.inputs ++ (number_words u.number ++ output_words u.output) ≡ tool_word w.tool ∷ w.inputs ++ (number_words w.number ++ output_words w.output) = e in
+    let words : tool_word u.tool ∷ u.inputs ++ (counts_words u.counts ++ output_words u.output) ≡ tool_word w.tool ∷ w.inputs ++ (counts_words w.counts ++ output_words w.output) = e in
     let first : tool_word u.tool ≡ tool_word w.tool = cc in
-    let rest : u.inputs ++ (number_words u.number ++ output_words u.output) ≡ w.inputs ++ (number_words w.number ++ output_words w.output) = cc in
+    let rest : u.inputs ++ (counts_words u.counts ++ output_words u.output) ≡ w.inputs ++ (counts_words w.counts ++ output_words w.output) = cc in
     let t : u.tool ≡ w.tool = same-tool u.tool w.tool first in
     let counted : length w.inputs ≡ input_count u.tool = m.counted ∙ ap input_count (sym t) in
-    let number = subst (λ x. IsNumber (number_limit x) w.number) (sym t) m.number in
+    let counts = subst (λ x. AreCounts (counts_limit x) w.counts) (sym t) m.counts in
     let output = subst (λ x. IsOutput (writes_file x) w.output) (sym t) m.output in
-    let same = same-rest u.tool u.inputs w.inputs u.number w.number u.output w.output l.counted counted l.number number l.output output rest in
+    let same = same-rest u.tool u.inputs w.inputs u.counts w.counts u.output w.output l.counted counted l.counts counts l.output output rest in
     same-parts u w t same.0 same.1 same.2
 
 -- what stands in the words of a tool behind the files that it reads
 pub record Behind (words : List (List ℕ)) (t : Tool) (u : ToolUse) : Type 0 where
   pub tool_is : u.tool ≡ t
   pub long : input_count t + 1 ≤ length words
-  pub rest : drop (input_count t + 1) words ≡ number_words u.number ++ output_words u.output
+  pub rest : drop (input_count t + 1) words ≡ counts_words u.counts ++ output_words u.output
 
 pub behind-inputs : (words : List (List ℕ)) (t : Tool) (u : ToolUse) → get_or words 0 [] ≡ tool_word t → words ≡ tool_words u → IsToolUse u → Behind words t u
 behind-inputs words t u first e is =
     let same : u.tool ≡ t = same-tool u.tool t (ap (λ w. get_or w 0 []) (sym e) ∙ first) in
-    let rest : List (List ℕ) = number_words u.number ++ output_words u.output in
+    let rest : List (List ℕ) = counts_words u.counts ++ output_words u.output in
     let counted : length u.inputs ≡ input_count t = is.counted ∙ ap input_count same in
     let n : input_count t + 1 ≡ length (tool_word u.tool ∷ u.inputs) = omega (arith, counted) in
     let long : length words ≡ length (tool_word u.tool ∷ u.inputs) + length rest =
@@ -124,22 +160,22 @@ behind-inputs words t u first e is =
           ∙ drop-append_seam (tool_word u.tool ∷ u.inputs) rest;
     }
 
--- words behind which no number stands that the tool takes are no tool's
-pub without-number : (words : List (List ℕ)) (t : Tool) → get_or words 0 [] ≡ tool_word t
-    → ((n : Option ℕ) (rest : List (List ℕ)) → IsNumber (number_limit t) n → drop (input_count t + 1) words ≡ number_words n ++ rest → ⊥) → NoTool words
-without-number words t first none used h =
+-- words behind which no counts stand that the tool takes are no tool's
+pub without-counts : (words : List (List ℕ)) (t : Tool) → get_or words 0 [] ≡ tool_word t
+    → ((n : Option Counts) (rest : List (List ℕ)) → AreCounts (counts_limit t) n → drop (input_count t + 1) words ≡ counts_words n ++ rest → ⊥) → NoTool words
+without-counts words t first none used h =
     let b = behind-inputs words t used first h.0 h.1 in
-    let N : Tool → Type 0 = λ x. IsNumber (number_limit x) used.number in
-    none used.number (output_words used.output) (subst N b.tool_is h.1.number) b.rest
+    let N : Tool → Type 0 = λ x. AreCounts (counts_limit x) used.counts in
+    none used.counts (output_words used.output) (subst N b.tool_is h.1.counts) b.rest
 
 -- nor are those behind which no file stands that it writes
-pub without-output : (words : List (List ℕ)) (t : Tool) (n : Option ℕ) (behind : List (List ℕ)) → get_or words 0 [] ≡ tool_word t → IsNumber (number_limit t) n
-    → drop (input_count t + 1) words ≡ number_words n ++ behind → ((o : Option (List ℕ)) → IsOutput (writes_file t) o → behind ≡ output_words o → ⊥) → NoTool words
+pub without-output : (words : List (List ℕ)) (t : Tool) (n : Option Counts) (behind : List (List ℕ)) → get_or words 0 [] ≡ tool_word t → AreCounts (counts_limit t) n
+    → drop (input_count t + 1) words ≡ counts_words n ++ behind → ((o : Option (List ℕ)) → IsOutput (writes_file t) o → behind ≡ output_words o → ⊥) → NoTool words
 without-output words t n behind first number e none used h =
     let b = behind-inputs words t used first h.0 h.1 in
-    let N : Tool → Type 0 = λ x. IsNumber (number_limit x) used.number in
+    let N : Tool → Type 0 = λ x. AreCounts (counts_limit x) used.counts in
     let O : Tool → Type 0 = λ x. IsOutput (writes_file x) used.output in
-    let same = same-behind (number_limit t) n used.number behind (output_words used.output) (word-limit t) number (subst N b.tool_is h.1.number) (sym e ∙ b.rest) in
+    let same = same-behind (counts_limit t) n used.counts behind (output_words used.output) (word-limit t) number (subst N b.tool_is h.1.counts) (sym e ∙ b.rest) in
     none used.output (subst O b.tool_is h.1.output) same.1
 
 -- what holds anyway

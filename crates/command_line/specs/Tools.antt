@@ -1,5 +1,10 @@
 -- The commands that read files, judge what they hold, and end with one answer: a row for each in each of these tables.
-use Rattle.std.specs.Prelude.{ℕ, ◌≡◌, ◌≤◌, List, [], ◌∷◌, ◌++◌, length, codes, decimal, Bool, true, false, Option, Some, None}
+use Rattle.std.specs.Prelude.{ℕ, ◌≡◌, ◌≤◌, ◌+◌, List, [], ◌∷◌, ◌++◌, length, codes, decimal, Bool, true, false, Option, Some, None}
+use Rattle.command_line.specs.declared.counts.Counts.{Counts}
+use Rattle.command_line.specs.declared.counts.Counts.TheVariants as counts
+use Rattle.command_line.specs.declared.counts.Limit.{Limit}
+use Rattle.command_line.specs.declared.counts.Limit.TheVariants as limit
+use Rattle.command_line.specs.declared.counts.Window.{Window}
 use Rattle.command_line.specs.declared.tool.Tool.{Tool}
 use Rattle.command_line.specs.declared.tool.Tool.TheVariants as tool
 
@@ -10,6 +15,7 @@ tool_word tool.Unelf = codes "unelf"
 tool_word tool.Infer = codes "infer"
 tool_word tool.At = codes "at"
 tool_word tool.Wave = codes "wave"
+tool_word tool.Picture = codes "picture"
 tool_word tool.Check = codes "check"
 tool_word tool.Bounds = codes "bounds"
 
@@ -20,18 +26,20 @@ input_count tool.Unelf = 1
 input_count tool.Infer = 2
 input_count tool.At = 2
 input_count tool.Wave = 2
+input_count tool.Picture = 2
 input_count tool.Check = 4
 input_count tool.Bounds = 2
 
--- the greatest number that it takes as its next word, if it takes one
-abbrev pub number_limit : Tool → Option ℕ
-number_limit tool.Elf = None
-number_limit tool.Unelf = None
-number_limit tool.Infer = None
-number_limit tool.At = Some 999999
-number_limit tool.Wave = Some 1000000
-number_limit tool.Check = Some 1000000
-number_limit tool.Bounds = None
+-- which counts it takes as its next words, if it takes any
+abbrev pub counts_limit : Tool → Option Limit
+counts_limit tool.Elf = None
+counts_limit tool.Unelf = None
+counts_limit tool.Infer = None
+counts_limit tool.At = Some (limit.One 999999)
+counts_limit tool.Wave = Some (limit.One 1000000)
+counts_limit tool.Picture = Some (limit.Window 1000000 100000)
+counts_limit tool.Check = Some (limit.One 1000000)
+counts_limit tool.Bounds = None
 
 -- whether its last word names a file that it writes
 abbrev pub writes_file : Tool → Bool
@@ -40,20 +48,22 @@ writes_file tool.Unelf = true
 writes_file tool.Infer = true
 writes_file tool.At = false
 writes_file tool.Wave = true
+writes_file tool.Picture = true
 writes_file tool.Check = false
 writes_file tool.Bounds = false
 
--- a tool with the files that it reads, its number and the file that it writes, if it has them
+-- a tool with the files that it reads, its counts and the file that it writes, if it has them
 pub record ToolUse : Type 0 where
   pub tool : Tool
   pub inputs : List (List ℕ)
-  pub number : Option ℕ
+  pub counts : Option Counts
   pub output : Option (List ℕ)
 
--- the word of a number, if there is one
-abbrev pub number_words : Option ℕ → List (List ℕ)
-number_words None = []
-number_words (Some n) = decimal n ∷ []
+-- the words of counts, if there are any
+abbrev pub counts_words : Option Counts → List (List ℕ)
+counts_words None = []
+counts_words (Some (counts.One n)) = decimal n ∷ []
+counts_words (Some (counts.Window w)) = decimal w.from ∷ decimal w.to ∷ []
 
 -- the word of a file that is written, if there is one
 abbrev pub output_words : Option (List ℕ) → List (List ℕ)
@@ -62,14 +72,43 @@ output_words (Some name) = name ∷ []
 
 -- the words of a tool
 abbrev pub tool_words : ToolUse → List (List ℕ)
-tool_words used = tool_word used.tool ∷ used.inputs ++ (number_words used.number ++ output_words used.output)
+tool_words used = tool_word used.tool ∷ used.inputs ++ (counts_words used.counts ++ output_words used.output)
 
--- a number within the limit, where there is a limit; else none
-abbrev pub IsNumber : Option ℕ → Option ℕ → Type 0
-IsNumber None None = Unit {0}
-IsNumber None (Some n) = ⊥
-IsNumber (Some limit) None = ⊥
-IsNumber (Some limit) (Some n) = n ≤ limit
+-- a window whose ends are in order, the second at most so great, and at most so far behind the first
+pub record IsWindow (most apart : ℕ) (window : Window) : Type 0 where
+  pub ordered : window.from ≤ window.to
+  pub short : window.to ≤ window.from + apart
+  pub within : window.to ≤ most
+
+-- counts within a limit
+abbrev pub AreWithin : Limit → Counts → Type 0
+AreWithin (limit.One most) (counts.One n) = n ≤ most
+AreWithin (limit.One most) (counts.Window w) = ⊥
+AreWithin (limit.Window most apart) (counts.One n) = ⊥
+AreWithin (limit.Window most apart) (counts.Window w) = IsWindow most apart w
+
+-- counts within the limit, where there is a limit; else none
+abbrev pub AreCounts : Option Limit → Option Counts → Type 0
+AreCounts None None = Unit {0}
+AreCounts None (Some c) = ⊥
+AreCounts (Some l) None = ⊥
+AreCounts (Some l) (Some c) = AreWithin l c
+
+-- the number among a tool's counts, or 0
+abbrev pub number_of : Option Counts → ℕ
+number_of None = 0
+number_of (Some (counts.One n)) = n
+number_of (Some (counts.Window w)) = 0
+
+-- the window among a tool's counts, or one of no counts
+abbrev pub window_of : Option Counts → Window
+window_of None = record { from = 0; to = 0 }
+window_of (Some (counts.One n)) = record { from = 0; to = 0 }
+window_of (Some (counts.Window w)) = w
+
+-- words begin with counts within the limit, if there is one, and these stand behind them
+abbrev pub BeginWith : Option Limit → List (List ℕ) → Option Counts → List (List ℕ) → Type 0
+BeginWith limit words c rest = (words ≡ counts_words c ++ rest) × AreCounts limit c
 
 -- a file that is written, where one is; else none
 abbrev pub IsOutput : Bool → Option (List ℕ) → Type 0
@@ -81,5 +120,5 @@ IsOutput true (Some name) = Unit {0}
 -- it has what its rows of the tables ask for
 pub record IsToolUse (used : ToolUse) : Type 0 where
   pub counted : length used.inputs ≡ input_count used.tool
-  pub number : IsNumber (number_limit used.tool) used.number
+  pub counts : AreCounts (counts_limit used.tool) used.counts
   pub output : IsOutput (writes_file used.tool) used.output

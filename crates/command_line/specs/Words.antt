@@ -25,7 +25,7 @@ execution_of e = record { img = e.img.now; arr = e.arr.now; n = e.n }
 
 -- a tool as the words say
 abbrev pub use_of : ToolWords → ToolUse
-use_of t = record { tool = t.tool; inputs = words_of t.inputs.now; number = t.number; output = option_map (λ name. name.now) t.output }
+use_of t = record { tool = t.tool; inputs = words_of t.inputs.now; counts = t.counts; output = option_map (λ name. name.now) t.output }
 
 -- a command as the words say
 abbrev pub command_of : CommandWords → Command

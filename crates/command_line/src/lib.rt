@@ -2,6 +2,7 @@
 #![tactic(auto)]
 
 pub mod command;
+pub mod counts;
 pub mod last_line;
 mod number;
 pub mod tool;

@@ -1,8 +1,9 @@
 //! The commands that read files, judge what they hold, and end with one answer: a row of the table for each.
-ghost use Rattle.std.specs.Prelude.{◌≡◌, ◌≢◌, ◌≤◌, ◌++◌, ℕ, List, IfSome, IfNone, Bool, Option, decimal, length};
-ghost use Rattle.command_line.specs.Tools.{tool_word, input_count, number_limit, writes_file, IsNumber, IsOutput, number_words, output_words};
-ghost use Rattle.command_line.specs.Command.{words_of};
+ghost use Rattle.std.specs.Prelude.{◌≡◌, ◌≢◌, IfSome, IfNone};
+ghost use Rattle.command_line.specs.Tools.{tool_word, input_count, counts_limit, writes_file};
 ghost use Rattle.command_line.specs.declared.tool.Tool.{Tool as AnyTool};
+
+use crate::counts::{Counts, Limit};
 
 /// A command that reads files, judges what they hold, and writes one file at most.
 #[derive(Clone, Copy, Debug, PartialEq, Eq)]
@@ -17,6 +18,8 @@ pub enum Tool {
     At,
     /// `wave IMG ARR N OUT`: the waves of a run of an image file.
     Wave,
+    /// `picture IMG ARR FROM TO OUT`: the picture of a part of a run of an image file.
+    Picture,
     /// `check OIL SRC ARR TRACE N`: whether a text of events is that of a run.
     Check,
     /// `bounds OIL SRC`: how much work of lower tasks may stand before each task.
@@ -34,22 +37,27 @@ impl Tool {
             Tool::Infer => 2,
             Tool::At => 2,
             Tool::Wave => 2,
+            Tool::Picture => 2,
             Tool::Check => 4,
             Tool::Bounds => 2,
         }
     }
 
-    /// The greatest number that it takes as its word behind the files that it reads, if it takes one.
-    pub fn number_limit(self) -> Option<u32>
-        ensures { result ≡ number_limit self }
+    /// Which counts it takes as its words behind the files that it reads, if it takes any.
+    pub fn counts_limit(self) -> Option<Limit>
+        ensures { result ≡ counts_limit self }
     {
         match self {
             Tool::Elf => None,
             Tool::Unelf => None,
             Tool::Infer => None,
-            Tool::At => Some(999_999),
-            Tool::Wave => Some(1_000_000),
-            Tool::Check => Some(1_000_000),
+            Tool::At => Some(Limit::One(999_999)),
+            Tool::Wave => Some(Limit::One(1_000_000)),
+            Tool::Picture => Some(Limit::Window {
+                most: 1_000_000,
+                apart: 100_000,
+            }),
+            Tool::Check => Some(Limit::One(1_000_000)),
             Tool::Bounds => None,
         }
     }
@@ -64,18 +72,19 @@ impl Tool {
             Tool::Infer => true,
             Tool::At => false,
             Tool::Wave => true,
+            Tool::Picture => true,
             Tool::Check => false,
             Tool::Bounds => false,
         }
     }
 }
 
-/// The words of a tool, behind its own: the files that it reads, its number and the file that it writes, if it has them.
+/// The words of a tool, behind its own: the files that it reads, its counts and the file that it writes, if it has them.
 #[derive(Clone, Copy)]
 pub struct ToolWords<'a> {
     pub tool: Tool,
     pub inputs: &'a [String],
-    pub number: Option<u32>,
+    pub counts: Option<Counts>,
     pub output: Option<&'a str>,
 }
 
@@ -98,6 +107,9 @@ pub fn tool_named(word: &str) -> Option<Tool>
     }
     if word == "wave" {
         return Some(Tool::Wave);
+    }
+    if word == "picture" {
+        return Some(Tool::Picture);
     }
     if word == "check" {
         return Some(Tool::Check);

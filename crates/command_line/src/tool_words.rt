@@ -1,36 +1,78 @@
 //! The words of tools.
-ghost use Rattle.std.specs.Prelude.{◌≡◌, ◌≤◌, ◌++◌, ℕ, List, IfSome, IfNone, Bool, Option, length, drop};
+ghost use Rattle.std.specs.Prelude.{◌≡◌, ◌≤◌, ◌∷◌, ℕ, List, IfSome, IfNone, Option, Some, decimal, length, drop};
 ghost use Rattle.std.specs.Option.{option_map};
-ghost use Rattle.command_line.specs.Tools.{ToolUse, IsNumber, IsOutput, number_words, output_words};
+ghost use Rattle.command_line.specs.declared.counts.Counts.{Counts as AnyCounts};
+ghost use Rattle.command_line.specs.declared.counts.Limit.TheVariants as limit;
+ghost use Rattle.command_line.specs.declared.counts.Window.{Window as AnyWindow};
+ghost use Rattle.command_line.specs.Tools.{BeginWith, IsWindow, IsOutput, output_words};
 ghost use Rattle.command_line.specs.Command.{IsCommand, NoTool, Uses, words_of};
 ghost use Rattle.command_line.specs.Words.{use_of};
 
+use crate::counts::{Counts, Limit, Window};
 use crate::number::number_below;
 use crate::tool::{ToolWords, tool_named};
 
-// A number, if there is to be one, and the words behind it.
+// Counts, if there are to be any, and the words behind them.
 #[derive(Clone, Copy)]
-struct NumberAndRest<'a> {
-    number: Option<u32>,
+struct CountsAndRest<'a> {
+    counts: Option<Counts>,
     rest: &'a [String],
 }
 
-// The number that these words begin with, where there is a limit of one.
-fn number_and_rest(limit: Option<u32>, words: &[String]) -> Option<NumberAndRest<'_>>
-    ensures some { IfSome result (λ c. (words_of words.now ≡ number_words c.number ++ words_of c.rest.now) × IsNumber limit c.number) }
-    ensures none { IfNone result ((n : Option ℕ) (rest : List (List ℕ)) → IsNumber limit n → words_of words.now ≡ number_words n ++ rest → ⊥) }
+// The window from one word to below another.
+fn window(from: &str, to: &str, most: u32, apart: u32) -> Option<Window>
+    ensures some { IfSome result (λ w. (from.now ≡ decimal w.from) × (to.now ≡ decimal w.to) × IsWindow most apart w) }
+    ensures none { IfNone result ((w : AnyWindow) → IsWindow most apart w → from.now ≡ decimal w.from → to.now ≡ decimal w.to → ⊥) }
 {
-    let Some(limit) = limit else {
-        return Some(NumberAndRest {
-            number: None,
-            rest: words,
-        });
-    };
+    let from = number_below(from, most)?;
+    let to = number_below(to, most)?;
+    if from > to || to - from > apart {
+        return None;
+    }
+    Some(Window { from, to })
+}
+
+// The number that these words begin with.
+fn number_and_rest(most: u32, words: &[String]) -> Option<CountsAndRest<'_>>
+    ensures some { IfSome result (λ c. BeginWith (Some (limit.One most)) (words_of words.now) c.counts (words_of c.rest.now)) }
+    ensures none { IfNone result ((n : ℕ) (rest : List (List ℕ)) → n ≤ most → words_of words.now ≡ decimal n ∷ rest → ⊥) }
+{
     let first = words.first()?;
-    Some(NumberAndRest {
-        number: Some(number_below(first, limit)?),
+    Some(CountsAndRest {
+        counts: Some(Counts::One(number_below(first, most)?)),
         rest: &words[1..],
     })
+}
+
+// The window that these words begin with.
+fn window_and_rest(most: u32, apart: u32, words: &[String]) -> Option<CountsAndRest<'_>>
+    ensures some { IfSome result (λ c. BeginWith (Some (limit.Window most apart)) (words_of words.now) c.counts (words_of c.rest.now)) }
+    ensures none { IfNone result ((w : AnyWindow) (rest : List (List ℕ)) → IsWindow most apart w
+        → words_of words.now ≡ decimal w.from ∷ decimal w.to ∷ rest → ⊥) }
+{
+    if words.len() < 2 {
+        return None;
+    }
+    let window = window(words[0].as_str(), words[1].as_str(), most, apart)?;
+    Some(CountsAndRest {
+        counts: Some(Counts::Window(window)),
+        rest: &words[2..],
+    })
+}
+
+// The counts that these words begin with, where there is a limit of them.
+fn counts_and_rest(limit: Option<Limit>, words: &[String]) -> Option<CountsAndRest<'_>>
+    ensures some { IfSome result (λ c. BeginWith limit (words_of words.now) c.counts (words_of c.rest.now)) }
+    ensures none { IfNone result ((c : Option AnyCounts) (rest : List (List ℕ)) → BeginWith limit (words_of words.now) c rest → ⊥) }
+{
+    match limit {
+        None => Some(CountsAndRest {
+            counts: None,
+            rest: words,
+        }),
+        Some(Limit::One(most)) => number_and_rest(most, words),
+        Some(Limit::Window { most, apart }) => window_and_rest(most, apart, words),
+    }
 }
 
 // The file that is written, where one is.
@@ -67,12 +109,12 @@ pub fn tool_command(words: &[String]) -> Option<ToolWords<'_>>
     if words.len() < behind {
         return None;
     }
-    let counted = number_and_rest(tool.number_limit(), words_behind(words, behind))?;
+    let counted = counts_and_rest(tool.counts_limit(), words_behind(words, behind))?;
     let output = output_word(tool.writes_file(), counted.rest)?;
     Some(ToolWords {
         tool,
         inputs: &words[1..behind],
-        number: counted.number,
+        counts: counted.counts,
         output,
     })
 }

@@ -1,13 +1,13 @@
 -- A file is an image's ELF file or has one first fault.
-use Rattle.std.proofs.Common.{◌≡◌, ◌<◌, ◌≤◌, ◌+◌, ◌^◌, ℕ, zero, suc, List, [], ◌∷◌, ◌++◌, length, take, drop, refl, sym, ◌∙◌, ap, subst, arith, get_or, ◌⊎◌, inl, inr, codes}
+use Rattle.std.proofs.Common.{◌≡◌, ◌<◌, ◌≤◌, ◌+◌, ◌^◌, ℕ, zero, suc, List, [], ◌∷◌, ◌++◌, length, take, drop, refl, sym, ◌∙◌, ap, subst, arith, get_or, ◌⊎◌, inl, inr}
 use Rattle.std.specs.Prelude.{Result, Ok, Err, IfErr, ⊤}
 use Rattle.std.specs.List.{flat_map}
 use Rattle.std.proofs.lemmas.Bool.{cases_lt}
 use Rattle.std.proofs.lemmas.List.{take-append-drop}
 use Rattle.sloth_base.specs.declared.image.Image.{Image}
 use Rattle.sloth_base.specs.declared.image.Mark.{Mark}
-use Rattle.image_file.specs.ImageText.{ImageText, four_bytes, image_bytes, mark_bytes, name_bytes}
-use Rattle.image_file.proofs.Unique.{image-unique}
+use Rattle.image_file.specs.ImageText.{ImageText, counter_bytes, four_bytes, image_bytes, magic_bytes, mark_bytes, name_bytes}
+use Rattle.image_file.proofs.Images.{image-unique}
 use Rattle.elf_image.specs.ElfText.{ElfText, elf_header, elf_magic, note_bytes}
 use Rattle.elf_image.specs.Faults.{AreRight, Described, FaultIsOne, Fails, Faulty, HasElfHeader, HasElfMagic, HasLoadHeader, HasNote, HasNoteHeader, IsFramed, IsWithin, NoneIsBoth, NoneIsNeither, described_bytes}
 use Rattle.elf_image.specs.declared.fault.ElfFault.{ElfFault}
@@ -15,7 +15,7 @@ use Rattle.elf_image.specs.declared.fault.ElfFault.TheVariants as fault
 use Rattle.elf_image.specs.declared.fault.ElfError.{ElfError}
 use Rattle.elf_image.specs.declared.fault.ElfError.TheVariants as failure
 use Rattle.elf_image.proofs.Frames.{one-load, one-note}
-use Rattle.elf_image.proofs.Memoryless.{one-described}
+use Rattle.elf_image.proofs.Descriptions.{one-described}
 use Rattle.elf_image.proofs.Notes.{length-note, one-description}
 use Rattle.elf_image.proofs.Whole.{described_of, framed-of, image_of, is-elf, memory_in, memory-of, note-length, note_of, noted-of, right-of, within-of}
 
@@ -44,8 +44,9 @@ same-noted file n m a b d e h i has other =
 -- the bytes of the image file
 abbrev image_file_bytes : Described → List ℕ → List ℕ
 image_file_bytes d memory =
-    (codes "SLOTHIM1" ++ four_bytes (length d.tasks) ++ four_bytes (length d.funcs) ++ four_bytes (length memory) ++ four_bytes d.count)
-    ++ flat_map name_bytes d.tasks ++ flat_map name_bytes d.funcs ++ memory ++ d.marks
+    (magic_bytes (length d.counters) ++ four_bytes (length d.tasks) ++ four_bytes (length d.funcs) ++ counter_bytes (length d.counters)
+    ++ four_bytes (length memory) ++ four_bytes d.count)
+    ++ flat_map name_bytes d.tasks ++ flat_map name_bytes d.funcs ++ flat_map name_bytes d.counters ++ memory ++ d.marks
 
 pub elf-unique : (one other : Image) (file : List ℕ) → ElfText file one → ElfText file other → one ≡ other
 elf-unique one other file h i =

@@ -1,6 +1,6 @@
 pub mod Faulted
 pub mod Frames
-pub mod Memoryless
+pub mod Descriptions
 pub mod Notes
 pub mod Steps
 pub mod Whole

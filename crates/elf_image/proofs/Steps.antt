@@ -1,18 +1,17 @@
 -- What the steps of reading tell of the whole file.
-use Rattle.std.proofs.Common.{◌≡◌, ◌<◌, ◌≤◌, ◌+◌, ◌^◌, ℕ, List, [], ◌∷◌, ◌++◌, length, take, drop, refl, sym, ◌∙◌, ap, subst, arith}
+use Rattle.std.proofs.Common.{◌≡◌, ◌<◌, ◌≤◌, ◌+◌, ◌^◌, ℕ, List, [], ◌∷◌, ◌++◌, length, take, drop, sym, ◌∙◌, ap, subst, arith}
 use Rattle.std.specs.Prelude.{Result, Ok, Err, IfOk}
 use Rattle.sloth_base.specs.declared.image.Image.{Image}
 use Rattle.sloth_base.specs.declared.image.Mark.{Mark}
-use Rattle.image_file.specs.Parts.{HasParts, Parts}
-use Rattle.image_file.specs.Reading.{NoNames}
+use Rattle.image_file.specs.declared.header.Sizes.{Sizes}
 use Rattle.elf_image.specs.ElfText.{ElfText, note_bytes}
 use Rattle.elf_image.specs.Faults.{Described, Fails, HasNote, IsFramed, described_bytes}
-use Rattle.elf_image.specs.Reading.{AreRead, ContentsFail, IsMemoryless, IsNote, MemorylessFails, NamesMiss, NoteFails}
+use Rattle.elf_image.specs.Reading.{AreRead, BeginsWith, ContentsFail, DescriptionFails, IsDescription, IsNote, NoteFails, PartsMiss, described_at}
 use Rattle.elf_image.specs.declared.fault.ElfFault.TheVariants as fault
 use Rattle.elf_image.specs.declared.fault.ElfError.{ElfError}
 use Rattle.elf_image.specs.declared.fault.ElfError.TheVariants as failure
 use Rattle.elf_image.proofs.Faulted.{short-note}
-use Rattle.elf_image.proofs.Memoryless.{behind, described_at, described-is, has-parts, parts_of, read-right, right-read, within-at}
+use Rattle.elf_image.proofs.Descriptions.{parts_of, read-right, right-read, stands}
 use Rattle.elf_image.proofs.Notes.{length-note, one-description}
 use Rattle.elf_image.proofs.Whole.{image_of, is-elf, memory_in, note-length}
 
@@ -21,18 +20,17 @@ pub both-ok : {A E : Type 0} (r : Result A E) (P Q R : A → Type 0) → ((a : A
 both-ok (Ok a) P Q R h p q = h a p q
 both-ok (Err e) P Q R h p q = tt
 
--- names that are missing are a fault, where without them there are no parts
-pub names-miss : (f : ElfError) (file : List ℕ) (at count : ℕ) → (NoNames file at count → (p : Parts) → p.memory ≡ [] → ¬ (HasParts file p []))
-    → NamesMiss f file at count → MemorylessFails f file
-names-miss (failure.Fault fault.E7) file at count none h = none h
-names-miss (failure.Fault fault.E1) file at count none h = absurd h
-names-miss (failure.Fault fault.E2) file at count none h = absurd h
-names-miss (failure.Fault fault.E3) file at count none h = absurd h
-names-miss (failure.Fault fault.E4) file at count none h = absurd h
-names-miss (failure.Fault fault.E5) file at count none h = absurd h
-names-miss (failure.Fault fault.E6) file at count none h = absurd h
-names-miss (failure.Fault fault.E8) file at count none h = absurd h
-names-miss failure.Memory file at count none h = h
+-- parts that are missing are a fault of the description
+pub parts-miss : (f : ElfError) (description : List ℕ) (s : Sizes) → BeginsWith description s → PartsMiss f description 16 s → DescriptionFails f description
+parts-miss (failure.Fault fault.E7) description s has h = λ d w e. h (parts_of d) [] (stands description s d has w e)
+parts-miss (failure.Fault fault.E1) description s has h = absurd h
+parts-miss (failure.Fault fault.E2) description s has h = absurd h
+parts-miss (failure.Fault fault.E3) description s has h = absurd h
+parts-miss (failure.Fault fault.E4) description s has h = absurd h
+parts-miss (failure.Fault fault.E5) description s has h = absurd h
+parts-miss (failure.Fault fault.E6) description s has h = absurd h
+parts-miss (failure.Fault fault.E8) description s has h = absurd h
+parts-miss failure.Memory description s has h = h
 
 module _ (file : List ℕ) (size note : ℕ) (frame : IsFramed file size note) where
   -- a note that is none's is a fault
@@ -56,45 +54,45 @@ module _ (file : List ℕ) (size note : ℕ) (frame : IsFramed file size note) w
         let word = frame.headers.note_size.word in
         omega (arith, e, whole, word)
 
-    -- parts that are missing are a fault
-    pub parts-fail : (f : ElfError) → MemorylessFails f (behind (take n (drop 20 (drop (116 + size) file)))) → Fails f file
-    parts-fail (failure.Fault fault.E7) h = (
+    -- a description that is none is a fault
+    pub description-fails : (f : ElfError) → DescriptionFails f (take n (drop 20 (drop (116 + size) file))) → Fails f file
+    description-fails (failure.Fault fault.E7) h = (
       size,
       note,
       frame,
       λ d has.
           let same : take n (drop 20 (drop (116 + size) file)) ≡ described_bytes d =
           one-description (take n (drop 20 (drop (116 + size) file))) (described_bytes d) short (short-note file size note d frame has) (sym is.are ∙ has.are) in
-          h (parts_of d) refl (subst (λ x. HasParts (behind x) (parts_of d) []) (sym same) (has-parts d has.within)),
+          h d has.within same,
     )
-    parts-fail (failure.Fault fault.E1) h = absurd h
-    parts-fail (failure.Fault fault.E2) h = absurd h
-    parts-fail (failure.Fault fault.E3) h = absurd h
-    parts-fail (failure.Fault fault.E4) h = absurd h
-    parts-fail (failure.Fault fault.E5) h = absurd h
-    parts-fail (failure.Fault fault.E6) h = absurd h
-    parts-fail (failure.Fault fault.E8) h = absurd h
-    parts-fail failure.Memory h = h
+    description-fails (failure.Fault fault.E1) h = absurd h
+    description-fails (failure.Fault fault.E2) h = absurd h
+    description-fails (failure.Fault fault.E3) h = absurd h
+    description-fails (failure.Fault fault.E4) h = absurd h
+    description-fails (failure.Fault fault.E5) h = absurd h
+    description-fails (failure.Fault fault.E6) h = absurd h
+    description-fails (failure.Fault fault.E8) h = absurd h
+    description-fails failure.Memory h = h
 
-    module _ (tasks funcs : List (List ℕ)) (at count : ℕ)
-        (whole : IsMemoryless (behind (take n (drop 20 (drop (116 + size) file)))) tasks funcs at count) where
-      has-note : HasNote file size (described_at (behind (take n (drop 20 (drop (116 + size) file)))) tasks funcs at count)
+    module _ (tasks funcs counters : List (List ℕ)) (at count : ℕ)
+        (whole : IsDescription (take n (drop 20 (drop (116 + size) file))) tasks funcs counters at count) where
+      has-note : HasNote file size (described_at (take n (drop 20 (drop (116 + size) file))) tasks funcs counters at count)
       has-note = record {
-        within = within-at (behind (take n (drop 20 (drop (116 + size) file)))) tasks funcs at count whole;
-        are = is.are ∙ ap note_bytes (described-is (take n (drop 20 (drop (116 + size) file))) tasks funcs at count whole);
+        within = whole.within;
+        are = is.are ∙ ap note_bytes whole.are;
       }
 
       -- names or marks that are not right are a fault
-      pub contents-fail : (f : ElfError) → ContentsFail f (behind (take n (drop 20 (drop (116 + size) file)))) tasks funcs at count size → Fails f file
+      pub contents-fail : (f : ElfError) → ContentsFail f (take n (drop 20 (drop (116 + size) file))) tasks funcs counters at count size → Fails f file
       contents-fail (failure.Fault fault.E8) h = (
         size,
         note,
-        described_at (behind (take n (drop 20 (drop (116 + size) file)))) tasks funcs at count,
+        described_at (take n (drop 20 (drop (116 + size) file))) tasks funcs counters at count,
         frame,
         has-note,
         λ marks right.
-            h (record { tasks = tasks; funcs = funcs; memory = []; marks = marks })
-            (read-right (behind (take n (drop 20 (drop (116 + size) file)))) tasks funcs at count size [] marks whole right),
+            h (record { tasks = tasks; funcs = funcs; counters = counters; memory = []; marks = marks })
+            (read-right (take n (drop 20 (drop (116 + size) file))) tasks funcs counters at count size [] marks whole right),
       )
       contents-fail (failure.Fault fault.E1) h = absurd h
       contents-fail (failure.Fault fault.E2) h = absurd h
@@ -105,18 +103,19 @@ module _ (file : List ℕ) (size note : ℕ) (frame : IsFramed file size note) w
       contents-fail (failure.Fault fault.E7) h = absurd h
       contents-fail failure.Memory h = h
 
-      same-image : (image : Image) (memory : List ℕ) → image.tasks ≡ tasks → image.funcs ≡ funcs → image.memory ≡ memory
-          → image_of memory (described_at [] tasks funcs 0 0) image.marks ≡ image
-      same-image image memory t f m =
-          ap (λ x. record { tasks = x; funcs = funcs; memory = memory; marks = image.marks }) (sym t)
-          ∙ ap (λ x. record { tasks = image.tasks; funcs = x; memory = memory; marks = image.marks }) (sym f)
-          ∙ ap (λ x. record { tasks = image.tasks; funcs = image.funcs; memory = x; marks = image.marks }) (sym m)
+      same-image : (image : Image) (memory : List ℕ) → image.tasks ≡ tasks → image.funcs ≡ funcs → image.counters ≡ counters → image.memory ≡ memory
+          → image_of memory (described_at [] tasks funcs counters 0 0) image.marks ≡ image
+      same-image image memory t f c m =
+          ap (λ x. record { tasks = x; funcs = funcs; counters = counters; memory = memory; marks = image.marks }) (sym t)
+          ∙ ap (λ x. record { tasks = image.tasks; funcs = x; counters = counters; memory = memory; marks = image.marks }) (sym f)
+          ∙ ap (λ x. record { tasks = image.tasks; funcs = image.funcs; counters = x; memory = memory; marks = image.marks }) (sym c)
+          ∙ ap (λ x. record { tasks = image.tasks; funcs = image.funcs; counters = image.counters; memory = x; marks = image.marks }) (sym m)
 
       -- names and marks that are right are an image's
-      pub elf-read : (image : Image) → AreRead (behind (take n (drop 20 (drop (116 + size) file)))) tasks funcs at count size image
+      pub elf-read : (image : Image) → AreRead (take n (drop 20 (drop (116 + size) file))) tasks funcs counters at count size image
           → image.memory ≡ memory_in file size → ElfText file image
       elf-read image read memory =
-          let d : Described = described_at (behind (take n (drop 20 (drop (116 + size) file)))) tasks funcs at count in
-          let right = right-read (behind (take n (drop 20 (drop (116 + size) file)))) tasks funcs at count size image whole read in
+          let d : Described = described_at (take n (drop 20 (drop (116 + size) file))) tasks funcs counters at count in
+          let right = right-read (take n (drop 20 (drop (116 + size) file))) tasks funcs counters at count size image whole read in
           let is_elf = is-elf file size note d image.marks frame has-note right in
-          subst (λ x. ElfText file x) (same-image image (memory_in file size) read.tasks_are read.funcs_are memory) is_elf
+          subst (λ x. ElfText file x) (same-image image (memory_in file size) read.tasks_are read.funcs_are read.counters_are memory) is_elf

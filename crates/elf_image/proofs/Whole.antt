@@ -4,7 +4,7 @@ use Rattle.std.specs.List.{flat_map, AllByRecursion}
 use Rattle.std.proofs.lemmas.List.Elements.{recursion_from_All}
 use Rattle.std.proofs.Math.Seq.{take-append_seam, drop-append_seam}
 use Rattle.std.proofs.lemmas.List.{take-append-drop, drop-drop, length-append, length-drop, length-take-le}
-use Rattle.sloth_base.specs.ImageRange.{InFormat, IsName, IsMark}
+use Rattle.sloth_base.specs.ImageRange.{InFormat, IsName, IsMark, service_limit}
 use Rattle.sloth_base.specs.declared.image.Image.{Image}
 use Rattle.sloth_base.specs.declared.image.Mark.{Mark}
 use Rattle.image_file.specs.ImageText.{four_bytes, two_bytes, mark_bytes, name_bytes}
@@ -27,18 +27,21 @@ pub names-length : (names : List (List ℕ)) → All IsName names → length (fl
 names-length names h = names-short names (recursion_from_All IsName names h)
 
 -- numbers, names and marks within the limits
-pub described-short : (d : Described) → IsWithin d → All IsName d.tasks → All IsName d.funcs → length (described_bytes d) ≤ 300000
+pub described-short : (d : Described) → IsWithin d → All IsName d.tasks → All IsName d.funcs → All IsName d.counters → length (described_bytes d) ≤ 300000
 unfolding four_bytes
-described-short d w t f =
+described-short d w t f c =
     let a = names-length d.tasks t in
     let b = names-length d.funcs f in
+    let u = names-length d.counters c in
     let few = w.few_tasks in
     let functions = w.few_functions in
+    let counters = w.few_counters in
     let marks = w.few_marks in
     let twelve = w.twelve_each in
-    let e = length-append (flat_map name_bytes d.tasks) (flat_map name_bytes d.funcs ++ d.marks) in
-    let g = length-append (flat_map name_bytes d.funcs) d.marks in
-    omega (arith, a, b, few, functions, marks, twelve, e, g)
+    let e = length-append (flat_map name_bytes d.tasks) (flat_map name_bytes d.funcs ++ (flat_map name_bytes d.counters ++ d.marks)) in
+    let g = length-append (flat_map name_bytes d.funcs) (flat_map name_bytes d.counters ++ d.marks) in
+    let h = length-append (flat_map name_bytes d.counters) d.marks in
+    omega (arith, a, b, u, few, functions, counters, marks, twelve, e, g, h)
 
 described-long : (d : Described) → 16 ≤ length (described_bytes d)
 unfolding four_bytes
@@ -47,11 +50,17 @@ described-long d = omega arith
 -- ---- from the parts to the file
 
 abbrev pub described_of : Image → Described
-described_of image = record { tasks = image.tasks; funcs = image.funcs; count = length image.marks; marks = flat_map mark_bytes image.marks }
+described_of image = record {
+  tasks = image.tasks;
+  funcs = image.funcs;
+  counters = image.counters;
+  count = length image.marks;
+  marks = flat_map mark_bytes image.marks;
+}
 
 -- the image of a memory, a description and marks
 abbrev pub image_of : List ℕ → Described → List Mark → Image
-image_of memory d marks = record { tasks = d.tasks; funcs = d.funcs; memory = memory; marks = marks }
+image_of memory d marks = record { tasks = d.tasks; funcs = d.funcs; counters = d.counters; memory = memory; marks = marks }
 
 -- the memory of a file
 abbrev pub memory_in : List ℕ → ℕ → List ℕ
@@ -84,9 +93,10 @@ is-elf file size note d marks h has right =
     let few = w.few_marks in
     let m = memory-size file size note h in
     let memory : size ≡ length (memory_in file size) = sym m in
+    let names : List ℕ → List ℕ = λ x. flat_map name_bytes d.tasks ++ (flat_map name_bytes d.funcs ++ (flat_map name_bytes d.counters ++ x)) in
     let is : described_bytes d ≡ description_bytes (image_of (memory_in file size) d marks) =
-    ap (λ x. flat_map four_bytes (length d.tasks ∷ length d.funcs ∷ 0 ∷ d.count ∷ []) ++ (flat_map name_bytes d.tasks ++ (flat_map name_bytes d.funcs ++ x))) right.written
-    ∙ ap (λ n. flat_map four_bytes (length d.tasks ∷ length d.funcs ∷ 0 ∷ n ∷ []) ++ (flat_map name_bytes d.tasks ++ (flat_map name_bytes d.funcs ++ flat_map mark_bytes marks))) (sym count) in
+    ap (λ x. flat_map four_bytes (length d.tasks ∷ length d.funcs ∷ length d.counters ∷ d.count ∷ []) ++ names x) right.written
+    ∙ ap (λ n. flat_map four_bytes (length d.tasks ∷ length d.funcs ∷ length d.counters ∷ n ∷ []) ++ names (flat_map mark_bytes marks)) (sym count) in
     let noted : drop (116 + size) file ≡ note_bytes (description_bytes (image_of (memory_in file size) d marks)) = has.are ∙ ap note_bytes is in
     let n : note ≡ length (note_bytes (description_bytes (image_of (memory_in file size) d marks))) = sym (note-length file size note h) ∙ ap (λ x. length x) noted in
     let F : ℕ → ℕ → List ℕ → List ℕ = λ s k x. elf_header ++ (load_header s ++ (note_header s k ++ (memory_in file size ++ x))) in
@@ -94,12 +104,15 @@ is-elf file size note d marks h has right =
       in_format = record {
         few_tasks = w.few_tasks;
         few_functions = w.few_functions;
-        tasks = right.tasks;
-        functions = right.functions;
+        few_counters = w.few_counters;
+        tasks = right.names.of_tasks;
+        functions = right.names.of_functions;
+        counters = right.names.of_counters;
+        counters_apart = right.names.apart;
         memory_fits = subst (λ x. x ≤ 2097152) memory h.headers.load.memory.fits;
         whole_words = ap (λ x. x % 4) m ∙ h.headers.load.memory.whole_words;
         few_marks = omega (arith, count, few);
-        marks = subst (λ x. All (IsMark (length d.funcs) x) marks) memory right.each;
+        marks = subst (λ x. All (IsMark (service_limit (length d.counters)) (length d.funcs) x) marks) memory right.each;
         ascending = right.ascending;
       };
       written = file-is file size note h ∙ ap (F size note) noted
@@ -111,10 +124,16 @@ is-elf file size note d marks h has right =
 
 within-format : (image : Image) → InFormat image → IsWithin (described_of image)
 within-format image r =
-    record { few_tasks = r.few_tasks; few_functions = r.few_functions; few_marks = r.few_marks; twelve_each = length-marks image.marks }
+    record {
+      few_tasks = r.few_tasks;
+      few_functions = r.few_functions;
+      few_counters = r.few_counters;
+      few_marks = r.few_marks;
+      twelve_each = length-marks image.marks;
+    }
 
 pub description-short : (image : Image) → InFormat image → length (description_bytes image) ≤ 300000
-description-short image r = described-short (described_of image) (within-format image r) r.tasks.each r.functions.each
+description-short image r = described-short (described_of image) (within-format image r) r.tasks.each r.functions.each r.counters.each
 
 pub within-of : (file : List ℕ) (image : Image) → ElfText file image → IsWithin (described_of image)
 within-of file image h = within-format image h.in_format
@@ -122,7 +141,13 @@ within-of file image h = within-format image h.in_format
 pub right-of : (file : List ℕ) (image : Image) → ElfText file image → AreRight (length image.memory) (described_of image) image.marks
 right-of file image h =
     let r = h.in_format in
-    record { tasks = r.tasks; functions = r.functions; counted = refl; written = refl; each = r.marks; ascending = r.ascending }
+    record {
+      names = record { of_tasks = r.tasks; of_functions = r.functions; of_counters = r.counters; apart = r.counters_apart };
+      counted = refl;
+      written = refl;
+      each = r.marks;
+      ascending = r.ascending;
+    }
 
 -- the length of an image's note
 abbrev pub note_of : Image → ℕ

@@ -53,12 +53,12 @@ abbrev pub file_bytes : List ℕ → List ℕ → List ℕ
 file_bytes memory description =
     elf_header ++ (load_header (length memory) ++ (note_header (length memory) (length (note_bytes description)) ++ (memory ++ note_bytes description)))
 
--- The description of an image: the numbers of tasks, of functions, of counters, of which there are none, and of marks, then the names of
--- tasks and of functions and the marks, each as in an image file.
+-- The description of an image: the numbers of tasks, of functions, of counters and of marks, then the names of tasks, of functions and of
+-- counters and the marks, each as in an image file.
 abbrev pub description_bytes : Image → List ℕ
 description_bytes image =
-    flat_map four_bytes (length image.tasks ∷ length image.funcs ∷ 0 ∷ length image.marks ∷ [])
-    ++ (flat_map name_bytes image.tasks ++ (flat_map name_bytes image.funcs ++ flat_map mark_bytes image.marks))
+    flat_map four_bytes (length image.tasks ∷ length image.funcs ∷ length image.counters ∷ length image.marks ∷ [])
+    ++ (flat_map name_bytes image.tasks ++ (flat_map name_bytes image.funcs ++ (flat_map name_bytes image.counters ++ flat_map mark_bytes image.marks)))
 
 -- the bytes are those of an image in the range of the image file's format
 pub record ElfText (bytes : List ℕ) (image : Image) : Type 0 where

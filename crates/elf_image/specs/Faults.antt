@@ -1,10 +1,11 @@
 -- The faults of an ELF file, each as a fact of the file's bytes.
 use Rattle.std.specs.Prelude.{◌≡◌, ◌≢◌, ◌≤◌, ◌<◌, ◌+◌, ◌*◌, ◌%◌, ◌^◌, ℕ, List, ◌∷◌, [], ◌++◌, take, drop, length, All, ⊤}
 use Rattle.std.specs.List.{flat_map}
-use Rattle.sloth_base.specs.ImageRange.{AreNames, IsMark, AreAscending}
+use Rattle.sloth_base.specs.ImageRange.{IsMark, AreAscending, service_limit}
 use Rattle.sloth_base.specs.declared.image.Mark.{Mark}
 use Rattle.sloth_base.specs.declared.image.Image.{Image}
 use Rattle.image_file.specs.ImageText.{four_bytes, mark_bytes, name_bytes}
+use Rattle.image_file.specs.Parts.{AreRightNames}
 use Rattle.elf_image.specs.ElfText.{ElfText, elf_magic, elf_header, load_header, note_header, note_bytes}
 use Rattle.elf_image.specs.declared.fault.ElfFault.{ElfFault}
 use Rattle.elf_image.specs.declared.fault.ElfFault.TheVariants as fault
@@ -52,6 +53,7 @@ pub record IsFramed (file : List ℕ) (size note : ℕ) : Type 0 where
 pub record Described : Type 0 where
   pub tasks : List (List ℕ)
   pub funcs : List (List ℕ)
+  pub counters : List (List ℕ)
   pub count : ℕ
   pub marks : List ℕ
 
@@ -59,27 +61,27 @@ pub record Described : Type 0 where
 pub record IsWithin (d : Described) : Type 0 where
   pub few_tasks : length d.tasks ≤ 30
   pub few_functions : length d.funcs ≤ 64
+  pub few_counters : length d.counters ≤ 2
   pub few_marks : d.count ≤ 16384
   pub twelve_each : length d.marks ≡ d.count * 12
 
 -- its bytes
 abbrev pub described_bytes : Described → List ℕ
 described_bytes d =
-    flat_map four_bytes (length d.tasks ∷ length d.funcs ∷ 0 ∷ d.count ∷ [])
-    ++ (flat_map name_bytes d.tasks ++ (flat_map name_bytes d.funcs ++ d.marks))
+    flat_map four_bytes (length d.tasks ∷ length d.funcs ∷ length d.counters ∷ d.count ∷ [])
+    ++ (flat_map name_bytes d.tasks ++ (flat_map name_bytes d.funcs ++ (flat_map name_bytes d.counters ++ d.marks)))
 
 -- the file's note has this description
 pub record HasNote (file : List ℕ) (size : ℕ) (d : Described) : Type 0 where
   pub within : IsWithin d
   pub are : drop (116 + size) file ≡ note_bytes (described_bytes d)
 
--- names are names and differ, and these marks are written there, each on a word of so many bytes of memory and with fields in range
+-- the names are right, and these marks are written there, each on a word of so many bytes of memory and with fields in range
 pub record AreRight (size : ℕ) (d : Described) (marks : List Mark) : Type 0 where
-  pub tasks : AreNames d.tasks
-  pub functions : AreNames d.funcs
+  pub names : AreRightNames d.tasks d.funcs d.counters
   pub counted : length marks ≡ d.count
   pub written : d.marks ≡ flat_map mark_bytes marks
-  pub each : All (IsMark (length d.funcs) size) marks
+  pub each : All (IsMark (service_limit (length d.counters)) (length d.funcs) size) marks
   pub ascending : AreAscending marks
 
 -- where a fault is the first of a file

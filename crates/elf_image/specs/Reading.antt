@@ -1,11 +1,14 @@
 -- What the steps of reading tell.
-use Rattle.std.specs.Prelude.{◌≡◌, ◌≢◌, ◌≤◌, ◌<◌, ◌+◌, ◌*◌, ◌^◌, ℕ, List, [], take, drop, length, ⊤}
-use Rattle.sloth_base.specs.ImageRange.{AreNames, AreAscending}
+use Rattle.std.specs.Prelude.{◌≡◌, ◌≢◌, ◌≤◌, ◌<◌, ◌+◌, ◌*◌, ◌^◌, ℕ, List, [], ◌∷◌, ◌++◌, take, drop, length, ⊤}
+use Rattle.std.specs.List.{flat_map}
+use Rattle.sloth_base.specs.ImageRange.{AreAscending, service_limit}
 use Rattle.sloth_base.specs.declared.image.Image.{Image}
-use Rattle.image_file.specs.Parts.{Parts, HasParts}
-use Rattle.image_file.specs.Reading.{HasOutline, MarksStand, NoNames, NoMarks}
+use Rattle.image_file.specs.ImageText.{four_bytes}
+use Rattle.image_file.specs.Parts.{AreRightNames, Parts, PartsStand, SizesFit}
+use Rattle.image_file.specs.Reading.{MarksStand, NoMarks}
+use Rattle.image_file.specs.declared.header.Sizes.{Sizes}
 use Rattle.elf_image.specs.ElfText.{note_bytes}
-use Rattle.elf_image.specs.Faults.{IsFramed}
+use Rattle.elf_image.specs.Faults.{Described, IsFramed, IsWithin, described_bytes}
 use Rattle.elf_image.specs.declared.fault.ElfFault.TheVariants as fault
 use Rattle.elf_image.specs.declared.fault.ElfError.{ElfError}
 use Rattle.elf_image.specs.declared.fault.ElfError.TheVariants as failure
@@ -14,17 +17,17 @@ use Rattle.elf_image.specs.declared.fault.ElfError.TheVariants as failure
 abbrev pub IsFramedAt : List ℕ → ℕ → Type 0
 IsFramedAt file size = (note : ℕ) × IsFramed file size note
 
--- what an error says of so many names from a place on
-abbrev pub NamesMiss : ElfError → List ℕ → ℕ → ℕ → Type 0
-NamesMiss (failure.Fault fault.E7) file at count = NoNames file at count
-NamesMiss (failure.Fault _) file at count = ⊥
-NamesMiss failure.Memory file at count = ⊤
+-- what an error says of parts of these numbers at a place: the fault, that none stand there
+abbrev pub PartsMiss : ElfError → List ℕ → ℕ → Sizes → Type 0
+PartsMiss (failure.Fault fault.E7) file at sizes = (parts : Parts) (rest : List ℕ) → ¬ (PartsStand file at sizes parts rest)
+PartsMiss (failure.Fault _) file at sizes = ⊥
+PartsMiss failure.Memory file at sizes = ⊤
 
 -- what an error says of so many marks from a place on
-abbrev pub MarksMiss : ElfError → List ℕ → ℕ → ℕ → ℕ → ℕ → Type 0
-MarksMiss (failure.Fault fault.E8) file at count funcs size = NoMarks file at count funcs size
-MarksMiss (failure.Fault _) file at count funcs size = ⊥
-MarksMiss failure.Memory file at count funcs size = ⊤
+abbrev pub MarksMiss : ElfError → List ℕ → ℕ → ℕ → ℕ → ℕ → ℕ → Type 0
+MarksMiss (failure.Fault fault.E8) file at count services funcs size = NoMarks file at count services funcs size
+MarksMiss (failure.Fault _) file at count services funcs size = ⊥
+MarksMiss failure.Memory file at count services funcs size = ⊤
 
 -- this is a note with a description of so many bytes
 pub record IsNote (note : List ℕ) (size : ℕ) : Type 0 where
@@ -37,30 +40,52 @@ NoteFails (failure.Fault fault.E7) note = (description : List ℕ) → length de
 NoteFails (failure.Fault _) note = ⊥
 NoteFails failure.Memory note = ⊤
 
--- an image file without memory that ends with its marks
-pub record IsMemoryless (file : List ℕ) (tasks funcs : List (List ℕ)) (at count : ℕ) : Type 0 where
-  pub outline : HasOutline file tasks funcs at 0 count
-  pub ends : at + count * 12 ≡ length file
+-- the four numbers of a description, and `rest` behind them
+abbrev pub numbers_before : Sizes → List ℕ → List ℕ
+numbers_before sizes rest = flat_map four_bytes (sizes.tasks ∷ sizes.funcs ∷ sizes.counters ∷ sizes.marks ∷ []) ++ rest
 
--- what an error says of one: the fault, that it is none
-abbrev pub MemorylessFails : ElfError → List ℕ → Type 0
-MemorylessFails (failure.Fault fault.E7) file = (parts : Parts) → parts.memory ≡ [] → ¬ (HasParts file parts [])
-MemorylessFails (failure.Fault _) file = ⊥
-MemorylessFails failure.Memory file = ⊤
+-- a description begins with these numbers, within the limits; it has no memory
+pub record BeginsWith (description : List ℕ) (sizes : Sizes) : Type 0 where
+  pub within : SizesFit sizes
+  pub no_memory : sizes.memory ≡ 0
+  pub long : 16 ≤ length description
+  pub are : description ≡ numbers_before sizes (drop 16 description)
+
+-- what a description has whose marks begin at `at`
+abbrev pub described_at : List ℕ → (tasks funcs counters : List (List ℕ)) → ℕ → ℕ → Described
+described_at description tasks funcs counters at count = record {
+  tasks = tasks;
+  funcs = funcs;
+  counters = counters;
+  count = count;
+  marks = take (count * 12) (drop (at + 0) description);
+}
+
+-- a description has these names, and ends with so many marks from `at` on
+pub record IsDescription (description : List ℕ) (tasks funcs counters : List (List ℕ)) (at count : ℕ) : Type 0 where
+  pub within : IsWithin (described_at description tasks funcs counters at count)
+  pub are : description ≡ described_bytes (described_at description tasks funcs counters at count)
+  pub ends : at + count * 12 ≡ length description
+
+-- what an error says of a description: the fault, that it is none
+abbrev pub DescriptionFails : ElfError → List ℕ → Type 0
+DescriptionFails (failure.Fault fault.E7) description = (d : Described) → IsWithin d → description ≢ described_bytes d
+DescriptionFails (failure.Fault _) description = ⊥
+DescriptionFails failure.Memory description = ⊤
 
 -- the names and marks that were read there are right for an image with so many bytes of memory
-pub record AreRead (file : List ℕ) (tasks funcs : List (List ℕ)) (at count : ℕ) (size : ℕ) (image : Image) : Type 0 where
+pub record AreRead (file : List ℕ) (tasks funcs counters : List (List ℕ)) (at count : ℕ) (size : ℕ) (image : Image) : Type 0 where
   pub tasks_are : image.tasks ≡ tasks
   pub funcs_are : image.funcs ≡ funcs
-  pub tasks_right : AreNames tasks
-  pub funcs_right : AreNames funcs
-  pub marks : MarksStand file at (length funcs) size image.marks
+  pub counters_are : image.counters ≡ counters
+  pub names : AreRightNames tasks funcs counters
+  pub marks : MarksStand file at (service_limit (length counters)) (length funcs) size image.marks
   pub counted : length image.marks ≡ count
   pub ascending : AreAscending image.marks
 
 -- what an error says of the names and marks: the fault, that no marks there are right with these names
-abbrev pub ContentsFail : ElfError → List ℕ → List (List ℕ) → List (List ℕ) → ℕ → ℕ → ℕ → Type 0
-ContentsFail (failure.Fault fault.E8) file tasks funcs at count size =
-    (image : Image) → ¬ (AreRead file tasks funcs at count size image)
-ContentsFail (failure.Fault _) file tasks funcs at count size = ⊥
-ContentsFail failure.Memory file tasks funcs at count size = ⊤
+abbrev pub ContentsFail : ElfError → List ℕ → (tasks funcs counters : List (List ℕ)) → ℕ → ℕ → ℕ → Type 0
+ContentsFail (failure.Fault fault.E8) file tasks funcs counters at count size =
+    (image : Image) → ¬ (AreRead file tasks funcs counters at count size image)
+ContentsFail (failure.Fault _) file tasks funcs counters at count size = ⊥
+ContentsFail failure.Memory file tasks funcs counters at count size = ⊤

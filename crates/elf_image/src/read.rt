@@ -1,11 +1,12 @@
 //! Reading an ELF file.
-ghost use Rattle.std.specs.Prelude.{◌⊎◌, ◌≡◌, ◌<◌, ◌≤◌, ◌+◌, ◌++◌, IfOk, IfErr, OnOk, Decides, codes, drop, length, take};
-ghost use Rattle.image_file.specs.Faults.{HasMagic};
-ghost use Rattle.image_file.specs.Reading.{NamesStand, MarksStand};
+ghost use Rattle.std.specs.Prelude.{◌⊎◌, ◌≡◌, ◌<◌, ◌≤◌, ◌+◌, IfOk, IfErr, IfSome, IfNone, OnOk, Decides, drop, length, take};
+ghost use Rattle.image_file.specs.Reading.{MarksStand, NamedPartsStand};
+ghost use Rattle.image_file.specs.declared.header.Sizes.{Sizes as AnySizes};
+ghost use Rattle.sloth_base.specs.ImageRange.{service_limit};
 ghost use Rattle.sloth_base.specs.declared.image.Image.{Image as ImageOf};
 ghost use Rattle.elf_image.specs.ElfText.{ElfText, load_header, note_header, note_bytes};
 ghost use Rattle.elf_image.specs.Faults.{Fails, Faulty, HasElfHeader, HasElfMagic, HasLoadHeader, HasNoteHeader, IsMemorySize, IsNoteSize};
-ghost use Rattle.elf_image.specs.Reading.{IsFramedAt, NamesMiss, MarksMiss, IsNote, NoteFails, IsMemoryless, MemorylessFails, AreRead, ContentsFail};
+ghost use Rattle.elf_image.specs.Reading.{IsFramedAt, PartsMiss, MarksMiss, IsNote, NoteFails, BeginsWith, IsDescription, DescriptionFails, AreRead, ContentsFail};
 ghost use Rattle.elf_image.specs.declared.fault.ElfFault.{ElfFault as FaultOf};
 ghost use Rattle.elf_image.specs.declared.fault.ElfError.TheVariants as failed_by;
 
@@ -15,15 +16,18 @@ use crate::headers::{
 };
 use crate::note::{NOTE_HEAD, padding_size, put_note};
 use image_file::fault::ImageError;
-use image_file::header::{HEADER, read_sizes};
-use image_file::marks::{are_ascending, read_marks};
-use image_file::names::{Names, are_names, read_names};
+use image_file::header::Sizes;
+use image_file::marks::{are_ascending, read_marks, service_limit};
+use image_file::names::are_right_names;
 use image_file::numbers::u32_at;
+use image_file::read::{Outline, read_parts};
 use sloth_base::image::{Image, Mark};
 use sloth_base::list::List;
 use sloth_base::memory::NoMemory;
-use sloth_base::name::Name;
 use std::alloc::Global;
+
+// The length of the numbers of a description, in bytes.
+const NUMBERS: usize = 16;
 
 /// The image of an ELF file, or the file's first fault.
 pub fn read_elf(alloc: Global, bytes: &[u8]) -> Result<Image, ElfError>
@@ -45,11 +49,11 @@ fn read_whole(alloc: Global, bytes: &[u8]) -> Result<Image, ElfError>
 {
     let size = read_frame(alloc, bytes)?;
     let note = behind(bytes, HEADERS + size);
-    let description = read_note(alloc, note)?;
-    let file = behind_magic(alloc, part(note, NOTE_HEAD, description))?;
-    let outline = read_memoryless(alloc, file.as_slice())?;
+    let length = read_note(alloc, note)?;
+    let description = part(note, NOTE_HEAD, length);
+    let outline = read_description(alloc, description)?;
     let memory = part(bytes, HEADERS, size);
-    read_contents(alloc, file.as_slice(), outline, memory)
+    read_contents(alloc, description, outline, memory)
 }
 
 // The bytes from a place on.
@@ -202,25 +206,37 @@ fn read_note(alloc: Global, note: &[u8]) -> Result<usize, ElfError>
     Ok(size)
 }
 
-// A description behind the first bytes of an image file: it is one without memory, the number of counters in place of that of bytes.
-fn behind_magic(alloc: Global, description: &[u8]) -> Result<Vec<u8>, NoMemory>
-    ensures { IfOk result (λ file. file.items ≡ codes "SLOTHIM1" ++ description.now) }
+// The numbers of a description, where it has them and they are within the limits.
+fn read_numbers(description: &[u8]) -> Option<Sizes>
+    ensures read { IfSome result (λ sizes. BeginsWith description.now sizes) }
+    ensures none { IfNone result ((sizes : AnySizes) → ¬ (BeginsWith description.now sizes)) }
 {
-    let mut file = Vec::new(alloc);
-    file.extend_from_slice(b"SLOTHIM1")?;
-    file.extend_from_slice(description)?;
-    Ok(file)
+    if description.len() < NUMBERS {
+        return None;
+    }
+    let sizes = Sizes {
+        tasks: u32_at(description, 0) as usize,
+        funcs: u32_at(description, 4) as usize,
+        counters: u32_at(description, 8) as usize,
+        memory: 0,
+        marks: u32_at(description, 12) as usize,
+    };
+    if !sizes.are_within() {
+        return None;
+    }
+    Some(sizes)
 }
 
-// Names and where they end, or the fault that they are missing.
-fn names_at(alloc: Global, file: &[u8], at: usize, count: usize) -> Result<Names, ElfError>
-    requires { at ≤ length file.now }
-    ensures read { IfOk result (λ read. NamesStand file.now at read.end read.names.items) }
-    ensures counted { IfOk result (λ read. length read.names.items ≡ count) }
-    ensures failed { IfErr result (λ failure. NamesMiss failure file.now at count) }
+// The parts of a description behind its numbers, or the fault that they are missing.
+fn parts_behind(alloc: Global, description: &[u8], sizes: &Sizes) -> Result<Outline, ElfError>
+    requires { BeginsWith description.now sizes.now }
+    ensures read { IfOk result (λ outline.
+        NamedPartsStand description.now 16 sizes.now outline.tasks.items outline.funcs.items outline.counters.items outline.memory) }
+    ensures count { IfOk result (λ outline. outline.count ≡ sizes.now.marks) }
+    ensures failed { IfErr result (λ failure. PartsMiss failure description.now 16 sizes.now) }
 {
-    match read_names(alloc, file, at, count) {
-        Ok(names) => Ok(names),
+    match read_parts(alloc, description, NUMBERS, sizes) {
+        Ok(outline) => Ok(outline),
         Err(ImageError::Fault(_)) => Err(ElfFault::E7.into()),
         Err(ImageError::Memory) => Err(ElfError::Memory),
     }
@@ -233,18 +249,22 @@ fn marks_at(
     outline: &Outline,
     size: usize,
 ) -> Result<Vec<Mark>, ElfError>
-    requires parts { IsMemoryless file.now outline.now.tasks.items outline.now.funcs.items outline.now.marks outline.now.count }
+    requires parts { IsDescription file.now outline.now.tasks.items outline.now.funcs.items outline.now.counters.items outline.now.memory outline.now.count }
     requires fits { size ≤ 2097152 }
-    ensures read { IfOk result (λ marks. MarksStand file.now outline.now.marks (length outline.now.funcs.items) size marks.items) }
+    ensures read { IfOk result (λ marks.
+        MarksStand file.now outline.now.memory (service_limit (length outline.now.counters.items)) (length outline.now.funcs.items) size
+        marks.items) }
     ensures counted { IfOk result (λ marks. length marks.items ≡ outline.now.count) }
     ensures failed { IfErr result (λ failure.
-        MarksMiss failure file.now outline.now.marks outline.now.count (length outline.now.funcs.items) size) }
+        MarksMiss failure file.now outline.now.memory outline.now.count (service_limit (length outline.now.counters.items))
+        (length outline.now.funcs.items) size) }
 {
     match read_marks(
         alloc,
         file,
-        outline.marks,
+        outline.memory,
         outline.count,
+        service_limit(outline.counters.len()),
         outline.funcs.len(),
         size,
     ) {
@@ -254,38 +274,20 @@ fn marks_at(
     }
 }
 
-// The names of a description, and where its marks stand.
-#[derive(Drop)]
-struct Outline {
-    tasks: Vec<Name>,
-    funcs: Vec<Name>,
-    marks: usize,
-    count: usize,
-}
-
-// The parts of an image file without memory that ends with its marks.
-fn read_memoryless(alloc: Global, file: &[u8]) -> Result<Outline, ElfError>
-    requires { HasMagic file.now }
-    ensures read { IfOk result (λ outline. IsMemoryless file.now outline.tasks.items outline.funcs.items outline.marks outline.count) }
-    ensures failed { IfErr result (λ failure. MemorylessFails failure file.now) }
+// The names of a description, and where its marks stand, with which it ends.
+fn read_description(alloc: Global, description: &[u8]) -> Result<Outline, ElfError>
+    ensures read { IfOk result (λ outline.
+        IsDescription description.now outline.tasks.items outline.funcs.items outline.counters.items outline.memory outline.count) }
+    ensures failed { IfErr result (λ failure. DescriptionFails failure description.now) }
 {
-    let Some(sizes) = read_sizes(file) else {
+    let Some(sizes) = read_numbers(description) else {
         return Err(ElfFault::E7.into());
     };
-    if sizes.memory != 0 {
+    let outline = parts_behind(alloc, description, &sizes)?;
+    if outline.memory + outline.count * 12 != description.len() {
         return Err(ElfFault::E7.into());
     }
-    let tasks = names_at(alloc, file, HEADER, sizes.tasks)?;
-    let funcs = names_at(alloc, file, tasks.end, sizes.funcs)?;
-    if funcs.end + sizes.marks * 12 != file.len() {
-        return Err(ElfFault::E7.into());
-    }
-    Ok(Outline {
-        tasks: tasks.names,
-        funcs: funcs.names,
-        marks: funcs.end,
-        count: sizes.marks,
-    })
+    Ok(outline)
 }
 
 // The image of these parts and this memory, or what is wrong with them.
@@ -295,15 +297,16 @@ fn read_contents(
     outline: Outline,
     memory: &[u8],
 ) -> Result<Image, ElfError>
-    requires parts { IsMemoryless file.now outline.tasks.items outline.funcs.items outline.marks outline.count }
+    requires parts { IsDescription file.now outline.tasks.items outline.funcs.items outline.counters.items outline.memory outline.count }
     requires fits { length memory.now ≤ 2097152 }
     ensures read { IfOk result (λ image.
-        AreRead file.now outline.tasks.items outline.funcs.items outline.marks outline.count (length memory.now) image) }
+        AreRead file.now outline.tasks.items outline.funcs.items outline.counters.items outline.memory outline.count (length memory.now) image) }
     ensures memory { IfOk result (λ image. image.memory ≡ memory.now) }
     ensures failed { IfErr result (λ failure.
-        ContentsFail failure file.now outline.tasks.items outline.funcs.items outline.marks outline.count (length memory.now)) }
+        ContentsFail failure file.now outline.tasks.items outline.funcs.items outline.counters.items outline.memory outline.count
+        (length memory.now)) }
 {
-    if !are_names(&outline.tasks) || !are_names(&outline.funcs) {
+    if !are_right_names(&outline.tasks, &outline.funcs, &outline.counters) {
         return Err(ElfFault::E8.into());
     }
     let marks = marks_at(alloc, file, &outline, memory.len())?;
@@ -314,6 +317,7 @@ fn read_contents(
     Ok(Image {
         tasks: List::from_vec(outline.tasks),
         funcs: List::from_vec(outline.funcs),
+        counters: List::from_vec(outline.counters),
         memory: List::from_vec(memory),
         marks: List::from_vec(marks),
     })

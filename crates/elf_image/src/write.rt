@@ -42,6 +42,7 @@ fn describe(alloc: Global, image: &Image) -> Result<Vec<u8>, NoMemory>
 {
     let tasks = image.tasks.items();
     let funcs = image.funcs.items();
+    let counters = image.counters.items();
     let marks = image.marks.items();
     let mut description = Vec::new(alloc);
     put_words(
@@ -49,12 +50,13 @@ fn describe(alloc: Global, image: &Image) -> Result<Vec<u8>, NoMemory>
         &[
             tasks.len() as u32,
             funcs.len() as u32,
-            0,
+            counters.len() as u32,
             marks.len() as u32,
         ],
     )?;
     put_names(&mut description, tasks)?;
     put_names(&mut description, funcs)?;
+    put_names(&mut description, counters)?;
     put_marks(&mut description, marks)?;
     Ok(description)
 }

@@ -57,4 +57,4 @@ module _ (offset task : ℕ) (c : Core) (h : MayClear offset task (masking ∷ b
   runs_it = opens offset 15 body c (EventsCleared task) h.goes_back.can_run (omega arith) body_owes
 
 pub clears : ClearsEvents (masking ∷ body)
-clears = record { size = (let n : length (masking ∷ body) ≡ 16 = refl in omega arith); masks = (body, refl); runs = λ offset task core h. runs_it offset task core h }
+clears = record { size = refl; masks = (body, refl); runs = λ offset task core h. runs_it offset task core h }

@@ -73,4 +73,4 @@ module _ (offset task : ℕ) (c : Core) (h : MayGet offset task (masking ∷ bod
   runs_it = opens offset 16 (body task) c (EventsTold task) h.goes_back.can_run (omega arith) body_owes
 
 pub tells : (task : ℕ) → TellsEvents task (masking ∷ body task)
-tells task = record { size = (let n : length (masking ∷ body task) ≡ 17 = refl in omega arith); masks = (body task, refl); runs = λ offset core h. runs_it offset task core h }
+tells task = record { size = refl; masks = (body task, refl); runs = λ offset core h. runs_it offset task core h }

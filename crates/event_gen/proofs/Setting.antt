@@ -145,4 +145,4 @@ module _ (offset task : ℕ) (c : Core) (h : MaySet offset task (masking ∷ bod
   runs_it = opens offset 25 (body task) c (EventsSet task) h.goes_back.can_run (omega arith) body_owes
 
 pub sets : (task : ℕ) → SetsEvents task (masking ∷ body task)
-sets task = record { size = (let n : length (masking ∷ body task) ≡ 26 = refl in omega arith); masks = (body task, refl); runs = λ offset core h. runs_it offset task core h }
+sets task = record { size = refl; masks = (body task, refl); runs = λ offset core h. runs_it offset task core h }

@@ -234,4 +234,4 @@ module _ (offset task place own : ℕ) (c : Core) (h : MayWait offset task place
   runs_it = opens_within offset 85 body c (Waited task place own) h.goes_back.can_run (omega arith) body_owes
 
 pub waits : Waits (masking ∷ body)
-waits = record { size = (let n : length (masking ∷ body) ≡ 91 = refl in omega arith); masks = (body, refl); runs = λ offset task place own core h. runs_it offset task place own core h }
+waits = record { size = refl; masks = (body, refl); runs = λ offset task place own core h. runs_it offset task place own core h }

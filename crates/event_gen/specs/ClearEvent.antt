@@ -1,5 +1,6 @@
 -- ClearEvent (OSEK OS 2.2.3, section 13.5.3.2).
 use Rattle.std.specs.Prelude.{ℕ, ◌+◌, ◌-◌, ◌^◌, ◌≡◌, ◌<◌, List, [], slice_index, bit_and}
+use Rattle.sloth_base.specs.declared.service.Service.TheVariants as service
 use Rattle.sloth_base.specs.Machine.{Core, State}
 use Rattle.sloth_base.specs.Status.{E_OK}
 use Rattle.sloth_region.specs.Layout.{cur, events}
@@ -35,4 +36,4 @@ pub record EventsCleared (task : ℕ) (touched : List ℕ) (start end : State) :
 -- Code of ClearEvent: behind its first instruction at most 15 more lead to its effect, whatever lines arrive.
 abbrev pub ClearsEvents : List InstrKind → Type 0
 ClearsEvents code =
-    IsServiceCode 16 code ((offset task : ℕ) (core : Core) → MayClear offset task code core → FromOpening 15 (at offset core) (EventsCleared task))
+    IsServiceCode service.ClearEvent code ((offset task : ℕ) (core : Core) → MayClear offset task code core → FromOpening 15 (at offset core) (EventsCleared task))

@@ -1,5 +1,6 @@
 -- GetEvent (OSEK OS 2.2.3, section 13.5.3.3).
 use Rattle.std.specs.Prelude.{ℕ, ◌≡◌, ◌<◌, ◌⊎◌, List, [], ◌∷◌, slice_index}
+use Rattle.sloth_base.specs.declared.service.Service.TheVariants as service
 use Rattle.sloth_base.specs.Machine.{Core, State}
 use Rattle.sloth_base.specs.Status.{E_OK, E_OS_STATE}
 use Rattle.sloth_region.specs.Layout.{active, events}
@@ -41,4 +42,4 @@ pub record EventsTold (task : ℕ) (touched : List ℕ) (start end : State) : Ty
 -- Code of GetEvent: behind its first instruction at most 16 more lead to its effect, whatever lines arrive.
 abbrev pub TellsEvents : ℕ → List InstrKind → Type 0
 TellsEvents task code =
-    IsServiceCode 17 code ((offset : ℕ) (core : Core) → MayGet offset task code core → FromOpening 16 (at offset core) (EventsTold task))
+    IsServiceCode service.GetEvent code ((offset : ℕ) (core : Core) → MayGet offset task code core → FromOpening 16 (at offset core) (EventsTold task))

@@ -1,5 +1,6 @@
 -- SetEvent (OSEK OS 2.2.3, section 13.5.3.1).
 use Rattle.std.specs.Prelude.{ℕ, ◌≡◌, ◌≢◌, ◌<◌, ◌⊎◌, List, [], ◌∷◌, slice_index, slice_set, bit_and, bit_or}
+use Rattle.sloth_base.specs.declared.service.Service.TheVariants as service
 use Rattle.sloth_base.specs.Machine.{Core, State}
 use Rattle.sloth_base.specs.Status.{E_OK, E_OS_STATE}
 use Rattle.sloth_region.specs.Layout.{active, events, wait}
@@ -65,4 +66,4 @@ pub record EventsSet (task : ℕ) (touched : List ℕ) (start end : State) : Typ
 -- Code of SetEvent: behind its first instruction at most 25 more lead to its effect, whatever lines arrive.
 abbrev pub SetsEvents : ℕ → List InstrKind → Type 0
 SetsEvents task code =
-    IsServiceCode 26 code ((offset : ℕ) (core : Core) → MaySet offset task code core → FromOpening 25 (at offset core) (EventsSet task))
+    IsServiceCode service.SetEvent code ((offset : ℕ) (core : Core) → MaySet offset task code core → FromOpening 25 (at offset core) (EventsSet task))

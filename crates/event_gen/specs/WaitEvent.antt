@@ -1,5 +1,6 @@
 -- WaitEvent (OSEK OS 2.2.3, section 13.5.3.4).
 use Rattle.std.specs.Prelude.{ℕ, ◌+◌, ◌*◌, ◌%◌, ◌≡◌, ◌≢◌, ◌<◌, ◌≤◌, ◌⊎◌, List, [], length, slice_index, slice_set, bit_and}
+use Rattle.sloth_base.specs.declared.service.Service.TheVariants as service
 use Rattle.sloth_base.specs.Machine.{Core, State}
 use Rattle.sloth_base.specs.Status.{E_OK}
 use Rattle.sloth_base.specs.MemoryMap.{memory_base}
@@ -74,5 +75,5 @@ pub record Waited (task place own : ℕ) (touched : List ℕ) (start end : State
 -- Code of WaitEvent: behind its first instruction at most 85 more lead to its effect, whatever lines arrive.
 abbrev pub Waits : List InstrKind → Type 0
 Waits code =
-    IsServiceCode 91 code ((offset task place own : ℕ) (core : Core) → MayWait offset task place own code core
+    IsServiceCode service.WaitEvent code ((offset task place own : ℕ) (core : Core) → MayWait offset task place own code core
     → FromOpening 85 (at offset core) (Waited task place own))

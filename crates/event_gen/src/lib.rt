@@ -1,7 +1,8 @@
 //! The code of the operating system services on events (OSEK OS 2.2.3, section 13.5).
 #![tactic(auto)]
 
-ghost use Rattle.std.specs.Prelude.{IfOk};
+ghost use Rattle.std.specs.Prelude.{◌≡◌, IfOk, length};
+ghost use Rattle.code_lengths.specs.CodeLengths.{service_length};
 ghost use Rattle.block_parts.specs.ServiceBlock.{IsServiceBlock};
 ghost use Rattle.event_gen.specs.Block.{HasEventBlock, ServesEvent, no_marks};
 
@@ -49,7 +50,8 @@ pub fn block(
 /// The instructions.
 fn code(alloc: Global, service: Service, object: u8) -> Result<Vec<Instr>, AllocError>
     requires { HasEventBlock service object }
-    ensures { IfOk result (λ code. ServesEvent service object code.items) }
+    ensures long { IfOk result (λ code. length code.items ≡ service_length service) }
+    ensures serves { IfOk result (λ code. ServesEvent service object code.items) }
 {
     match service {
         Service::SetEvent => set_event::code(alloc, object),

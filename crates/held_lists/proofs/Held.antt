@@ -4,6 +4,7 @@ use Rattle.std.specs.Prelude.{◌==◌}
 use Rattle.std.proofs.Math.Seq.{take-suc}
 use Rattle.std.proofs.lemmas.List.{take_all}
 use Rattle.std.proofs.lemmas.Bool.{eqb-true, eq-eqb, cases_eq}
+use mathlib.Core.Bool.{or-true}
 use Rattle.sloth_base.specs.declared.app.Func.{Func}
 use Rattle.sloth_base.specs.declared.app.Label.{Label}
 use Rattle.sloth_base.specs.Named.{nowhere, label_of, item_of}
@@ -11,13 +12,9 @@ use Rattle.code_rules.specs.Code.{held_at_labels, mark_at_labels, held_at, held_
 use Rattle.task_verify.proofs.Labelled.{labelled_snoc, marked_snoc}
 use Rattle.held_lists.specs.RightLists.{HasRightLists}
 
-or_true : (b : Bool) → (b || true) ≡ true
-or_true true = refl
-or_true false = refl
-
 marked_true : (i : ℕ) (xs : List Label) → mark_at_labels i xs true ≡ true
 marked_true i [] = refl
-marked_true i (x ∷ xs) = ap (mark_at_labels i xs) (or_true (x.item == i)) ∙ marked_true i xs
+marked_true i (x ∷ xs) = ap (mark_at_labels i xs) (or-true (x.item == i)) ∙ marked_true i xs
 
 at_place : (f : Func) (i : ℕ) → held_at f i ≡ held_at_labels i (take (length f.labels) f.labels) (held_fallen_into f i)
 at_place f i = here i ∙ ap (λ x. held_at_labels i x (held_fallen_into f i)) (sym (take_all (length f.labels) f.labels (omega arith)))
@@ -61,7 +58,7 @@ module _ (f : Func) (right : HasRightLists f) where
       ∙ marked_snoc (label_of f k).item (take m f.labels) (label_of f m) into
       ∙ ⊎_elim
       (λ same. ap (λ b. b || mark_at_labels (label_of f k).item (take m f.labels) into) (eq-eqb _ _ (ap (λ x. (label_of f x).item) (sym same))))
-      (λ other. ap (λ b. at (label_of f k).item m || b) (marks k m into (omega (arith, l, other)) (omega (arith, n))) ∙ or_true (at (label_of f k).item m))
+      (λ other. ap (λ b. at (label_of f k).item m || b) (marks k m into (omega (arith, l, other)) (omega (arith, n))) ∙ or-true (at (label_of f k).item m))
       (cases_eq k m)
 
   -- the labels behind a label at its place have its list

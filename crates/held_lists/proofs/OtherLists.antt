@@ -2,6 +2,7 @@
 use Rattle.std.proofs.Common.{◌≡◌, ℕ, ◌<◌, ◌≤◌, inl, inr, List, [], ◌∷◌, length, map, sum, get_or, refl, sym, ap, ◌∙◌, subst}
 use Rattle.std.specs.Prelude.{All}
 use Rattle.std.proofs.lemmas.List.{get_or_default}
+use mathlib.Core.List.{map-map}
 use Rattle.sloth_base.specs.declared.config.Config.{Config}
 use Rattle.sloth_base.specs.declared.app.App.{App}
 use Rattle.sloth_base.specs.declared.app.Func.{Func}
@@ -19,10 +20,6 @@ use Rattle.call_graph.specs.Ranks.{RanksOf}
 use Rattle.held_lists.specs.Filling.{bare_label, bare_func, SameButLists}
 use Rattle.held_lists.specs.BodyFilling.{HasResourceLists}
 use Rattle.held_lists.proofs.Bare.{functions_same, count_functions, place_same, count_same, items_same}
-
-map_map : {X Y Z : Type 0} (f : Y → Z) (g : X → Y) (xs : List X) → map f (map g xs) ≡ map (λ x. f (g x)) xs
-map_map f g [] = refl
-map_map f g (x ∷ xs) = ap (λ ys. f (g x) ∷ ys) (map_map f g xs)
 
 module _ (app other : App) (e : SameButLists app other) where
   body_alike : (b : ℕ) → bare_func (function app b) ≡ bare_func (function other b)
@@ -116,7 +113,7 @@ module _ (config : Config) (app other : App) (e : SameButLists app other)
   op_there f g n _ h = h
 
   names_of : (g : Func) → map (λ (l : Label). l.name) (bare_func g).labels ≡ map (λ (l : Label). l.name) g.labels
-  names_of g = map_map (λ (l : Label). l.name) bare_label g.labels
+  names_of g = map-map (λ (l : Label). l.name) bare_label g.labels
 
   place_at : (f g : Func) → bare_func f ≡ bare_func g → (k : ℕ) → (label_of f k).item ≡ (label_of g k).item
   place_at f g same k = place_same f g same k

@@ -1,6 +1,6 @@
 -- In well-formed task code the lists of each body are right.
-use Rattle.std.proofs.Common.{◌≡◌, ℕ, ◌<◌, Bool, true, false, List, length, refl, sym, ◌∙◌, subst, arith, ⊎_elim}
-use Rattle.std.proofs.lemmas.Bool.{cases_lt}
+use Rattle.std.proofs.Common.{◌≡◌, ℕ, ◌<◌, true, List, length, refl, sym, ◌∙◌, subst, arith, ⊎_elim}
+use Rattle.std.proofs.lemmas.Bool.{cases_lt, false_from_ne_true}
 use Rattle.sloth_base.specs.declared.config.Config.{Config}
 use Rattle.sloth_base.specs.declared.app.App.{App}
 use Rattle.sloth_base.specs.declared.app.Func.{Func}
@@ -18,10 +18,6 @@ use Rattle.held_lists.specs.Filling.{AreClear, IsFilling}
 use Rattle.held_lists.specs.RightLists.{HasRightLists}
 use Rattle.held_lists.proofs.OneBody.{stable, one_body}
 use Rattle.held_lists.proofs.Bare.{functions_same, count_functions, app_same}
-
-pub not_true : (b : Bool) → ¬ (b ≡ true) → b ≡ false
-not_true true h = absurd (h refl)
-not_true false h = refl
 
 module _ (config : Config) (app : App) (whole : WellFormed config app) (clear : AreClear app) (b : ℕ) (known : b < length app.funcs) where
   abbrev f : Func
@@ -45,7 +41,7 @@ module _ (config : Config) (app : App) (whole : WellFormed config app) (clear : 
     labels = λ i l. leads config app f (item_of f i).op ((whole.in_range.bodies b missing known).items i no_item l);
     falling = λ k l into. stable _ _ (λ differ. agrees k l (falling_in into differ));
     turning = λ i k l w. stable _ _ (λ differ. keeps i code.V7 l (holds_other (k, w, differ)));
-    taking = λ i call l e s. not_true _ (λ t. keeps i code.V9 l (takes_held (takes (held_at f i) (item_of f i).op call e s t)));
+    taking = λ i call l e s. false_from_ne_true _ (λ t. keeps i code.V9 l (takes_held (takes (held_at f i) (item_of f i).op call e s t)));
     reached = λ i l none. keeps i code.V6 l (is_unreached none);
     clear = clear b;
   }

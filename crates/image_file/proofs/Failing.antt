@@ -3,23 +3,34 @@ use Rattle.std.proofs.Common.{ℕ, List, ◌≡◌, Option, None, Some, Err, ref
 use Rattle.std.specs.Prelude.{Bool, true, false, IfNone}
 use Rattle.std.specs.Option.{ok_or}
 use Rattle.std.specs.Bool.{then_some}
-use Rattle.image_file.specs.Parts.{HasParts, Parts}
+use Rattle.image_file.specs.Parts.{Parts, PartsStand, header_size}
 use Rattle.image_file.specs.Faults.{Fails, HasMagic}
-use Rattle.image_file.specs.Reading.{NamesFail, NoNames}
+use Rattle.image_file.specs.Reading.{HasSizes, NamesFail, NoNames, PartsFail}
+use Rattle.image_file.specs.declared.header.Sizes.{Sizes}
+use Rattle.image_file.proofs.Parted.{body_of}
 use Rattle.image_file.specs.declared.fault.ImageFault.{ImageFault}
 use Rattle.image_file.specs.declared.fault.ImageFault.TheVariants as fault
 use Rattle.image_file.specs.declared.fault.ImageError.{ImageError}
 use Rattle.image_file.specs.declared.fault.ImageError.TheVariants as failure
 
--- names that are missing are a fault, where without them there are no parts
-pub names_fail : (f : ImageError) (file : List ℕ) (at count : ℕ) → HasMagic file
-    → (NoNames file at count → (p : Parts) (rest : List ℕ) → ¬ (HasParts file p rest)) → NamesFail f file at count → Fails f file
-names_fail (failure.Fault fault.I1) file at count magic none h = absurd h
-names_fail (failure.Fault fault.I2) file at count magic none h = (magic, none h)
-names_fail (failure.Fault fault.I3) file at count magic none h = absurd h
-names_fail (failure.Fault fault.I4) file at count magic none h = absurd h
-names_fail (failure.Fault fault.I5) file at count magic none h = absurd h
-names_fail failure.Memory file at count magic none h = h
+-- names that are missing are a fault of the parts, where without them none stand there
+pub names_fail : (f : ImageError) (file : List ℕ) (at count place : ℕ) (s : Sizes)
+    → (NoNames file at count → (p : Parts) (rest : List ℕ) → ¬ (PartsStand file place s p rest)) → NamesFail f file at count → PartsFail f file place s
+names_fail (failure.Fault fault.I1) file at count place s none h = absurd h
+names_fail (failure.Fault fault.I2) file at count place s none h = none h
+names_fail (failure.Fault fault.I3) file at count place s none h = absurd h
+names_fail (failure.Fault fault.I4) file at count place s none h = absurd h
+names_fail (failure.Fault fault.I5) file at count place s none h = absurd h
+names_fail failure.Memory file at count place s none h = h
+
+-- parts that are missing behind the header are a fault of the file
+pub parts_fail : (f : ImageError) (file : List ℕ) (s : Sizes) → HasMagic file → HasSizes file s → PartsFail f file (header_size s.counters) s → Fails f file
+parts_fail (failure.Fault fault.I1) file s magic has h = absurd h
+parts_fail (failure.Fault fault.I2) file s magic has h = (magic, λ p rest parts. h p rest (body_of file s p rest has parts))
+parts_fail (failure.Fault fault.I3) file s magic has h = absurd h
+parts_fail (failure.Fault fault.I4) file s magic has h = absurd h
+parts_fail (failure.Fault fault.I5) file s magic has h = absurd h
+parts_fail failure.Memory file s magic has h = h
 
 -- what `ok_or` passed on as an error is the fault, and there was nothing
 pub missing : {T : Type 0} {P : Type 0} (found : Option T) (wanted told : ImageFault) → Err told ≡ ok_or found wanted → IfNone found P → P × (told ≡ wanted)

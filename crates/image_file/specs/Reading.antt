@@ -1,27 +1,20 @@
 -- What the steps of reading tell.
-use Rattle.std.specs.Prelude.{◌≡◌, ◌≢◌, ◌≤◌, ◌+◌, ◌*◌, ◌%◌, ℕ, List, ◌++◌, take, drop, slice_range, length, codes, ⊤}
+use Rattle.std.specs.Prelude.{◌≡◌, ◌≢◌, ◌≤◌, ◌+◌, ◌*◌, ℕ, List, ◌++◌, take, drop, slice_range, length, ⊤}
 use Rattle.std.specs.List.{flat_map, All}
 use Rattle.sloth_base.specs.declared.image.Mark.{Mark}
 use Rattle.sloth_base.specs.ImageRange.{IsMark}
 use Rattle.image_file.specs.ImageText.{mark_bytes, name_bytes}
-use Rattle.image_file.specs.Parts.{Parts, HasParts, sizes_bytes}
+use Rattle.image_file.specs.Parts.{Parts, HasParts, PartsStand, SizesFit, header_before, header_size}
+use Rattle.image_file.specs.declared.header.Sizes.{Sizes}
 use Rattle.image_file.specs.declared.fault.ImageFault.TheVariants as fault
 use Rattle.image_file.specs.declared.fault.ImageError.{ImageError}
 use Rattle.image_file.specs.declared.fault.ImageError.TheVariants as failure
 
--- these numbers are within the limits
-pub record SizesFit (tasks funcs memory marks : ℕ) : Type 0 where
-  pub few_tasks : tasks ≤ 30
-  pub few_functions : funcs ≤ 64
-  pub memory_fits : memory ≤ 2097152
-  pub whole_words : memory % 4 ≡ 0
-  pub few_marks : marks ≤ 16384
-
 -- the header holds these numbers, within the limits
-pub record HasSizes (file : List ℕ) (tasks funcs memory marks : ℕ) : Type 0 where
-  pub within : SizesFit tasks funcs memory marks
-  pub long : 24 ≤ length file
-  pub are : file ≡ codes "SLOTHIM1" ++ sizes_bytes tasks funcs memory marks (drop 24 file)
+pub record HasSizes (file : List ℕ) (sizes : Sizes) : Type 0 where
+  pub within : SizesFit sizes
+  pub long : header_size sizes.counters ≤ length file
+  pub are : file ≡ header_before sizes (drop (header_size sizes.counters) file)
 
 -- names stand at `at`, up to `end`
 pub record NamesStand (file : List ℕ) (at end : ℕ) (names : List (List ℕ)) : Type 0 where
@@ -42,51 +35,67 @@ NamesFail (failure.Fault fault.I5) file at count = ⊥
 NamesFail failure.Memory file at count = ⊤
 
 -- the parts whose memory begins at `at`, with the marks behind it
-abbrev pub parts_at : List ℕ → List (List ℕ) → List (List ℕ) → ℕ → ℕ → ℕ → Parts
-parts_at file tasks funcs at size count = record {
+abbrev pub parts_at : List ℕ → List (List ℕ) → List (List ℕ) → List (List ℕ) → ℕ → ℕ → ℕ → Parts
+parts_at file tasks funcs counters at size count = record {
   tasks = tasks;
   funcs = funcs;
+  counters = counters;
   memory = take size (drop at file);
   count = count;
   marks = take (count * 12) (drop (at + size) file);
 }
 
+-- behind the names that stand at `at` there are the memory, from `memory` on, and the marks
+pub record NamedPartsStand (file : List ℕ) (at : ℕ) (sizes : Sizes) (tasks funcs counters : List (List ℕ)) (memory : ℕ) : Type 0 where
+  pub parts : PartsStand file at sizes (parts_at file tasks funcs counters memory sizes.memory sizes.marks)
+      (drop (memory + sizes.memory + sizes.marks * 12) file)
+  pub long : memory + sizes.memory + sizes.marks * 12 ≤ length file
+
+-- what an error says of parts of these numbers at a place: the fault, that none stand there
+abbrev pub PartsFail : ImageError → List ℕ → ℕ → Sizes → Type 0
+PartsFail (failure.Fault fault.I1) file at sizes = ⊥
+PartsFail (failure.Fault fault.I2) file at sizes = (parts : Parts) (rest : List ℕ) → ¬ (PartsStand file at sizes parts rest)
+PartsFail (failure.Fault fault.I3) file at sizes = ⊥
+PartsFail (failure.Fault fault.I4) file at sizes = ⊥
+PartsFail (failure.Fault fault.I5) file at sizes = ⊥
+PartsFail failure.Memory file at sizes = ⊤
+
 -- the file has all its parts: names of any bytes, memory from `at` on, and the marks behind it, as many as `count`
-pub record HasOutline (file : List ℕ) (tasks funcs : List (List ℕ)) (at size count : ℕ) : Type 0 where
-  pub parts : HasParts file (parts_at file tasks funcs at size count) (drop (at + size + count * 12) file)
+pub record HasOutline (file : List ℕ) (tasks funcs counters : List (List ℕ)) (at size count : ℕ) : Type 0 where
+  pub parts : HasParts file (parts_at file tasks funcs counters at size count) (drop (at + size + count * 12) file)
   pub long : at + size + count * 12 ≤ length file
 
 -- a mark in range stands at `at`
-pub record MarkStands (file : List ℕ) (at funcs size : ℕ) (mark : Mark) : Type 0 where
+pub record MarkStands (file : List ℕ) (at services funcs size : ℕ) (mark : Mark) : Type 0 where
   pub is : drop at file ≡ mark_bytes mark ++ drop (at + 12) file
-  pub right : IsMark funcs size mark
+  pub right : IsMark services funcs size mark
 
 -- none stands there
-abbrev pub NoMark : List ℕ → ℕ → ℕ → ℕ → Type 0
-NoMark file at funcs size = (mark : Mark) (rest : List ℕ) → IsMark funcs size mark → drop at file ≢ mark_bytes mark ++ rest
+abbrev pub NoMark : List ℕ → ℕ → ℕ → ℕ → ℕ → Type 0
+NoMark file at services funcs size = (mark : Mark) (rest : List ℕ) → IsMark services funcs size mark → drop at file ≢ mark_bytes mark ++ rest
 
 -- so many marks in range stand at `at`
-pub record MarksStand (file : List ℕ) (at funcs size : ℕ) (marks : List Mark) : Type 0 where
+pub record MarksStand (file : List ℕ) (at services funcs size : ℕ) (marks : List Mark) : Type 0 where
   pub are : drop at file ≡ flat_map mark_bytes marks ++ drop (at + length marks * 12) file
-  pub right : All (IsMark funcs size) marks
+  pub right : All (IsMark services funcs size) marks
 
 -- no marks in range stand from this place on
-abbrev pub NoMarks : List ℕ → ℕ → ℕ → ℕ → ℕ → Type 0
-NoMarks file at count funcs size = (marks : List Mark) (rest : List ℕ) → length marks ≡ count → All (IsMark funcs size) marks
+abbrev pub NoMarks : List ℕ → ℕ → ℕ → ℕ → ℕ → ℕ → Type 0
+NoMarks file at count services funcs size = (marks : List Mark) (rest : List ℕ) → length marks ≡ count → All (IsMark services funcs size) marks
     → drop at file ≢ flat_map mark_bytes marks ++ rest
 
 -- what an error says of so many marks from this place on
-abbrev pub MarksFail : ImageError → List ℕ → ℕ → ℕ → ℕ → ℕ → Type 0
-MarksFail (failure.Fault fault.I1) file at count funcs size = ⊥
-MarksFail (failure.Fault fault.I2) file at count funcs size = ⊥
-MarksFail (failure.Fault fault.I3) file at count funcs size = NoMarks file at count funcs size
-MarksFail (failure.Fault fault.I4) file at count funcs size = ⊥
-MarksFail (failure.Fault fault.I5) file at count funcs size = ⊥
-MarksFail failure.Memory file at count funcs size = ⊤
+abbrev pub MarksFail : ImageError → List ℕ → ℕ → ℕ → ℕ → ℕ → ℕ → Type 0
+MarksFail (failure.Fault fault.I1) file at count services funcs size = ⊥
+MarksFail (failure.Fault fault.I2) file at count services funcs size = ⊥
+MarksFail (failure.Fault fault.I3) file at count services funcs size = NoMarks file at count services funcs size
+MarksFail (failure.Fault fault.I4) file at count services funcs size = ⊥
+MarksFail (failure.Fault fault.I5) file at count services funcs size = ⊥
+MarksFail failure.Memory file at count services funcs size = ⊤
 
--- the header does not hold four numbers within the limits
+-- the header does not hold the numbers of parts within the limits
 abbrev pub NoSizes : List ℕ → Type 0
-NoSizes file = (tasks funcs memory marks : ℕ) → ¬ (HasSizes file tasks funcs memory marks)
+NoSizes file = (sizes : Sizes) → ¬ (HasSizes file sizes)
 
 -- the name at `at` ends at `end`
 pub record NameEnds (file : List ℕ) (at end : ℕ) : Type 0 where

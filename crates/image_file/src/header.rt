@@ -1,56 +1,119 @@
-//! The header of a file: the magic, and four numbers.
-ghost use Rattle.std.specs.Prelude.{IfSome, IfNone, Decides};
+//! The header of a file: the magic, and the numbers of its parts.
+ghost use Rattle.std.specs.Prelude.{◌≡◌, IfSome, IfNone, Decides, codes, take};
 ghost use Rattle.image_file.specs.Faults.{HasMagic};
-ghost use Rattle.image_file.specs.Reading.{HasSizes, SizesFit, NoSizes};
+ghost use Rattle.image_file.specs.Parts.{SizesFit, header_size};
+ghost use Rattle.image_file.specs.Reading.{HasSizes, NoSizes};
 
 use crate::numbers::u32_at;
 
-/// The length of the header, in bytes.
-pub const HEADER: usize = 24;
-
-/// The numbers of the header.
+/// The numbers of tasks, functions, counters, bytes of memory and marks.
 #[derive(Clone, Copy)]
 pub struct Sizes {
     pub tasks: usize,
     pub funcs: usize,
+    pub counters: usize,
     pub memory: usize,
     pub marks: usize,
+}
+
+impl Sizes {
+    /// The length of a header with these numbers, in bytes.
+    pub fn header(&self) -> usize
+        ensures { result ≡ header_size self.now.counters }
+    {
+        if self.counters == 0 { 24 } else { 28 }
+    }
+
+    /// The numbers are within the limits.
+    pub fn are_within(&self) -> bool
+        ensures { Decides result (SizesFit self.now) }
+    {
+        self.tasks <= 30
+            && self.funcs <= 64
+            && self.counters <= 2
+            && self.memory <= 2_097_152
+            && self.memory % 4 == 0
+            && self.marks <= 16_384
+    }
+}
+
+// Whether the file begins as an image file without counters does.
+fn has_plain_magic(bytes: &[u8]) -> bool
+    ensures { Decides result (take 8 bytes.now ≡ codes "SLOTHIM1") }
+{
+    bytes.starts_with(b"SLOTHIM1")
+}
+
+// Whether the file begins as an image file with counters does.
+fn has_counted_magic(bytes: &[u8]) -> bool
+    ensures { Decides result (take 8 bytes.now ≡ codes "SLOTHIM2") }
+{
+    bytes.starts_with(b"SLOTHIM2")
 }
 
 /// Whether the file begins as an image file does.
 pub fn has_magic(bytes: &[u8]) -> bool
     ensures { Decides result (HasMagic bytes.now) }
 {
-    bytes.starts_with(b"SLOTHIM1")
+    has_plain_magic(bytes) || has_counted_magic(bytes)
 }
 
 /// The numbers of the header, where the file has one and they are within the limits.
 pub fn read_sizes(bytes: &[u8]) -> Option<Sizes>
     requires { HasMagic bytes.now }
-    ensures read { IfSome result (λ sizes. HasSizes bytes.now sizes.tasks sizes.funcs sizes.memory sizes.marks) }
+    ensures read { IfSome result (λ sizes. HasSizes bytes.now sizes) }
     ensures none { IfNone result (NoSizes bytes.now) }
 {
-    if bytes.len() < HEADER {
-        return None;
+    if has_plain_magic(bytes) {
+        read_plain_sizes(bytes)
+    } else {
+        read_counted_sizes(bytes)
     }
-    let tasks = u32_at(bytes, 8) as usize;
-    let funcs = u32_at(bytes, 12) as usize;
-    let memory = u32_at(bytes, 16) as usize;
-    let marks = u32_at(bytes, 20) as usize;
-    if !are_within(tasks, funcs, memory, marks) {
-        return None;
-    }
-    Some(Sizes {
-        tasks,
-        funcs,
-        memory,
-        marks,
-    })
 }
 
-// The numbers of the header are within the limits.
-fn are_within(tasks: usize, funcs: usize, memory: usize, marks: usize) -> bool
-    ensures { Decides result (SizesFit tasks funcs memory marks) }
+// Those of a file without counters.
+fn read_plain_sizes(bytes: &[u8]) -> Option<Sizes>
+    requires { take 8 bytes.now ≡ codes "SLOTHIM1" }
+    ensures read { IfSome result (λ sizes. HasSizes bytes.now sizes) }
+    ensures none { IfNone result (NoSizes bytes.now) }
 {
-    tasks <= 30 && funcs <= 64 && memory <= 2_097_152 && memory % 4 == 0 && marks <= 16_384
+    if bytes.len() < 24 {
+        return None;
+    }
+    let sizes = Sizes {
+        tasks: u32_at(bytes, 8) as usize,
+        funcs: u32_at(bytes, 12) as usize,
+        counters: 0,
+        memory: u32_at(bytes, 16) as usize,
+        marks: u32_at(bytes, 20) as usize,
+    };
+    if !sizes.are_within() {
+        return None;
+    }
+    Some(sizes)
+}
+
+// Those of a file with counters.
+fn read_counted_sizes(bytes: &[u8]) -> Option<Sizes>
+    requires { take 8 bytes.now ≡ codes "SLOTHIM2" }
+    ensures read { IfSome result (λ sizes. HasSizes bytes.now sizes) }
+    ensures none { IfNone result (NoSizes bytes.now) }
+{
+    if bytes.len() < 28 {
+        return None;
+    }
+    let sizes = Sizes {
+        tasks: u32_at(bytes, 8) as usize,
+        funcs: u32_at(bytes, 12) as usize,
+        counters: u32_at(bytes, 16) as usize,
+        memory: u32_at(bytes, 20) as usize,
+        marks: u32_at(bytes, 24) as usize,
+    };
+    if sizes.counters == 0 {
+        return None;
+    }
+    if !sizes.are_within() {
+        return None;
+    }
+    Some(sizes)
 }

@@ -2,7 +2,7 @@
 ghost use Rattle.std.specs.Prelude.{◌≡◌, ◌≢◌, ◌≤◌, ◌+◌, ◌*◌, IfOk, IfErr, IfSome, IfNone, Decides, length};
 ghost use Rattle.image_file.specs.ImageText.{kind_number};
 ghost use Rattle.image_file.specs.Reading.{MarkStands, NoMark, MarksStand, MarksFail};
-ghost use Rattle.sloth_base.specs.ImageRange.{AreFields, IsMark, AreAscending};
+ghost use Rattle.sloth_base.specs.ImageRange.{AreFields, IsMark, AreAscending, service_limit};
 ghost use Rattle.sloth_base.specs.declared.image.MarkKind.{MarkKind as KindOfMark};
 
 use crate::fault::{ImageError, ImageFault};
@@ -11,12 +11,13 @@ use sloth_base::image::{Mark, MarkKind};
 use sloth_base::memory_map::MEMORY_BASE;
 use std::alloc::Global;
 
-/// So many marks from `at` on, of an image of so many functions and bytes of memory.
+/// So many marks from `at` on, of an image of so many services, functions and bytes of memory.
 pub fn read_marks(
     alloc: Global,
     bytes: &[u8],
     at: usize,
     count: usize,
+    services: u8,
     funcs: usize,
     size: usize,
 ) -> Result<Vec<Mark>, ImageError>
@@ -24,24 +25,24 @@ pub fn read_marks(
     requires within { at + count * 12 ≤ length bytes.now }
     requires few { funcs ≤ 64 }
     requires fits { size ≤ 2097152 }
-    ensures read { IfOk result (λ marks. MarksStand bytes.now at funcs size marks.items) }
+    ensures read { IfOk result (λ marks. MarksStand bytes.now at services funcs size marks.items) }
     ensures counted { IfOk result (λ marks. length marks.items ≡ count) }
-    ensures failed { IfErr result (λ failure. MarksFail failure bytes.now at count funcs size) }
+    ensures failed { IfErr result (λ failure. MarksFail failure bytes.now at count services funcs size) }
 {
     let mut marks = Vec::new(alloc);
     for i in 0..count {
-        marks.push(mark_at(bytes, at + i * 12, funcs, size).ok_or(ImageFault::I3)?)?;
+        marks.push(mark_at(bytes, at + i * 12, services, funcs, size).ok_or(ImageFault::I3)?)?;
     }
     Ok(marks)
 }
 
 // The mark that stands at `at`.
-fn mark_at(bytes: &[u8], at: usize, funcs: usize, size: usize) -> Option<Mark>
+fn mark_at(bytes: &[u8], at: usize, services: u8, funcs: usize, size: usize) -> Option<Mark>
     requires within { at + 12 ≤ length bytes.now }
     requires few { funcs ≤ 64 }
     requires fits { size ≤ 2097152 }
-    ensures some { IfSome result (λ mark. MarkStands bytes.now at funcs size mark) }
-    ensures none { IfNone result (NoMark bytes.now at funcs size) }
+    ensures some { IfSome result (λ mark. MarkStands bytes.now at services funcs size mark) }
+    ensures none { IfNone result (NoMark bytes.now at services funcs size) }
 {
     let kind = kind_of(bytes[at + 4])?;
     let mark = Mark {
@@ -51,7 +52,7 @@ fn mark_at(bytes: &[u8], at: usize, funcs: usize, size: usize) -> Option<Mark>
         b: u16_at(bytes, at + 6),
         c: u32_at(bytes, at + 8),
     };
-    is_mark(&mark, funcs, size).then_some(mark)
+    is_mark(&mark, services, funcs, size).then_some(mark)
 }
 
 // The kind of mark that has a number.
@@ -70,25 +71,32 @@ fn kind_of(number: u8) -> Option<MarkKind>
 }
 
 // The mark is on a word of the memory and its fields are in range.
-fn is_mark(mark: &Mark, funcs: usize, size: usize) -> bool
+fn is_mark(mark: &Mark, services: u8, funcs: usize, size: usize) -> bool
     requires { size ≤ 2097152 }
-    ensures { Decides result (IsMark funcs size mark.now) }
+    ensures { Decides result (IsMark services funcs size mark.now) }
 {
     mark.address % 4 == 0
         && mark.address >= MEMORY_BASE
         && mark.address as usize - (MEMORY_BASE as usize) < size
-        && are_fields(mark, funcs)
+        && are_fields(mark, services, funcs)
 }
 
-fn are_fields(mark: &Mark, funcs: usize) -> bool
-    ensures { Decides result (AreFields funcs mark.now.kind mark.now.a mark.now.b mark.now.c) }
+fn are_fields(mark: &Mark, services: u8, funcs: usize) -> bool
+    ensures { Decides result (AreFields services funcs mark.now.kind mark.now.a mark.now.b mark.now.c) }
 {
     match mark.kind {
         MarkKind::Item => mark.a < 32 && (mark.b as usize) < funcs && mark.c <= 4095,
-        MarkKind::Jump => mark.a <= 11 && (mark.b as usize) < funcs && mark.c <= 4095,
-        MarkKind::Opening => mark.a <= 11 && mark.b == 0 && mark.c == 0,
+        MarkKind::Jump => mark.a < services && (mark.b as usize) < funcs && mark.c <= 4095,
+        MarkKind::Opening => mark.a < services && mark.b == 0 && mark.c == 0,
         MarkKind::Idle | MarkKind::Back => mark.a == 0 && mark.b == 0 && mark.c == 0,
     }
+}
+
+/// How many services the marks of an image with so many counters may name: those on alarms need a counter.
+pub fn service_limit(counters: usize) -> u8
+    ensures { result ≡ service_limit counters }
+{
+    if counters == 0 { 12 } else { 16 }
 }
 
 /// Whether their addresses rise strictly.

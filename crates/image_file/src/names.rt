@@ -2,7 +2,8 @@
 ghost use Rattle.std.specs.Prelude.{◌≡◌, ◌≢◌, ◌≤◌, ◌++◌, ◌↔◌, ℕ, List as Sequence, IfOk, IfErr, IfSome, IfNone, IsTrue, Decides, Contains, length, drop};
 ghost use Rattle.image_file.specs.ImageText.{name_bytes};
 ghost use Rattle.image_file.specs.Reading.{NamesStand, NamesFail, NameEnds};
-ghost use Rattle.sloth_base.specs.ImageRange.{AreNames};
+ghost use Rattle.sloth_base.specs.ImageRange.{AreNames, AreApart};
+ghost use Rattle.image_file.specs.Parts.{AreRightNames};
 
 use crate::fault::{ImageError, ImageFault};
 use sloth_base::name::{Name, is_name};
@@ -48,8 +49,8 @@ fn name_end(bytes: &[u8], at: usize) -> Option<usize>
     Some(at + 1 + size)
 }
 
-/// Whether each is a name, and they differ.
-pub fn are_names(names: &[Name]) -> bool
+// Whether each is a name, and they differ.
+fn are_names(names: &[Name]) -> bool
     ensures { Decides result (AreNames names.now) }
 {
     for i in 0..names.len() {
@@ -65,4 +66,18 @@ fn is_among(bytes: &[u8], names: &[Name]) -> bool
     ensures { IsTrue result ↔ Contains names.now bytes.now }
 {
     names.iter().any(|name| *name.bytes() == *bytes)
+}
+
+// Whether none of the names is one of the others.
+fn are_apart(names: &[Name], others: &[Name]) -> bool
+    ensures { Decides result (AreApart names.now others.now) }
+{
+    names.iter().all(|name| !is_among(name.bytes(), others))
+}
+
+/// Whether those of tasks, of functions and of counters are right.
+pub fn are_right_names(tasks: &[Name], funcs: &[Name], counters: &[Name]) -> bool
+    ensures { Decides result (AreRightNames tasks.now funcs.now counters.now) }
+{
+    are_names(tasks) && are_names(funcs) && are_names(counters) && are_apart(counters, tasks)
 }

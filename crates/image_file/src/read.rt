@@ -1,16 +1,17 @@
 //! Reading an image.
-ghost use Rattle.std.specs.Prelude.{◌⊎◌, ◌≡◌, IfOk, IfErr};
+ghost use Rattle.std.specs.Prelude.{◌⊎◌, ◌≡◌, ◌≤◌, IfOk, IfErr, length};
 ghost use Rattle.image_file.specs.ImageText.{ImageText};
 ghost use Rattle.image_file.specs.Faults.{Fails, Faulty, HasMagic};
-ghost use Rattle.image_file.specs.Reading.{HasOutline, HasSizes};
+ghost use Rattle.image_file.specs.Parts.{SizesFit};
+ghost use Rattle.image_file.specs.Reading.{HasOutline, HasSizes, NamedPartsStand, PartsFail};
 ghost use Rattle.sloth_base.specs.declared.image.Image.{Image as ImageOf};
 ghost use Rattle.image_file.specs.declared.fault.ImageFault.{ImageFault as FaultOf};
 ghost use Rattle.image_file.specs.declared.fault.ImageError.TheVariants as failed_by;
 
 use crate::fault::{ImageError, ImageFault};
-use crate::header::{HEADER, Sizes, has_magic, read_sizes};
-use crate::marks::{are_ascending, read_marks};
-use crate::names::{are_names, read_names};
+use crate::header::{Sizes, has_magic, read_sizes};
+use crate::marks::{are_ascending, read_marks, service_limit};
+use crate::names::{are_right_names, read_names};
 use sloth_base::image::Image;
 use sloth_base::list::List;
 use sloth_base::name::Name;
@@ -37,19 +38,21 @@ fn read_whole(alloc: Global, bytes: &[u8]) -> Result<Image, ImageError>
     read_contents(alloc, bytes, outline)
 }
 
-// The names of a file, and where the memory begins, which the marks follow.
+/// The names of a file, and where the memory begins, which the marks follow.
 #[derive(Drop)]
-struct Outline {
-    tasks: Vec<Name>,
-    funcs: Vec<Name>,
-    memory: usize,
-    size: usize,
-    count: usize,
+pub struct Outline {
+    pub tasks: Vec<Name>,
+    pub funcs: Vec<Name>,
+    pub counters: Vec<Name>,
+    pub memory: usize,
+    pub size: usize,
+    pub count: usize,
 }
 
 // The parts of a file.
 fn read_outline(alloc: Global, bytes: &[u8]) -> Result<Outline, ImageError>
-    ensures read { IfOk result (λ outline. HasOutline bytes.now outline.tasks.items outline.funcs.items outline.memory outline.size outline.count) }
+    ensures read { IfOk result (λ outline.
+        HasOutline bytes.now outline.tasks.items outline.funcs.items outline.counters.items outline.memory outline.size outline.count) }
     ensures failed { IfErr result (λ failure. Fails failure bytes.now) }
 {
     if !has_magic(bytes) {
@@ -62,19 +65,40 @@ fn read_outline(alloc: Global, bytes: &[u8]) -> Result<Outline, ImageError>
 // Names, memory and marks, behind a header with these numbers.
 fn read_body(alloc: Global, bytes: &[u8], sizes: &Sizes) -> Result<Outline, ImageError>
     requires magic { HasMagic bytes.now }
-    requires sizes { HasSizes bytes.now sizes.now.tasks sizes.now.funcs sizes.now.memory sizes.now.marks }
-    ensures read { IfOk result (λ outline. HasOutline bytes.now outline.tasks.items outline.funcs.items outline.memory outline.size outline.count) }
+    requires sizes { HasSizes bytes.now sizes.now }
+    ensures read { IfOk result (λ outline.
+        HasOutline bytes.now outline.tasks.items outline.funcs.items outline.counters.items outline.memory outline.size outline.count) }
     ensures failed { IfErr result (λ failure. Fails failure bytes.now) }
 {
-    let tasks = read_names(alloc, bytes, HEADER, sizes.tasks)?;
+    read_parts(alloc, bytes, sizes.header(), sizes)
+}
+
+/// Names, memory and marks of these numbers, from `at` on.
+pub fn read_parts(
+    alloc: Global,
+    bytes: &[u8],
+    at: usize,
+    sizes: &Sizes,
+) -> Result<Outline, ImageError>
+    requires within { at ≤ length bytes.now }
+    requires fit { SizesFit sizes.now }
+    ensures read { IfOk result (λ outline.
+        NamedPartsStand bytes.now at sizes.now outline.tasks.items outline.funcs.items outline.counters.items outline.memory) }
+    ensures size { IfOk result (λ outline. outline.size ≡ sizes.now.memory) }
+    ensures count { IfOk result (λ outline. outline.count ≡ sizes.now.marks) }
+    ensures failed { IfErr result (λ failure. PartsFail failure bytes.now at sizes.now) }
+{
+    let tasks = read_names(alloc, bytes, at, sizes.tasks)?;
     let funcs = read_names(alloc, bytes, tasks.end, sizes.funcs)?;
-    let memory = funcs.end;
+    let counters = read_names(alloc, bytes, funcs.end, sizes.counters)?;
+    let memory = counters.end;
     if bytes.len() - memory < sizes.memory + sizes.marks * 12 {
         return Err(ImageFault::I2.into());
     }
     Ok(Outline {
         tasks: tasks.names,
         funcs: funcs.names,
+        counters: counters.names,
         memory,
         size: sizes.memory,
         count: sizes.marks,
@@ -83,11 +107,11 @@ fn read_body(alloc: Global, bytes: &[u8], sizes: &Sizes) -> Result<Outline, Imag
 
 // The image of these parts, or what is wrong with them.
 fn read_contents(alloc: Global, bytes: &[u8], outline: Outline) -> Result<Image, ImageError>
-    requires { HasOutline bytes.now outline.tasks.items outline.funcs.items outline.memory outline.size outline.count }
+    requires { HasOutline bytes.now outline.tasks.items outline.funcs.items outline.counters.items outline.memory outline.size outline.count }
     ensures read { IfOk result (λ image. ImageText bytes.now image) }
     ensures failed { IfErr result (λ failure. Fails failure bytes.now) }
 {
-    if !are_names(&outline.tasks) || !are_names(&outline.funcs) {
+    if !are_right_names(&outline.tasks, &outline.funcs, &outline.counters) {
         return Err(ImageFault::I3.into());
     }
     let place = outline.memory + outline.size;
@@ -96,6 +120,7 @@ fn read_contents(alloc: Global, bytes: &[u8], outline: Outline) -> Result<Image,
         bytes,
         place,
         outline.count,
+        service_limit(outline.counters.len()),
         outline.funcs.len(),
         outline.size,
     )?;
@@ -109,6 +134,7 @@ fn read_contents(alloc: Global, bytes: &[u8], outline: Outline) -> Result<Image,
     Ok(Image {
         tasks: List::from_vec(outline.tasks),
         funcs: List::from_vec(outline.funcs),
+        counters: List::from_vec(outline.counters),
         memory: List::from_vec(memory),
         marks: List::from_vec(marks),
     })

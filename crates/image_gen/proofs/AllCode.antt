@@ -6,11 +6,11 @@ use Rattle.std.proofs.lemmas.List.{append_assoc, length-append}
 use Rattle.std.proofs.lemmas.Slice.Zip.{AllZip-long}
 use Rattle.std.proofs.lemmas.List.Sums.{sum-map}
 use Rattle.std.proofs.lemmas.List.Elements.{All-nil, All-cons, All-append, Contains-get_or, Contains-append_left, Contains-append_right}
-use Rattle.std.proofs.lemmas.Option.{same_Some, slice_get_within}
-use Rattle.sloth_base.specs.ImageRange.{AreFields}
+use Rattle.std.proofs.lemmas.Option.{same_Some}
+use Rattle.sloth_base.specs.ImageRange.{AreFields, service_limit}
 use Rattle.sloth_base.specs.Named.{function, missing, no_item, operation}
 use Rattle.sloth_base.proofs.Services.{of_code}
-use Rattle.sloth_base.specs.ServiceCodes.{code_of, service_of, services}
+use Rattle.sloth_base.specs.ServiceCodes.{code_of, service_of}
 use Rattle.sloth_base.specs.declared.app.App.{App}
 use Rattle.sloth_base.specs.declared.app.Call.{Call}
 use Rattle.sloth_base.specs.declared.app.Func.{Func}
@@ -19,7 +19,6 @@ use Rattle.sloth_base.specs.declared.app.Op.TheVariants as op
 use Rattle.sloth_base.specs.declared.config.Config.{Config}
 use Rattle.sloth_base.specs.declared.image.Mark.{Mark}
 use Rattle.sloth_base.specs.declared.image.MarkKind.{MarkKind}
-use Rattle.sloth_base.specs.declared.image.MarkKind.TheVariants as kind
 use Rattle.sloth_base.specs.declared.places.Levels.{Levels}
 use Rattle.sloth_base.specs.declared.service.Service.{Service}
 use Rattle.sloth_base.specs.declared.service.Service.TheVariants as service
@@ -41,18 +40,20 @@ use Rattle.vector_gen.specs.Idle.{Idles, idle_mark}
 use Rattle.vector_gen.specs.Vectors.{AreJumps}
 use Rattle.mem_map.proofs.Bounds.{before_all}
 use Rattle.mem_map.proofs.Wanting.{all_places}
-use Rattle.mem_map.specs.Plan.{boot_bytes, code_extents, idle_bytes}
+use Rattle.mem_map.specs.Plan.{code_bytes, code_end, code_extents, idle_bytes}
 use Rattle.mem_map.specs.Wanted.{wanted_blocks}
 use Rattle.sim_image.specs.Generated.{Has, HasCode, HasItemBlocks}
-use Rattle.sim_image.specs.Rooms.{FitRooms, FitsRoom}
-use Rattle.image_gen.specs.Gathered.{MayGenerate, IsGathered, MarksInFormat}
+use Rattle.sim_image.specs.Rooms.{FitRooms, FitsRoom, FollowClosely}
+use Rattle.sim_image.proofs.Housed.{blocks_follow_closely}
+use Rattle.image_gen.specs.Gathered.{MayGenerate, IsGathered, IsInFormat, MarksInFormat}
 use Rattle.sloth_link.specs.Image.{all_blocks}
 use Rattle.sloth_link.specs.Items.{HaveItems, IsOwnMark, MarksAreOfItems, item_block, item_blocks}
 use Rattle.sloth_link.proofs.ItemBlocks.{item_among, items_own}
 use Rattle.sloth_link.proofs.Joined.{front}
 use Rattle.image_gen.specs.Prologues.{Each, IsPrologue}
 use Rattle.image_gen.specs.Services.{AreServices, IsService, wanted_from}
-use Rattle.image_gen.proofs.Called.{calls, small_code}
+use Rattle.image_gen.proofs.Called.{called_with, calls, in_marks, serving_in_marks}
+use Rattle.image_gen.proofs.Places.{code_found}
 use Rattle.sloth_link.proofs.Counting.{Located, few_items, located, before_within, block_at, length_blocks}
 use Rattle.image_gen.proofs.Each.{zip_append}
 use Rattle.image_gen.proofs.Rooming.{none, plain, marked, prologues_fit, services_fit, items_fit}
@@ -108,23 +109,23 @@ small_register : (r : ℕ) → IsRegister r → r < 32
 small_register r (inl e) = omega (arith, e)
 small_register r (inr h) = let a = h.1 in omega (arith, a)
 
-fields_of : (config : Config) (app : App) (f : Func) (o : Op) (functions func index : ℕ) → IsOp config app f o → func < functions → index ≤ 4095
-    → AreFields functions (mark_kind o) (mark_number o) func index
-fields_of config app f (op.Alu k rd a b) n func index h l m = (small_register rd h.0, l, m)
-fields_of config app f (op.AluImm k rd a number) n func index h l m = (small_register rd h.0, l, m)
-fields_of config app f (op.Lui rd number) n func index h l m = (small_register rd h.0, l, m)
-fields_of config app f (op.Li rd value) n func index h l m = (small_register rd h.0, l, m)
-fields_of config app f (op.FrameLoad rd word) n func index h l m = (small_register rd h.0, l, m)
-fields_of config app f (op.FrameStore rs word) n func index h l m = (small_register rs h.0, l, m)
-fields_of config app f (op.Load w rd y offset) n func index h l m = (small_register rd h.0, l, m)
-fields_of config app f (op.Store w rs y offset) n func index h l m = (small_register rs h.1, l, m)
-fields_of config app f (op.LoadAt w rd y i mask) n func index h l m = (small_register rd h.0, l, m)
-fields_of config app f (op.StoreAt w rs y i mask) n func index h l m = (small_register rs h.1, l, m)
-fields_of config app f (op.Branch k a b label) n func index h l m = (omega arith, l, m)
-fields_of config app f (op.Jump label) n func index h l m = (omega arith, l, m)
-fields_of config app f (op.Invoke callee) n func index h l m = (omega arith, l, m)
-fields_of config app f op.Return n func index h l m = (omega arith, l, m)
-fields_of config app f (op.Serve call) n func index h l m = (small_code call.service, l, m)
+fields_of : (config : Config) (app : App) (f : Func) (o : Op) (limit functions func index : ℕ) → IsOp config app f o → func < functions → index ≤ 4095
+    → ((call : Call) → o ≡ op.Serve call → code_of call.service < limit) → AreFields limit functions (mark_kind o) (mark_number o) func index
+fields_of config app f (op.Alu k rd a b) c n func index h l m called = (small_register rd h.0, l, m)
+fields_of config app f (op.AluImm k rd a number) c n func index h l m called = (small_register rd h.0, l, m)
+fields_of config app f (op.Lui rd number) c n func index h l m called = (small_register rd h.0, l, m)
+fields_of config app f (op.Li rd value) c n func index h l m called = (small_register rd h.0, l, m)
+fields_of config app f (op.FrameLoad rd word) c n func index h l m called = (small_register rd h.0, l, m)
+fields_of config app f (op.FrameStore rs word) c n func index h l m called = (small_register rs h.0, l, m)
+fields_of config app f (op.Load w rd y offset) c n func index h l m called = (small_register rd h.0, l, m)
+fields_of config app f (op.Store w rs y offset) c n func index h l m called = (small_register rs h.1, l, m)
+fields_of config app f (op.LoadAt w rd y i mask) c n func index h l m called = (small_register rd h.0, l, m)
+fields_of config app f (op.StoreAt w rs y i mask) c n func index h l m called = (small_register rs h.1, l, m)
+fields_of config app f (op.Branch k a b label) c n func index h l m called = (omega arith, l, m)
+fields_of config app f (op.Jump label) c n func index h l m called = (omega arith, l, m)
+fields_of config app f (op.Invoke callee) c n func index h l m called = (omega arith, l, m)
+fields_of config app f op.Return c n func index h l m called = (omega arith, l, m)
+fields_of config app f (op.Serve call) c n func index h l m called = (called call refl, l, m)
 
 -- a fact on the marks behind the opening, of which there is one alone
 by_further : (P : Mark → Type 0) (s : Service) (at : ℕ) → P (back_mark (sum32 at way_back)) → All P (further_marks s at)
@@ -134,20 +135,21 @@ by_further P s at back = All-nil P
 
 module _ (config : Config) (app : App) (levels : Levels) (map : Map) (may : MayGenerate config app levels map) where
   -- those of services
-  served_format : (served : List Block) → AreServices levels map (wanted_blocks app) served → All (MarksInFormat (length app.funcs)) served
+  served_format : (served : List Block) → AreServices levels map (wanted_blocks app) served → All (MarksInFormat config app) served
   served_format served serve = λ k d l.
       let numbers : List ℕ = wanted_from 0 (wanted_blocks app) in
       let long = AllZip-long (IsService levels map) numbers served serve in
       let h = zip_at (IsService levels map) numbers served k 0 d serve (omega (arith, l, long)) in
       let b : Block = get_or served k d in
-      let P : List Mark → Type 0 = λ marks. All (λ (m : Mark). (m.address % 4 ≡ 0) × AreFields (length app.funcs) m.kind m.a m.b m.c) marks in
+      let P : List Mark → Type 0 = λ marks. All (IsInFormat config app) marks in
       let n : ℕ = get_or numbers k 0 in
-      let code = slice_get_within services (block_code n) h.service h.is in
+      let found = code_found (block_code n) h.service h.is in
+      let code = serving_in_marks config h.service (block_object n) levels b.code may.no_counters h.serves in
       let at = h.at in
       let even = blocks_even n in
-      subst P (sym h.marks) (All-cons (λ (m : Mark). (m.address % 4 ≡ 0) × AreFields (length app.funcs) m.kind m.a m.b m.c) (opening b.at (block_code n)) (further_marks h.service b.at)
-      (omega (arith, at, even), (omega (arith, code), refl, refl))
-      (by_further (λ (m : Mark). (m.address % 4 ≡ 0) × AreFields (length app.funcs) m.kind m.a m.b m.c) h.service b.at (omega (arith, at, even), (refl, refl, refl))))
+      subst P (sym h.marks) (All-cons (IsInFormat config app) (opening b.at (block_code n)) (further_marks h.service b.at)
+      (omega (arith, at, even), (omega (arith, code, found), refl, refl))
+      (by_further (IsInFormat config app) h.service b.at (omega (arith, at, even), (refl, refl, refl))))
     where
       blocks_even : (k : ℕ) → slice_index map.places.blocks k % 4 ≡ 0
       blocks_even k = even_at map.places.blocks k may.planned.zones.blocks_aligned
@@ -195,7 +197,7 @@ module _ (config : Config) (app : App) (levels : Levels) (map : Map) (may : MayG
       (opening (block_address map.places call.service call.object) (code_of call.service) ∷ further_marks call.service (block_address map.places call.service call.object))
       (ServesCall call.service call.object levels)
   has_service func item call is e =
-      let c = calls config app may.well_formed func item call is e in
+      let c = calls config app may.well_formed may.no_counters func item call is e in
       let number : ℕ = block_number call.service call.object in
       let small = c.0 in
       let r = found (IsService levels map) 0 wanted served number c.1 made.serve in
@@ -258,38 +260,41 @@ module _ (config : Config) (app : App) (levels : Levels) (map : Map) (may : MayG
   -- ---- the format of images
 
   abbrev InFormat : Mark → Type 0
-  InFormat m = (m.address % 4 ≡ 0) × AreFields (length app.funcs) m.kind m.a m.b m.c
+  InFormat = IsInFormat config app
 
-  no_mark : (b : Block) → b.marks ≡ [] → MarksInFormat (length app.funcs) b
+  no_mark : (b : Block) → b.marks ≡ [] → MarksInFormat config app b
   no_mark b e = subst (All InFormat) (sym e) (All-nil InFormat)
 
-  one_mark : (b : Block) (m : Mark) → b.marks ≡ m ∷ [] → InFormat m → MarksInFormat (length app.funcs) b
+  one_mark : (b : Block) (m : Mark) → b.marks ≡ m ∷ [] → InFormat m → MarksInFormat config app b
   one_mark b m e o = subst (All InFormat) (sym e) (All-cons InFormat m [] o (All-nil InFormat))
 
-  item_format : (func index : ℕ) → IsItem app func index → MarksInFormat (length app.funcs) (item_block app map.places func index)
+  item_format : (func index : ℕ) → IsItem app func index → MarksInFormat config app (item_block app map.places func index)
   item_format func index is =
       let word = may.planned.covers.items func index is in
       let few = few_items app (config, may.well_formed) func is.declared in
       let inside = is.inside in
       let own = (may.well_formed.in_range.bodies func missing is.declared).items index no_item is.inside in
-      one_mark (item_block app map.places func index) (item_mark app map.places func index) refl
-      ((let even = word.2 in omega (arith, even)), fields_of config app (function app func) (operation app func index) (length app.funcs) func index own is.declared (omega (arith, few, inside)))
+      one_mark (item_block app map.places func index) (item_mark app map.places func index) refl (
+        (let even = word.2 in omega (arith, even)),
+        fields_of config app (function app func) (operation app func index) (service_limit (length config.counters)) (length app.funcs) func index own is.declared (omega (arith, few, inside))
+            (λ call e. in_marks config call.service call.object may.no_counters (called_with config app may.well_formed may.no_counters func index call is e)),
+      )
 
-  items_format : All (MarksInFormat (length app.funcs)) (item_blocks app map.places (length app.funcs))
+  items_format : All (MarksInFormat config app) (item_blocks app map.places (length app.funcs))
   items_format = λ k d l.
       let long = length_blocks app map.places (length app.funcs) in
       let at : Located app.funcs (length app.funcs) k = located app.funcs (length app.funcs) k (omega (arith, l, long)) in
       let block : get_or (item_blocks app map.places (length app.funcs)) k d ≡ item_block app map.places at.func at.index =
       ap (λ j. get_or (item_blocks app map.places (length app.funcs)) j d) at.is ∙ block_at app map.places (length app.funcs) at.func at.index d at.declared at.inside in
-      subst (MarksInFormat (length app.funcs)) (sym block) (item_format at.func at.index (record { declared = at.declared; inside = at.inside }))
+      subst (MarksInFormat config app) (sym block) (item_format at.func at.index (record { declared = at.declared; inside = at.inside }))
 
-  all_format : All (MarksInFormat (length app.funcs)) all
+  all_format : All (MarksInFormat config app) all
   all_format =
       let even = may.planned.zones.idle_aligned in
-      each_block (MarksInFormat (length app.funcs)) (no_mark vectors made.vectors_made.marks_are) (no_mark boot made.boot_made.marks_are) (one_mark idle (idle_mark map.idle) made.idle_made.marks_are (even, (refl, refl, refl)))
+      each_block (MarksInFormat config app) (no_mark vectors made.vectors_made.marks_are) (no_mark boot made.boot_made.marks_are) (one_mark idle (idle_mark map.idle) made.idle_made.marks_are (even, (refl, refl, refl)))
       (λ k d l. no_mark (get_or starts k d) (made.each k d l).marks)
       (served_format config app levels map may served made.serve)
-      (subst (All (MarksInFormat (length app.funcs))) (sym made.items) items_format)
+      (subst (All (MarksInFormat config app)) (sym made.items) items_format)
 
   few_blocks : length all ≤ 8192
   few_blocks =
@@ -305,15 +310,16 @@ module _ (config : Config) (app : App) (levels : Levels) (map : Map) (may : MayG
       let last = length-append served own in
       omega (arith, few, numbers, wanted_few, served_long, own_long, total, sum, most, rest, last, made.count)
 
-  rooms : FitRooms (code_extents map (length config.tasks) wanted may.planned.sizes) all
+  rooms : FitRooms (code_extents map (length config.tasks) may.planned.lengths) all
   rooms =
       let many = made.vectors_made.effect.many in
       let few = made.boot_made.effect.size in
+      let told = may.planned.are_lengths.boot in
       let word = made.idle_made.effect.word in
       let is = may.planned.addresses.idle in
       let even = may.planned.zones.idle_aligned in
       let first = plain (record { base = 0x8000_0400; len = 128 }) vectors made.vectors_made.at (omega arith) refl (omega (arith, many)) made.vectors_made.marks_are in
-      let second = plain (record { base = 0x8000_0480; len = boot_bytes (length config.tasks) }) boot made.boot_made.at (omega arith) refl (omega (arith, few)) made.boot_made.marks_are in
+      let second = plain (record { base = 0x8000_0480; len = code_bytes may.planned.lengths.boot }) boot made.boot_made.at (omega arith) refl (omega (arith, few, told)) made.boot_made.marks_are in
       let third = marked (record { base = map.idle; len = idle_bytes }) idle (idle_mark map.idle) made.idle_made.at (omega (arith, is)) even (omega (arith, word)) made.idle_made.marks_are
       (omega (arith, made.idle_made.at)) (omega (arith, made.idle_made.at, word)) in
       let rest = zip_append FitsRoom _ starts _ (served ++ own) (prologues_fit config app levels map may starts made.count made.each)
@@ -335,7 +341,9 @@ module _ (config : Config) (app : App) (levels : Levels) (map : Map) (may : MayG
         bounds = may.bounds;
         are_bounds = may.are_bounds;
         planned = may.planned;
-        rooms = subst (FitRooms (code_extents map (length config.tasks) wanted may.planned.sizes)) (sym same) rooms;
+        rooms = subst (FitRooms (code_extents map (length config.tasks) may.planned.lengths)) (sym same) rooms;
+        close = subst (FollowClosely 0x8000_0400 (code_end may.planned.lengths)) (sym same)
+            (blocks_follow_closely 0x8000_0400 (code_end may.planned.lengths) (code_extents map (length config.tasks) may.planned.lengths) all may.planned.code_close rooms);
         few = subst (λ (bs : List Block). length bs ≤ 8192) (sym same) few_blocks;
-        format = subst (All (MarksInFormat (length app.funcs))) (sym same) all_format;
+        format = subst (All (MarksInFormat config app)) (sym same) all_format;
       }

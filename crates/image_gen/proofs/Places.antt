@@ -1,11 +1,12 @@
 -- A service by its place in the table of blocks.
-use Rattle.std.proofs.Common.{◌≡◌, ◌∙◌, ℕ, zero, suc, ◌+◌, ◌∷◌, List, [], Result, Ok, Err, Some, IfOk, length, refl, ap, subst, arith}
+use Rattle.std.proofs.Common.{◌≡◌, ◌∙◌, ℕ, zero, suc, ◌+◌, ◌∷◌, List, [], Result, Ok, Err, Some, IfOk, length, refl, sym, ap, subst, arith}
 use Rattle.std.specs.Prelude.{◌≤◌, slice_get, slice_index}
 use Rattle.sloth_base.specs.ServiceCodes.{code_of, services, service_of}
 use Rattle.sloth_base.specs.Blocks.{block_number, block_code, block_object}
 use Rattle.sloth_base.specs.declared.memory.NoMemory.{NoMemory}
 use Rattle.sloth_base.specs.declared.places.Levels.{Levels}
 use Rattle.sloth_base.specs.declared.service.Service.{Service}
+use Rattle.code_lengths.specs.CodeLengths.{option_length}
 use Rattle.sloth_region.specs.declared.map.Map.{Map}
 use Rattle.rv32_instr.specs.declared.block.Block.{Block}
 use Rattle.service_gen.specs.Block.{further_marks}
@@ -28,10 +29,10 @@ numbered_at first zero (x ∷ xs) s h e = let n = h.0 in let same = ap code_of (
 numbered_at first (suc k) (x ∷ xs) s h e = let n = numbered_at (suc first) k xs s h.1 e in omega (arith, n)
 
 are_numbered : AreNumbered 0 services
-are_numbered = (refl, (refl, (refl, (refl, (refl, (refl, (refl, (refl, (refl, (refl, (refl, (refl, tt))))))))))))
+are_numbered = (refl, (refl, (refl, (refl, (refl, (refl, (refl, (refl, (refl, (refl, (refl, (refl, (refl, (refl, (refl, (refl, tt))))))))))))))))
 
 -- a service has the number that finds it
-code_found : (n : ℕ) (s : Service) → service_of n ≡ Some s → code_of s ≡ n
+pub code_found : (n : ℕ) (s : Service) → service_of n ≡ Some s → code_of s ≡ n
 code_found n s e = let l = numbered_at 0 n services s are_numbered e in omega (arith, l)
 
 -- the place of a service and object that a place names is that place
@@ -49,7 +50,7 @@ served_at levels map number object s (Ok block) e same is_block serves = record 
   is = e;
   at = is_block.at ∙ ap (slice_index map.places.blocks) (ap (block_number s) same ∙ number_back number s e);
   marks = is_block.marks ∙ ap (λ code. opening block.at code ∷ further_marks s block.at) (code_found (block_code number) s e);
-  few = is_block.few;
+  long = is_block.long ∙ ap option_length (sym e);
   serves = subst (λ (o : ℕ). ServesCall s o levels block.code) same serves;
 }
 served_at levels map number object s (Err failed) e same is_block serves = tt

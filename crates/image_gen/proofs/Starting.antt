@@ -14,7 +14,7 @@ use Rattle.prologue_gen.specs.Places.{IsTop}
 use Rattle.rv32_expand.specs.Sizes.{items_before}
 use Rattle.rv32_expand.proofs.Verified.{has_first}
 use Rattle.vector_gen.specs.Vectors.{AreInReach}
-use Rattle.mem_map.specs.Plan.{item_bytes}
+use Rattle.mem_map.specs.Plan.{code_bytes}
 use Rattle.sim_image.proofs.Fitting.{part_inside, code_from, code_to}
 use Rattle.mem_map.proofs.Starts.{length_starts}
 use Rattle.image_gen.specs.Prologues.{MayStart}
@@ -26,8 +26,8 @@ module _ (config : Config) (app : App) (levels : Levels) (map : Map) (may : MayG
   -- the number of items
   pub items_long : length map.places.items ≡ items_before app.funcs (length app.funcs)
   items_long =
-      let sizes = may.planned.sizes in
-      ap length may.planned.addresses.items ∙ length_starts _ (prelude.map item_bytes sizes) ∙ length-map sizes item_bytes ∙ may.planned.are_sizes.count
+      let sizes = may.planned.lengths.items in
+      ap length may.planned.addresses.items ∙ length_starts _ (prelude.map code_bytes sizes) ∙ length-map sizes code_bytes ∙ may.planned.are_lengths.items.count
 
   pub first_long : length map.places.first ≡ length app.funcs
   first_long = ap length may.planned.addresses.first ∙ length_starts 0 (prelude.map count_of app.funcs) ∙ length-map app.funcs count_of

@@ -1,34 +1,36 @@
 -- What the code of an image is generated from, and the blocks of that code.
 use Rattle.std.specs.Prelude.{ℕ, ◌%◌, ◌<◌, ◌≤◌, ◌≡◌, List, length, All, slice_index}
 use Rattle.std.specs.List.Sorted.{IsPermutation, IsStrictlyIncreasing}
-use Rattle.sloth_base.specs.ImageRange.{AreFields}
+use Rattle.sloth_base.specs.ConfigRange.{HasNoCounters}
+use Rattle.sloth_base.specs.ImageRange.{AreFields, service_limit}
 use Rattle.sloth_base.specs.Named.{declaration}
 use Rattle.sloth_base.specs.declared.app.App.{App}
 use Rattle.sloth_base.specs.declared.config.Config.{Config}
 use Rattle.sloth_base.specs.declared.image.Mark.{Mark}
 use Rattle.sloth_base.specs.declared.places.Bounds.{Bounds}
 use Rattle.sloth_base.specs.declared.places.Levels.{Levels}
+use Rattle.sloth_base.specs.MemoryMap.{vectors_base}
 use Rattle.sloth_region.specs.declared.map.Map.{Map}
 use Rattle.code_rules.specs.WellFormed.{WellFormed}
 use Rattle.stack_bounds.specs.Bounds.{AreBounds}
 use Rattle.prio_levels.specs.Levels.{AreLevels}
 use Rattle.rv32_instr.specs.declared.block.Block.{Block}
 use Rattle.rv32_expand.specs.InPlace.{IsBodyName}
-use Rattle.mem_map.specs.Plan.{code_extents}
+use Rattle.mem_map.specs.Plan.{code_end, code_extents}
 use Rattle.mem_map.specs.Planned.{IsPlanned}
-use Rattle.mem_map.specs.Wanted.{wanted_blocks}
 use Rattle.sim_relation.specs.Bounds.{AreBelow}
 use Rattle.sloth_link.specs.declared.datum.Datum.{Datum}
 use Rattle.sloth_link.specs.Image.{all_blocks}
 use Rattle.sloth_link.specs.Items.{MarksAreOfItems}
 use Rattle.sloth_link.specs.Linked.{addresses, marks_of}
 use Rattle.sim_image.specs.Generated.{HasCode, HasItemBlocks}
-use Rattle.sim_image.specs.Rooms.{FitRooms, HasOwnMarks}
+use Rattle.sim_image.specs.Rooms.{FitRooms, FollowClosely, HasOwnMarks}
 use Rattle.sim_image.specs.Standing.{IsLinkedIn}
 
--- Well-formed task code with its levels, and its map by the bytes of stack that its tasks may need. The body of each task has the task's name.
+-- Well-formed task code of a configuration without counters with its levels, and its map by the bytes of stack that its tasks may need. The body of each task has the task's name.
 pub record MayGenerate (config : Config) (app : App) (levels : Levels) (map : Map) : Type 0 where
   pub well_formed : WellFormed config app
+  pub no_counters : HasNoCounters config
   pub named : (t : ℕ) → t < length config.tasks → IsBodyName app t (declaration config t).name
   pub are_levels : AreLevels config levels
   pub small : (levels.top < 32) × ((t : ℕ) → slice_index levels.task t < 32)
@@ -36,11 +38,15 @@ pub record MayGenerate (config : Config) (app : App) (levels : Levels) (map : Ma
   pub are_bounds : AreBounds config app bounds
   pub planned : IsPlanned config app bounds map
 
--- the marks of a block are as the format of images wants them
-abbrev pub MarksInFormat : (functions : ℕ) → Block → Type 0
-MarksInFormat functions block = All (λ mark. (mark.address % 4 ≡ 0) × AreFields functions mark.kind mark.a mark.b mark.c) block.marks
+-- a mark is as the format of images wants it; so are those of a block
+abbrev pub IsInFormat : Config → App → Mark → Type 0
+IsInFormat config app mark =
+    (mark.address % 4 ≡ 0) × AreFields (service_limit (length config.counters)) (length app.funcs) mark.kind mark.a mark.b mark.c
 
--- the blocks are all routines that the image needs: with the items, each where the map has room for it
+abbrev pub MarksInFormat : Config → App → Block → Type 0
+MarksInFormat config app block = All (IsInFormat config app) block.marks
+
+-- the blocks are all routines that the image needs: with the items, each where the map has room for it, with no hole between them
 pub record IsGathered (config : Config) (app : App) (levels : Levels) (map : Map) (blocks : List Block) : Type 0 where
   pub code : HasCode config app levels map (all_blocks app map blocks)
   pub items : HasItemBlocks config app map.places (all_blocks app map blocks)
@@ -48,9 +54,10 @@ pub record IsGathered (config : Config) (app : App) (levels : Levels) (map : Map
   pub bounds : Bounds
   pub are_bounds : AreBounds config app bounds
   pub planned : IsPlanned config app bounds map
-  pub rooms : FitRooms (code_extents map (length config.tasks) (wanted_blocks app) planned.sizes) (all_blocks app map blocks)
+  pub rooms : FitRooms (code_extents map (length config.tasks) planned.lengths) (all_blocks app map blocks)
+  pub close : FollowClosely vectors_base (code_end planned.lengths) (all_blocks app map blocks)
   pub few : length (all_blocks app map blocks) ≤ 8192
-  pub format : All (MarksInFormat (length app.funcs)) (all_blocks app map blocks)
+  pub format : All (MarksInFormat config app) (all_blocks app map blocks)
 
 -- these bytes and marks are those blocks and the data of the task code, linked
 pub record IsImageOf (config : Config) (app : App) (levels : Levels) (map : Map) (memory : List ℕ) (marks : List Mark) : Type 0 where
@@ -64,7 +71,7 @@ pub record IsImageOf (config : Config) (app : App) (levels : Levels) (map : Map)
   pub whole_words : size % 4 ≡ 0
   pub few : length blocks ≤ 8192
   pub few_marks : All (λ b. length b.marks ≤ 2) blocks
-  pub format : All (MarksInFormat (length app.funcs)) blocks
+  pub format : All (MarksInFormat config app) blocks
   pub own_marks : All HasOwnMarks blocks
   pub marks_are : IsPermutation (marks_of blocks) marks
   pub ascending : IsStrictlyIncreasing (addresses marks)
@@ -72,8 +79,9 @@ pub record IsImageOf (config : Config) (app : App) (levels : Levels) (map : Map)
 
 -- ---- what is built
 
--- Well-formed task code with the bytes of stack that its tasks may need. The body of each task has the task's name.
+-- Well-formed task code of a configuration without counters with the bytes of stack that its tasks may need. The body of each task has the task's name.
 pub record MayBuild (config : Config) (app : App) (bounds : Bounds) : Type 0 where
   pub well_formed : WellFormed config app
+  pub no_counters : HasNoCounters config
   pub named : (t : ℕ) → t < length config.tasks → IsBodyName app t (declaration config t).name
   pub are_bounds : AreBounds config app bounds

@@ -5,7 +5,8 @@ use Rattle.sloth_base.specs.declared.config.Config.{Config}
 use Rattle.sloth_base.specs.declared.places.Levels.{Levels}
 use Rattle.sloth_region.specs.declared.map.Map.{Map}
 use Rattle.rv32_instr.specs.declared.block.Block.{Block}
-use Rattle.prologue_gen.specs.Places.{EntersTask, IsBody, IsTop}
+use Rattle.code_lengths.specs.Bodies.{IsBody}
+use Rattle.prologue_gen.specs.Places.{EntersTask, IsTop}
 
 -- what the prologue of each task needs
 pub record MayStart (config : Config) (app : App) (levels : Levels) (map : Map) : Type 0 where

@@ -1,10 +1,11 @@
 -- The code of the services that are wanted.
-use Rattle.std.specs.Prelude.{ℕ, ◌+◌, ◌≤◌, ◌≡◌, Bool, true, false, List, [], ◌∷◌, length, Some, get_or, slice_index}
+use Rattle.std.specs.Prelude.{ℕ, ◌+◌, ◌≡◌, Bool, true, false, List, [], ◌∷◌, length, Some, get_or, slice_index}
 use Rattle.std.specs.List.{AllZip}
 use Rattle.sloth_base.specs.ServiceCodes.{service_of}
 use Rattle.sloth_base.specs.declared.places.Levels.{Levels}
 use Rattle.sloth_base.specs.declared.service.Service.{Service}
 use Rattle.sloth_base.specs.Blocks.{block_code, block_object}
+use Rattle.code_lengths.specs.CodeLengths.{block_length}
 use Rattle.sloth_region.specs.declared.map.Map.{Map}
 use Rattle.rv32_instr.specs.declared.block.Block.{Block}
 use Rattle.service_gen.specs.Block.{further_marks}
@@ -33,7 +34,7 @@ pub record IsService (levels : Levels) (map : Map) (number : ℕ) (block : Block
   pub is : service_of (block_code number) ≡ Some service
   pub at : block.at ≡ slice_index map.places.blocks number
   pub marks : block.marks ≡ opening block.at (block_code number) ∷ further_marks service block.at
-  pub few : length block.code ≤ 256
+  pub long : length block.code ≡ block_length number
   pub serves : ServesCall service (block_object number) levels block.code
 
 -- the code of the wanted ones, in the order of their numbers

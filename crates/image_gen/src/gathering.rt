@@ -1,5 +1,6 @@
 //! All routines of an image.
 ghost use Rattle.std.specs.Prelude.{IfOk};
+ghost use Rattle.sloth_link.specs.Image.{MayLink};
 ghost use Rattle.image_gen.specs.Gathered.{MayGenerate, IsGathered};
 
 use crate::prologues::{prologues, push};
@@ -15,7 +16,7 @@ use std::alloc::Global;
 use vector_gen::{boot, idle, vectors};
 
 /// All routines in the order of their addresses: the vector words, boot, the idle loop, the prologue of each task, and each service that an
-/// item calls.
+/// item calls; they may be linked by the map.
 pub fn gather(
     alloc: Global,
     config: &Config,
@@ -24,7 +25,8 @@ pub fn gather(
     map: &Map,
 ) -> Result<Vec<Block>, NoMemory>
     requires { MayGenerate config.now app.now levels.now map.now }
-    ensures { IfOk result (λ blocks. IsGathered config.now app.now levels.now map.now blocks.items) }
+    ensures gathered { IfOk result (λ blocks. IsGathered config.now app.now levels.now map.now blocks.items) }
+    ensures linkable { IfOk result (λ blocks. MayLink config.now app.now map.now blocks.items) }
 {
     let mut blocks = Vec::new(alloc);
     push(&mut blocks, vectors(alloc, map)?)?;

@@ -90,8 +90,8 @@ left_of longest = 24 + 8 * longest
 -- the first line, with the size in pixels: so many rows behind the axis, and the legend
 unfoldable pub head_line : Scale → (rows : ℕ) → List ℕ
 head_line scale rows =
-    codes "<svg xmlns=\"http://www.w3.org/2000/svg\" width=\"" ++ decimal (scale.left + 1040) ++ codes "\" height=\"" ++ decimal (94 + 34 * rows)
-    ++ codes "\" viewBox=\"0 0 " ++ decimal (scale.left + 1040) ++ codes " " ++ decimal (94 + 34 * rows)
+    codes "<svg xmlns=\"http://www.w3.org/2000/svg\" width=\"" ++ decimal (scale.left + 1052) ++ codes "\" height=\"" ++ decimal (94 + 34 * rows)
+    ++ codes "\" viewBox=\"0 0 " ++ decimal (scale.left + 1052) ++ codes " " ++ decimal (94 + 34 * rows)
     ++ codes "\" font-family=\"system-ui, sans-serif\" font-size=\"13\">\n"
 
 -- lines, one behind the other

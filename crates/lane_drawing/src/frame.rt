@@ -14,7 +14,7 @@ fn head_line(scale: Scale, rows: u32) -> LineText
     requires rows { rows ≤ 31 }
     ensures { result ≡ head_line scale rows }
 {
-    let (width, height) = (scale.left + 1040, 94 + 34 * rows);
+    let (width, height) = (scale.left + 1052, 94 + 34 * rows);
     let mut line = LineText::new();
     line.push(b"<svg xmlns=\"http://www.w3.org/2000/svg\" width=\"");
     line.push_number(width);

@@ -17,7 +17,7 @@ fn names(alloc: Global, name: &[u8]) -> Result<List<Name>, NoMemory>
     Ok(List::from_vec(names))
 }
 
-/// The task `Main`, the function `step`, and one word of memory, which is marked as an item.
+/// The task `Main`, the function `step`, the counter `Clock`, and one word of memory, which is marked as an item.
 pub fn small_image(alloc: Global) -> Result<Image, NoMemory>
     ensures format { IfOk result InFormat }
     ensures word { IfOk result (λ image. image.memory ≡ 1 ∷ 2 ∷ 3 ∷ 4 ∷ []) }
@@ -32,6 +32,7 @@ pub fn small_image(alloc: Global) -> Result<Image, NoMemory>
     Ok(Image {
         tasks: names(alloc, b"Main")?,
         funcs: names(alloc, b"step")?,
+        counters: names(alloc, b"Clock")?,
         memory: List::from_vec(Vec::from_slice(alloc, &[1, 2, 3, 4])?),
         marks: List::from_vec(Vec::from_slice(alloc, &[mark])?),
     })

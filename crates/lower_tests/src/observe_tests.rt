@@ -2,7 +2,7 @@
 ghost use Rattle.std.specs.Prelude.{◌≡◌, ◌<◌, ◌^◌, [], length, OnOk};
 ghost use Rattle.observe.specs.Progress.{expected_of, remaining};
 
-use observe::observer::Observer;
+use observe::Observer;
 use sloth_base::event::{Arrival, Event, Stamp, Stamped};
 use sloth_base::image::{Image, Mark, MarkKind};
 use sloth_base::list::List;
@@ -55,7 +55,7 @@ const MARKS: [Mark; 5] = [
 #[derive(Clone, Copy)]
 struct Row(u32, Option<Line>, bool, u32, Option<Line>);
 
-const ROWS: [Row; 19] = [
+const ROWS: [Row; 20] = [
     Row(0, None, false, 0, None),
     Row(4, None, true, 1, None),
     Row(100, None, true, 1, None),
@@ -70,6 +70,7 @@ const ROWS: [Row; 19] = [
     Row(400, None, false, 1, None),
     Row(600, None, true, 1, None),
     Row(300, None, true, 1, None),
+    Row(500, Some(Line(30)), true, 1, None),
     Row(700, None, false, 1, None),
     Row(704, None, true, 0, None),
     Row(100, None, true, 0, None),
@@ -77,7 +78,7 @@ const ROWS: [Row; 19] = [
     Row(600, None, false, 0, Some(Line(0))),
 ];
 
-const ARRIVALS: [Arrival; 8] = [
+const ARRIVALS: [Arrival; 9] = [
     Arrival {
         at: 2,
         line: Line(0),
@@ -103,11 +104,15 @@ const ARRIVALS: [Arrival; 8] = [
         line: Line(0),
     },
     Arrival {
-        at: 17,
-        line: Line(1),
+        at: 13,
+        line: Line(30),
     },
     Arrival {
         at: 18,
+        line: Line(1),
+    },
+    Arrival {
+        at: 19,
         line: Line(0),
     },
 ];
@@ -176,12 +181,14 @@ fn events_of(
     Ok(seen)
 }
 
-// The events of the steps above, of two tasks, under the marks and with the arrivals above.
+// The events of the steps above, of two tasks and a counter, under the marks and with the arrivals above.
 fn seen_events(alloc: Global) -> Result<Vec<Stamped>, Fail> {
     let tasks = vec![in alloc; Name::new(alloc, b"Low")?, Name::new(alloc, b"High")?]?;
+    let counters = vec![in alloc; Name::new(alloc, b"Clock")?]?;
     let image = Image {
         tasks: List::from_vec(tasks),
         funcs: List::from_vec(Vec::new(alloc)),
+        counters: List::from_vec(counters),
         memory: List::from_vec(Vec::new(alloc)),
         marks: List::from_vec(Vec::from_slice(alloc, &MARKS)?),
     };
@@ -214,10 +221,12 @@ fn events_of_a_run(rt: HostRuntime) -> Result<(), Fail> {
         stamped(8, 8, item(1)),
         stamped(9, 10, left),
         stamped(11, 12, Event::Back(0)),
+        stamped(13, 13, Event::Due(0)),
         stamped(13, 13, Event::Idle),
-        stamped(14, 15, Event::Stray),
-        stamped(16, 16, item(u32::MAX)),
-        stamped(17, 17, Event::Admit(1)),
+        stamped(14, 14, Event::Tick(0)),
+        stamped(15, 16, Event::Stray),
+        stamped(17, 17, item(u32::MAX)),
+        stamped(18, 18, Event::Admit(1)),
     ];
     let events = seen_events(rt.alloc())?;
     assert!(rt; events.as_slice() == expected.as_slice());

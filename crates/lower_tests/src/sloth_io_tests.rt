@@ -50,6 +50,8 @@ fn files_of_the_system(rt: HostRuntime) -> Result<(), Fail> {
     assert!(rt; fails(&mut files, alloc, "made", 2, StoreFault::TooLong));
     assert!(rt; read(&mut files, alloc, "made", 3)?.as_slice() == b"new".as_slice());
     assert!(rt; files.failed_reads() == 1, "no other call is a failed read");
-    assert!(rt; OutSink::new(&rt).put(b"a line\n").is_ok());
+    let mut out = OutSink::new(&rt);
+    assert!(rt; out.put(b"a line\n").is_ok());
+    assert!(rt; out.flush().is_ok());
     Ok(())
 }

@@ -1,7 +1,7 @@
 -- How long the code, the data and the stacks are at most.
-use Rattle.std.proofs.Common.{◌≡◌, ◌≤◌, ◌<◌, ◌+◌, ◌-◌, ◌*◌, ◌%◌, ◌∙◌, ⊎_elim, ℕ, zero, suc, Bool, true, false, leb, List, [], ◌∷◌, length, get_or, refl, ap, subst, arith}
-use Rattle.std.specs.Prelude.{All, map, sum_by}
-use Rattle.std.proofs.lemmas.Bool.{leb-false, cases_lt}
+use Rattle.std.proofs.Common.{◌≡◌, ◌≢◌, ◌≤◌, ◌<◌, ◌+◌, ◌-◌, ◌*◌, ◌%◌, ◌∙◌, ⊎_elim, ℕ, zero, suc, Bool, true, false, List, [], ◌∷◌, Option, Some, None, length, get_or, refl, ap, subst, arith}
+use Rattle.std.specs.Prelude.{◌==◌, nat_lt, nat_le, All, map, sum_by}
+use Rattle.std.proofs.lemmas.Bool.{cases_lt, eq-eqb, lt-ltb, le-leb}
 use Rattle.std.proofs.lemmas.Grind.{get_or_default_zero}
 use Rattle.std.proofs.lemmas.List.Sums.{sum_by-cons}
 use Rattle.sloth_base.specs.Named.{function, missing, item_of}
@@ -9,14 +9,19 @@ use Rattle.sloth_base.specs.declared.app.App.{App}
 use Rattle.sloth_base.specs.declared.app.Func.{Func}
 use Rattle.sloth_base.specs.declared.app.Symbol.{Symbol}
 use Rattle.sloth_base.specs.declared.config.Config.{Config}
-use Rattle.sloth_base.specs.Blocks.{block_count, block_object}
+use Rattle.sloth_base.specs.declared.service.ObjectKind.{ObjectKind}
+use Rattle.sloth_base.specs.declared.service.ObjectKind.TheVariants as object
+use Rattle.sloth_base.specs.declared.service.Service.{Service}
+use Rattle.sloth_base.specs.Blocks.{block_count, block_service, block_object}
+use Rattle.sloth_base.specs.ServiceCodes.{object_kind, IsObjectNumber}
 use Rattle.code_rules.specs.AppRange.{AppInRange}
 use Rattle.rv32_expand.specs.InPlace.{IsItem}
 use Rattle.rv32_expand.specs.Sizes.{AreSizes, items_before}
 use Rattle.rv32_expand.proofs.Counts.{size_few}
 use Rattle.rv32_expand.proofs.InRangeOf.{frame_of}
-use Rattle.mem_map.specs.Run.{end_of, room_for}
-use Rattle.mem_map.specs.Plan.{service_bytes, item_bytes, symbol_bytes}
+use Rattle.mem_map.specs.Run.{end_of}
+use Rattle.mem_map.specs.Wanted.{IsServicePlace}
+use Rattle.mem_map.specs.Plan.{IsSmallPrologue, code_bytes, symbol_bytes}
 
 -- ---- sizes of items
 
@@ -64,12 +69,20 @@ before_all (body ∷ funcs) =
 
 -- ---- ends
 
-pub items_end : (from : ℕ) (sizes : List ℕ) → All IsSize sizes → end_of from (map item_bytes sizes) ≤ from + 144 * length sizes
+pub items_end : (from : ℕ) (sizes : List ℕ) → All IsSize sizes → end_of from (map code_bytes sizes) ≤ from + 144 * length sizes
 items_end from [] few = omega arith
 items_end from (size ∷ sizes) few =
     let h = few 0 0 (omega arith) in
     let most = h.1 in
     let r = items_end (from + 4 * size) sizes (λ k d l. few (suc k) d (omega (arith, l))) in
+    omega (arith, most, r)
+
+pub prologues_end : (from : ℕ) (sizes : List ℕ) → All IsSmallPrologue sizes → end_of from (map code_bytes sizes) ≤ from + 576 * length sizes
+prologues_end from [] few = omega arith
+prologues_end from (size ∷ sizes) few =
+    let h = few 0 0 (omega arith) in
+    let most = h.1 in
+    let r = prologues_end (from + 4 * size) sizes (λ k d l. few (suc k) d (omega (arith, l))) in
     omega (arith, most, r)
 
 pub symbols_end : (from : ℕ) (symbols : List Symbol) → end_of from (map symbol_bytes symbols) ≤ from + sum_by (λ (y : Symbol). length y.bytes) symbols + 3 * length symbols
@@ -85,36 +98,57 @@ one_if : Bool → ℕ
 one_if true = 1
 one_if false = 0
 
--- how many of so many numbers from k on have an object that is at most 32
+-- the number is that of an object of the kind
+abbrev is_object : ObjectKind → ℕ → Bool
+is_object object.Nothing o = o == 0
+is_object object.Task o = nat_lt o 30
+is_object object.Resource o = nat_le o 32
+is_object object.Alarm o = nat_lt o 32
+
+-- the service may have the object
+abbrev may_have : Option Service → ℕ → Bool
+may_have None o = false
+may_have (Some s) o = is_object (object_kind s) o
+
+-- how many of so many places from k on are those of a service with an object that it may have
 allowed : ℕ → ℕ → ℕ
 allowed k zero = 0
-allowed k (suc n) = one_if (leb (block_object k) 32) + allowed (k + 1) n
+allowed k (suc n) = one_if (may_have (block_service k) (block_object k)) + allowed (k + 1) n
 
-all_allowed : allowed 0 block_count ≡ 428
+all_allowed : allowed 0 block_count ≡ 349
 unfolding allowed one_if
 all_allowed = refl
 
-is_one : (b : Bool) (n : ℕ) → leb n 32 ≡ b → n ≤ 32 → one_if b ≡ 1
+has_object : (kind : ObjectKind) (o : ℕ) → IsObjectNumber kind o → is_object kind o ≡ true
+has_object object.Nothing o h = eq-eqb o 0 h
+has_object object.Task o h = lt-ltb o 30 h
+has_object object.Resource o h = le-leb o 32 h
+has_object object.Alarm o h = lt-ltb o 32 h
+
+is_one : (k : ℕ) → IsServicePlace k → one_if (may_have (block_service k) (block_object k)) ≡ 1
 unfolding one_if
-is_one true n e h = refl
-is_one false n e h = let l = leb-false n 32 e in absurd (omega (arith, l, h))
+is_one k place = ap (λ s. one_if (may_have s (block_object k))) place.is ∙ ap one_if (has_object (object_kind place.service) (block_object k) place.object)
 
-wanted_end : (from k : ℕ) (wanted : List Bool) → ((j : ℕ) → get_or wanted j false ≡ true → block_object (k + j) ≤ 32)
-    → end_of from (map service_bytes wanted) ≤ from + 1024 * allowed k (length wanted)
+wanted_end : (from k : ℕ) (sizes : List ℕ) → All (λ size. size ≤ 256) sizes → ((j : ℕ) → get_or sizes j 0 ≢ 0 → IsServicePlace (k + j))
+    → end_of from (map code_bytes sizes) ≤ from + 1024 * allowed k (length sizes)
 unfolding allowed
-wanted_end from k [] objects = omega arith
-wanted_end from k (true ∷ wanted) objects =
-    let z : k + 0 ≡ k = omega arith in
-    let o = is_one (leb (block_object k) 32) (block_object k) refl (subst (λ (i : ℕ). block_object i ≤ 32) z (objects 0 refl)) in
-    let r = wanted_end (from + 1024) (k + 1) wanted (λ j e. let s : k + suc j ≡ k + 1 + j = omega arith in subst (λ (i : ℕ). block_object i ≤ 32) s (objects (suc j) e)) in
-    omega (arith, o, r)
-wanted_end from k (false ∷ wanted) objects =
-    let r = wanted_end (from + 0) (k + 1) wanted (λ j e. let s : k + suc j ≡ k + 1 + j = omega arith in subst (λ (i : ℕ). block_object i ≤ 32) s (objects (suc j) e)) in
+wanted_end from k [] few places = omega arith
+wanted_end from k (zero ∷ sizes) few places =
+    let r = wanted_end (from + 0) (k + 1) sizes (λ j d l. few (suc j) d (omega (arith, l)))
+    (λ j e. let s : k + suc j ≡ k + 1 + j = omega arith in subst IsServicePlace s (places (suc j) e)) in
     omega (arith, r)
+wanted_end from k (suc size ∷ sizes) few places =
+    let z : k + 0 ≡ k = omega arith in
+    let most = few 0 0 (omega arith) in
+    let o = is_one k (subst IsServicePlace z (places 0 (λ x. absurd (omega (arith, x))))) in
+    let r = wanted_end (from + 4 * suc size) (k + 1) sizes (λ j d l. few (suc j) d (omega (arith, l)))
+    (λ j e. let s : k + suc j ≡ k + 1 + j = omega arith in subst IsServicePlace s (places (suc j) e)) in
+    omega (arith, o, r, most)
 
-pub services_end : (from : ℕ) (wanted : List Bool) → length wanted ≡ block_count → ((j : ℕ) → get_or wanted j false ≡ true → block_object j ≤ 32)
-    → end_of from (map service_bytes wanted) ≤ from + 438272
-services_end from wanted n objects =
-    let r = wanted_end from 0 wanted (λ j e. let s : j ≡ 0 + j = omega arith in subst (λ (i : ℕ). block_object i ≤ 32) s (objects j e)) in
+-- 349 services with their objects, each of at most 256 instructions
+pub services_end : (from : ℕ) (sizes : List ℕ) → length sizes ≡ block_count → All (λ size. size ≤ 256) sizes → ((j : ℕ) → get_or sizes j 0 ≢ 0 → IsServicePlace j)
+    → end_of from (map code_bytes sizes) ≤ from + 357376
+services_end from sizes n few places =
+    let r = wanted_end from 0 sizes few (λ j e. let s : j ≡ 0 + j = omega arith in subst IsServicePlace s (places j e)) in
     let a = ap (allowed 0) n ∙ all_allowed in
     omega (arith, r, a)

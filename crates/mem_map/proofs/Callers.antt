@@ -1,5 +1,5 @@
 -- The code of services that is wanted: that which an item calls.
-use Rattle.std.proofs.Common.{◌≡◌, ◌∙◌, ◌+◌, ◌*◌, ◌<◌, ℕ, List, Bool, true, false, length, get_or, refl, sym, ap, ⊎_elim, arith}
+use Rattle.std.proofs.Common.{◌≡◌, ◌∙◌, ◌<◌, ℕ, List, Bool, true, false, length, get_or, refl, sym, ap, ⊎_elim, arith}
 use Rattle.std.proofs.Math.ListN.{get_or-eq_default}
 use Rattle.std.proofs.lemmas.Bool.{cases_lt, eqb-true, eq-eqb}
 use Rattle.std.proofs.lemmas.List.{get_or_default}
@@ -50,7 +50,7 @@ in_function number func is =
     (found.0, found.2, ap (λ (item : Item). calls number item.op) (get_or_default func.items found.0 no_item found.1 found.2 ∙ found.3) ∙ found.4)
 
 -- what is wanted has a caller
-caller : (number : ℕ) (app : App) → is_wanted number app ≡ true → Caller app number
+pub caller : (number : ℕ) (app : App) → is_wanted number app ≡ true → Caller app number
 caller number app is =
     let found = Any-from_list_any (is_called_by number) app.funcs is in
     let is_function : function app found.0 ≡ found.1 = get_or_default app.funcs found.0 missing found.1 found.2 ∙ found.3 in

@@ -1,5 +1,5 @@
 -- What the instructions of items need of the addresses.
-use Rattle.std.proofs.Common.{◌≡◌, ◌≤◌, ◌<◌, ◌+◌, ◌*◌, ◌%◌, ◌∙◌, ⊎_elim, ℕ, zero, suc, Bool, true, false, List, [], ◌∷◌, length, get_or, refl, ap, subst, arith}
+use Rattle.std.proofs.Common.{◌≡◌, ◌≤◌, ◌<◌, ◌+◌, ◌%◌, ◌∙◌, ℕ, zero, suc, List, [], ◌∷◌, length, get_or, ap, subst, arith}
 use Rattle.std.specs.Prelude.{All, map}
 use Rattle.std.proofs.lemmas.List.{get_or-map, length-map}
 use Rattle.std.proofs.lemmas.List.Elements.{All-map}
@@ -25,7 +25,7 @@ use Rattle.rv32_expand.specs.Sizes.{AreSizes, AgreeWithSizes, Covers, IsWordAddr
 use Rattle.rv32_expand.proofs.Counts.{size_few, size_is}
 use Rattle.rv32_expand.proofs.InRangeOf.{frame_of}
 use Rattle.mem_map.specs.Run.{starts, end_of}
-use Rattle.mem_map.specs.Plan.{service_bytes, item_bytes, symbol_bytes}
+use Rattle.mem_map.specs.Plan.{code_bytes, symbol_bytes}
 use Rattle.mem_map.proofs.Starts.{stands, next, starts_aligned, length_starts, end_above}
 
 -- ---- objects of services
@@ -33,7 +33,7 @@ use Rattle.mem_map.proofs.Starts.{stands, next, starts_aligned, length_starts, e
 object_few : (config : Config) (s : Service) (object mask : ℕ) → InRange config → AreOperands config s object mask → object ≤ 32
 object_few config s object mask range h = object_number_few (object_kind s) object (object_number config range (object_kind s) object h.0)
 
-code_few : (s : Service) → code_of s ≤ 11
+code_few : (s : Service) → code_of s ≤ 15
 code_few service.ActivateTask = omega arith
 code_few s = omega arith
 
@@ -58,37 +58,30 @@ number_inside (body ∷ funcs) (suc func) index h l =
 -- ---- addresses of items
 
 -- where the items, the symbols and the services begin
-pub record ArePlaced (app : App) (sizes : List ℕ) (wanted : List Bool) (places : Places) (services_from items_from symbols_from : ℕ) : Type 0 where
+pub record ArePlaced (app : App) (sizes services : List ℕ) (places : Places) (services_from items_from symbols_from : ℕ) : Type 0 where
   pub first : places.first ≡ starts 0 (map (λ (f : Func). length f.items) app.funcs)
-  pub items : places.items ≡ starts items_from (map item_bytes sizes)
+  pub items : places.items ≡ starts items_from (map code_bytes sizes)
   pub symbols : places.symbols ≡ starts symbols_from (map symbol_bytes app.symbols)
-  pub blocks : places.blocks ≡ starts services_from (map service_bytes wanted)
-  pub full : length wanted ≡ block_count
+  pub blocks : places.blocks ≡ starts services_from (map code_bytes services)
+  pub full : length services ≡ block_count
   pub above : 0x8000_0400 ≤ services_from
-  pub services_to : end_of services_from (map service_bytes wanted) ≤ items_from
-  pub items_to : end_of items_from (map item_bytes sizes) ≤ symbols_from
+  pub services_to : end_of services_from (map code_bytes services) ≤ items_from
+  pub items_to : end_of items_from (map code_bytes sizes) ≤ symbols_from
   pub near : symbols_from ≤ 0x8010_0370
   pub symbols_to : end_of symbols_from (map symbol_bytes app.symbols) < 0x8020_0000
   pub services_aligned : services_from % 4 ≡ 0
   pub items_aligned : items_from % 4 ≡ 0
   pub symbols_aligned : symbols_from % 4 ≡ 0
-  pub items_some : All (λ (y : ℕ). 1 ≤ y) (map item_bytes sizes)
+  pub items_some : All (λ (y : ℕ). 1 ≤ y) (map code_bytes sizes)
 
-pub item_bytes_aligned : (sizes : List ℕ) → All (λ len. len % 4 ≡ 0) (map item_bytes sizes)
-item_bytes_aligned sizes = All-map (λ len. len % 4 ≡ 0) item_bytes sizes (λ k d l. omega arith)
+pub code_bytes_aligned : (sizes : List ℕ) → All (λ len. len % 4 ≡ 0) (map code_bytes sizes)
+code_bytes_aligned sizes = All-map (λ len. len % 4 ≡ 0) code_bytes sizes (λ k d l. omega arith)
 
 pub symbol_bytes_aligned : (app : App) → All (λ len. len % 4 ≡ 0) (map symbol_bytes app.symbols)
 symbol_bytes_aligned app = All-map (λ len. len % 4 ≡ 0) symbol_bytes app.symbols (λ k d l. omega arith)
 
-service_aligned : (b : Bool) → service_bytes b % 4 ≡ 0
-service_aligned true = refl
-service_aligned false = refl
-
-pub service_bytes_aligned : (wanted : List Bool) → All (λ len. len % 4 ≡ 0) (map service_bytes wanted)
-service_bytes_aligned wanted = All-map (λ len. len % 4 ≡ 0) service_bytes wanted (λ k d l. service_aligned _)
-
-module _ (config : Config) (app : App) (sizes : List ℕ) (wanted : List Bool) (places : Places) (services_from items_from symbols_from : ℕ)
-    (range : AppInRange config app) (are : AreSizes app sizes) (p : ArePlaced app sizes wanted places services_from items_from symbols_from) where
+module _ (config : Config) (app : App) (sizes services : List ℕ) (places : Places) (services_from items_from symbols_from : ℕ)
+    (range : AppInRange config app) (are : AreSizes app sizes) (p : ArePlaced app sizes services places services_from items_from symbols_from) where
   abbrev number : ℕ → ℕ → ℕ
   number func index = items_before app.funcs func + index
 
@@ -99,11 +92,11 @@ module _ (config : Config) (app : App) (sizes : List ℕ) (wanted : List Bool) (
       omega (arith, n, h)
 
   address_is : (func index : ℕ) → IsItem app func index
-      → item_address places func index ≡ get_or (starts items_from (map item_bytes sizes)) (number func index) 0
+      → item_address places func index ≡ get_or (starts items_from (map code_bytes sizes)) (number func index) 0
   address_is func index item =
       let f = ap (λ (l : List ℕ). get_or l func 0) p.first ∙ first_is 0 app.funcs func item.declared in
       let e : get_or places.first func 0 + index ≡ number func index = omega (arith, f) in
-      ap (λ (l : List ℕ). get_or l (get_or places.first func 0 + index) 0) p.items ∙ ap (λ (k : ℕ). get_or (starts items_from (map item_bytes sizes)) k 0) e
+      ap (λ (l : List ℕ). get_or l (get_or places.first func 0 + index) 0) p.items ∙ ap (λ (k : ℕ). get_or (starts items_from (map code_bytes sizes)) k 0) e
 
   pub agree : AgreeWithSizes app places
   agree = record {
@@ -114,17 +107,17 @@ module _ (config : Config) (app : App) (sizes : List ℕ) (wanted : List Bool) (
         let a = address_is func index item in
         let b = address_is func (index + 1) after in
         let e : number func (index + 1) ≡ suc k = omega arith in
-        let b' = b ∙ ap (λ (i : ℕ). get_or (starts items_from (map item_bytes sizes)) i 0) e in
+        let b' = b ∙ ap (λ (i : ℕ). get_or (starts items_from (map code_bytes sizes)) i 0) e in
         let l = number_few func (index + 1) after in
-        let m = length-map sizes item_bytes in
-        let n = next items_from (map item_bytes sizes) k (omega (arith, l, m)) in
-        let g = get_or-map item_bytes sizes k 0 0 (omega (arith, l)) in
+        let m = length-map sizes code_bytes in
+        let n = next items_from (map code_bytes sizes) k (omega (arith, l, m)) in
+        let g = get_or-map code_bytes sizes k 0 0 (omega (arith, l)) in
         omega (arith, a, b', n, g);
   }
 
   record IsInside (func index : ℕ) : Type 0 where
     above : items_from ≤ item_address places func index
-    below : item_address places func index + 1 ≤ end_of items_from (map item_bytes sizes)
+    below : item_address places func index + 1 ≤ end_of items_from (map code_bytes sizes)
     aligned : item_address places func index % 4 ≡ 0
 
   item_inside : (func index : ℕ) → IsItem app func index → IsInside func index
@@ -132,10 +125,10 @@ module _ (config : Config) (app : App) (sizes : List ℕ) (wanted : List Bool) (
       let k : ℕ = number func index in
       let a = address_is func index item in
       let l = number_few func index item in
-      let m = length-map sizes item_bytes in
-      let s = stands items_from (map item_bytes sizes) k (omega (arith, l, m)) in
-      let n = length_starts items_from (map item_bytes sizes) in
-      let f = starts_aligned items_from (map item_bytes sizes) p.items_aligned (item_bytes_aligned sizes) k 0 (omega (arith, l, m, n)) in
+      let m = length-map sizes code_bytes in
+      let s = stands items_from (map code_bytes sizes) k (omega (arith, l, m)) in
+      let n = length_starts items_from (map code_bytes sizes) in
+      let f = starts_aligned items_from (map code_bytes sizes) p.items_aligned (code_bytes_aligned sizes) k 0 (omega (arith, l, m, n)) in
       let one = p.items_some k 0 (omega (arith, l, m)) in
       let low = s.above in
       let high = s.below in
@@ -143,7 +136,7 @@ module _ (config : Config) (app : App) (sizes : List ℕ) (wanted : List Bool) (
 
   block_inside : (func index : ℕ) (call : Call) → IsItem app func index → operation app func index ≡ op.Serve call
       → IsWordAddress (block_address places call.service call.object) × (services_from ≤ block_address places call.service call.object)
-      × (block_address places call.service call.object ≤ end_of services_from (map service_bytes wanted))
+      × (block_address places call.service call.object ≤ end_of services_from (map code_bytes services))
   block_inside func index call item e =
       let f : Func = function app func in
       let P : Op → Type 0 = λ o. IsOp config app f o in
@@ -152,19 +145,19 @@ module _ (config : Config) (app : App) (sizes : List ℕ) (wanted : List Bool) (
       let code = code_few call.service in
       let k : ℕ = block_number call.service call.object in
       let w = p.full in
-      let m = length-map wanted service_bytes in
-      let l : k < length (map service_bytes wanted) = omega (arith, few, code, w, m) in
-      let s = stands services_from (map service_bytes wanted) k l in
-      let n = length_starts services_from (map service_bytes wanted) in
+      let m = length-map services code_bytes in
+      let l : k < length (map code_bytes services) = omega (arith, few, code, w, m) in
+      let s = stands services_from (map code_bytes services) k l in
+      let n = length_starts services_from (map code_bytes services) in
       let at = ap (λ (l : List ℕ). get_or l k 0) p.blocks in
-      let four = starts_aligned services_from (map service_bytes wanted) p.services_aligned (service_bytes_aligned wanted) k 0 (omega (arith, l, n)) in
+      let four = starts_aligned services_from (map code_bytes services) p.services_aligned (code_bytes_aligned services) k 0 (omega (arith, l, n)) in
       let low = s.above in
       let high = s.below in
       let a = p.above in
       let b = p.services_to in
       let c = p.items_to in
       let d = p.near in
-      let i = end_above items_from (map item_bytes sizes) in (
+      let i = end_above items_from (map code_bytes sizes) in (
         (omega (arith, at, low, a), omega (arith, at, high, b, c, d, i), omega (arith, at, four)),
         omega (arith, at, low),
         omega (arith, at, high),
@@ -181,7 +174,7 @@ module _ (config : Config) (app : App) (sizes : List ℕ) (wanted : List Bool) (
         let b = p.services_to in
         let c = p.items_to in
         let d = p.near in
-        let s = end_above services_from (map service_bytes wanted) in
+        let s = end_above services_from (map code_bytes services) in
         (omega (arith, low, a, b, s), omega (arith, high, c, d), h.aligned);
     symbols = λ symbol l.
         let n = length-map app.symbols symbol_bytes in
@@ -195,8 +188,8 @@ module _ (config : Config) (app : App) (sizes : List ℕ) (wanted : List Bool) (
         let b = p.services_to in
         let c = p.items_to in
         let d = p.symbols_to in
-        let i = end_above items_from (map item_bytes sizes) in
-        let j = end_above services_from (map service_bytes wanted) in
+        let i = end_above items_from (map code_bytes sizes) in
+        let j = end_above services_from (map code_bytes services) in
         (omega (arith, at, low, a, b, c, i, j), omega (arith, at, high, d), omega (arith, at, four));
     blocks = λ func index call item e. (block_inside func index call item e).0;
     items_near = λ func index item.
@@ -209,7 +202,7 @@ module _ (config : Config) (app : App) (sizes : List ℕ) (wanted : List Bool) (
         let b = p.services_to in
         let c = p.items_to in
         let d = p.near in
-        let s = end_above services_from (map service_bytes wanted) in
+        let s = end_above services_from (map code_bytes services) in
         (omega (arith, low, a, b, s), omega (arith, high, c, d, long, few));
     blocks_near = λ func index call item e.
         let h = block_inside func index call item e in
@@ -219,6 +212,6 @@ module _ (config : Config) (app : App) (sizes : List ℕ) (wanted : List Bool) (
         let b = p.services_to in
         let c = p.items_to in
         let d = p.near in
-        let i = end_above items_from (map item_bytes sizes) in
+        let i = end_above items_from (map code_bytes sizes) in
         (omega (arith, low, a), omega (arith, high, b, c, d, i));
   }

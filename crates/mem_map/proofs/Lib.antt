@@ -10,3 +10,4 @@ pub mod StackLengths
 pub mod StackParts
 pub mod Callers
 pub mod Wanting
+pub mod SmallLengths

@@ -1,24 +1,24 @@
 -- The map that is made of these addresses and zones.
-use Rattle.std.proofs.Common.{◌≡◌, ◌≤◌, ◌<◌, ◌+◌, ◌-◌, ◌%◌, ◌∙◌, ℕ, Bool, List, ◌∷◌, length, get_or, drop, sym, ap, arith}
-use Rattle.std.specs.Prelude.{All, map, slice_index}
+use Rattle.std.proofs.Common.{◌≡◌, ◌≤◌, ◌<◌, ◌+◌, ◌-◌, ◌∙◌, ℕ, List, ◌∷◌, length, get_or, drop, take, sym, ap, arith}
+use Rattle.std.specs.Prelude.{map, slice_index}
 use Rattle.sloth_base.specs.declared.app.App.{App}
 use Rattle.sloth_base.specs.declared.config.Config.{Config}
-use Rattle.sloth_base.specs.declared.places.Bounds.{Bounds}
-use Rattle.sloth_base.specs.Blocks.{block_count}
 use Rattle.sloth_region.specs.declared.extent.Extent.{Extent}
 use Rattle.sloth_region.specs.declared.map.Map.{Map}
 use Rattle.sloth_region.specs.Region.{AreApartWithin}
+use Rattle.sloth_base.specs.declared.places.Bounds.{Bounds}
+use Rattle.mem_map.specs.declared.all_lengths.CodeLengths.{CodeLengths}
 use Rattle.mem_map.specs.Run.{starts, end_of}
 use Rattle.mem_map.specs.Zones.{code_zone, data_zone, all_stacks, nowhere, HasZones}
-use Rattle.mem_map.specs.Plan.{MayPlan, HasAddresses, idle_at, prologue_at, services_at, items_at, code_end, service_bytes, item_bytes, symbol_bytes}
-use Rattle.mem_map.proofs.Planned.{few_tasks, services_above, items_above, symbols_above, items_all_even, blocks_all_even}
+use Rattle.mem_map.specs.Plan.{MayPlan, HasAddresses, idle_at, prologues_at, services_at, items_at, code_end, code_bytes, symbol_bytes}
+use Rattle.mem_map.proofs.Planned.{few_tasks, prologues_above, services_above, items_above, symbols_above, items_all_even, blocks_all_even}
 
-module _ (config : Config) (app : App) (sizes : List ℕ) (wanted : List Bool) (bounds : Bounds) (offsets : List ℕ) (may : MayPlan config app sizes wanted bounds offsets) (full : length wanted ≡ block_count) (plan : Map) where
+module _ (config : Config) (app : App) (lengths : CodeLengths) (bounds : Bounds) (offsets : List ℕ) (may : MayPlan config app lengths bounds offsets) (plan : Map) where
   abbrev n : ℕ
   n = length config.tasks
 
   abbrev end : ℕ
-  end = code_end n wanted sizes
+  end = code_end lengths
 
   -- what the zones are
   pub record HasExtents (code data_extent : Extent) (code_to data_to : ℕ) : Type 0 where
@@ -39,19 +39,21 @@ module _ (config : Config) (app : App) (sizes : List ℕ) (wanted : List Bool) (
     ends : end_of code_to (map symbol_bytes app.symbols) ≡ end_of end (map symbol_bytes app.symbols)
     ends = ap (λ (from : ℕ). end_of from (map symbol_bytes app.symbols)) has.code_end_is
 
-    -- what the calls give, by their number of tasks
-    pub addressed : (tasks : ℕ) → tasks ≡ n → plan.idle ≡ idle_at tasks → length plan.handlers ≡ 32
-        → ((task : ℕ) → task < tasks → slice_index plan.handlers task ≡ prologue_at tasks task)
-        → ((line : ℕ) → tasks ≤ line → line < 32 → slice_index plan.handlers line ≡ idle_at tasks)
-        → plan.places.blocks ≡ starts (services_at tasks) (map service_bytes wanted)
-        → plan.places.items ≡ starts (items_at tasks wanted) (map item_bytes sizes)
+    -- what the calls give
+    pub addressed : plan.idle ≡ idle_at lengths → length plan.handlers ≡ 32
+        → take (length lengths.prologues) plan.handlers ≡ starts (prologues_at lengths) (map code_bytes lengths.prologues)
+        → ((line : ℕ) → length lengths.prologues ≤ line → line < 32 → slice_index plan.handlers line ≡ plan.idle)
+        → plan.places.blocks ≡ starts (services_at lengths) (map code_bytes lengths.services)
+        → plan.places.items ≡ starts (items_at lengths) (map code_bytes lengths.items)
         → plan.places.first ≡ starts 0 (map (λ f. length f.items) app.funcs)
         → plan.places.symbols ≡ starts code_to (map symbol_bytes app.symbols)
-        → HasAddresses config app sizes wanted plan
-    addressed tasks count idle lines prologues unused blocks items first symbols =
-        let low = services_above config app sizes wanted bounds offsets may full in
-        let mid = items_above config app sizes wanted bounds offsets may full in
-        let high = symbols_above config app sizes wanted bounds offsets may full in
+        → HasAddresses config app lengths plan
+    addressed idle lines prologues unused blocks items first symbols =
+        let count = may.code.prologues in
+        let start = prologues_above config app lengths bounds offsets may in
+        let low = services_above config app lengths bounds offsets may in
+        let mid = items_above config app lengths bounds offsets may in
+        let high = symbols_above config app lengths bounds offsets may in
         let c = code_zone_is ∙ has.code_is in
         let d = data_zone_is ∙ has.data_is in
         let code_from = ap (λ (e : Extent). e.base) c in
@@ -62,24 +64,24 @@ module _ (config : Config) (app : App) (sizes : List ℕ) (wanted : List Bool) (
         let f = has.data_end_is in
         let g = ends in
         record {
-          idle = idle ∙ ap idle_at count;
+          idle = idle;
           lines = lines;
-          prologues = λ task l. prologues task (omega (arith, l, count)) ∙ ap (λ (t : ℕ). prologue_at t task) count;
-          unused = λ line l m. unused line (omega (arith, l, count)) m ∙ sym idle;
-          blocks = blocks ∙ ap (λ (t : ℕ). starts (services_at t) (map service_bytes wanted)) count;
-          items = items ∙ ap (λ (t : ℕ). starts (items_at t wanted) (map item_bytes sizes)) count;
+          prologues = ap (λ (k : ℕ). take k plan.handlers) (sym count) ∙ prologues;
+          unused = λ line l m. unused line (omega (arith, l, count)) m;
+          blocks = blocks;
+          items = items;
           first = first;
           symbols = symbols ∙ ap (λ (from : ℕ). starts from (map symbol_bytes app.symbols)) e;
           code_from = code_from;
-          code_to = omega (arith, code_from, code_len, e, low, mid);
-          data_from = omega (arith, data_from, e, low, mid);
-          data_to = omega (arith, data_from, data_len, e, f, g, low, mid, high);
+          code_to = omega (arith, code_from, code_len, e, start, low, mid);
+          data_from = omega (arith, data_from, e, start, low, mid);
+          data_to = omega (arith, data_from, data_len, e, f, g, start, low, mid, high);
         }
 
     pub all_stacks_are : all_stacks plan ≡ has.all
     all_stacks_are = ap (λ (l : List Extent). drop 3 l) has.extents
 
-    pub zoned : HasAddresses config app sizes wanted plan → plan.words ≡ record { base = 0x8000_0004; len = 1020 } → AreApartWithin 0x8000_0004 0x8020_0000 plan.extents
+    pub zoned : HasAddresses config app lengths plan → plan.words ≡ record { base = 0x8000_0004; len = 1020 } → AreApartWithin 0x8000_0004 0x8020_0000 plan.extents
         → HasZones plan config
     zoned at words apart = record {
       extents =
@@ -88,8 +90,8 @@ module _ (config : Config) (app : App) (sizes : List ℕ) (wanted : List Bool) (
           ∙ ap (λ (l : List Extent). plan.words ∷ code_zone plan ∷ data_zone plan ∷ l) (sym all_stacks_are);
       words = words;
       apart = apart;
-      few_tasks = few_tasks config app sizes wanted bounds offsets may full;
-      items_aligned = items_all_even config app sizes wanted bounds offsets may full plan at;
-      blocks_aligned = blocks_all_even config app sizes wanted bounds offsets may full plan at;
+      few_tasks = few_tasks config app lengths bounds offsets may;
+      items_aligned = items_all_even config app lengths bounds offsets may plan at;
+      blocks_aligned = blocks_all_even config app lengths bounds offsets may plan at;
       idle_aligned = let i = at.idle in omega (arith, i);
     }

@@ -1,29 +1,28 @@
 -- The addresses of a map, and what they give.
-use Rattle.std.proofs.Common.{◌≡◌, ◌≤◌, ◌<◌, ◌+◌, ◌-◌, ◌*◌, ◌%◌, ◌∙◌, ⊎_elim, ℕ, Bool, List, ◌++◌, length, get_or, take, sym, ap, subst, arith}
+use Rattle.std.proofs.Common.{◌≡◌, ◌≤◌, ◌<◌, ◌+◌, ◌-◌, ◌%◌, ◌∙◌, ⊎_elim, ℕ, List, ◌++◌, length, get_or, take, refl, sym, ap, subst, arith}
 use Rattle.std.specs.Prelude.{All, map, sum_by, slice_index}
-use Rattle.std.proofs.lemmas.Grind.{get_or_default_zero}
-use Rattle.std.proofs.lemmas.List.{get_or-take, length-take-le, length-map, get_or-map}
+use Rattle.std.proofs.lemmas.List.{get_or-take, length-map}
 use Rattle.std.proofs.lemmas.List.Elements.{All-map}
 use Rattle.std.proofs.lemmas.List.Sums.{sum-map, get_or-le-sum_by}
-use Rattle.std.proofs.lemmas.Bool.{cases_lt}
 use Rattle.sloth_base.specs.declared.app.App.{App}
 use Rattle.sloth_base.specs.declared.app.Func.{Func}
 use Rattle.sloth_base.specs.declared.app.Symbol.{Symbol}
 use Rattle.sloth_base.specs.declared.config.Config.{Config}
-use Rattle.sloth_base.specs.declared.places.Bounds.{Bounds}
-use Rattle.sloth_base.specs.Blocks.{block_count}
 use Rattle.sloth_region.specs.declared.extent.Extent.{Extent}
 use Rattle.sloth_region.specs.declared.map.Map.{Map}
 use Rattle.sloth_region.specs.Region.{FollowWithin}
-use Rattle.mem_map.specs.Run.{end_of, extents_of}
-use Rattle.mem_map.specs.Plan.{MayPlan, HasAddresses, IsNear, prologue_at, services_at, items_at, code_end, data_end, service_bytes, item_bytes, symbol_bytes, prologue_extent, service_extents, code_extents, data_extents}
-use Rattle.mem_map.proofs.Bounds.{sizes_few, before_all, items_end, symbols_end, services_end, IsSize}
-use Rattle.mem_map.proofs.Covering.{ArePlaced, item_bytes_aligned, service_bytes_aligned}
-use Rattle.mem_map.proofs.Starts.{end_above, end_aligned, starts_aligned, follow_from, extents_follow, prologues_follow, services_follow}
+use Rattle.std.proofs.lemmas.Bool.{cases_lt}
+use Rattle.sloth_base.specs.declared.places.Bounds.{Bounds}
+use Rattle.mem_map.specs.Run.{end_of, extents_of, starts, AreClose}
+use Rattle.mem_map.specs.declared.all_lengths.CodeLengths.{CodeLengths}
+use Rattle.mem_map.specs.Plan.{MayPlan, HasAddresses, IsNear, prologues_at, services_at, items_at, code_end, data_end, code_bytes, symbol_bytes, some_extents, code_extents, data_extents}
+use Rattle.mem_map.proofs.Bounds.{sizes_few, before_all, items_end, prologues_end, symbols_end, services_end, IsSize}
+use Rattle.mem_map.proofs.Covering.{ArePlaced, code_bytes_aligned}
+use Rattle.mem_map.proofs.Starts.{stands, end_above, end_aligned, starts_aligned, length_starts, follow_from, extents_follow, extents_before, some_follow, extents_close, close_before, some_close}
 
 -- ---- what is needed before there are addresses
 
-module _ (config : Config) (app : App) (sizes : List ℕ) (wanted : List Bool) (bounds : Bounds) (offsets : List ℕ) (may : MayPlan config app sizes wanted bounds offsets) (full : length wanted ≡ block_count) where
+module _ (config : Config) (app : App) (lengths : CodeLengths) (bounds : Bounds) (offsets : List ℕ) (may : MayPlan config app lengths bounds offsets) where
   abbrev n : ℕ
   n = length config.tasks
 
@@ -42,56 +41,71 @@ module _ (config : Config) (app : App) (sizes : List ℕ) (wanted : List Bool) (
   pub symbols_few : All (λ (y : Symbol). length y.bytes ≤ 32768) app.symbols
   symbols_few = λ k d l. let o = get_or-le-sum_by (λ (y : Symbol). length y.bytes) app.symbols k d l in let h = symbols_sum in omega (arith, h, o)
 
-  sizes_are : All IsSize sizes
-  sizes_are = sizes_few config app sizes may.in_range may.are_sizes
+  sizes_are : All IsSize lengths.items
+  sizes_are = sizes_few config app lengths.items may.in_range may.code.items
 
-  pub sizes_small : All (λ (size : ℕ). size ≤ 36) sizes
-  sizes_small = λ k d l. let s = sizes_are k d l in s.1
+  pub sizes_small : All (λ (size : ℕ). size ≤ 256) lengths.items
+  sizes_small = λ k d l. let s = sizes_are k d l in let most = s.1 in omega (arith, most)
 
-  pub services_short : items_at n wanted ≤ services_at n + 438272
-  services_short = services_end (services_at n) wanted full may.objects
+  pub starts_small : All (λ (size : ℕ). size ≤ 256) lengths.prologues
+  starts_small = λ k d l. let s = may.code.prologues_fit k d l in let most = s.1 in omega (arith, most)
 
-  pub items_short : code_end n wanted sizes ≤ items_at n wanted + 589824
+  pub few_starts : length lengths.prologues ≤ 30
+  few_starts = let c = may.code.prologues in let f = few_tasks in omega (arith, c, f)
+
+  prologues_short : services_at lengths ≤ prologues_at lengths + 17280
+  prologues_short =
+      let e = prologues_end (prologues_at lengths) lengths.prologues may.code.prologues_fit in
+      let f = few_starts in
+      omega (arith, e, f)
+
+  pub services_short : items_at lengths ≤ services_at lengths + 357376
+  services_short = services_end (services_at lengths) lengths.services may.code.services may.code.services_fit may.code.objects
+
+  pub items_short : code_end lengths ≤ items_at lengths + 589824
   items_short =
-      let e = items_end (items_at n wanted) sizes sizes_are in
-      let c = may.are_sizes.count in
+      let e = items_end (items_at lengths) lengths.items sizes_are in
+      let c = may.code.items.count in
       let b = before_all app.funcs in
       let s = items_sum in
       omega (arith, e, c, b, s)
 
   -- all code is near
-  pub code_short : code_end n wanted sizes ≤ 0x8010_0370
-  code_short = let a = services_short in let b = items_short in let f = few_tasks in omega (arith, a, b, f)
+  pub code_short : code_end lengths ≤ 0x8010_0370
+  code_short = let a = services_short in let b = items_short in let c = prologues_short in let f = may.code.boot.1 in omega (arith, a, b, c, f)
 
-  pub code_near : code_end n wanted sizes < 0x8010_0400
+  pub code_near : code_end lengths < 0x8010_0400
   code_near = let h = code_short in omega (arith, h)
 
-  pub symbols_short : data_end app (code_end n wanted sizes) ≤ code_end n wanted sizes + 33540
+  pub symbols_short : data_end app (code_end lengths) ≤ code_end lengths + 33540
   symbols_short =
-      let e = symbols_end (code_end n wanted sizes) app.symbols in
+      let e = symbols_end (code_end lengths) app.symbols in
       let s = symbols_sum in
       let f = may.in_range.limits.few_symbols in
       omega (arith, e, s, f)
 
   -- ---- multiples of 4
 
-  pub services_even : services_at n % 4 ≡ 0
-  services_even = omega arith
+  pub services_even : services_at lengths % 4 ≡ 0
+  services_even = end_aligned (prologues_at lengths) (map code_bytes lengths.prologues) (omega arith) (code_bytes_aligned lengths.prologues)
 
-  pub items_even : items_at n wanted % 4 ≡ 0
-  items_even = end_aligned (services_at n) (map service_bytes wanted) services_even (service_bytes_aligned wanted)
+  pub items_even : items_at lengths % 4 ≡ 0
+  items_even = end_aligned (services_at lengths) (map code_bytes lengths.services) services_even (code_bytes_aligned lengths.services)
 
-  pub code_even : code_end n wanted sizes % 4 ≡ 0
-  code_even = end_aligned (items_at n wanted) (map item_bytes sizes) items_even (item_bytes_aligned sizes)
+  pub code_even : code_end lengths % 4 ≡ 0
+  code_even = end_aligned (items_at lengths) (map code_bytes lengths.items) items_even (code_bytes_aligned lengths.items)
 
-  pub services_above : services_at n ≤ items_at n wanted
-  services_above = end_above (services_at n) (map service_bytes wanted)
+  pub prologues_above : prologues_at lengths ≤ services_at lengths
+  prologues_above = end_above (prologues_at lengths) (map code_bytes lengths.prologues)
 
-  pub items_above : items_at n wanted ≤ code_end n wanted sizes
-  items_above = end_above (items_at n wanted) (map item_bytes sizes)
+  pub services_above : services_at lengths ≤ items_at lengths
+  services_above = end_above (services_at lengths) (map code_bytes lengths.services)
 
-  pub symbols_above : code_end n wanted sizes ≤ end_of (code_end n wanted sizes) (map symbol_bytes app.symbols)
-  symbols_above = end_above (code_end n wanted sizes) (map symbol_bytes app.symbols)
+  pub items_above : items_at lengths ≤ code_end lengths
+  items_above = end_above (items_at lengths) (map code_bytes lengths.items)
+
+  pub symbols_above : code_end lengths ≤ end_of (code_end lengths) (map symbol_bytes app.symbols)
+  symbols_above = end_above (code_end lengths) (map symbol_bytes app.symbols)
 
   -- where the code and the symbols end
   pub record AreEnds (code_to data_to : ℕ) : Type 0 where
@@ -101,9 +115,10 @@ module _ (config : Config) (app : App) (sizes : List ℕ) (wanted : List Bool) (
     pub even : (code_to - 0x8000_0400) % 4 ≡ 0
     pub room : 1024 + (code_to - 0x8000_0400) + 3 + (data_to + 4 - code_to) + 3 + 983490 ≤ 0x20_0000
 
-  pub ends_are : (code_to data_to : ℕ) → code_to ≡ code_end n wanted sizes → data_to ≡ end_of code_to (map symbol_bytes app.symbols) → AreEnds code_to data_to
+  pub ends_are : (code_to data_to : ℕ) → code_to ≡ code_end lengths → data_to ≡ end_of code_to (map symbol_bytes app.symbols) → AreEnds code_to data_to
   ends_are code_to data_to e f =
       let g = ap (λ (from : ℕ). end_of from (map symbol_bytes app.symbols)) e in
+      let first = prologues_above in
       let low = services_above in
       let mid = items_above in
       let high = symbols_above in
@@ -111,30 +126,33 @@ module _ (config : Config) (app : App) (sizes : List ℕ) (wanted : List Bool) (
       let symbols = symbols_short in
       let even = code_even in
       record {
-        some = omega (arith, e, low, mid);
+        some = omega (arith, e, first, low, mid);
         below = omega (arith, e, f, g, high);
         fits = omega (arith, f, g, symbols, short);
-        even = omega (arith, e, even, low, mid);
-        room = omega (arith, e, f, g, symbols, short, low, mid, high);
+        even = omega (arith, e, even, first, low, mid);
+        room = omega (arith, e, f, g, symbols, short, first, low, mid, high);
       }
 
   symbol_some : All (λ (y : ℕ). 1 ≤ y) (map symbol_bytes app.symbols)
   symbol_some = All-map (λ (y : ℕ). 1 ≤ y) symbol_bytes app.symbols (λ k d l. let h = may.in_range.symbols k d l in omega (arith, h))
 
-  item_some : All (λ (y : ℕ). 1 ≤ y) (map item_bytes sizes)
-  item_some = All-map (λ (y : ℕ). 1 ≤ y) item_bytes sizes (λ k d l. let h = sizes_are k d l in let s = h.0 in omega (arith, s))
+  start_some : All (λ (y : ℕ). 1 ≤ y) (map code_bytes lengths.prologues)
+  start_some = All-map (λ (y : ℕ). 1 ≤ y) code_bytes lengths.prologues (λ k d l. let h = may.code.prologues_fit k d l in let s = h.0 in omega (arith, s))
+
+  item_some : All (λ (y : ℕ). 1 ≤ y) (map code_bytes lengths.items)
+  item_some = All-map (λ (y : ℕ). 1 ≤ y) code_bytes lengths.items (λ k d l. let h = sizes_are k d l in let s = h.0 in omega (arith, s))
 
   -- ---- of a map with these addresses
 
-  module _ (plan : Map) (at : HasAddresses config app sizes wanted plan) where
-    pub placed : ArePlaced app sizes wanted plan.places (services_at n) (items_at n wanted) (code_end n wanted sizes)
+  module _ (plan : Map) (at : HasAddresses config app lengths plan) where
+    pub placed : ArePlaced app lengths.items lengths.services plan.places (services_at lengths) (items_at lengths) (code_end lengths)
     placed = record {
       first = at.first;
       items = at.items;
       symbols = at.symbols;
       blocks = at.blocks;
-      full = full;
-      above = omega arith;
+      full = may.code.services;
+      above = let a = prologues_above in omega (arith, a);
       services_to = omega arith;
       items_to = omega arith;
       near = code_short;
@@ -145,47 +163,83 @@ module _ (config : Config) (app : App) (sizes : List ℕ) (wanted : List Bool) (
       items_some = item_some;
     }
 
+    -- the address of a prologue
+    pub start_is : (task : ℕ) → task < n → slice_index plan.handlers task ≡ get_or (starts (prologues_at lengths) (map code_bytes lengths.prologues)) task 0
+    start_is task l = sym (get_or-take n plan.handlers task 0 l) ∙ ap (λ (starts : List ℕ). get_or starts task 0) at.prologues
+
+    pub start_near : (task : ℕ) → task < n → IsNear (slice_index plan.handlers task)
+    start_near task l =
+        let is = start_is task l in
+        let count = may.code.prologues in
+        let long = length-map lengths.prologues code_bytes in
+        let all = length_starts (prologues_at lengths) (map code_bytes lengths.prologues) in
+        let s = stands (prologues_at lengths) (map code_bytes lengths.prologues) task (omega (arith, l, count, long)) in
+        let low = s.above in
+        let high = s.below in
+        let four = starts_aligned (prologues_at lengths) (map code_bytes lengths.prologues) (omega arith) (code_bytes_aligned lengths.prologues) task 0 (omega (arith, l, count, long, all)) in
+        let short = code_short in
+        let mid = services_above in
+        let items = items_above in
+        (omega (arith, is, four), omega (arith, is, low), omega (arith, is, high, short, mid, items))
+
     pub reach : (line : ℕ) → line < 32 → IsNear (slice_index plan.handlers line)
     reach line h =
-        let f = few_tasks in
+        let few = may.code.boot.1 in
         let e = at.idle in
         ⊎_elim
-        (λ (l : line < n). let a = at.prologues line l in (omega (arith, a), omega (arith, a), omega (arith, a, f, l)))
-        (λ (l : n ≤ line). let a = at.unused line l h in (omega (arith, a, e), omega (arith, a, e), omega (arith, a, e, f)))
+        (λ (l : line < n). start_near line l)
+        (λ (l : n ≤ line). let a = at.unused line l h in (omega (arith, a, e), omega (arith, a, e), omega (arith, a, e, few)))
         (cases_lt line n)
 
-    pub code_follows : FollowWithin 0x8000_0400 (code_end n wanted sizes) (code_extents plan n wanted sizes)
+    pub code_follows : FollowWithin 0x8000_0400 (code_end lengths) (code_extents plan n lengths)
     code_follows =
-        let f = few_tasks in
         let e = at.idle in
-        let lines = at.lines in
-        let count = length-take-le n plan.handlers (omega (arith, lines, f)) in
-        let end : ℕ = code_end n wanted sizes in
-        let P : List ℕ → Type 0 = λ addresses. FollowWithin (items_at n wanted) end (extents_of addresses (map item_bytes sizes)) in
-        let items = subst P (sym at.items) (extents_follow (items_at n wanted) end (map item_bytes sizes) item_some (omega arith)) in
-        let Q : List ℕ → Type 0 = λ addresses. FollowWithin (services_at n) end (service_extents addresses wanted ++ extents_of plan.places.items (map item_bytes sizes)) in
-        let services = subst Q (sym at.blocks) (services_follow (services_at n) end wanted (extents_of plan.places.items (map item_bytes sizes)) items) in
-        let rest : List Extent = service_extents plan.places.blocks wanted ++ extents_of plan.places.items (map item_bytes sizes) in
-        let R : ℕ → Type 0 = λ free. FollowWithin free end rest in
-        let at_end : services_at n ≡ prologue_at n 0 + 576 * length (take n plan.handlers) = omega (arith, count) in
-        let prologues = prologues_follow (prologue_at n 0) end (take n plan.handlers) rest
-        (λ k l. get_or-take n plan.handlers k 0 (omega (arith, l, count)) ∙ at.prologues k (omega (arith, l, count)) ∙ omega arith)
-        (subst R at_end services) in
-        let behind = follow_from (plan.idle + 4) (prologue_at n 0) end (map prologue_extent (take n plan.handlers) ++ rest) (omega (arith, e)) prologues in
-        (omega arith, omega arith, (omega arith, omega arith, (omega (arith, e), omega arith, behind)))
+        let some = may.code.boot.0 in
+        let end : ℕ = code_end lengths in
+        let P : List ℕ → Type 0 = λ addresses. FollowWithin (items_at lengths) end (extents_of addresses (map code_bytes lengths.items)) in
+        let items = subst P (sym at.items) (extents_follow (items_at lengths) end (map code_bytes lengths.items) item_some (omega arith)) in
+        let Q : List ℕ → Type 0 = λ addresses. FollowWithin (services_at lengths) end (some_extents addresses lengths.services ++ extents_of plan.places.items (map code_bytes lengths.items)) in
+        let services = subst Q (sym at.blocks) (some_follow (services_at lengths) end lengths.services (extents_of plan.places.items (map code_bytes lengths.items)) items) in
+        let rest : List Extent = some_extents plan.places.blocks lengths.services ++ extents_of plan.places.items (map code_bytes lengths.items) in
+        let R : List ℕ → Type 0 = λ addresses. FollowWithin (prologues_at lengths) end (extents_of addresses (map code_bytes lengths.prologues) ++ rest) in
+        let prologues = subst R (sym at.prologues) (extents_before (prologues_at lengths) end (map code_bytes lengths.prologues) rest start_some services) in
+        let behind = follow_from (plan.idle + 4) (prologues_at lengths) end (extents_of (take n plan.handlers) (map code_bytes lengths.prologues) ++ rest) (omega (arith, e)) prologues in
+        (omega arith, omega arith, (omega arith, omega (arith, some), (omega (arith, e), omega arith, behind)))
 
-    pub data_follows : FollowWithin (code_end n wanted sizes) (data_end app (code_end n wanted sizes)) (data_extents plan app)
+    -- there is no hole in the code
+    pub code_close : AreClose 0x8000_0400 (code_end lengths) (code_extents plan n lengths)
+    code_close =
+        let e = at.idle in
+        let end : ℕ = code_end lengths in
+        let P : List ℕ → Type 0 = λ addresses. AreClose (items_at lengths) end (extents_of addresses (map code_bytes lengths.items)) in
+        let items = subst P (sym at.items) (extents_close (items_at lengths) (map code_bytes lengths.items)) in
+        let Q : List ℕ → Type 0 = λ addresses. AreClose (services_at lengths) end (some_extents addresses lengths.services ++ extents_of plan.places.items (map code_bytes lengths.items)) in
+        let services = subst Q (sym at.blocks) (some_close (services_at lengths) end lengths.services (extents_of plan.places.items (map code_bytes lengths.items)) items) in
+        let rest : List Extent = some_extents plan.places.blocks lengths.services ++ extents_of plan.places.items (map code_bytes lengths.items) in
+        let R : List ℕ → Type 0 = λ addresses. AreClose (prologues_at lengths) end (extents_of addresses (map code_bytes lengths.prologues) ++ rest) in
+        let prologues = subst R (sym at.prologues) (close_before (prologues_at lengths) end (map code_bytes lengths.prologues) rest services) in
+        let S : ℕ → Type 0 = λ free. AreClose free end (extents_of (take n plan.handlers) (map code_bytes lengths.prologues) ++ rest) in
+        let behind : prologues_at lengths ≡ plan.idle + 4 = omega (arith, e) in
+        (refl, (refl, (e, subst S behind prologues)))
+
+    pub data_follows : FollowWithin (code_end lengths) (data_end app (code_end lengths)) (data_extents plan app)
     data_follows =
-        let from : ℕ = code_end n wanted sizes in
+        let from : ℕ = code_end lengths in
         let P : List ℕ → Type 0 = λ addresses. FollowWithin from (data_end app from) (extents_of addresses (map symbol_bytes app.symbols)) in
         subst P (sym at.symbols) (extents_follow from (data_end app from) (map symbol_bytes app.symbols) symbol_some (omega arith))
+
+    pub data_close : AreClose (code_end lengths) (end_of (code_end lengths) (map symbol_bytes app.symbols)) (data_extents plan app)
+    data_close =
+        let from : ℕ = code_end lengths in
+        let P : List ℕ → Type 0 = λ addresses. AreClose from (end_of from (map symbol_bytes app.symbols)) (extents_of addresses (map symbol_bytes app.symbols)) in
+        subst P (sym at.symbols) (extents_close from (map symbol_bytes app.symbols))
 
     pub items_all_even : All (λ address. address % 4 ≡ 0) plan.places.items
     items_all_even =
         let P : List ℕ → Type 0 = λ addresses. All (λ address. address % 4 ≡ 0) addresses in
-        subst P (sym at.items) (starts_aligned (items_at n wanted) (map item_bytes sizes) items_even (item_bytes_aligned sizes))
+        subst P (sym at.items) (starts_aligned (items_at lengths) (map code_bytes lengths.items) items_even (code_bytes_aligned lengths.items))
 
     pub blocks_all_even : All (λ address. address % 4 ≡ 0) plan.places.blocks
     blocks_all_even =
         let P : List ℕ → Type 0 = λ addresses. All (λ address. address % 4 ≡ 0) addresses in
-        subst P (sym at.blocks) (starts_aligned (services_at n) (map service_bytes wanted) services_even (service_bytes_aligned wanted))
+        subst P (sym at.blocks) (starts_aligned (services_at lengths) (map code_bytes lengths.services) services_even (code_bytes_aligned lengths.services))

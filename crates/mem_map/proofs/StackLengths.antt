@@ -1,7 +1,6 @@
 -- The lengths of the stacks, one more at a time.
-use Rattle.std.proofs.Common.{◌≡◌, ℕ, zero, suc, ◌+◌, ◌*◌, ◌<◌, ◌≤◌, ⊎_elim, List, [], ◌∷◌, ◌++◌, length, get_or, true, false, cond, sym, ap, ◌∙◌, subst, arith}
-use Rattle.std.specs.Prelude.{All}
-use Rattle.std.proofs.lemmas.Bool.{cases_Bool, cases_eq}
+use Rattle.std.proofs.Common.{◌≡◌, ℕ, suc, ◌+◌, ◌<◌, ◌≤◌, ⊎_elim, List, [], ◌∷◌, ◌++◌, get_or, true, false, cond, sym, ap, ◌∙◌, subst, arith}
+use Rattle.std.proofs.lemmas.Bool.{cases_eq}
 use Rattle.std.proofs.lemmas.List.{get_or_append_left, length-append}
 use Rattle.std.proofs.lemmas.List.Elements.{All-append, All-cons, All-nil}
 use Rattle.std.proofs.Math.Seq.{get_or-append_seam}
@@ -9,7 +8,7 @@ use Rattle.sloth_base.specs.declared.config.TaskDecl.{TaskDecl}
 use Rattle.sloth_base.specs.declared.places.Bounds.{Bounds}
 use Rattle.stack_bounds.specs.Bounds.{bytes_of}
 use Rattle.mem_map.specs.Run.{room_for}
-use Rattle.mem_map.specs.Stacks.{is_extended, own_before, first_own, shared_length, AreLengths}
+use Rattle.mem_map.specs.Stacks.{is_extended, own_before, first_own, AreLengths}
 use Rattle.mem_map.proofs.StackNumbers.{skipped, rises}
 
 room_more : (lengths : List ℕ) (len : ℕ) → room_for 16 (lengths ++ len ∷ []) ≡ room_for 16 lengths + 15 + len

@@ -1,12 +1,12 @@
 -- Pieces right behind one another.
-use Rattle.std.proofs.Common.{◌≡◌, ◌≤◌, ◌<◌, ◌+◌, ◌*◌, ◌%◌, ℕ, zero, suc, Bool, true, false, List, [], ◌∷◌, ◌++◌, length, get_or, drop, refl, ap, subst, ◌∙◌, arith}
+use Rattle.std.proofs.Common.{◌≡◌, ◌≤◌, ◌<◌, ◌+◌, ◌*◌, ◌%◌, ℕ, zero, suc, List, [], ◌∷◌, ◌++◌, length, get_or, drop, refl, ap, subst, arith}
 use Rattle.std.specs.Prelude.{All, map}
 use Rattle.std.proofs.lemmas.List.{drop_more}
 use Rattle.std.proofs.lemmas.List.Elements.{All-cons}
 use Rattle.sloth_region.specs.declared.extent.Extent.{Extent}
 use Rattle.sloth_region.specs.Region.{FollowWithin}
-use Rattle.mem_map.specs.Run.{starts, end_of, extents_of}
-use Rattle.mem_map.specs.Plan.{service_bytes, prologue_extent, service_extents}
+use Rattle.mem_map.specs.Run.{starts, end_of, extents_of, AreClose}
+use Rattle.mem_map.specs.Plan.{code_bytes, some_extents}
 
 -- the end is not below the start
 pub end_above : (from : ℕ) (lengths : List ℕ) → from ≤ end_of from lengths
@@ -47,13 +47,13 @@ next_fits free bound lengths i h e fits =
     let a = end_above (free + get_or lengths i 0) (drop (i + 1) lengths) in
     omega (arith, cut, e, a, fits)
 
-pub next_service_fits : (free bound : ℕ) (wanted : List Bool) (i : ℕ) → i < length wanted → get_or wanted i false ≡ true
-    → end_of free (map service_bytes (drop i wanted)) ≡ bound → bound < 4294967296 → free + 1024 < 4294967296
-next_service_fits free bound wanted i h is e fits =
-    let cut : drop i wanted ≡ true ∷ drop (i + 1) wanted = drop_more wanted i false h ∙ ap (λ b. b ∷ drop (i + 1) wanted) is in
-    let end = ap (λ bs. end_of free (map service_bytes bs)) cut in
-    let a = end_above (free + 1024) (map service_bytes (drop (i + 1) wanted)) in
-    omega (arith, end, e, a, fits)
+-- the next piece of code ends by the end
+pub next_code_fits : (free bound : ℕ) (sizes : List ℕ) (i : ℕ) → i < length sizes → end_of free (map code_bytes (drop i sizes)) ≡ bound → bound < 4294967296
+    → free + 4 * get_or sizes i 0 < 4294967296
+next_code_fits free bound sizes i h e fits =
+    let cut = ap (λ rest. end_of free (map code_bytes rest)) (drop_more sizes i 0 h) in
+    let a = end_above (free + 4 * get_or sizes i 0) (map code_bytes (drop (i + 1) sizes)) in
+    omega (arith, cut, e, a, fits)
 
 -- ---- multiples of 4
 
@@ -82,26 +82,41 @@ extents_follow from end [] some le = le
 extents_follow from end (len ∷ lengths) some le =
     (omega arith, some 0 0 (omega arith), extents_follow (from + len) end lengths (λ k d l. some (suc k) d (omega (arith, l))) le)
 
--- prologues at even distances
-pub prologues_follow : (from end : ℕ) (addresses : List ℕ) (rest : List Extent)
-    → ((k : ℕ) → k < length addresses → get_or addresses k 0 ≡ from + 576 * k)
-    → FollowWithin (from + 576 * length addresses) end rest → FollowWithin from end (map prologue_extent addresses ++ rest)
-prologues_follow from end [] rest at f = follow_from from (from + 576 * 0) end rest (omega arith) f
-prologues_follow from end (address ∷ addresses) rest at f =
-    let first = at 0 (omega arith) in
-    let P : ℕ → Type 0 = λ free. FollowWithin free end rest in
-    let e : from + 576 * suc (length addresses) ≡ address + 576 + 576 * length addresses = omega (arith, first) in (
-      omega (arith, first),
-      omega arith,
-      prologues_follow (address + 576) end addresses rest
-          (λ k l. let a = at (suc k) (omega (arith, l)) in omega (arith, a, first))
-          (subst P e f),
-    )
+-- the same before other extents
+pub extents_before : (from end : ℕ) (lengths : List ℕ) (rest : List Extent) → All (λ len. 1 ≤ len) lengths → FollowWithin (end_of from lengths) end rest
+    → FollowWithin from end (extents_of (starts from lengths) lengths ++ rest)
+extents_before from end [] rest some f = f
+extents_before from end (len ∷ lengths) rest some f =
+    (omega arith, some 0 0 (omega arith), extents_before (from + len) end lengths rest (λ k d l. some (suc k) d (omega (arith, l))) f)
 
-pub services_follow : (from end : ℕ) (wanted : List Bool) (rest : List Extent) → FollowWithin (end_of from (map service_bytes wanted)) end rest
-    → FollowWithin from end (service_extents (starts from (map service_bytes wanted)) wanted ++ rest)
-services_follow from end [] rest f = f
-services_follow from end (true ∷ wanted) rest f = (omega arith, omega arith, services_follow (from + 1024) end wanted rest f)
-services_follow from end (false ∷ wanted) rest f =
-    follow_from from (from + 0) end (service_extents (starts (from + 0) (map service_bytes wanted)) wanted ++ rest) (omega arith)
-    (services_follow (from + 0) end wanted rest f)
+-- pieces of code of which some have no instruction
+pub some_follow : (from end : ℕ) (sizes : List ℕ) (rest : List Extent) → FollowWithin (end_of from (map code_bytes sizes)) end rest
+    → FollowWithin from end (some_extents (starts from (map code_bytes sizes)) sizes ++ rest)
+some_follow from end [] rest f = f
+some_follow from end (zero ∷ sizes) rest f =
+    follow_from from (from + 0) end (some_extents (starts (from + 0) (map code_bytes sizes)) sizes ++ rest) (omega arith)
+    (some_follow (from + 0) end sizes rest f)
+some_follow from end (suc size ∷ sizes) rest f = (omega arith, omega arith, some_follow (from + 4 * suc size) end sizes rest f)
+
+-- ---- no hole
+
+-- extents right behind one another
+pub extents_close : (from : ℕ) (lengths : List ℕ) → AreClose from (end_of from lengths) (extents_of (starts from lengths) lengths)
+extents_close from [] = refl
+extents_close from (len ∷ lengths) = (refl, extents_close (from + len) lengths)
+
+-- the same before other extents
+pub close_before : (from end : ℕ) (lengths : List ℕ) (rest : List Extent) → AreClose (end_of from lengths) end rest
+    → AreClose from end (extents_of (starts from lengths) lengths ++ rest)
+close_before from end [] rest c = c
+close_before from end (len ∷ lengths) rest c = (refl, close_before (from + len) end lengths rest c)
+
+-- pieces of code of which some have no instruction
+pub some_close : (from end : ℕ) (sizes : List ℕ) (rest : List Extent) → AreClose (end_of from (map code_bytes sizes)) end rest
+    → AreClose from end (some_extents (starts from (map code_bytes sizes)) sizes ++ rest)
+some_close from end [] rest c = c
+some_close from end (zero ∷ sizes) rest c =
+    let same : from + 0 ≡ from = omega arith in
+    let P : ℕ → Type 0 = λ free. AreClose free end (some_extents (starts (from + 0) (map code_bytes sizes)) sizes ++ rest) in
+    subst P same (some_close (from + 0) end sizes rest c)
+some_close from end (suc size ∷ sizes) rest c = (refl, some_close (from + 4 * suc size) end sizes rest c)

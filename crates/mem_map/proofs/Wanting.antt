@@ -1,20 +1,20 @@
--- What is wanted has a caller, so its object is one of few.
-use Rattle.std.proofs.Common.{◌≡◌, ◌≤◌, ◌<◌, ◌%◌, ℕ, Bool, true, false, List, length, get_or, ap, subst, arith}
+-- What is wanted has a caller, so it is a service with an object that it may have.
+use Rattle.std.proofs.Common.{◌≡◌, ◌∙◌, ◌<◌, ◌%◌, ℕ, Bool, true, false, List, length, get_or, ap, subst, arith}
 use Rattle.std.proofs.lemmas.List.FromFn.{length-map-range_with_len, get_or-map-range_with_len, fill_by_all}
 use Rattle.sloth_base.specs.Named.{function, missing, no_item, operation}
-use Rattle.sloth_base.specs.ServiceCodes.{object_kind}
+use Rattle.sloth_base.specs.ServiceCodes.{code_of, service_of, object_kind, IsObjectNumber}
 use Rattle.sloth_base.specs.declared.app.App.{App}
 use Rattle.sloth_base.specs.declared.app.Call.{Call}
 use Rattle.sloth_base.specs.declared.app.Op.TheVariants as op
 use Rattle.sloth_base.specs.declared.config.Config.{Config}
-use Rattle.sloth_base.specs.Blocks.{block_count, block_object}
-use Rattle.sloth_base.proofs.Services.{object_number_few}
+use Rattle.sloth_base.specs.Blocks.{block_count, block_code, block_object}
+use Rattle.sloth_base.proofs.Services.{of_code, object_number_few}
 use Rattle.code_rules.specs.AppRange.{AreOperands, IsOp}
 use Rattle.code_rules.specs.WellFormed.{WellFormed}
 use Rattle.code_rules.proofs.Objects.{object_number}
 use Rattle.rv32_expand.specs.InPlace.{IsItem}
-use Rattle.mem_map.specs.Wanted.{is_wanted, wanted_blocks}
-use Rattle.mem_map.proofs.Callers.{Caller, marked}
+use Rattle.mem_map.specs.Wanted.{IsServicePlace, is_wanted, wanted_blocks}
+use Rattle.mem_map.proofs.Callers.{caller}
 
 -- there is one entry for each place
 pub all_places : (app : App) → length (wanted_blocks app) ≡ block_count
@@ -32,18 +32,21 @@ pub places_are : (app : App) (xs : List Bool) → length xs ≡ block_count → 
 unfolding wanted_blocks
 places_are app xs long are = fill_by_all (λ number. is_wanted number app) xs block_count false long are
 
--- an object that an item names is small
-object_few : (config : Config) (app : App) → WellFormed config app → (func item : ℕ) (call : Call) → IsItem app func item → operation app func item ≡ op.Serve call
-    → call.object ≤ 32
-object_few config app well func item call is e =
+-- an item calls a service with an object that it may have
+has_object : (config : Config) (app : App) → WellFormed config app → (func item : ℕ) (call : Call) → IsItem app func item → operation app func item ≡ op.Serve call
+    → IsObjectNumber (object_kind call.service) call.object
+has_object config app well func item call is e =
     let own = (well.in_range.bodies func missing is.declared).items item no_item is.inside in
     let operands : AreOperands config call.service call.object call.mask = subst (IsOp config app (function app func)) e own in
-    object_number_few (object_kind call.service) call.object (object_number config well.in_range.configuration (object_kind call.service) call.object operands.0)
+    object_number config well.in_range.configuration (object_kind call.service) call.object operands.0
 
--- so is that of a place that is wanted
-pub wanted_objects : (config : Config) (app : App) → WellFormed config app → (number : ℕ) → get_or (wanted_blocks app) number false ≡ true → block_object number ≤ 32
-wanted_objects config app well number is =
-    let c = marked app (wanted_blocks app) (all_places app) (at_place app) number is in
-    let small = object_few config app well c.func c.item c.call c.is_item c.is in
+-- so does the place that is wanted
+pub wanted_services : (config : Config) (app : App) → WellFormed config app → (number : ℕ) → is_wanted number app ≡ true → IsServicePlace number
+wanted_services config app well number is =
+    let c = caller number app is in
+    let has = has_object config app well c.func c.item c.call c.is_item c.is in
+    let small = object_number_few (object_kind c.call.service) c.call.object has in
     let n = c.numbered in
-    omega (arith, small, n)
+    let code : block_code number ≡ code_of c.call.service = omega (arith, small, n) in
+    let object : c.call.object ≡ block_object number = omega (arith, small, n) in
+    record { service = c.call.service; is = ap service_of code ∙ of_code c.call.service; object = subst (IsObjectNumber (object_kind c.call.service)) object has }

@@ -21,6 +21,11 @@ extents_of [] lengths = []
 extents_of (address ∷ addresses) [] = []
 extents_of (address ∷ addresses) (len ∷ lengths) = record { base = address; len = len } ∷ extents_of addresses lengths
 
+-- each extent begins where the one before it ends: there is no hole between them
+abbrev pub AreClose : ℕ → ℕ → List Extent → Type 0
+AreClose from end [] = from ≡ end
+AreClose from end (e ∷ rest) = (e.base ≡ from) × AreClose (e.base + e.len) end rest
+
 -- ---- each aligned
 
 -- extents of these lengths from an address on, each at the least multiple of `align`

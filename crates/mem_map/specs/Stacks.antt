@@ -9,7 +9,7 @@ use Rattle.sloth_region.specs.declared.extent.Extent.{Extent}
 use Rattle.sloth_region.specs.declared.map.Map.{Map}
 use Rattle.sloth_region.specs.Region.{aligned, IsBelow}
 use Rattle.stack_bounds.specs.Bounds.{IsBasic, MayBePreempted, MayMeet, bytes_of}
-use Rattle.mem_map.specs.Zones.{data_zone, stack_of, nowhere, all_stacks}
+use Rattle.mem_map.specs.Zones.{stack_of, nowhere, all_stacks}
 use Rattle.mem_map.specs.Run.{room_for}
 
 -- ---- which stack each task has

@@ -1,12 +1,20 @@
 -- Which code of services task code needs.
-use Rattle.std.specs.Prelude.{ℕ, ◌==◌, Bool, false, List, map}
+use Rattle.std.specs.Prelude.{ℕ, ◌==◌, ◌≡◌, Bool, false, List, map, Some}
 use Rattle.std.specs.List.{list_any, range_with_len}
 use Rattle.sloth_base.specs.declared.app.App.{App}
 use Rattle.sloth_base.specs.declared.app.Func.{Func}
 use Rattle.sloth_base.specs.declared.app.Item.{Item}
 use Rattle.sloth_base.specs.declared.app.Op.{Op}
 use Rattle.sloth_base.specs.declared.app.Op.TheVariants as op
-use Rattle.sloth_base.specs.Blocks.{block_count, block_number}
+use Rattle.sloth_base.specs.declared.service.Service.{Service}
+use Rattle.sloth_base.specs.Blocks.{block_count, block_number, block_service, block_object}
+use Rattle.sloth_base.specs.ServiceCodes.{object_kind, IsObjectNumber}
+
+-- the place in the table of blocks is that of a service with an object that it may have
+pub record IsServicePlace (number : ℕ) : Type 0 where
+  pub service : Service
+  pub is : block_service number ≡ Some service
+  pub object : IsObjectNumber (object_kind service) (block_object number)
 
 -- an operation calls the service with its object that has this place in the table of blocks
 abbrev pub calls : ℕ → Op → Bool

@@ -2,6 +2,7 @@
 #![tactic(auto)]
 
 mod addresses;
+pub mod all_lengths;
 mod lengths;
 mod placing;
 mod planning;

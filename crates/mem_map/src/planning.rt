@@ -1,60 +1,76 @@
 //! The map of an image.
-ghost use Rattle.std.specs.Prelude.{◌≡◌, ◌≤◌, ◌<◌, IfOk, All, length, map};
+ghost use Rattle.std.specs.Prelude.{ℕ, ◌≡◌, ◌≤◌, ◌<◌, IfOk, All, length, map, slice_index, take};
 ghost use Rattle.code_rules.specs.WellFormed.{WellFormed};
 ghost use Rattle.stack_bounds.specs.Bounds.{AreBounds};
 ghost use Rattle.mem_map.specs.Run.{starts, end_of};
 ghost use Rattle.mem_map.specs.Zones.{HasZones};
 ghost use Rattle.mem_map.specs.Stacks.{HasStacks};
-ghost use Rattle.mem_map.specs.Plan.{MayPlan, HasAddresses, services_at, items_at, code_end, service_bytes, item_bytes, symbol_bytes};
+ghost use Rattle.mem_map.specs.Plan.{MayPlan, HasAddresses, idle_at, prologues_at, services_at, items_at, code_end, code_bytes, symbol_bytes};
 ghost use Rattle.mem_map.specs.Planned.{IsPlanned};
 
-use crate::addresses::{Pieces, handlers, idle_at, place_pieces, place_services, prologue_at};
-use crate::lengths::{item_counts, item_lengths, symbol_lengths};
+use crate::addresses::{Pieces, handlers, place_pieces, place_services};
+use crate::all_lengths::{CodeLengths, all_lengths};
+use crate::lengths::{code_in_bytes, item_counts, symbol_lengths};
 use crate::stacks::{stack_lengths, task_parts};
-use crate::wanted::wanted_blocks;
 use crate::zones::plan_zones;
-use rv32_expand::sizes;
 use sloth_base::app::App;
 use sloth_base::config::Config;
 use sloth_base::list::List;
 use sloth_base::memory::NoMemory;
-use sloth_base::memory_map::VECTORS_BASE;
+use sloth_base::memory_map::{BOOT_BASE, VECTORS_BASE};
 use sloth_base::places::{BLOCK_COUNT, Bounds, Places};
 use sloth_region::map::Map;
 use stack_bounds::offsets;
 use std::alloc::{AllocError, Global};
 
-/// The bytes behind the last symbol.
+/// The bytes of an instruction, and those behind the last symbol.
 const WORD: u32 = 4;
 
-/// The addresses of services and items, and the address behind the last item.
+/// The addresses of all code behind boot, and the address behind the last item.
 #[derive(Drop)]
 struct Code {
+    idle: u32,
+    handlers: [u32; 32],
     services: [u32; BLOCK_COUNT],
     items: List<u32>,
     end: u32,
 }
 
-// The addresses of the services and items behind the prologues of so many tasks.
-fn plan_code(
-    alloc: Global,
-    tasks: u32,
-    sizes: &[u32],
-    wanted: &[bool; BLOCK_COUNT],
-) -> Result<Code, AllocError>
-    requires few_tasks { tasks ≤ 30 }
-    requires small { All (λ size. size ≤ 36) sizes.now }
-    requires services { items_at tasks wanted.now < 4294967296 }
-    requires items { code_end tasks wanted.now sizes.now < 4294967296 }
-    ensures services { IfOk result (λ code. code.services ≡ starts (services_at tasks) (map service_bytes wanted.now)) }
-    ensures items { IfOk result (λ code. code.items ≡ starts (items_at tasks wanted.now) (map item_bytes sizes.now)) }
-    ensures end { IfOk result (λ code. code.end ≡ code_end tasks wanted.now sizes.now) }
+// The addresses of pieces of code of so many instructions, the first at `from`.
+fn place_code(alloc: Global, from: u32, sizes: &[u32]) -> Result<Pieces, AllocError>
+    requires small { All (λ size. size ≤ 256) sizes.now }
+    requires fits { end_of from (map code_bytes sizes.now) < 4294967296 }
+    ensures starts { IfOk result (λ pieces. pieces.starts ≡ starts from (map code_bytes sizes.now)) }
+    ensures end { IfOk result (λ pieces. pieces.end ≡ end_of from (map code_bytes sizes.now)) }
 {
-    let services = place_services(prologue_at(tasks, tasks), wanted);
-    let lengths = item_lengths(alloc, sizes)?;
-    let items = place_pieces(alloc, services.end, &lengths)?;
+    let lengths = code_in_bytes(alloc, sizes)?;
+    place_pieces(alloc, from, &lengths)
+}
+
+// The addresses of the code behind boot.
+fn plan_code(alloc: Global, lengths: &CodeLengths) -> Result<Code, AllocError>
+    requires boot { lengths.now.boot ≤ 136 }
+    requires few { length lengths.now.prologues ≤ 30 }
+    requires prologues { All (λ size. size ≤ 256) lengths.now.prologues }
+    requires items { All (λ size. size ≤ 256) lengths.now.items }
+    requires fits { (services_at lengths.now < 4294967296) × (items_at lengths.now < 4294967296) × (code_end lengths.now < 4294967296) }
+    ensures idle { IfOk result (λ code. code.idle ≡ idle_at lengths.now) }
+    ensures lines { IfOk result (λ code. length code.handlers ≡ 32) }
+    ensures prologues { IfOk result (λ code. take (length lengths.now.prologues) code.handlers
+        ≡ starts (prologues_at lengths.now) (map code_bytes lengths.now.prologues)) }
+    ensures unused { IfOk result (λ code. (line : ℕ) → length lengths.now.prologues ≤ line → line < 32 → slice_index code.handlers line ≡ code.idle) }
+    ensures services { IfOk result (λ code. code.services ≡ starts (services_at lengths.now) (map code_bytes lengths.now.services)) }
+    ensures items { IfOk result (λ code. code.items ≡ starts (items_at lengths.now) (map code_bytes lengths.now.items)) }
+    ensures end { IfOk result (λ code. code.end ≡ code_end lengths.now) }
+{
+    let idle = BOOT_BASE + WORD * lengths.boot;
+    let prologues = place_code(alloc, idle + WORD, lengths.prologues.items())?;
+    let services = place_services(prologues.end, &lengths.services);
+    let items = place_code(alloc, services.end, lengths.items.items())?;
     let services = services.starts;
     Ok(Code {
+        idle,
+        handlers: handlers(idle, prologues.starts.items()),
         services,
         items: items.starts,
         end: items.end,
@@ -87,31 +103,29 @@ fn make_map(
     alloc: Global,
     config: &Config,
     app: &App,
-    sizes: &[u32],
-    wanted: &[bool; BLOCK_COUNT],
+    lengths: &CodeLengths,
     bounds: &Bounds,
     offsets: &[u32],
 ) -> Result<Map, NoMemory>
-    requires { MayPlan config.now app.now sizes.now wanted.now bounds.now offsets.now }
+    requires { MayPlan config.now app.now lengths.now bounds.now offsets.now }
     ensures zones { IfOk result (λ plan. HasZones plan config.now) }
     ensures stacks { IfOk result (HasStacks config.now app.now bounds.now) }
-    ensures addresses { IfOk result (HasAddresses config.now app.now sizes.now wanted.now) }
+    ensures addresses { IfOk result (HasAddresses config.now app.now lengths.now) }
 {
     let declared = config.tasks.items();
-    let tasks = declared.len() as u32;
-    let code = plan_code(alloc, tasks, sizes, wanted)?;
+    let code = plan_code(alloc, lengths)?;
     let first = plan_first(alloc, app)?;
     let symbols = plan_symbols(alloc, code.end, app)?;
-    let lengths = stack_lengths(alloc, declared, bounds)?;
+    let stack_lens = stack_lengths(alloc, declared, bounds)?;
     let zones = plan_zones(
         alloc,
         code.end - VECTORS_BASE,
         symbols.end + WORD - code.end,
-        &lengths,
+        &stack_lens,
     )?;
     let parts = task_parts(alloc, declared, zones.stacks.items(), offsets)?;
     let blocks = code.services;
-    let handlers = handlers(tasks);
+    let handlers = code.handlers;
     Ok(Map {
         extents: zones.extents,
         places: Places {
@@ -123,22 +137,21 @@ fn make_map(
         stacks: parts.stacks,
         tops: parts.tops,
         words: zones.words,
-        idle: idle_at(tasks),
+        idle: code.idle,
         handlers,
     })
 }
 
 /// The map of the image of well-formed task code, with the bytes of stack that its tasks may need: in this order the vector words, boot, the
-/// idle loop, a prologue for each task, the services that items call, all items, all symbols, the stack that all basic tasks share, and a
-/// stack for each extended task. There is room for all of them; only memory for the map itself may be missing.
+/// idle loop, a prologue for each task, the services that items call, all items, each right behind the one before it, all symbols, the stack
+/// that all basic tasks share, and a stack for each extended task. There is room for all of them; only memory for the map itself may be missing.
 pub fn plan(alloc: Global, app: &App, config: &Config, bounds: &Bounds) -> Result<Map, NoMemory>
     requires well_formed { WellFormed config.now app.now }
     requires bounds { AreBounds config.now app.now bounds.now }
     ensures { IfOk result (IsPlanned config.now app.now bounds.now) }
 {
-    let sizes = sizes(alloc, app)?;
-    let wanted = wanted_blocks(app);
+    let lengths = all_lengths(alloc, config, app)?;
     let offsets = offsets(alloc, config, app, bounds)?;
-    let map = make_map(alloc, config, app, &sizes, &wanted, bounds, &offsets)?;
+    let map = make_map(alloc, config, app, &lengths, bounds, &offsets)?;
     Ok(map)
 }

@@ -14,7 +14,7 @@ use Rattle.sloth_base.specs.Named.{operation}
 use Rattle.osek_scheduler.specs.declared.state.TaskState.{TaskState}
 use Rattle.osek_scheduler.specs.declared.state.TaskState.TheVariants as mode
 use Rattle.osek_scheduler.specs.State.{Frame, System, task, opening}
-use Rattle.osek_scheduler.specs.Priority.{rank, IsDue, IsTop}
+use Rattle.osek_scheduler.specs.Priority.{rank, IsDue, NoTicks, IsNextTick, IsTop}
 use Rattle.osek_scheduler.specs.Meaning.{Meant, meaning}
 use Rattle.osek_scheduler.specs.Services.{Outcome, GoesOn, Leaves}
 use Rattle.osek_scheduler.specs.Outcomes.{outcome}
@@ -129,8 +129,9 @@ module _ (config : Config) (app : App) (s : System) (w : Facts config app) (v : 
 
   data Next (e : Event) : Type 0 where
     begins : s.booted ≡ false → e ≡ event.Boot → Next e
-    rests : s.booted ≡ true → ((t : ℕ) → t < length config.tasks → ¬ (IsDue s t)) → e ≡ event.Idle → Next e
+    rests : s.booted ≡ true → ((t : ℕ) → t < length config.tasks → ¬ (IsDue s t)) → NoTicks config s → e ≡ event.Idle → Next e
     acts : s.booted ≡ true → (t : ℕ) → IsTop config s [] t → e ≡ only config app s t → Next e
+    ticks : s.booted ≡ true → (c : ℕ) → IsNextTick config s c → e ≡ event.Tick c → Next e
 
   with_none : (t : ℕ) → s.fresh ≡ [] → IsTop config s s.fresh t → IsTop config s [] t
   with_none t none top = subst (λ (xs : List ℕ). IsTop config s xs t) none top
@@ -145,19 +146,40 @@ module _ (config : Config) (app : App) (s : System) (w : Facts config app) (v : 
   next_of (event.Left t served) after none own h =
       acts h.0 t (with_none t none h.1.1.top) (serving config app s t served (Leaves h.1.0) h.1.1)
   next_of (event.Back t) after none own h = acts h.0 t h.1 (coming_back config app s t h.2 h.3)
-  next_of event.Idle after none own h = rests h.0 h.1 refl
+  next_of event.Idle after none own h = rests h.0 h.1 h.2 refl
   next_of event.Stray after none own h = absurd h
+  next_of (event.Due c) after none own h = absurd cc
+  next_of (event.Tick c) after none own h = ticks h.0 c h.1 refl
+
+  -- where a counter is due, no task runs and the system does not idle
+  not_quiet : (c : ℕ) → IsNextTick config s c → NoTicks config s → ⊥
+  not_quiet c tick quiet = true≢false (sym tick.due ∙ quiet c tick.declared)
+
+  one_tick : (c d : ℕ) → IsNextTick config s c → IsNextTick config s d → c ≡ d
+  one_tick c d a b = by (cases_lt c d) (cases_lt d c)
+    where
+      by : (c < d) ⊎ (d ≤ c) → (d < c) ⊎ (c ≤ d) → c ≡ d
+      by (inl lt) q = absurd (true≢false (sym a.due ∙ b.is_first c lt))
+      by (inr le) (inl lt) = absurd (true≢false (sym b.due ∙ a.is_first d lt))
+      by (inr le) (inr ge) = omega (arith, le, ge)
 
   one_of : (e f : Event) → Next e → Next f → e ≡ f
   one_of e f (begins p a) (begins q b) = a ∙ sym b
-  one_of e f (begins p a) (rests q n b) = absurd (true≢false (sym q ∙ p))
+  one_of e f (begins p a) (rests q n m b) = absurd (true≢false (sym q ∙ p))
   one_of e f (begins p a) (acts q u top b) = absurd (true≢false (sym q ∙ p))
-  one_of e f (rests p n a) (begins q b) = absurd (true≢false (sym p ∙ q))
-  one_of e f (rests p n a) (rests q m b) = a ∙ sym b
-  one_of e f (rests p n a) (acts q u top b) = absurd (n u top.declared top.due)
+  one_of e f (begins p a) (ticks q c tick b) = absurd (true≢false (sym q ∙ p))
+  one_of e f (rests p n o a) (begins q b) = absurd (true≢false (sym p ∙ q))
+  one_of e f (rests p n o a) (rests q m x b) = a ∙ sym b
+  one_of e f (rests p n o a) (acts q u top b) = absurd (n u top.declared top.due)
+  one_of e f (rests p n o a) (ticks q c tick b) = absurd (not_quiet c tick o)
   one_of e f (acts p t top a) (begins q b) = absurd (true≢false (sym p ∙ q))
-  one_of e f (acts p t top a) (rests q n b) = absurd (n t top.declared top.due)
+  one_of e f (acts p t top a) (rests q n o b) = absurd (n t top.declared top.due)
   one_of e f (acts p t top a) (acts q u other b) = a ∙ (ap (only config app s) (one_top t u top other) ∙ sym b)
+  one_of e f (acts p t top a) (ticks q c tick b) = absurd (not_quiet c tick top.no_ticks)
+  one_of e f (ticks p c tick a) (begins q b) = absurd (true≢false (sym p ∙ q))
+  one_of e f (ticks p c tick a) (rests q n o b) = absurd (not_quiet c tick o)
+  one_of e f (ticks p c tick a) (acts q u top b) = absurd (not_quiet c tick top.no_ticks)
+  one_of e f (ticks p c tick a) (ticks q d other b) = a ∙ (ap event.Tick (one_tick c d tick other) ∙ sym b)
 
   pub one_event : (e f : Event) (after other : System) → s.fresh ≡ [] → IsOwn e → OsekStep config app e s after → IsOwn f → OsekStep config app f s other → e ≡ f
   one_event e f after other none p a q b = one_of e f (next_of e after none p a) (next_of f other none q b)
@@ -170,7 +192,7 @@ one_next_event config app events s e f after other wf leads none p a q b =
     let reached = run_valid config app w events (opening config app) s leads (opening_valid config app) (opening_apart config app) in
     one_event config app s w reached.0 reached.2 e f after other none p a q b
 
--- an event that is no admit leaves nothing fresh
+-- an event that is no admission leaves nothing fresh
 pub settles : (config : Config) (app : App) (e : Event) (s after : System) → IsOwn e → OsekStep config app e s after → after.fresh ≡ []
 settles config app event.Boot s after own h = ap (λ (x : System). x.fresh) h.1
 settles config app (event.Admit t) s after own h = absurd cc
@@ -179,8 +201,10 @@ settles config app (event.Run t func item result) s after own h = ap (λ (x : Sy
 settles config app (event.Call t served status) s after own h = ap (λ (x : System). x.fresh) h.1.2
 settles config app (event.Left t served) s after own h = ap (λ (x : System). x.fresh) h.1.2
 settles config app (event.Back t) s after own h = ap (λ (x : System). x.fresh) h.4
-settles config app event.Idle s after own h = ap (λ (x : System). x.fresh) h.2
+settles config app event.Idle s after own h = ap (λ (x : System). x.fresh) h.3
 settles config app event.Stray s after own h = absurd h
+settles config app (event.Due c) s after own h = absurd cc
+settles config app (event.Tick c) s after own h = ap (λ (x : System). x.fresh) h.2
 
 module _ (config : Config) (app : App) (w : Facts config app) where
   one_after : (e f : Event) (s after other : System) → e ≡ f → OsekStep config app e s after → OsekStep config app f s other → after ≡ other

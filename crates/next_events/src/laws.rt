@@ -1,7 +1,7 @@
 //! Laws of runs of the abstract scheduler.
 ghost use Rattle.next_events.specs.NextEvents.{OneNextEvent, OneRun, RunsWithoutArrivals};
 
-/// Where no arrival was admitted since the last event, one event at most comes next, arrivals aside.
+/// Where no arrival made a task Ready since the last event, one event at most comes next, admissions aside.
 pub fn one_next_event()
     ensures { OneNextEvent }
 {}

@@ -8,18 +8,18 @@ use Rattle.sloth_base.specs.declared.event.Event.TheVariants as event
 use Rattle.sloth_base.specs.declared.step.Step.{Step}
 use Rattle.observe.specs.Observe.{View, view_from, stamp, observe}
 
--- the marks that the runs pass, and two tasks
+-- the marks that the runs pass, two tasks and a counter
 abbrev rows : View
 rows = view_from (
     record { address = 100; kind = kind.Item; a = 5; b = 1; c = 2 }
     ∷ record { address = 104; kind = kind.Jump; a = 0; b = 1; c = 3 }
     ∷ record { address = 200; kind = kind.Opening; a = 0; b = 0; c = 0 }
     ∷ record { address = 204; kind = kind.Opening; a = 1; b = 0; c = 0 }
-    ∷ record { address = 208; kind = kind.Opening; a = 12; b = 0; c = 0 }
+    ∷ record { address = 208; kind = kind.Opening; a = 16; b = 0; c = 0 }
     ∷ record { address = 300; kind = kind.Idle; a = 0; b = 0; c = 0 }
     ∷ record { address = 400; kind = kind.Back; a = 0; b = 0; c = 0 }
     ∷ []
-    ) (record { tasks = 2 })
+    ) (record { tasks = 2; counters = 1 })
 
 -- a step that takes no line, after which all registers hold 7
 abbrev went : ℕ → ℕ → Bool → Bool → ℕ → ℕ → Option ℕ → Step
@@ -63,6 +63,12 @@ follows-row : observe rows (arrives 11 1 ∷ []) (call ++ took 11 1 true ∷ too
     ≡ stamp 7 10 (event.Call 0 service.ActivateTask 7) ∷ stamp 11 11 (event.Admit 1) ∷ stamp 11 11 (event.Enter 1) ∷ stamp 12 13 (event.Enter 4294967295) ∷ []
 unfolding observe
 follows-row = refl
+
+-- A counter becomes due outside the stretches and inside that of its tick; a line above those of counters' number is a counter's, and one below no task's.
+tick-row : observe rows (arrives 6 30 ∷ arrives 8 30 ∷ []) (went 6 300 true true 0 0 None ∷ took 7 30 false ∷ went 8 600 false true 0 0 None ∷ took 9 31 true ∷ took 10 29 true ∷ [])
+    ≡ stamp 6 6 (event.Due 0) ∷ stamp 6 6 event.Idle ∷ stamp 7 8 (event.Tick 0) ∷ stamp 8 8 (event.Due 0) ∷ stamp 9 9 (event.Tick 4294967295) ∷ stamp 10 10 (event.Enter 4294967295) ∷ []
+unfolding observe
+tick-row = refl
 
 -- the end of the run cuts the stretch off: only the arrival that found MIE 1 shows
 cut-off-row : observe rows (arrives 7 1 ∷ arrives 8 1 ∷ []) (take 3 call) ≡ stamp 7 7 (event.Admit 1) ∷ []

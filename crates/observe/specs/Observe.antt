@@ -14,7 +14,7 @@ use Rattle.sloth_base.specs.declared.step.Step.{Step}
 use Rattle.sloth_base.specs.Arrivals.{moments}
 use Rattle.sloth_base.specs.ServiceCodes.{service_of}
 use Rattle.sloth_base.specs.Options.{is_number}
-use Rattle.sloth_base.specs.Owners.{line_kind, owners_named}
+use Rattle.sloth_base.specs.Owners.{first_counter_line, line_kind, owners_named}
 use Rattle.sloth_base.specs.declared.lines.Owners.{Owners}
 use Rattle.sloth_base.specs.declared.lines.LineKind.{LineKind}
 use Rattle.sloth_base.specs.declared.lines.LineKind.TheVariants as line_of
@@ -39,18 +39,28 @@ view_of_image image = view_from image.marks (owners_named image)
 abbrev pub NO_TASK : ℕ
 NO_TASK = 4294967295
 
+-- the number of no counter
+abbrev pub NO_COUNTER : ℕ
+NO_COUNTER = 4294967295
+
 -- The task of the first word of memory: that word is 0 where no task runs, and a task's number plus 1 where it does.
 abbrev pub running_task : ℕ → ℕ → ℕ
 running_task tasks cur = if nat_lt 0 cur && nat_le cur tasks then cur - 1 else NO_TASK
 
+-- the event of a stretch that begins with the taking of a line that is for nothing: a task's would be below the lines of counters
+abbrev pub unused_event : ℕ → Event
+unused_event line = if nat_lt line first_counter_line then event.Enter NO_TASK else event.Tick NO_COUNTER
+
 -- the event of a stretch that begins with the taking of a line, by what the line is for
-abbrev pub entry_event : LineKind → Event
-entry_event (line_of.Task t) = event.Enter t
-entry_event line_of.Unused = event.Enter NO_TASK
+abbrev pub entry_event : ℕ → LineKind → Event
+entry_event line (line_of.Task t) = event.Enter t
+entry_event line (line_of.Counter c) = event.Tick c
+entry_event line line_of.Unused = unused_event line
 
 -- the event of an arrival of a line, by what the line is for
 abbrev pub arrival_event : LineKind → Event
 arrival_event (line_of.Task t) = event.Admit t
+arrival_event (line_of.Counter c) = event.Due c
 arrival_event line_of.Unused = event.Admit NO_TASK
 
 -- the mark on the instruction at this address
@@ -64,7 +74,7 @@ abbrev pub stamp : ℕ → ℕ → Event → Stamped
 stamp from at what = record { stamp = record { from = from; at = at }; event = what }
 
 -- Of a stretch that begins at the opening mark of a service: the service returns where the running task is as
--- before, with its status in a0. No service has a code above 11, and no image in range such a mark.
+-- before, with its status in a0. No service has a code above 15, and no image in range such a mark.
 abbrev pub service_event : Option Service → View → Step → Step → Event
 service_event (Some called) view first last =
     if first.cur_before == last.cur_after
@@ -87,7 +97,7 @@ unentered_event None view first last = event.Stray
 
 -- of a stretch after that of count 0
 abbrev pub later_event : Option ℕ → View → Step → Step → Event
-later_event (Some line) view first last = entry_event (line_kind view.owners line)
+later_event (Some line) view first last = entry_event line (line_kind view.owners line)
 later_event None view first last = unentered_event (mark_at view first.pc) view first last
 
 -- of a stretch with this first and this last step
@@ -107,7 +117,7 @@ abbrev pub outside_events : Option Mark → View → Step → List Event
 outside_events (Some mark) view step = events_of_kind mark.kind view mark step
 outside_events None view step = []
 
--- ---- the admits
+-- ---- the admissions
 
 -- the event of an arrival at its own moment
 abbrev pub admission : View → Arrival → Stamped

@@ -4,7 +4,7 @@ use Rattle.sloth_base.specs.declared.event.Arrival.{Arrival}
 use Rattle.sloth_base.specs.declared.event.Stamped.{Stamped}
 use Rattle.sloth_base.specs.declared.step.Step.{Step}
 use Rattle.sloth_base.specs.Arrivals.{NeverFalls}
-use Rattle.observe.specs.declared.observer.Observer.{Observer}
+use Rattle.observe.specs.declared.observing.Observer.{Observer}
 use Rattle.observe.specs.Pieces.{begins, cut_off}
 use Rattle.observe.specs.Observe.{View, mark_at, outside_events, stretch_event, stamp, admission, masked_from, observe}
 use Rattle.observe.specs.Touched.{was_touched, noted_touches, Tells}

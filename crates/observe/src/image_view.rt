@@ -2,7 +2,7 @@
 
 use sloth_base::event::{Event, Stamp, Stamped};
 use sloth_base::image::{Mark, MarkKind};
-use sloth_base::lines::{LineKind, Owners};
+use sloth_base::lines::{COUNTER_LINE, LineKind, Owners};
 use sloth_base::numbers::Line;
 use sloth_base::service::Service;
 use sloth_base::step::Step;
@@ -63,17 +63,19 @@ impl ImageView<'_> {
     {
         match self.owners.kind(line) {
             LineKind::Task(task) => Event::Admit(task),
+            LineKind::Counter(counter) => Event::Due(counter),
             LineKind::Unused => Event::Admit(u32::MAX),
         }
     }
 
     // The event of a stretch that begins with the taking of a line.
     fn entry_event(&self, line: Line) -> Event
-        ensures { result ≡ entry_event (line_kind self.now.owners line) }
+        ensures { result ≡ entry_event line (line_kind self.now.owners line) }
     {
         match self.owners.kind(line) {
             LineKind::Task(task) => Event::Enter(task),
-            LineKind::Unused => Event::Enter(u32::MAX),
+            LineKind::Counter(counter) => Event::Tick(counter),
+            LineKind::Unused => unused_event(line),
         }
     }
 
@@ -147,6 +149,18 @@ impl ImageView<'_> {
 }
 
 ghost use Rattle.std.specs.Prelude.{◌≡◌, slice_index};
+ghost use Rattle.observe.specs.Observe.{unused_event};
+
+// The event of a stretch that begins with the taking of a line that is for nothing.
+fn unused_event(line: Line) -> Event
+    ensures { result ≡ unused_event line }
+{
+    if line.0 < COUNTER_LINE {
+        Event::Enter(u32::MAX)
+    } else {
+        Event::Tick(u32::MAX)
+    }
+}
 
 fn register(regs: &[u32; 32], number: u8) -> u32
     ensures { result ≡ slice_index regs.now number }

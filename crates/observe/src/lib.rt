@@ -3,5 +3,7 @@
 
 pub mod image_view;
 pub mod laws;
-pub mod observer;
+pub mod observing;
 mod touched;
+
+pub use observing::Observer;

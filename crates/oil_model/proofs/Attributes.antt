@@ -1,8 +1,9 @@
 -- What holds of the attributes of an object of a tree without a fault.
-use Rattle.std.proofs.Common.{◌≡◌, ◌∙◌, inl, inr, ℕ, ◌<◌, Bool, true, false, cond, Some, List, length, take, get_or, refl, ap, subst}
-use Rattle.std.specs.Prelude.{◌==◌, not}
+use Rattle.std.proofs.Common.{◌≡◌, ◌∙◌, inl, inr, ℕ, ◌<◌, true, false, cond, Some, List, length, take, get_or, ap, subst}
+use Rattle.std.specs.Prelude.{◌==◌}
 use Rattle.std.specs.Str.{bytes_eq}
 use Rattle.std.proofs.lemmas.Slice.Eq.{bytes_eq-Decides}
+use Rattle.std.proofs.lemmas.Bool.{not-false, and_parts}
 use Rattle.sloth_base.specs.declared.refusal.Code.TheVariants.{O10, O12}
 use Rattle.least_fault.specs.Order.{NoFault}
 use Rattle.oil_parse.specs.declared.tree.OilAttr.{OilAttr}
@@ -14,20 +15,15 @@ use Rattle.oil_model.specs.Table.{place_of, attribute_of, is_allowed}
 use Rattle.oil_model.specs.Objects.{is_of_kind, is_use, has_scheduler}
 use Rattle.oil_model.specs.AttributeFaults.{inner_place, place_at, misses_value, refers_to_none, is_refused, AttributeFault, RowFault}
 use Rattle.oil_model.specs.ModelFaults.{ModelFault}
-use Rattle.text_pieces.proofs.Tests.{and_left, and_right}
 use Rattle.least_fault.proofs.Nowhere.{nowhere, case_false}
 use Rattle.oil_model.proofs.NoFaults.{inner_at}
 use Rattle.sloth_base.specs.declared.refusal.Part.TheVariants.{Oil}
 
-not_false : (b : Bool) → not b ≡ false → b ≡ true
-not_false true e = refl
-not_false false e = cc
-
 pub row_of_use : (kind K name : List ℕ) (before : List OilAttr) (a : OilAttr) → bytes_eq kind K ≡ true → is_use name a ≡ true
     → attribute_of (place_at (place_of kind) before a) a.name ≡ attribute_of (place_of K) name
 row_of_use kind K name before a k u =
-    let own = and_left (a.depth == 0) (bytes_eq a.name name) u in
-    let named : a.name ≡ name = (bytes_eq-Decides a.name name).0 (and_right (a.depth == 0) (bytes_eq a.name name) u) in
+    let own = (and_parts (a.depth == 0) (bytes_eq a.name name) u).0 in
+    let named : a.name ≡ name = (bytes_eq-Decides a.name name).0 (and_parts (a.depth == 0) (bytes_eq a.name name) u).1 in
     let kinds : kind ≡ K = (bytes_eq-Decides kind K).0 k in
     ap (λ b. attribute_of (cond b (place_of kind) (cond (a.depth == 1) (inner_place (place_of kind) before) Nowhere)) a.name) own
     ∙ ap (attribute_of (place_of kind)) named ∙ ap (λ q. attribute_of (place_of q) name) kinds
@@ -52,7 +48,7 @@ module _ (tree : OilTree) (none : NoFault (ModelFault tree)) (i : ℕ) (d : OilO
     pub allowed : is_allowed row (get_or (get_or tree.objects i d).attrs k e).value ≡ true
     allowed =
         let a = get_or (get_or tree.objects i d).attrs k e in
-        not_false (is_allowed row a.value) (case_false Oil (is_refused (Some row) a.value) a.line O12 (λ r x. row_here r (inr (inr (inr x)))))
+        not-false (is_allowed row a.value) (case_false Oil (is_refused (Some row) a.value) a.line O12 (λ r x. row_here r (inr (inr (inr x)))))
 
     pub refers : misses_value tree.objects (has_scheduler tree.objects) row (get_or (get_or tree.objects i d).attrs k e).value ≡ false
     refers =

@@ -8,6 +8,8 @@ use Rattle.std.proofs.lemmas.Bool.Decides.{eqb_tells}
 use Rattle.std.proofs.lemmas.List.Folds.{list_any-append}
 use Rattle.std.proofs.lemmas.Nat.Bits.{bit_at_and, bit_at_or, bit_at-zero, bit_at-lt, same_from_bits}
 use Rattle.std.proofs.lemmas.Slice.Eq.{bytes_eq-Decides}
+use Rattle.std.proofs.lemmas.Bool.{and_right, and_from, or_right, or_left, or_cases, and_parts}
+use mathlib.Core.Bool.{or-false}
 use Rattle.sloth_base.specs.declared.config.EventDecl.{EventDecl}
 use Rattle.oil_parse.specs.declared.tree.OilValue.{OilValue}
 use Rattle.oil_parse.specs.declared.tree.OilValue.TheVariants.{Word, Number, Text}
@@ -17,7 +19,7 @@ use Rattle.oil_model.specs.Events.{mask_named}
 use Rattle.oil_model.specs.TaskFaults.{have_common_bit, is_event_clash, shares_bit}
 use Rattle.oil_model.specs.References.{event_word, refers_to_clash, referred_word}
 use Rattle.oil_model.specs.KeptReferences.{is_to, has_bit, is_clash, AreKept}
-use Rattle.text_pieces.proofs.Tests.{and_true, and_swap, and_left, and_right, or_left_true, or_right_true, or_split, or_nothing, or_absorbs, any_implies, any_but, any_none}
+use Rattle.text_pieces.proofs.Tests.{and_swap, or_absorbs, any_implies, any_but, any_none}
 use Rattle.oil_model.specs.declared.references.Reference.{Reference}
 
 -- masks with a bit in common
@@ -104,12 +106,8 @@ module _ (events : List EventDecl) where
     no_clash (Text u) true (Text s) e t = refl
     no_clash y false x e t = cc
 
-    and_false : (b c : Bool) → c ≡ false → (b && c) ≡ false
-    and_false true c e = e
-    and_false false c e = refl
-
     shares_none_at : (b : Bool) (x : OilValue) → (if b then referred_word x else None) ≡ None → (b && any_shares x) ≡ false
-    shares_none_at true x e = any_none (λ (earlier : OilAttr). is_use (codes "EVENT") earlier && is_event_clash events earlier.value x) (λ earlier. and_false (is_use (codes "EVENT") earlier) _ (no_clash earlier.value true x e refl)) before
+    shares_none_at true x e = any_none (λ (earlier : OilAttr). is_use (codes "EVENT") earlier && is_event_clash events earlier.value x) (λ earlier. and_right (is_use (codes "EVENT") earlier) _ (no_clash earlier.value true x e refl)) before
     shares_none_at false x e = refl
 
     pub shares_none : (attr : OilAttr) → event_word attr ≡ None → shares_bit events before attr ≡ false
@@ -127,7 +125,7 @@ module _ (events : List EventDecl) (attrs : List OilAttr) (attr : OilAttr) (kept
     same = λ word.
         let r = refers_to_clash events word attr in
         let a = list_any (is_clash word (mask_named events word)) kept in
-        sym (any_refers word ∙ ap (λ b. b || (r || false)) (sym (k.same word)) ∙ ap (λ b. a || b) (or_nothing r) ∙ or_absorbs a r (f word));
+        sym (any_refers word ∙ ap (λ b. b || (r || false)) (sym (k.same word)) ∙ ap (λ b. a || b) (or-false r) ∙ or_absorbs a r (f word));
     held = k.held;
     doubled = k.doubled;
   }
@@ -148,12 +146,12 @@ module _ (events : List EventDecl) (attrs : List OilAttr) (attr : OilAttr) (kept
             let d = bit_and_right mask twice i (ap (λ n. bit_at n i) e ∙ m) in
             let found = any_implies (λ (r : Reference). not (is_to word r) && has_bit i r) (is_clash word other)
             (λ (r : Reference) h.
-            and_true (not (bit_and r.mask other == 0)) (not (is_to word r))
-            (common r.mask other i (true_one (bit_at r.mask i) (and_right (not (is_to word r)) (has_bit i r) h)) o)
-            (and_left (not (is_to word r)) (has_bit i r) h))
+            and_from (not (bit_and r.mask other == 0)) (not (is_to word r))
+            (common r.mask other i (true_one (bit_at r.mask i) (and_parts (not (is_to word r)) (has_bit i r) h).1) o)
+            (and_parts (not (is_to word r)) (has_bit i r) h).0)
             kept (k.doubled word i d) in
             true≢false (sym found ∙ q)) in
-            absurd (true≢false (sym (and_right (not (bytes_eq v word)) (not (bit_and (mask_named events v) other == 0)) t) ∙ ap (λ n. not (bit_and n other == 0)) (sym mask_is) ∙ z))
+            absurd (true≢false (sym (and_parts (not (bytes_eq v word)) (not (bit_and (mask_named events v) other == 0)) t).1 ∙ ap (λ n. not (bit_and n other == 0)) (sym mask_is) ∙ z))
 
     -- the event is kept already
     pub kept_again : list_any (is_to v) kept ≡ true → AreKept events (attrs ++ attr ∷ []) kept once twice
@@ -162,11 +160,11 @@ module _ (events : List EventDecl) (attrs : List OilAttr) (attr : OilAttr) (kept
         let h = sym (refers events word v attr word_is) ∙ t in
         any_implies (λ (r : Reference). is_to v r && (r.mask == mask_named events v)) (is_clash word other)
         (λ (r : Reference) p.
-        let w : r.word.now ≡ v = (bytes_eq-Decides r.word.now v).0 (and_left (is_to v r) (r.mask == mask_named events v) p) in
-        let m : r.mask ≡ mask_named events v = same_true r.mask (mask_named events v) (and_right (is_to v r) (r.mask == mask_named events v) p) in
-        and_true (not (bit_and r.mask other == 0)) (not (is_to word r))
-        (ap (λ n. not (bit_and n other == 0)) m ∙ and_right (not (bytes_eq v word)) (not (bit_and (mask_named events v) other == 0)) h)
-        (ap (λ (x : List ℕ). not (bytes_eq x word)) w ∙ and_left (not (bytes_eq v word)) (not (bit_and (mask_named events v) other == 0)) h))
+        let w : r.word.now ≡ v = (bytes_eq-Decides r.word.now v).0 (and_parts (is_to v r) (r.mask == mask_named events v) p).0 in
+        let m : r.mask ≡ mask_named events v = same_true r.mask (mask_named events v) (and_parts (is_to v r) (r.mask == mask_named events v) p).1 in
+        and_from (not (bit_and r.mask other == 0)) (not (is_to word r))
+        (ap (λ n. not (bit_and n other == 0)) m ∙ (and_parts (not (bytes_eq v word)) (not (bit_and (mask_named events v) other == 0)) h).1)
+        (ap (λ (x : List ℕ). not (bytes_eq x word)) w ∙ (and_parts (not (bytes_eq v word)) (not (bit_and (mask_named events v) other == 0)) h).0))
         kept (k.marked v e))
 
     -- the event is kept from here on
@@ -175,22 +173,22 @@ module _ (events : List EventDecl) (attrs : List OilAttr) (attr : OilAttr) (kept
       any_more p = list_any-append p kept (reference ∷ [])
 
       kept_is : (p : Reference → Bool) → list_any p kept ≡ true → list_any p (kept ++ reference ∷ []) ≡ true
-      kept_is p e = any_more p ∙ or_left_true (list_any p kept) (p reference || false) e
+      kept_is p e = any_more p ∙ or_left (list_any p kept) (p reference || false) e
 
       this_is : (p : Reference → Bool) → p reference ≡ true → list_any p (kept ++ reference ∷ []) ≡ true
-      this_is p e = any_more p ∙ or_right_true (list_any p kept) (p reference || false) (or_left_true (p reference) false e)
+      this_is p e = any_more p ∙ or_right (list_any p kept) (p reference || false) (or_left (p reference) false e)
 
       marked_more : (word : List ℕ) → list_any (is_to word) (kept ++ reference ∷ []) ≡ true
           → list_any (λ (r : Reference). is_to word r && (r.mask == mask_named events word)) (kept ++ reference ∷ []) ≡ true
       marked_more word e = ⊎_elim
           (λ t. kept_is (λ (r : Reference). is_to word r && (r.mask == mask_named events word)) (k.marked word t))
           (λ t.
-          let u = sym (or_nothing (is_to word reference)) ∙ t in
+          let u = sym (or-false (is_to word reference)) ∙ t in
           let w : reference.word.now ≡ word = (bytes_eq-Decides reference.word.now word).0 u in
           let m : reference.mask ≡ mask_named events word = with_mask ∙ mask_is ∙ ap (mask_named events) (sym to ∙ w) in
           this_is (λ (r : Reference). is_to word r && (r.mask == mask_named events word))
-          (and_true (is_to word reference) (reference.mask == mask_named events word) u (self_true reference.mask (mask_named events word) m)))
-          (or_split (list_any (is_to word) kept) (is_to word reference || false) (sym (any_more (is_to word)) ∙ e))
+          (and_from (is_to word reference) (reference.mask == mask_named events word) u (self_true reference.mask (mask_named events word) m)))
+          (or_cases (list_any (is_to word) kept) (is_to word reference || false) (sym (any_more (is_to word)) ∙ e))
         where
           self_true : (m n : ℕ) → m ≡ n → (m == n) ≡ true
           self_true m n e = ⊎_elim (λ t. t.0) (λ f. absurd (f.1 e)) (eqb_tells m n)
@@ -209,7 +207,7 @@ module _ (events : List EventDecl) (attrs : List OilAttr) (attr : OilAttr) (kept
               (kept_is (λ (r : Reference). not (is_to v r) && has_bit bit r) (any_but (is_to v) (has_bit bit) kept new (k.held bit o)))
           by false q o m =
               this_is (λ (r : Reference). not (is_to word r) && has_bit bit r)
-              (and_true (not (is_to word reference)) (has_bit bit reference) (ap (λ (x : List ℕ). not (bytes_eq x word)) to ∙ ap not q) (one_true (bit_at reference.mask bit) (ap (λ n. bit_at n bit) with_mask ∙ m)))
+              (and_from (not (is_to word reference)) (has_bit bit reference) (ap (λ (x : List ℕ). not (bytes_eq x word)) to ∙ ap not q) (one_true (bit_at reference.mask bit) (ap (λ n. bit_at n bit) with_mask ∙ m)))
 
       pub kept_more : AreKept events (attrs ++ attr ∷ []) (kept ++ reference ∷ []) (bit_or once mask) (bit_or twice (bit_and once mask))
       kept_more = record {

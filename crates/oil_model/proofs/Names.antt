@@ -1,13 +1,11 @@
 -- Places of names among lists of names.
-use Rattle.std.proofs.Common.{◌≡◌, ◌∙◌, ⊎_elim, ℕ, suc, ◌<◌, ◌≤◌, ◌+◌, Bool, true, false, cond, Some, None, Option, List, [], ◌∷◌, length, get_or, slice_get, refl, ap, sym, arith, true≢false}
-use Rattle.std.specs.Prelude.{◌||◌, ◌&&◌, not, nat_lt, if◌then◌else◌, position, map, filter, find, is_some}
-use Rattle.std.specs.List.{list_any, position_or_len}
+use Rattle.std.proofs.Common.{◌≡◌, ◌∙◌, ℕ, ◌<◌, Bool, true, false, cond, Some, None, Option, List, [], ◌∷◌, length, get_or, slice_get, refl, ap, sym, arith}
+use Rattle.std.specs.Prelude.{◌||◌, ◌&&◌, if◌then◌else◌, position, map, filter, find, is_some}
+use Rattle.std.specs.List.{list_any}
 use Rattle.std.specs.Str.{bytes_eq}
-use Rattle.std.proofs.lemmas.Bool.{cases_lt, lt-ltb, le-ltb}
 use Rattle.std.proofs.lemmas.Option.{slice_get-get_or}
 use Rattle.std.proofs.lemmas.List.{length-map}
 use Rattle.std.proofs.lemmas.List.Quantifiers.{position-Some}
-use Rattle.std.proofs.lemmas.Slice.Eq.{bytes_eq-Decides}
 use Rattle.sloth_base.specs.declared.config.EventDecl.{EventDecl}
 use Rattle.oil_parse.specs.declared.tree.OilObject.{OilObject}
 use Rattle.oil_model.specs.Objects.{is_of_kind, is_declared}

@@ -1,11 +1,10 @@
 -- What holds of each object of a tree without a fault.
-use Rattle.std.proofs.Common.{◌≡◌, ◌∙◌, inl, inr, ⊎_elim, ℕ, ◌<◌, ◌≤◌, ◌+◌, Bool, true, false, List, [], ◌∷◌, ◌++◌, length, take, get_or, suc, zero, refl, ap, sym, subst, append_assoc, append-nil, add-one, arith}
+use Rattle.std.proofs.Common.{◌≡◌, ◌∙◌, inl, inr, ⊎_elim, ℕ, ◌<◌, ◌≤◌, ◌+◌, Bool, true, false, List, [], ◌∷◌, length, take, get_or, suc, zero, refl, ap, sym, subst, add-one, arith}
 use Rattle.std.specs.Prelude.{◌&&◌, ◌==◌, not, codes, count_by, filter}
 use Rattle.std.proofs.lemmas.List.Sums.{count_by_more_yes, count_by_more_no, length-filter}
 use Rattle.std.proofs.lemmas.List.{length-map}
-use Rattle.std.proofs.lemmas.Bool.{eqb-false, cases_lt}
+use Rattle.std.proofs.lemmas.Bool.{eqb-false, cases_lt, or_parts}
 use Rattle.std.proofs.Math.Seq.{take-length}
-use Rattle.sloth_base.specs.declared.refusal.Code.{Code}
 use Rattle.sloth_base.specs.declared.refusal.Code.TheVariants.{O7, O14}
 use Rattle.sloth_base.specs.declared.refusal.Refusal.{Refusal}
 use Rattle.least_fault.specs.Order.{NoFault}
@@ -18,7 +17,6 @@ use Rattle.oil_model.specs.Objects.{is_of_kind, has_scheduler}
 use Rattle.oil_model.specs.Events.{events_of}
 use Rattle.oil_model.specs.ObjectFaults.{is_known, is_above, comes_behind}
 use Rattle.oil_model.specs.Configs.{resource_names}
-use Rattle.text_pieces.proofs.Tests.{or_left, or_right}
 use Rattle.oil_model.specs.ModelFaults.{InnerFault, ObjectFault, ModelFault}
 
 lt_of_ne : (a b m : ℕ) → a ≤ b → (a ≡ b → ⊥) → m ≡ a + 1 → m ≤ b
@@ -70,18 +68,15 @@ module _ (tree : OilTree) (none : NoFault (ModelFault tree)) where
       case_false Oil (is_above (take i tree.objects) o) o.line O14 (λ r x. inner_at i d h r (inl (inr (inr (inr x)))))
 
   pub few_tasks : count_by (is_of_kind (codes "TASK")) tree.objects ≤ 30
-  few_tasks = count_by-limited (is_of_kind (codes "TASK")) 30 tree.objects (λ i d h. or_left (comes_behind (codes "TASK") 30 (take i tree.objects) (get_or tree.objects i d)) _ (not_above i d h))
+  few_tasks = count_by-limited (is_of_kind (codes "TASK")) 30 tree.objects (λ i d h. (or_parts (comes_behind (codes "TASK") 30 (take i tree.objects) (get_or tree.objects i d)) _ (not_above i d h)).0)
 
   pub few_resources : count_by (is_of_kind (codes "RESOURCE")) tree.objects ≤ 32
   few_resources = count_by-limited (is_of_kind (codes "RESOURCE")) 32 tree.objects
-      (λ i d h. or_left (comes_behind (codes "RESOURCE") 32 (take i tree.objects) (get_or tree.objects i d)) _
-      (or_right (comes_behind (codes "TASK") 30 (take i tree.objects) (get_or tree.objects i d)) _ (not_above i d h)))
+      (λ i d h. (or_parts (comes_behind (codes "RESOURCE") 32 (take i tree.objects) (get_or tree.objects i d)) _ (or_parts (comes_behind (codes "TASK") 30 (take i tree.objects) (get_or tree.objects i d)) _ (not_above i d h)).1).0)
 
   pub few_events : count_by (is_of_kind (codes "EVENT")) tree.objects ≤ 32
   few_events = count_by-limited (is_of_kind (codes "EVENT")) 32 tree.objects
-      (λ i d h. or_left (comes_behind (codes "EVENT") 32 (take i tree.objects) (get_or tree.objects i d)) _
-      (or_right (comes_behind (codes "RESOURCE") 32 (take i tree.objects) (get_or tree.objects i d)) _
-      (or_right (comes_behind (codes "TASK") 30 (take i tree.objects) (get_or tree.objects i d)) _ (not_above i d h))))
+      (λ i d h. (or_parts (comes_behind (codes "EVENT") 32 (take i tree.objects) (get_or tree.objects i d)) _ (or_parts (comes_behind (codes "RESOURCE") 32 (take i tree.objects) (get_or tree.objects i d)) _ (or_parts (comes_behind (codes "TASK") 30 (take i tree.objects) (get_or tree.objects i d)) _ (not_above i d h)).1).1).0)
 
   pub few_names : length (resource_names tree.objects) ≤ 32
   few_names =

@@ -3,11 +3,11 @@ use Rattle.std.proofs.Common.{◌≡◌, ◌⊎◌, inl, ℕ, ◌<◌, ◌≤◌
 use Rattle.std.specs.Prelude.{◌≢◌, codes, All, AllPairs, map, filter, unwrap_or}
 use Rattle.std.proofs.lemmas.List.{length-map}
 use Rattle.std.proofs.lemmas.List.Sums.{length-filter}
-use Rattle.std.proofs.lemmas.List.Elements.{All-weaker}
+use Rattle.std.proofs.lemmas.List.Elements.{All-nil, All-weaker}
 use Rattle.sloth_base.specs.declared.config.EventDecl.{EventDecl}
 use Rattle.sloth_base.specs.declared.config.TaskDecl.{TaskDecl}
-use Rattle.sloth_base.specs.ImageRange.{IsWord, AreNames}
-use Rattle.sloth_base.specs.ConfigRange.{IsTask, InRange}
+use Rattle.sloth_base.specs.ImageRange.{IsWord, IsName, AreNames}
+use Rattle.sloth_base.specs.ConfigRange.{IsTask, IsCounter, IsAlarm, InRange}
 use Rattle.least_fault.specs.Order.{NoFault}
 use Rattle.oil_parse.specs.declared.tree.OilObject.{OilObject}
 use Rattle.oil_parse.specs.declared.tree.OilTree.{OilTree}
@@ -27,6 +27,9 @@ use Rattle.oil_model.proofs.RangeExtended.{extended}
 task_names : (names : List (List ℕ)) (events : List EventDecl) (xs : List OilObject) → map (λ (t : TaskDecl). t.name) (map (declared_task names events) xs) ≡ map (λ (o : OilObject). o.name) xs
 task_names names events [] = refl
 task_names names events (x ∷ xs) = ap (λ ys. x.name ∷ ys) (task_names names events xs)
+
+no_names : AreNames []
+no_names = record { each = All-nil IsName; distinct = λ i j c h k. absurd (omega arith) }
 
 module _ (tree : OilTree) (none : NoFault (ModelFault tree)) (words : All (λ (o : OilObject). IsWord o.name) tree.objects)
     (fit : All (λ (e : EventDecl). e.mask < 4294967296) (events_of tree.objects)) where
@@ -82,4 +85,11 @@ module _ (tree : OilTree) (none : NoFault (ModelFault tree)) (words : All (λ (o
     masks = λ k d h. (masks_positive tree none k d h, fit k d h);
     tasks = All-kept (is_of_kind (codes "TASK")) (declared_task (resource_names tree.objects) (events_of tree.objects)) (IsTask (config_of tree.objects)) tree.objects is_task;
     scheduler_alone = scheduler_alone tree none;
+    few_counters = omega arith;
+    few_alarms = omega arith;
+    counter_names = no_names;
+    alarm_names = no_names;
+    counters_apart = All-nil _;
+    counters = All-nil IsCounter;
+    alarms = All-nil (IsAlarm (config_of tree.objects));
   }

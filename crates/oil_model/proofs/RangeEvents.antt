@@ -2,7 +2,7 @@
 use Rattle.std.proofs.Common.{◌≡◌, ◌∙◌, inl, inr, ℕ, ◌<◌, Bool, true, false, cond, Option, Some, None, List, [], ◌∷◌, length, take, drop, get_or, suc, ◌+◌, ⊎_elim, add-one, refl, ap, sym, subst}
 use Rattle.std.specs.Prelude.{◌&&◌, ◌||◌, not, nat_lt, ◌==◌, bit_and, bit_or, codes, All, map, filter, find, is_none, unwrap_or}
 use Rattle.std.specs.Str.{bytes_eq}
-use Rattle.std.proofs.lemmas.Bool.{ltb-true, leb-true, cases_lt}
+use Rattle.std.proofs.lemmas.Bool.{ltb-true, leb-true, cases_lt, not-false}
 use Rattle.std.proofs.lemmas.List.Elements.{All-nil, All-cons}
 use Rattle.std.proofs.lemmas.List.Sums.{AllPass-from_list_all, fold_more}
 use Rattle.std.proofs.Math.Seq.{drop-cons}
@@ -78,16 +78,12 @@ module _ (tree : OilTree) (none : NoFault (ModelFault tree)) where
       → 0 < number_mask (get_or tree.objects i d)
   number_mask_positive i d h ev auto =
       let o = get_or tree.objects i d in
-      let f = first_of (is_use (codes "MASK")) o.attrs (not_false' (is_used o.attrs (codes "MASK")) (first (not (is_used o.attrs (codes "MASK"))) _ auto)) in
+      let f = first_of (is_use (codes "MASK")) o.attrs (not-false (is_used o.attrs (codes "MASK")) (first (not (is_used o.attrs (codes "MASK"))) _ auto)) in
       let at : is_use (codes "MASK") (get_or o.attrs f.place f.item) ≡ true = ap (is_use (codes "MASK")) f.stands ∙ f.passes in
       let a = ap (λ (x : OilAttr). is_allowed Mask x.value) (sym f.stands) ∙ allowed tree none i d h (codes "EVENT") (codes "MASK") Mask refl f.place f.item f.within ev at in
       let w : is_word f.item.value (codes "AUTO") ≡ false = ap (λ x. is_given x (codes "AUTO")) (sym f.found) ∙ second (not (is_used o.attrs (codes "MASK"))) _ auto in
       subst (λ (x : Option ℕ). 0 < unwrap_or x 0) (ap number_given (sym f.found)) (number_positive f.item.value a w)
     where
-      not_false' : (b : Bool) → not b ≡ false → b ≡ true
-      not_false' true e = refl
-      not_false' false e = cc
-
       first : (a b : Bool) → (a || b) ≡ false → a ≡ false
       first true b e = cc
       first false b e = refl

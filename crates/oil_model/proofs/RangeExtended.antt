@@ -3,7 +3,7 @@ use Rattle.std.proofs.Common.{◌≡◌, ◌∙◌, ℕ, ◌<◌, Bool, true, fa
 use Rattle.std.specs.Prelude.{◌||◌, ◌==◌, not, bit_or, codes}
 use Rattle.std.specs.List.{list_any}
 use Rattle.std.specs.Str.{bytes_eq}
-use Rattle.std.proofs.lemmas.Bool.{ne_eqb, eq-eqb}
+use Rattle.std.proofs.lemmas.Bool.{ne_eqb, eq-eqb, not-false}
 use Rattle.sloth_base.specs.declared.config.EventDecl.{EventDecl}
 use Rattle.least_fault.specs.Order.{NoFault}
 use Rattle.oil_parse.specs.declared.tree.OilValue.{OilValue}
@@ -43,11 +43,7 @@ module _ (tree : OilTree) (none : NoFault (ModelFault tree)) where
       subst (λ n. 0 < n) (ap mask_given (sym f.found)) m
 
   value_positive : (v : OilValue) → is_allowed Event v ≡ true → misses_value tree.objects (has_scheduler tree.objects) Event v ≡ false → 0 < mask_of_value (events_of tree.objects) v
-  value_positive (Word w) a m = named_positive w (not_false (is_declared tree.objects (codes "EVENT") w) m)
-    where
-      not_false : (b : Bool) → not b ≡ false → b ≡ true
-      not_false true e = refl
-      not_false false e = cc
+  value_positive (Word w) a m = named_positive w (not-false (is_declared tree.objects (codes "EVENT") w) m)
   value_positive (Number n) a m = cc
   value_positive (Text t) a m = cc
 

@@ -3,7 +3,7 @@ use Rattle.std.proofs.Common.{◌≡◌, ◌∙◌, inl, ℕ, ◌<◌, Bool, tru
 use Rattle.std.specs.Prelude.{◌&&◌, ◌||◌, ◌≢◌, nat_lt, codes, All, AllPairs, map, filter}
 use Rattle.std.specs.List.{list_any}
 use Rattle.std.specs.Str.{bytes_eq}
-use Rattle.std.proofs.lemmas.Bool.{ltb-false}
+use Rattle.std.proofs.lemmas.Bool.{ltb-false, or_parts}
 use Rattle.std.proofs.lemmas.Slice.Eq.{bytes_eq-Decides}
 use Rattle.std.proofs.lemmas.List.Elements.{All-weaker}
 use Rattle.sloth_base.specs.ImageRange.{IsWord, IsName, AreNames}
@@ -13,9 +13,9 @@ use Rattle.least_fault.specs.Order.{NoFault}
 use Rattle.oil_parse.specs.declared.tree.OilObject.{OilObject}
 use Rattle.oil_parse.specs.declared.tree.OilTree.{OilTree}
 use Rattle.oil_model.specs.Objects.{is_of_kind, has_scheduler}
-use Rattle.oil_model.specs.ObjectFaults.{doubles, is_doubled, comes_behind}
+use Rattle.oil_model.specs.ObjectFaults.{is_double_of, is_doubled, comes_behind}
 use Rattle.oil_model.specs.ModelFaults.{ModelFault}
-use Rattle.text_pieces.proofs.Tests.{or_left, or_right, none_pass, All-kept}
+use Rattle.text_pieces.proofs.Tests.{none_pass, All-kept}
 use Rattle.least_fault.proofs.Nowhere.{case_false}
 use Rattle.oil_model.proofs.NoFaults.{inner_at, not_above}
 use Rattle.sloth_base.specs.declared.refusal.Part.TheVariants.{Oil}
@@ -41,11 +41,11 @@ module _ (tree : OilTree) (none : NoFault (ModelFault tree)) where
       → All (λ o. is_of_kind K o ≡ true → o.name ≢ (get_or tree.objects i d).name) (take i tree.objects)
   named_apart K i d h t =
       let x = get_or tree.objects i d in
-      All-weaker (λ o. doubles x o ≡ false) (λ o. is_of_kind K o ≡ true → o.name ≢ x.name)
-      (λ o f s e. true_not_false (doubles x o)
+      All-weaker (λ o. is_double_of x o ≡ false) (λ o. is_of_kind K o ≡ true → o.name ≢ x.name)
+      (λ o f s e. true_not_false (is_double_of x o)
       (both (bytes_eq o.kind x.kind) (bytes_eq o.name x.name) (bytes_eq x.kind (codes "OS")) (kinds_eq K o x s t) ((bytes_eq-Decides o.name x.name).1 e)) f)
       (take i tree.objects)
-      (none_pass (doubles x) (take i tree.objects) (or_left (list_any (doubles x) (take i tree.objects)) _ (not_doubled i d h)))
+      (none_pass (is_double_of x) (take i tree.objects) (or_parts (list_any (is_double_of x) (take i tree.objects)) _ (not_doubled i d h)).0)
     where
       both : (a b c : Bool) → a ≡ true → b ≡ true → (a && (b || c)) ≡ true
       both a b c p q = rw (p, q) refl
@@ -62,8 +62,7 @@ module _ (tree : OilTree) (none : NoFault (ModelFault tree)) where
     is_name i d h =
         let o = get_or tree.objects i d in
         let front = take i tree.objects in
-        let long : nat_lt 64 (length o.name) ≡ false = or_right (comes_behind (codes "EVENT") 32 front o) _ (or_right (comes_behind (codes "RESOURCE") 32 front o) _
-        (or_right (comes_behind (codes "TASK") 30 front o) _ (not_above tree none i d h))) in
+        let long : nat_lt 64 (length o.name) ≡ false = (or_parts (comes_behind (codes "EVENT") 32 front o) _ (or_parts (comes_behind (codes "RESOURCE") 32 front o) _ (or_parts (comes_behind (codes "TASK") 30 front o) _ (not_above tree none i d h)).1).1).1 in
         record { word = words i d h; short = ltb-false 64 (length o.name) long }
 
     pub are_names : (K : List ℕ) → AreNames (map (λ (o : OilObject). o.name) (filter (is_of_kind K) tree.objects))
@@ -74,7 +73,7 @@ module _ (tree : OilTree) (none : NoFault (ModelFault tree)) where
   scheduler_alone s = All-kept (is_of_kind (codes "RESOURCE")) (λ (o : OilObject). o.name) (λ (name : List ℕ). name ≢ res_scheduler_name) tree.objects
       (λ i d h t e.
       let o = get_or tree.objects i d in
-      let f = or_right (list_any (doubles o) (take i tree.objects)) _ (not_doubled i d h) in
+      let f = (or_parts (list_any (is_double_of o) (take i tree.objects)) _ (not_doubled i d h)).1 in
       true_not_false (has_scheduler tree.objects && (is_of_kind (codes "RESOURCE") o && bytes_eq o.name (codes "RES_SCHEDULER")))
       (all_three (has_scheduler tree.objects) (is_of_kind (codes "RESOURCE") o) (bytes_eq o.name (codes "RES_SCHEDULER")) s t ((bytes_eq-Decides o.name (codes "RES_SCHEDULER")).1 e)) f)
     where

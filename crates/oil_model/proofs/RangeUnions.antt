@@ -3,7 +3,7 @@ use Rattle.std.proofs.Common.{◌≡◌, ◌∙◌, ⊎_elim, ℕ, ◌<◌, Bool
 use Rattle.std.specs.Prelude.{◌&&◌, ◌==◌, ◌≢◌, not, bit_and, bit_or, fold, find, map, codes, All, AllPairs}
 use Rattle.std.specs.List.{list_any}
 use Rattle.std.specs.Str.{bytes_eq}
-use Rattle.std.proofs.lemmas.Bool.{eqb-true, cases_lt}
+use Rattle.std.proofs.lemmas.Bool.{eqb-true, cases_lt, not-false, and_parts}
 use Rattle.std.proofs.lemmas.List.{length-map, length-take-le, get_or-take, get_or_default}
 use Rattle.std.proofs.lemmas.List.Folds.{list_any_at}
 use Rattle.std.proofs.lemmas.Slice.Eq.{bytes_eq-Decides}
@@ -19,7 +19,7 @@ use Rattle.oil_model.specs.Events.{mask_named, mask_given}
 use Rattle.oil_model.specs.TaskFaults.{have_common_bit, is_event_clash, shares_with, shares_bit}
 use Rattle.oil_model.specs.Configs.{mask_of_value, listed_mask, event_mask}
 use Rattle.oil_model.proofs.Lists.{IsFirst, first_of}
-use Rattle.text_pieces.proofs.Tests.{and_left, and_right, none_pass}
+use Rattle.text_pieces.proofs.Tests.{none_pass}
 use Rattle.oil_model.proofs.Unions.{Within, within_both, within_zero, within_or, within_left, within_right, and_swapped, union_of, AreApart, union_is, within_union, union_within}
 
 abbrev pub Apart : List EventDecl → Type 0
@@ -88,8 +88,8 @@ module _ (events : List EventDecl) (apart : Apart events) (attrs : List OilAttr)
     (no_shared : (k : ℕ) (d : OilAttr) → k < length attrs → shares_bit events (take k attrs) (get_or attrs k d) ≡ false) where
   listed_named : (a : OilAttr) (name : List ℕ) → names_event name a ≡ true → listed_mask events a ≡ mask_named events name
   listed_named a name t =
-      ap (λ b. cond b (mask_of_value events a.value) 0) (and_left (is_use (codes "EVENT") a) (is_word a.value name) t)
-      ∙ ap (mask_of_value events) (value_is a.value name (and_right (is_use (codes "EVENT") a) (is_word a.value name) t))
+      ap (λ b. cond b (mask_of_value events a.value) 0) (and_parts (is_use (codes "EVENT") a) (is_word a.value name) t).0
+      ∙ ap (mask_of_value events) (value_is a.value name (and_parts (is_use (codes "EVENT") a) (is_word a.value name) t).1)
 
   union_in_mask : Within (union_of (chosen attrs) events) (event_mask events attrs)
   union_in_mask = union_within (chosen attrs) events (event_mask events attrs) (λ i d h t.
@@ -134,26 +134,22 @@ module _ (events : List EventDecl) (apart : Apart events) (attrs : List OilAttr)
   clash_free : (p q : ℕ) (a b : OilAttr) (m n : List ℕ) → p < q → q < length attrs → get_or attrs p a ≡ a → get_or attrs q b ≡ b → names_event m a ≡ true → names_event n b ≡ true
       → (m ≡ n → ⊥) → bit_and (mask_named events m) (mask_named events n) ≡ 0
   clash_free p q a b m n l h sa sb ta tb ne =
-      let used = and_left (is_use (codes "EVENT") b) (is_word b.value n) tb in
+      let used = (and_parts (is_use (codes "EVENT") b) (is_word b.value n) tb).0 in
       let shares : shares_bit events (take q attrs) b ≡ false = ap (shares_bit events (take q attrs)) (sym sb) ∙ no_shared q b h in
       let none : list_any (shares_with events b) (take q attrs) ≡ false = second_false (is_use (codes "EVENT") b) (list_any (shares_with events b) (take q attrs)) used shares in
       let at = none_pass (shares_with events b) (take q attrs) none p a (let e = length-take-le q attrs (omega arith) in omega (arith, l, e)) in
       let with_a : shares_with events b a ≡ false = ap (shares_with events b) (sym sa ∙ sym (get_or-take q attrs p a l)) ∙ at in
-      let clash : is_event_clash events a.value b.value ≡ false = second_false (is_use (codes "EVENT") a) (is_event_clash events a.value b.value) (and_left (is_use (codes "EVENT") a) (is_word a.value m) ta) with_a in
-      let va : a.value ≡ Word m = value_is a.value m (and_right (is_use (codes "EVENT") a) (is_word a.value m) ta) in
-      let vb : b.value ≡ Word n = value_is b.value n (and_right (is_use (codes "EVENT") b) (is_word b.value n) tb) in
+      let clash : is_event_clash events a.value b.value ≡ false = second_false (is_use (codes "EVENT") a) (is_event_clash events a.value b.value) (and_parts (is_use (codes "EVENT") a) (is_word a.value m) ta).0 with_a in
+      let va : a.value ≡ Word m = value_is a.value m (and_parts (is_use (codes "EVENT") a) (is_word a.value m) ta).1 in
+      let vb : b.value ≡ Word n = value_is b.value n (and_parts (is_use (codes "EVENT") b) (is_word b.value n) tb).1 in
       let common : have_common_bit events m n ≡ false = ap (λ v. is_event_clash events v (Word n)) (sym va) ∙ ap (is_event_clash events a.value) (sym vb) ∙ clash in
       let apart_names : not (bytes_eq m n) ≡ true = differ m n ne in
       let test = second_false (not (bytes_eq m n)) (not (bit_and (mask_named events m) (mask_named events n) == 0)) apart_names common in
-      eqb-true (bit_and (mask_named events m) (mask_named events n)) 0 (not_false (bit_and (mask_named events m) (mask_named events n) == 0) test)
+      eqb-true (bit_and (mask_named events m) (mask_named events n)) 0 (not-false (bit_and (mask_named events m) (mask_named events n) == 0) test)
     where
       second_false : (x y : Bool) → x ≡ true → (x && y) ≡ false → y ≡ false
       second_false true y s t = t
       second_false false y s t = cc
-
-      not_false : (x : Bool) → not x ≡ false → x ≡ true
-      not_false true s = refl
-      not_false false s = cc
 
       differ : (x y : List ℕ) → (x ≡ y → ⊥) → not (bytes_eq x y) ≡ true
       differ x y d = by (bytes_eq x y) refl
@@ -189,8 +185,8 @@ module _ (events : List EventDecl) (apart : Apart events) (attrs : List OilAttr)
           let m = (get_or events i d).name in
           let n = (get_or events j d).name in
           let items : f.item ≡ g.item = sym f.stands ∙ get_or_default attrs f.place f.item g.item f.within ∙ ap (λ k. get_or attrs k g.item) q ∙ g.stands in
-          let vf : f.item.value ≡ Word m = value_is f.item.value m (and_right (is_use (codes "EVENT") f.item) (is_word f.item.value m) f.passes) in
-          let vg : g.item.value ≡ Word n = value_is g.item.value n (and_right (is_use (codes "EVENT") g.item) (is_word g.item.value n) g.passes) in
+          let vf : f.item.value ≡ Word m = value_is f.item.value m (and_parts (is_use (codes "EVENT") f.item) (is_word f.item.value m) f.passes).1 in
+          let vg : g.item.value ≡ Word n = value_is g.item.value n (and_parts (is_use (codes "EVENT") g.item) (is_word g.item.value n) g.passes).1 in
           ne (word_same m n (sym vf ∙ ap (λ (a : OilAttr). a.value) items ∙ vg))
 
   pub is_union : IsUnionOf events (event_mask events attrs)

@@ -69,13 +69,15 @@ declared_task names events object = record {
 abbrev pub tasks_of : List (List ℕ) → List EventDecl → List OilObject → List TaskDecl
 tasks_of names events objects = map (declared_task names events) (filter (is_of_kind (codes "TASK")) objects)
 
--- the configuration of these objects
+-- the configuration of these objects: no object declares a counter or an alarm
 abbrev pub config_of : List OilObject → Config
 config_of objects = record {
   tasks = tasks_of (resource_names objects) (events_of objects) objects;
   resources = resource_names objects;
   events = events_of objects;
   res_scheduler = has_scheduler objects;
+  counters = [];
+  alarms = [];
 }
 
 -- the configuration that a tree means

@@ -14,12 +14,12 @@ abbrev pub is_known : OilObject → Bool
 is_known object = not (is_nowhere (place_of object.kind))
 
 -- of the kind and the name of an earlier object, or a second OS object
-abbrev pub doubles : OilObject → OilObject → Bool
-doubles object earlier = bytes_eq earlier.kind object.kind && (bytes_eq earlier.name object.name || bytes_eq object.kind (codes "OS"))
+abbrev pub is_double_of : OilObject → OilObject → Bool
+is_double_of object earlier = bytes_eq earlier.kind object.kind && (bytes_eq earlier.name object.name || bytes_eq object.kind (codes "OS"))
 
 -- an object has the name of an earlier one of its kind, or that of RES_SCHEDULER where that resource exists
 abbrev pub is_doubled : Bool → List OilObject → OilObject → Bool
-is_doubled scheduler front object = list_any (doubles object) front || (scheduler && is_declaration (codes "RESOURCE") (codes "RES_SCHEDULER") object)
+is_doubled scheduler front object = list_any (is_double_of object) front || (scheduler && is_declaration (codes "RESOURCE") (codes "RES_SCHEDULER") object)
 
 -- a task without a required attribute
 abbrev pub lacks_attribute : OilObject → Bool

@@ -5,7 +5,7 @@ ghost use Rattle.least_fault.specs.Search.{Finds, Somewhere};
 ghost use Rattle.oil_model.specs.Objects.{has_scheduler, is_of_kind};
 ghost use Rattle.oil_model.specs.Events.{events_of};
 ghost use Rattle.oil_model.specs.ObjectFaults.{is_known};
-ghost use Rattle.oil_model.specs.ModelFaults.{TaskFaults, InnerFault, ObjectFault, lacks_os, ModelFault};
+ghost use Rattle.oil_model.specs.ModelFaults.{TaskFaults, InnerFault, ObjectFault, ModelFault};
 
 use crate::attribute_faults::attribute_faults;
 use crate::event_table::EventTable;

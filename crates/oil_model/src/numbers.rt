@@ -1,5 +1,5 @@
 //! The numbers of names.
-ghost use Rattle.std.specs.Prelude.{◌≡◌, IfOk, codes};
+ghost use Rattle.std.specs.Prelude.{◌≡◌, IfOk};
 ghost use Rattle.oil_model.specs.Objects.{names_of};
 
 use crate::objects::is_of_kind;
@@ -23,21 +23,4 @@ pub fn names_of<'t>(
         }
     }
     Ok(names)
-}
-
-/// The names of the resources and of the events, each kind in the order of its numbers.
-#[derive(Drop)]
-pub struct Numbers<'t> {
-    pub resources: Names<'t>,
-    pub events: Names<'t>,
-}
-
-/// The names of the resources and of the events among these objects.
-pub fn numbers_of<'t>(alloc: Global, objects: &'t [OilObject]) -> Result<Numbers<'t>, NoMemory>
-    ensures resources { IfOk result (λ numbers. numbers.resources ≡ names_of (codes "RESOURCE") objects.now) }
-    ensures events { IfOk result (λ numbers. numbers.events ≡ names_of (codes "EVENT") objects.now) }
-{
-    let resources = names_of(alloc, objects, b"RESOURCE")?;
-    let events = names_of(alloc, objects, b"EVENT")?;
-    Ok(Numbers { resources, events })
 }

@@ -3,7 +3,7 @@ ghost use Rattle.std.specs.Prelude.{◌≡◌, ◌&&◌, ◌==◌, codes};
 ghost use Rattle.least_fault.specs.Search.{Finds};
 ghost use Rattle.std.specs.List.{list_any};
 ghost use Rattle.oil_model.specs.Objects.{is_of_kind, is_declaration, is_declared};
-ghost use Rattle.oil_model.specs.ObjectFaults.{doubles, is_doubled, lacks_attribute, is_strange_mode, is_above, KindFault, KnownFault};
+ghost use Rattle.oil_model.specs.ObjectFaults.{is_double_of, is_doubled, lacks_attribute, is_strange_mode, is_above, KindFault, KnownFault};
 
 use crate::front::Front;
 use crate::objects::{declares, is_of_kind, is_used};
@@ -26,7 +26,7 @@ fn is_second_os(front: &Front, object: &OilObject) -> bool
 }
 
 fn is_second(front: &Front, object: &OilObject) -> bool
-    ensures { result ≡ list_any (doubles object.now) front.now }
+    ensures { result ≡ list_any (is_double_of object.now) front.now }
 {
     is_second_of_its_name(front, object) || is_second_os(front, object)
 }

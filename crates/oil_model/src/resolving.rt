@@ -1,8 +1,8 @@
 //! The configuration of a tree, or its least fault.
-ghost use Rattle.std.specs.Prelude.{◌≡◌, ◌≤◌, IfOk, OnOk, IfErr, length, codes};
+ghost use Rattle.std.specs.Prelude.{◌≡◌, ◌≤◌, ◌<◌, All, IfOk, OnOk, IfErr, length, codes};
 ghost use Rattle.least_fault.specs.Search.{Finds};
 ghost use Rattle.least_fault.specs.Order.{NoFault, IsLeast, ErrorIs};
-ghost use Rattle.sloth_base.specs.ConfigRange.{InRange};
+ghost use Rattle.sloth_base.specs.ConfigRange.{InRange, HasNoCounters};
 ghost use Rattle.sloth_base.specs.declared.config.Config.{Config};
 ghost use Rattle.oil_parse.specs.declared.tree.OilTree.{OilTree};
 ghost use Rattle.oil_model.specs.Objects.{has_scheduler};
@@ -16,7 +16,7 @@ use crate::config::{resource_names, tasks_of};
 use crate::event_table::EventTable;
 use crate::events::events_of;
 use crate::judge::judge;
-use crate::numbers::{Numbers, numbers_of};
+use crate::numbers::names_of;
 use crate::object_table::ObjectTable;
 use crate::objects::has_scheduler;
 use oil_parse::tree::{OilObject, OilTree};
@@ -25,29 +25,33 @@ use sloth_base::list::List;
 use sloth_base::memory::NoMemory;
 use sloth_base::refusal::{BuildError, Refusal};
 use std::alloc::Global;
+use text_pieces::names::Names;
 
 fn config_of(
     alloc: Global,
     objects: &[OilObject],
     scheduler: bool,
-    numbers: &Numbers,
+    resources: &Names,
+    event_names: &Names,
     events: Vec<EventDecl>,
 ) -> Result<Config, NoMemory>
     requires few { length (resource_names objects.now) ≤ 32 }
     requires scheduler { scheduler ≡ has_scheduler objects.now }
-    requires resource_numbers { numbers.now.resources ≡ resource_names objects.now }
-    requires event_numbers { numbers.now.events ≡ names_of (codes "EVENT") objects.now }
+    requires resource_numbers { resources.now ≡ resource_names objects.now }
+    requires event_numbers { event_names.now ≡ names_of (codes "EVENT") objects.now }
     requires events { events.items ≡ events_of objects.now }
     ensures { IfOk result (λ config. config ≡ config_of objects.now) }
 {
     let names = resource_names(alloc, objects)?;
-    let table = EventTable::new(events.as_slice(), &numbers.events);
-    let tasks = tasks_of(alloc, &numbers.resources, &table, objects)?;
+    let table = EventTable::new(events.as_slice(), event_names);
+    let tasks = tasks_of(alloc, resources, &table, objects)?;
     Ok(Config {
         tasks: List::from_vec(tasks),
         resources: List::from_vec(names),
         events: List::from_vec(events),
         res_scheduler: scheduler,
+        counters: List::from_vec(Vec::new(alloc)),
+        alarms: List::from_vec(Vec::new(alloc)),
     })
 }
 
@@ -56,22 +60,66 @@ fn refusal_of(
     alloc: Global,
     tree: &OilTree,
     scheduler: bool,
-    numbers: &Numbers,
+    resources: &Names,
+    event_names: &Names,
     events: &[EventDecl],
 ) -> Result<Option<Refusal>, NoMemory>
     requires scheduler { scheduler ≡ has_scheduler tree.now.objects }
-    requires resource_numbers { numbers.now.resources ≡ resource_names tree.now.objects }
-    requires event_numbers { numbers.now.events ≡ names_of (codes "EVENT") tree.now.objects }
+    requires resource_numbers { resources.now ≡ resource_names tree.now.objects }
+    requires event_numbers { event_names.now ≡ names_of (codes "EVENT") tree.now.objects }
     requires events { events.now ≡ events_of tree.now.objects }
     ensures { IfOk result (Finds (ModelFault tree.now)) }
 {
-    let objects = ObjectTable::new(tree.objects.items(), &numbers.resources, &numbers.events);
-    let events = EventTable::new(events, &numbers.events);
+    let objects = ObjectTable::new(tree.objects.items(), resources, event_names);
+    let events = EventTable::new(events, event_names);
     judge(alloc, tree, &objects, scheduler, &events)
 }
 
+/// The configuration of a tree with these events, or its least fault.
+fn config_or_refusal(
+    alloc: Global,
+    tree: &OilTree,
+    scheduler: bool,
+    resources: &Names,
+    event_names: &Names,
+    events: Vec<EventDecl>,
+) -> Result<Result<Config, Refusal>, NoMemory>
+    requires tree { IsTree tree.now }
+    requires scheduler { scheduler ≡ has_scheduler tree.now.objects }
+    requires resource_numbers { resources.now ≡ resource_names tree.now.objects }
+    requires event_numbers { event_names.now ≡ names_of (codes "EVENT") tree.now.objects }
+    requires events { events.items ≡ events_of tree.now.objects }
+    requires fit { All (λ event. event.mask < 4294967296) events.items }
+    ensures config { IfOk result (λ found. IfOk found (IsConfig tree.now)) }
+    ensures none { IfOk result (λ found. OnOk found (NoFault (ModelFault tree.now))) }
+    ensures in_range { IfOk result (λ found. IfOk found InRange) }
+    ensures no_counters { IfOk result (λ found. IfOk found HasNoCounters) }
+    ensures refused { IfOk result (λ found. IfErr found (IsLeast (ModelFault tree.now))) }
+{
+    let refusal = refusal_of(
+        alloc,
+        tree,
+        scheduler,
+        resources,
+        event_names,
+        events.as_slice(),
+    )?;
+    if let Some(refusal) = refusal {
+        return Ok(Err(refusal));
+    }
+    let config = config_of(
+        alloc,
+        tree.objects.items(),
+        scheduler,
+        resources,
+        event_names,
+        events,
+    )?;
+    Ok(Ok(config))
+}
+
 /// The configuration of a tree, or its least fault.
-fn config_or_refusal(alloc: Global, tree: &OilTree) -> Result<Result<Config, Refusal>, NoMemory>
+fn meaning_of(alloc: Global, tree: &OilTree) -> Result<Result<Config, Refusal>, NoMemory>
     requires { IsTree tree.now }
     ensures config { IfOk result (λ found. IfOk found (IsConfig tree.now)) }
     ensures none { IfOk result (λ found. OnOk found (NoFault (ModelFault tree.now))) }
@@ -79,15 +127,11 @@ fn config_or_refusal(alloc: Global, tree: &OilTree) -> Result<Result<Config, Ref
     ensures refused { IfOk result (λ found. IfErr found (IsLeast (ModelFault tree.now))) }
 {
     let objects = tree.objects.items();
-    let scheduler = has_scheduler(objects);
     let events = events_of(alloc, objects)?;
-    let numbers = numbers_of(alloc, objects)?;
-    let refusal = refusal_of(alloc, tree, scheduler, &numbers, events.as_slice())?;
-    if let Some(refusal) = refusal {
-        return Ok(Err(refusal));
-    }
-    let config = config_of(alloc, objects, scheduler, &numbers, events)?;
-    Ok(Ok(config))
+    let resources = names_of(alloc, objects, b"RESOURCE")?;
+    let event_names = names_of(alloc, objects, b"EVENT")?;
+    let scheduler = has_scheduler(objects);
+    config_or_refusal(alloc, tree, scheduler, &resources, &event_names, events)
 }
 
 /// The configuration of a tree (OIL 2.5), or the least of its faults O7 to O15.
@@ -96,9 +140,10 @@ pub fn resolve(alloc: Global, tree: &OilTree) -> Result<Config, BuildError>
     ensures config { IfOk result (IsConfig tree.now) }
     ensures none { OnOk result (NoFault (ModelFault tree.now)) }
     ensures in_range { IfOk result InRange }
+    ensures no_counters { IfOk result HasNoCounters }
     ensures refused { IfErr result (λ error. ErrorIs (ModelFault tree.now) error) }
 {
-    match config_or_refusal(alloc, tree)? {
+    match meaning_of(alloc, tree)? {
         Ok(config) => Ok(config),
         Err(refusal) => Err(BuildError::Refused(refusal)),
     }

@@ -1,6 +1,5 @@
 //! The attribute table: which attributes may stand where, and which values they take (OIL 2.5, section 3).
 ghost use Rattle.std.specs.Prelude.{◌≡◌};
-ghost use Rattle.std.specs.Str.{bytes_eq};
 ghost use Rattle.oil_model.specs.Table.{place_of, is_hook, is_flag, os_attribute, task_attribute, only_attribute, attribute_of, is_single, allows_word, allows_number, is_allowed, is_word, activation_place, block_place, is_nowhere};
 
 use oil_parse::tree::{OilAttr, OilValue};

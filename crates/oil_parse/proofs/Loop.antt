@@ -28,7 +28,7 @@ use Rattle.oil_parse.specs.Shapes.{shape_by}
 use Rattle.oil_parse.specs.declared.tree.OilTree.{OilTree}
 use Rattle.oil_parse.specs.Grammar.{IsFile}
 use Rattle.oil_parse.specs.Faults.{GrammarFault}
-use Rattle.oil_parse.specs.Machine.{next, taken, Built, nothing_built, too_big, TakesFit, expected_behind, behind}
+use Rattle.oil_parse.specs.Machine.{next, built_after, Built, nothing_built, too_big, TakesFit, expected_behind, behind}
 use Rattle.oil_parse.proofs.Steps.{step, build, TooBig, MachineFault}
 use Rattle.oil_parse.specs.Parser.{draft, Moved, Stopped}
 use Rattle.oil_parse.proofs.Sound.{file_read}
@@ -97,7 +97,7 @@ reads_next all p q t rest r m = record {
   steps = sym (ap (λ o. step o rest) m.goes) ∙ r.steps;
   builds = λ h.
       let n : p.least ≡ None = none_before (too_big p.expect (shape t)) p.least (lesser p.least (record { part = Oil; line = t.line; code = code.O4 })) (sym m.least ∙ h) in
-      ap (λ x. build (Some q.expect) x rest) (m.built h) ∙ (sym (ap (λ o. build o (taken p.expect (shape t) t (draft p.draft)) rest) m.goes) ∙ r.builds n);
+      ap (λ x. build (Some q.expect) x rest) (m.built h) ∙ (sym (ap (λ o. build o (built_after p.expect (shape t) t (draft p.draft)) rest) m.goes) ∙ r.builds n);
 }
 
 to_grammar_least : (all : List Lexeme) (r : Refusal) → IsLeast (MachineFault Start 1 all) r → IsLeast (GrammarFault all) r

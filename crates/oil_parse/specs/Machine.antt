@@ -104,18 +104,18 @@ abbrev pub at_end : Construct → Built → Built
 at_end Object b = whole_object b
 at_end _ b = b
 
--- what a token adds where it may stand
-unfoldable pub taken : Expect → Shape → Lexeme → Built → Built
-taken Body x t b = record b { cpu_line = t.line }
-taken CpuWord x t b = record b { cpu_line = t.line }
-taken Objects (Word k) t b = record b { kind = t.bytes; line = t.line; attrs = [] }
-taken ObjectName x t b = record b { name = t.bytes }
-taken ObjectTail Semicolon t b = whole_object b
-taken (Ending p) Semicolon t b = at_end p b
-taken (Closing p) x t b = at_end p b
-taken (Attrs d) (Word k) t b = record b { attr_name = t.bytes; attr_line = t.line }
-taken (AttrValue d) x t b = record b { attrs = b.attrs ++ record { name = b.attr_name; value = value_by t.kind t.bytes; line = b.attr_line; depth = d } ∷ [] }
-taken _ _ t b = b
+-- what is read so far behind a token that may stand there
+unfoldable pub built_after : Expect → Shape → Lexeme → Built → Built
+built_after Body x t b = record b { cpu_line = t.line }
+built_after CpuWord x t b = record b { cpu_line = t.line }
+built_after Objects (Word k) t b = record b { kind = t.bytes; line = t.line; attrs = [] }
+built_after ObjectName x t b = record b { name = t.bytes }
+built_after ObjectTail Semicolon t b = whole_object b
+built_after (Ending p) Semicolon t b = at_end p b
+built_after (Closing p) x t b = at_end p b
+built_after (Attrs d) (Word k) t b = record b { attr_name = t.bytes; attr_line = t.line }
+built_after (AttrValue d) x t b = record b { attrs = b.attrs ++ record { name = b.attr_name; value = value_by t.kind t.bytes; line = b.attr_line; depth = d } ∷ [] }
+built_after _ _ t b = b
 
 -- nothing has been read
 abbrev pub nothing_built : Built

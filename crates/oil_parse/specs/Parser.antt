@@ -9,7 +9,7 @@ use Rattle.oil_lex.specs.Tokens.{Lexeme}
 use Rattle.oil_parse.specs.declared.draft.Draft.{Draft}
 use Rattle.oil_parse.specs.declared.parser.Parser.{Parser}
 use Rattle.oil_parse.specs.Shapes.{shape}
-use Rattle.oil_parse.specs.Machine.{next, taken, Built, least_after}
+use Rattle.oil_parse.specs.Machine.{next, built_after, Built, least_after}
 
 -- the draft without where it lies in memory
 abbrev pub draft : Draft → Built
@@ -29,7 +29,7 @@ pub record Moved (p q : Parser) (t : Lexeme) : Type 0 where
   pub goes : next p.expect (shape t) ≡ Some q.expect
   pub last : q.last ≡ t.line
   pub least : q.least ≡ least_after p.least p.expect (shape t) t.line
-  pub built : q.least ≡ None → draft q.draft ≡ taken p.expect (shape t) t (draft p.draft)
+  pub built : q.least ≡ None → draft q.draft ≡ built_after p.expect (shape t) t (draft p.draft)
 
 -- The parser refuses a token, or memory is short.
 abbrev pub Stopped : Parser → Lexeme → BuildError → Type 0

@@ -1,6 +1,6 @@
 //! What may come next: a machine that goes over the tokens one by one.
 
-ghost use Rattle.std.specs.Prelude.{◌≡◌, ◌+◌, ◌^◌, ◌<◌, ◌≤◌, ◌↔◌, IsTrue, length};
+ghost use Rattle.std.specs.Prelude.{◌≡◌, ◌+◌, ◌<◌, ◌↔◌, IsTrue};
 ghost use Rattle.oil_lex.specs.Tokens.{lexeme};
 ghost use Rattle.oil_parse.specs.Shapes.{shape, key_of, sign_of};
 ghost use Rattle.oil_parse.specs.Machine.{next, behind, closed_construct, expected_behind, Shallow};

@@ -1,5 +1,5 @@
 -- What each event does to the tasks that it is not of, and that the order of the tasks that were entered holds throughout.
-use Rattle.std.proofs.Common.{◌≡◌, ℕ, ◌==◌, List, [], ◌∷◌, false, ◌||◌, length, get_or, refl, sym, ap, ◌∙◌, subst}
+use Rattle.std.proofs.Common.{◌≡◌, ℕ, suc, ◌==◌, List, [], ◌∷◌, false, ◌||◌, length, get_or, refl, sym, ap, ◌∙◌, subst, arith}
 use Rattle.std.proofs.lemmas.Bool.{eqb-true, false_from_ne_true}
 use Rattle.std.proofs.lemmas.List.{length-map}
 use Rattle.sloth_base.specs.declared.config.Config.{Config}
@@ -16,10 +16,10 @@ use Rattle.osek_scheduler.specs.Services.{activated_state, started_task, Outcome
 use Rattle.osek_scheduler.specs.Steps.{admitted_state, ServesCall, OsekStep}
 use Rattle.osek_scheduler.specs.Runs.{Leads}
 use Rattle.osek_valid.specs.Apart.{IsActive, Apart}
-use Rattle.osek_valid.proofs.Apart.{Same, Acts, boot_calm, admit_calm, enter_acts, run_acts, call_acts, left_acts, back_acts, step_apart, opening_apart}
+use Rattle.osek_valid.proofs.Apart.{Same, Acts, boot_calm, admit_calm, tick_calm, enter_acts, run_acts, call_acts, left_acts, back_acts, step_apart, opening_apart}
 use Rattle.osek_valid.proofs.Steps.{length-autostarted, autostarted_at}
 use Rattle.osek_scheduler.proofs.Outcomes.{by_suspended}
-use Rattle.osek_blocking.proofs.Staying.{Stays, own, readied, outcome_stays}
+use Rattle.osek_blocking.proofs.Staying.{Stays, own, readied, outcome_stays, tick_stays}
 
 -- task u is Ready
 abbrev pub IsReady : System → ℕ → Type 0
@@ -85,6 +85,8 @@ Effect config s next (event.Left t served) = Calls config t s next
 Effect config s next (event.Back t) = Works config t s next
 Effect config s next event.Idle = Passes config s next
 Effect config s next event.Stray = ⊥
+Effect config s next (event.Due c) = Admits config s next
+Effect config s next (event.Tick c) = Passes config s next
 
 -- ---- arrivals
 
@@ -174,8 +176,17 @@ module _ (config : Config) (app : App) (s next : System) (o : Ordered config s) 
     };
     was = h.2;
   }
-  effect event.Idle h = subst (Passes config s) (sym h.2) (record { count = refl; same = λ u e. (e, refl); ready = λ u r. r; settles = refl })
+  effect event.Idle h = subst (Passes config s) (sym h.3) (record { count = refl; same = λ u e. (e, refl); ready = λ u r. r; settles = refl })
   effect event.Stray h = h
+  effect (event.Due c) h = subst (Admits config s) (sym h.2) (record { count = refl; same = λ u e. (e, refl); ready = λ u r. r; fresh = λ u r. refl })
+  effect (event.Tick c) h =
+      subst (Passes config s) (sym h.2)
+      (record {
+        count = (tick_stays 0 config s c h.1.declared).count;
+        same = tick_calm config s c h.1.declared;
+        ready = λ u r. (tick_stays (suc u) config s c h.1.declared).ready u (λ e. absurd (omega (arith, e))) r;
+        settles = refl;
+      })
 
   kept_count : (e : Event) → Effect config s next e → length next.tasks ≡ length s.tasks
   kept_count event.Boot f = f.count
@@ -187,6 +198,8 @@ module _ (config : Config) (app : App) (s next : System) (o : Ordered config s) 
   kept_count (event.Back t) f = f.moves.stays.count
   kept_count event.Idle f = f.count
   kept_count event.Stray f = absurd f
+  kept_count (event.Due c) f = f.count
+  kept_count (event.Tick c) f = f.count
 
   pub step_ordered : (e : Event) → OsekStep config app e s next → Ordered config next
   step_ordered e h = record {

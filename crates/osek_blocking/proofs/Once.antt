@@ -44,10 +44,11 @@ pub record Blocks (config : Config) (h : ℕ) (s : System) (u : ℕ) : Type 0 wh
 abbrev pub BlocksAlone : Config → ℕ → System → ℕ → Type 0
 BlocksAlone config h s b = (u : ℕ) → Blocks config h s u → u ≡ b
 
--- Who may block behind an event that finds h fresh: behind a service its caller, where it is lower, else b as before; behind an admit
+-- Who may block behind an event that finds h fresh: behind a service its caller, where it is lower, else b as before; behind an admission
 -- who may behind the events that follow.
 abbrev behind_event : Config → ℕ → Event → (b further : ℕ) → ℕ
 behind_event config h (event.Admit t) b further = further
+behind_event config h (event.Due c) b further = further
 behind_event config h (event.Call t served status) b further = cond (ltb (static_priority config t) (static_priority config h)) t b
 behind_event config h (event.Left t served) b further = cond (ltb (static_priority config t) (static_priority config h)) t b
 behind_event config h _ b further = b
@@ -132,6 +133,8 @@ module _ (config : Config) (app : App) (h : ℕ) (declared : h < length config.t
     stays (event.Back t) f away = f.moves.stays.ready h (not_it t f.was) ready
     stays event.Idle f away = f.ready h ready
     stays event.Stray f away = absurd f
+    stays (event.Due c) f away = f.ready h ready
+    stays (event.Tick c) f away = f.ready h ready
 
     -- and where it is not fresh it does not become so
     none : next.fresh ≡ [] → is_in h next.fresh ≡ false
@@ -147,6 +150,8 @@ module _ (config : Config) (app : App) (h : ℕ) (declared : h < length config.t
     stays_out (event.Back t) f out = none f.moves.acts.settles
     stays_out event.Idle f out = none f.settles
     stays_out event.Stray f out = absurd f
+    stays_out (event.Due c) f out = f.fresh h ready ∙ out
+    stays_out (event.Tick c) f out = none f.settles
 
     -- a task that the event is not of blocked before, if it blocks behind it
     from_same : (u : ℕ) → Same config u (task s u) (task next u) → Blocks config h next u → Blocks config h s u
@@ -203,6 +208,8 @@ module _ (config : Config) (app : App) (h : ℕ) (declared : h < length config.t
     old (event.Back t) f out = works t f
     old event.Idle f out = λ u b. from_same u (f.same u) b
     old event.Stray f out = absurd f
+    old (event.Due c) f out = λ u b. from_same u (f.same u) b
+    old (event.Tick c) f out = λ u b. from_same u (f.same u) b
 
     -- ---- the event of a lower task
 
@@ -278,6 +285,8 @@ module _ (config : Config) (app : App) (h : ℕ) (declared : h < length config.t
     fresh_step (event.Back t) b further alone is f = inr (none f.moves.acts.settles, λ u k. alone u (works t f u k))
     fresh_step event.Idle b further alone is f = inr (none f.settles, λ u k. alone u (from_same u (f.same u) k))
     fresh_step event.Stray b further alone is f = absurd f
+    fresh_step (event.Due c) b further alone is f = inl (f.fresh h ready ∙ is, (λ u k. alone u (from_same u (f.same u) k), refl))
+    fresh_step (event.Tick c) b further alone is f = inr (none f.settles, λ u k. alone u (from_same u (f.same u) k))
 
   -- ---- the events up to the entry
 

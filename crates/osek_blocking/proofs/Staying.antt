@@ -1,14 +1,15 @@
--- What a change that one task makes leaves: how many tasks there are, and which of the others are Ready.
-use Rattle.std.proofs.Common.{◌≡◌, ℕ, length, refl, ◌∙◌, subst}
+-- What a change that one task makes, and a tick, leaves: how many tasks there are, and which of the others are Ready.
+use Rattle.std.proofs.Common.{◌≡◌, ℕ, ◌<◌, length, refl, ◌∙◌, subst}
 use Rattle.std.specs.Prelude.{◌≢◌}
 use Rattle.std.proofs.lemmas.List.{length-set}
 use Rattle.sloth_base.specs.declared.config.Config.{Config}
 use Rattle.sloth_base.specs.declared.service.Service.{Service}
 use Rattle.osek_scheduler.specs.declared.state.TaskState.TheVariants as mode
 use Rattle.osek_scheduler.specs.State.{Task, System, task, with_task}
-use Rattle.osek_scheduler.specs.Services.{activated_state, with_events, IsAfter}
+use Rattle.osek_scheduler.specs.Services.{activated_state, with_events, IsAfter, ticked_state}
 use Rattle.osek_scheduler.specs.Outcomes.{decision, outcome}
 use Rattle.osek_scheduler.proofs.Outcomes.{KeptByOthers, outcome_keeps_all}
+use Rattle.osek_scheduler.proofs.Ticking.{parts_kept, ticked_keeps}
 use Rattle.osek_valid.proofs.Apart.{at_task}
 
 -- as many tasks, and each that is Ready and not c stays so
@@ -43,7 +44,14 @@ module _ (c : ℕ) where
     activates = λ x t h. then s x (activated_state x t) h (readied x t);
     sets = λ x t events h. then s x (with_events x t events) h (eventful x t events);
     stores = λ x symbols h. record { count = h.count; ready = h.ready };
+    sets_alarms = λ x a new h. record { count = h.count; ready = h.ready };
   }
 
   pub outcome_stays : (config : Config) (served : Service) (object mask : ℕ) (s : System) → IsAfter (Stays c s) (outcome config served object mask c s)
   outcome_stays config served object mask s = outcome_keeps_all (Stays c s) (stays_besides s) c s (own s) (decision config served object mask c s)
+
+  pub tick_stays : (config : Config) (s : System) (d : ℕ) → d < length config.counters → Stays c s (ticked_state config d s)
+  tick_stays config s d lt =
+      ticked_keeps (Stays c s) config
+      (parts_kept (Stays c s) config (stays_besides s) (λ x e new h. record { count = h.count; ready = h.ready })) s d lt
+      (record { count = refl; ready = λ u n r. r })

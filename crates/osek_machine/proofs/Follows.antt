@@ -267,7 +267,7 @@ module _ (s : System) (t mask : ℕ) (lt : t < length s.tasks) where
   by_mode mode.Active e = kept mode.Active e
   by_mode (mode.Waiting w) e = waked w e (bit_and found w == 0)
 
-  events-set : set_events t mask s ≡ with_change t (change.AddEvents mask) s
+  pub events-set : set_events t mask s ≡ with_change t (change.AddEvents mask) s
   events-set = by_mode (task s t).state refl
 
 -- a task whose events are set is there

@@ -1,3 +1,4 @@
 pub mod Follows
 pub mod Rooms
 pub mod Sound
+pub mod Ticked

@@ -11,7 +11,11 @@ use Rattle.std.proofs.Math.ListN.{get_or-eq_default}
 use Rattle.sloth_base.specs.Options.{is_number}
 use Rattle.sloth_base.specs.ServiceCodes.{code_of}
 use Rattle.sloth_base.specs.Arithmetic.{branch_holds}
+use Rattle.sloth_base.specs.declared.config.Action.{Action}
+use Rattle.sloth_base.specs.declared.config.Action.TheVariants as action
 use Rattle.sloth_base.specs.declared.config.Config.{Config}
+use Rattle.sloth_base.specs.declared.config.CounterDecl.{CounterDecl}
+use Rattle.sloth_base.specs.ConfigRange.{IsAction}
 use Rattle.sloth_base.specs.declared.app.App.{App}
 use Rattle.sloth_base.specs.declared.app.Func.{Func}
 use Rattle.sloth_base.specs.declared.app.Op.{Op}
@@ -21,7 +25,7 @@ use Rattle.sloth_base.specs.declared.event.Event.{Event}
 use Rattle.sloth_base.specs.declared.event.Event.TheVariants as event
 use Rattle.sloth_base.specs.declared.service.Service.{Service}
 use Rattle.sloth_base.specs.declared.service.Service.TheVariants as service
-use Rattle.sloth_base.specs.Named.{function, missing, body_of, declaration}
+use Rattle.sloth_base.specs.Named.{function, missing, body_of, declaration, counter_declaration, undeclared_counter, alarm_declaration, undeclared_alarm}
 use Rattle.code_rules.specs.AppRange.{IsOp}
 use Rattle.code_rules.specs.Code.{is_in}
 use Rattle.osek_scheduler.specs.declared.state.TaskState.{TaskState}
@@ -29,7 +33,7 @@ use Rattle.osek_scheduler.specs.declared.state.TaskState.TheVariants as mode
 use Rattle.osek_scheduler.specs.State.{Frame, Task, System, sleeping_task, task, with_task}
 use Rattle.osek_scheduler.specs.Priority.{is_active}
 use Rattle.osek_scheduler.specs.Meaning.{is_own, registers_of, on_some, if_true, register}
-use Rattle.osek_scheduler.specs.Services.{is_task, is_there}
+use Rattle.osek_scheduler.specs.Services.{is_task, is_alarm, is_there}
 use Rattle.osek_scheduler.specs.Outcomes.{OnPlans, all_plans, decision}
 use Rattle.osek_scheduler.proofs.Outcomes.{on_tested, on_taken}
 use Rattle.osek_scheduler.specs.declared.change.TaskChange.{TaskChange}
@@ -46,6 +50,7 @@ use Rattle.osek_scheduler.specs.declared.change.TaskChange.TheVariants as change
 use Rattle.osek_scheduler.specs.declared.plan.Other.{Other}
 use Rattle.osek_scheduler.specs.declared.plan.Other.TheVariants as other
 use Rattle.osek_scheduler.specs.declared.plan.Plan.{Plan}
+use Rattle.osek_plans.specs.Clocked.{NamesTask, IsClocked}
 use Rattle.osek_plans.specs.Frames.{CanMove, HasWord, out_of}
 use Rattle.osek_plans.specs.Changes.{changed_task, Allows}
 use Rattle.osek_plans.specs.Plans.{with_change, with_other, carried_out, plan, write_plan, service_plan, item_plan, item_behind, load_of, is_inside, HasOther, HasRoom}
@@ -128,6 +133,7 @@ module _ {X : Type 0} (get : Task → X) where
   kept-besides (other.Activate u) s t a b = kept-at s u t (changed_task change.Activate (task s u)) (a (task s u))
   kept-besides (other.AddEvents u mask) s t a b = kept-at s u t (changed_task (change.AddEvents mask) (task s u)) (b mask (task s u))
   kept-besides (other.Store y w offset value) s t a b = refl
+  kept-besides (other.SetAlarm y left cycle) s t a b = refl
 
 -- ---- what is read
 
@@ -213,6 +219,23 @@ module _ {config : Config} {app : App} {s : System} (sound : IsSound config app 
   in_function : (t : ℕ) → InFunction app (task s t).frames
   in_function t = calls-of (InFunction app) calls-in t
 
+  pub clocked : IsClocked config s
+  clocked = record {
+    counters = sound.valid.clock.counters;
+    alarms = sound.valid.clock.alarms;
+    values = sound.valid.clock.values;
+    greatest = λ c. by c (cases_lt c (length config.counters));
+    actions = λ a lt. names (alarm_declaration config a).action (w.in_range.configuration.alarms a undeclared_alarm lt).action;
+  }
+    where
+      by : (c : ℕ) → (c < length config.counters) ⊎ (length config.counters ≤ c) → (counter_declaration config c).max < 2147483648
+      by c (inl lt) = let m = (w.in_range.configuration.counters c undeclared_counter lt).max.1 in omega (arith, m)
+      by c (inr ge) = subst (λ (d : CounterDecl). d.max < 2147483648) (sym (get_or-eq_default config.counters undeclared_counter ge)) (omega arith)
+
+      names : (does : Action) → IsAction config does → NamesTask (length config.tasks) does
+      names (action.Activate t) h = h
+      names (action.Set t mask) h = h.0
+
   pub reads : IsRead config app s
   reads = record {
     count = sound.valid.count;
@@ -221,6 +244,7 @@ module _ {config : Config} {app : App} {s : System} (sound : IsSound config app 
     computed = λ k o e.
         let at = if_true_some (is_active k.state && not k.owed) (operation_of app k.frames) o (sym (own-operation app k) ∙ e) in computed-in k.frames o at.1;
     moves = moves;
+    clocked = clocked;
   }
 
   words-of : (f : ℕ) (found : Func) → slice_get app.funcs f ≡ Some found → found.frame_words ≤ 32
@@ -334,11 +358,17 @@ module _ {config : Config} {app : App} {s : System} (sound : IsSound config app 
     there : (u : ℕ) → is_task config u ≡ true → u < length s.tasks
     there u e = in_tasks u (ltb-true u (length config.tasks) e)
 
-    -- the other task that a service changes is there
+    alarm-there : (a : ℕ) → is_alarm config a ≡ true → a < length s.clock.alarms
+    alarm-there a e = subst (λ n. a < n) (sym sound.valid.clock.alarms) (ltb-true a (length config.alarms) e)
+
+    -- the other task, or the alarm, that a service changes is there
     besides-there : (srv : Service) (object mask : ℕ) → is_there config k.held srv object ≡ true → OnPlans s (λ p. HasOther p.other s) (decision config srv object mask t s)
     besides-there service.ActivateTask object mask e = (λ _. there object e, λ _. tt)
     besides-there service.ChainTask object mask e = (λ _. in_tasks t lt, λ _. (λ _. there object e, λ _. tt))
     besides-there service.SetEvent object mask e = (λ _. tt, λ _. there object e)
+    besides-there service.SetRelAlarm object mask e = (λ _. tt, λ _. (λ _. alarm-there object e, λ _. tt))
+    besides-there service.SetAbsAlarm object mask e = (λ _. tt, λ _. (λ _. alarm-there object e, λ _. tt))
+    besides-there service.CancelAlarm object mask e = (λ _. alarm-there object e, λ _. tt)
     besides-there srv object mask e =
         on_tested s (λ p. HasOther p.other s) (λ p. is_nothing p.other) (λ p. nothing-there p.other) (decision config srv object mask t s) refl
       where

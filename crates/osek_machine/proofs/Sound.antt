@@ -36,6 +36,7 @@ module _ (config : Config) (app : App) (s : System) (sound : IsSound config app 
   fresh-differ : (e : Event) (next : System) → OsekStep config app e s next → AreDistinct next.fresh
   fresh-differ (event.Admit t) next h =
       subst (λ (x : System). AreDistinct x.fresh) (sym h.2) (admitted-differ t (task s t).state refl)
+  fresh-differ (event.Due c) next h = subst (λ (x : System). AreDistinct x.fresh) (sym h.2) sound.distinct
   fresh-differ e next h = settled-differ e next refl h
 
   step-sound : (e : Event) (next : System) → OsekStep config app e s next → IsSound config app next

@@ -2,5 +2,6 @@
 #![tactic(auto)]
 
 pub mod osek;
+pub mod ticks;
 
 pub use osek::{NotARun, Osek};

@@ -8,14 +8,16 @@ ghost use Rattle.osek_scheduler.specs.Next.{next_state};
 ghost use Rattle.sloth_base.specs.declared.app.App.{App as AnyApp};
 ghost use Rattle.sloth_base.specs.declared.event.Event.TheVariants as event;
 ghost use Rattle.osek_scheduler.specs.declared.state.TaskState.TheVariants as mode;
-ghost use Rattle.osek_plans.specs.Above.{is_above};
+ghost use Rattle.osek_plans.specs.Above.{is_line_above};
+ghost use Rattle.osek_plans.specs.Clocked.{IsClocked};
 ghost use Rattle.osek_plans.specs.Plans.{HasRoom};
 ghost use Rattle.osek_plans.specs.Steps.{followed_state};
 ghost use Rattle.osek_machine.specs.Steps.{IsSound, Machine};
 
+use crate::ticks;
 use osek_plans::above::lines_above;
 use osek_plans::events::{answer_plan, back_plan, entry_plan, leave_plan, running_plan};
-use osek_plans::priority::is_idle;
+use osek_plans::priority::{is_idle, is_next_tick, no_ticks};
 use osek_plans::store::Store;
 use osek_scheduler::plan::Plan;
 use osek_scheduler::state::TaskState;
@@ -95,16 +97,46 @@ fn admit(config: &Config, store: &mut Store, t: u32) -> Result<(), NotARun>
     Ok(())
 }
 
-// No task is due.
+// No task and no counter is due.
 fn idle(config: &Config, store: &mut Store) -> Result<(), NotARun>
     requires { length store.old.tasks ≡ length config.now.tasks }
     ensures next { OnOk result ((app : AnyApp) → next_state config.now app event.Idle store.old ≡ Some store.new) }
     ensures none { OnErr result ((app : AnyApp) → next_state config.now app event.Idle store.old ≡ None) }
     ensures same { OnErr result (store.new ≡ store.old) }
 {
-    if !store.booted() || !is_idle(config, store) {
+    if !store.booted() || !is_idle(config, store) || !no_ticks(config, store) {
         return Err(NotARun);
     }
+    store.settle();
+    Ok(())
+}
+
+// A counter's line arrived.
+fn make_due(config: &Config, store: &mut Store, c: u32) -> Result<(), NotARun>
+    requires { length store.old.clock.counters ≡ length config.now.counters }
+    ensures next { OnOk result ((app : AnyApp) → next_state config.now app (event.Due c) store.old ≡ Some store.new) }
+    ensures none { OnErr result ((app : AnyApp) → next_state config.now app (event.Due c) store.old ≡ None) }
+    ensures same { OnErr result (store.new ≡ store.old) }
+{
+    if !store.booted() || c as usize >= config.counters.items().len() {
+        return Err(NotARun);
+    }
+    ticks::make_due(store, c);
+    Ok(())
+}
+
+// A counter ticks.
+fn tick(config: &Config, store: &mut Store, c: u32) -> Result<(), NotARun>
+    requires tasks { length store.old.tasks ≡ length config.now.tasks }
+    requires clocked { IsClocked config.now store.old }
+    ensures next { OnOk result ((app : AnyApp) → next_state config.now app (event.Tick c) store.old ≡ Some store.new) }
+    ensures none { OnErr result ((app : AnyApp) → next_state config.now app (event.Tick c) store.old ≡ None) }
+    ensures same { OnErr result (store.new ≡ store.old) }
+{
+    if !store.booted() || !is_next_tick(config, store, c) {
+        return Err(NotARun);
+    }
+    ticks::tick(store, config, c);
     store.settle();
     Ok(())
 }
@@ -149,6 +181,8 @@ fn step(config: &Config, app: &App, store: &mut Store, event: &Event) -> Result<
             act(store, task, plan)
         }
         Event::Idle => idle(config, store),
+        Event::Due(counter) => make_due(config, store, counter),
+        Event::Tick(counter) => tick(config, store, counter),
         Event::Stray => Err(NotARun),
     }
 }
@@ -185,10 +219,10 @@ impl Osek {
         self.store.task(task.0 as usize).state()
     }
 
-    /// The Ready tasks that stand above a task of the configuration, a bit for each line. Takes no memory.
+    /// The due counters, and the Ready tasks that stand above a task of the configuration, a bit for each line. Takes no memory.
     pub fn above(&self, task: TaskId) -> u32
         requires { task < length self.now.config.tasks }
-        ensures { (u : ℕ) → bit_at result u ≡ cond (is_above self.now.config self.now.system task u) 1 0 }
+        ensures { (line : ℕ) → bit_at result line ≡ cond (is_line_above self.now.config self.now.system task line) 1 0 }
     {
         lines_above(&self.config, &self.store, task.0)
     }

@@ -1,4 +1,5 @@
 pub mod Below
+pub mod Lines
 pub mod Lists
 pub mod Row
 pub mod Started

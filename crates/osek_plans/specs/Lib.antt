@@ -1,4 +1,5 @@
 pub mod Above
+pub mod Clocked
 pub mod Changes
 pub mod Frames
 pub mod Plans

@@ -1,5 +1,5 @@
 -- What an event of the running task does.
-use Rattle.std.specs.Prelude.{ℕ, ◌+◌, ◌*◌, ◌<◌, ◌≤◌, ◌==◌, ◌&&◌, List, [], Bool}
+use Rattle.std.specs.Prelude.{ℕ, ◌+◌, ◌*◌, ◌<◌, ◌≤◌, ◌&&◌, List, [], Bool}
 use Rattle.std.specs.Prelude.{cond, length, get_or, set, leb, ltb, bit_and, Option, Some, None, slice_get}
 use Rattle.sloth_base.specs.Arithmetic.{complement, size_of, register_result, number_result, branch_holds}
 use Rattle.sloth_base.specs.declared.config.Config.{Config}
@@ -9,7 +9,7 @@ use Rattle.sloth_base.specs.declared.app.Op.{Op}
 use Rattle.sloth_base.specs.declared.app.Op.TheVariants as op
 use Rattle.sloth_base.specs.declared.app.Width.{Width}
 use Rattle.sloth_base.specs.declared.service.Service.{Service}
-use Rattle.osek_scheduler.specs.State.{Frame, System, task}
+use Rattle.osek_scheduler.specs.State.{Frame, System, task, with_alarm}
 use Rattle.osek_scheduler.specs.Meaning.{register, seen_in, on_some, if_true, accessed_bytes, loaded_word, bytes_after_store}
 pub use Rattle.osek_scheduler.specs.Outcomes.{plan}
 use Rattle.osek_scheduler.specs.Outcomes.{plan_in, decision}
@@ -26,6 +26,7 @@ with_other other.Nothing s = s
 with_other (other.Activate t) s = with_change t change.Activate s
 with_other (other.AddEvents t mask) s = with_change t (change.AddEvents mask) s
 with_other (other.Store y w offset value) s = record s { symbols = set s.symbols y (bytes_after_store w (get_or s.symbols y []) offset value) }
+with_other (other.SetAlarm a left cycle) s = with_alarm s a (record { left = left; cycle = cycle })
 
 -- the system after a plan of task t
 abbrev pub carried_out : ℕ → Plan → System → System
@@ -37,6 +38,7 @@ HasOther other.Nothing s = Unit {0}
 HasOther (other.Activate t) s = t < length s.tasks
 HasOther (other.AddEvents t mask) s = t < length s.tasks
 HasOther (other.Store y w offset value) s = (y < length s.symbols) × (offset + size_of w ≤ length (get_or s.symbols y []))
+HasOther (other.SetAlarm a left cycle) s = a < length s.clock.alarms
 
 -- the system has room for a plan of task t
 pub record HasRoom (t : ℕ) (p : Plan) (s : System) : Type 0 where
@@ -46,7 +48,7 @@ pub record HasRoom (t : ℕ) (p : Plan) (s : System) : Type 0 where
 
 -- ---- services
 
--- what a service does in a state; `object` is its task or resource, `mask` that of its events
+-- what a service does in a state; `object` is its task, resource or alarm, `mask` that of its events
 abbrev pub service_plan : Config → Service → (object mask caller : ℕ) → System → Plan
 service_plan config served object mask caller s = plan_in s (decision config served object mask caller s)
 

@@ -9,6 +9,7 @@ use Rattle.osek_scheduler.specs.State.{Task, System, task}
 use Rattle.osek_scheduler.specs.Meaning.{on_some, if_true}
 use Rattle.osek_scheduler.specs.Steps.{settled_state}
 use Rattle.osek_scheduler.specs.declared.plan.Plan.{Plan}
+use Rattle.osek_plans.specs.Clocked.{IsClocked}
 use Rattle.osek_plans.specs.Frames.{CanMove}
 use Rattle.osek_plans.specs.Plans.{carried_out}
 use Rattle.osek_plans.specs.Running.{IsComputed, own_operation, serving_plan}
@@ -33,3 +34,4 @@ pub record IsRead (config : Config) (app : App) (s : System) : Type 0 where
   pub functions : length app.funcs ≤ 64
   pub computed : (k : Task) (o : Op) → own_operation app k ≡ Some o → IsComputed o
   pub moves : (t : ℕ) → CanMove (task s t).frames
+  pub clocked : IsClocked config s

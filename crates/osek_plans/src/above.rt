@@ -1,12 +1,15 @@
-//! The tasks that stand above another in the order of those that are due.
+//! What stands above a task in the order of the tasks and counters that are due.
 ghost use Rattle.std.specs.Prelude.{◌≡◌, ◌<◌, ◌≤◌, ◌*◌, ◌%◌, ◌^◌, ℕ, bit_or, cond, length};
 ghost use Rattle.std.specs.Int.{bit_at};
 ghost use Rattle.osek_scheduler.specs.Priority.{rank};
-ghost use Rattle.osek_plans.specs.Above.{is_above};
+ghost use Rattle.osek_plans.specs.Above.{is_above, is_line_above};
 
 use crate::priority::{is_ready, rank};
 use crate::store::Store;
 use sloth_base::config::Config;
+
+/// The line of the first counter; the others follow it.
+const FIRST_COUNTER_LINE: u32 = 30;
 
 // Whether a task is Ready and has a greater rank than another, whose rank is given.
 fn is_above(config: &Config, store: &Store, rank_of_task: u64, task: usize, other: usize) -> bool
@@ -26,8 +29,8 @@ fn with_line(row: u32, line: u32) -> u32
     row | 1 << line
 }
 
-/// The Ready tasks that stand above a task, a bit for each line.
-pub fn lines_above(config: &Config, store: &Store, task: u32) -> u32
+// The Ready tasks that stand above a task, a bit for each line.
+fn tasks_above(config: &Config, store: &Store, task: u32) -> u32
     requires count { length store.now.tasks ≡ length config.now.tasks }
     requires few { length config.now.tasks ≤ 30 }
     requires declared { task < length config.now.tasks }
@@ -39,6 +42,23 @@ pub fn lines_above(config: &Config, store: &Store, task: u32) -> u32
     for other in 0..config.tasks.items().len() {
         if is_above(config, store, rank_of_task, place, other) {
             row = with_line(row, other as u32);
+        }
+    }
+    row
+}
+
+/// The due counters, and the Ready tasks that stand above a task, a bit for each line.
+pub fn lines_above(config: &Config, store: &Store, task: u32) -> u32
+    requires count { length store.now.tasks ≡ length config.now.tasks }
+    requires few { length config.now.tasks ≤ 30 }
+    requires declared { task < length config.now.tasks }
+    requires few_counters { length config.now.counters ≤ 2 }
+    ensures { (line : ℕ) → bit_at result line ≡ cond (is_line_above config.now store.now task line) 1 0 }
+{
+    let mut row = tasks_above(config, store, task);
+    for counter in 0..config.counters.items().len() {
+        if store.counter(counter).due {
+            row = with_line(row, FIRST_COUNTER_LINE + counter as u32);
         }
     }
     row

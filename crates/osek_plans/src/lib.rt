@@ -1,9 +1,11 @@
-//! What an event of the abstract scheduler changes, as a plan, and the tasks and data that plans are carried out on, which take all memory
-//! at the start.
+//! What an event of the abstract scheduler changes, as a plan, and the tasks, data, counters and alarms that it is carried out on, which take
+//! all memory at the start.
 #![tactic(auto)]
 
 pub mod above;
+pub mod alarms;
 pub mod arithmetic;
+pub mod clock;
 pub mod data;
 pub mod events;
 pub mod frame;

@@ -1,7 +1,8 @@
 //! Priorities, and the task that is due.
 ghost use Rattle.std.specs.Prelude.{◌≡◌, ◌<◌, ◌≤◌, not, true, length, map, filter};
 ghost use Rattle.osek_scheduler.specs.Priority.{ceiling, current_priority, greatest, highest_priority, is_active, is_in, rank};
-ghost use Rattle.osek_scheduler.specs.Next.{all_below, is_due, is_ready, is_top, yields_to};
+ghost use Rattle.osek_scheduler.specs.State.{counter};
+ghost use Rattle.osek_scheduler.specs.Next.{all_below, is_due, is_next_tick, is_ready, is_top, no_ticks, yields_to};
 
 use crate::room::TaskRoom;
 use crate::store::Store;
@@ -156,7 +157,39 @@ fn is_greatest(config: &Config, store: &Store, others: &[u32], t: usize) -> bool
     true
 }
 
-/// Whether a task is the greatest of those that are due and not left out.
+/// Whether no counter is due.
+pub fn no_ticks(config: &Config, store: &Store) -> bool
+    ensures { result ≡ no_ticks config.now store.now }
+{
+    for c in 0..config.counters.items().len() {
+        if store.counter(c).due {
+            return false;
+        }
+    }
+    true
+}
+
+// Whether no counter of a lower number is due.
+fn is_first(store: &Store, c: usize) -> bool
+    ensures { result ≡ all_below c (λ d. not (counter store.now d).due) }
+{
+    for d in 0..c {
+        if store.counter(d).due {
+            return false;
+        }
+    }
+    true
+}
+
+/// Whether a counter is due, and none of lower number.
+pub fn is_next_tick(config: &Config, store: &Store, c: u32) -> bool
+    ensures { result ≡ is_next_tick config.now store.now c }
+{
+    let place = c as usize;
+    place < config.counters.items().len() && store.counter(place).due && is_first(store, place)
+}
+
+/// Whether a task is the greatest of those that are due and not left out, and no counter is due.
 pub fn is_top(config: &Config, store: &Store, others: &[u32], t: u32) -> bool
     requires count { length store.now.tasks ≡ length config.now.tasks }
     requires few { length config.now.tasks ≤ 30 }
@@ -168,6 +201,7 @@ pub fn is_top(config: &Config, store: &Store, others: &[u32], t: u32) -> bool
         && is_due(store, place)
         && !is_in(t, others)
         && is_greatest(config, store, others, place)
+        && no_ticks(config, store)
 }
 
 /// Whether no task is due.

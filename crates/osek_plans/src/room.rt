@@ -4,7 +4,7 @@ ghost use Rattle.std.specs.Option.{option_copied};
 ghost use Rattle.code_rules.specs.Code.{is_last};
 ghost use Rattle.osek_scheduler.specs.State.{sleeping_task};
 ghost use Rattle.osek_scheduler.specs.Meaning.{register, with_register};
-ghost use Rattle.osek_scheduler.specs.Services.{answers, answers_with};
+ghost use Rattle.osek_scheduler.specs.Services.{answers, answers_with, first_operand, second_operand};
 ghost use Rattle.osek_plans.specs.Frames.{CanMove};
 ghost use Rattle.osek_plans.specs.Changes.{Allows, changed_task, entry, woken_by};
 
@@ -169,6 +169,20 @@ impl TaskRoom {
             return 0;
         }
         number_at(&self.registers, usize::from(r.0).saturating_sub(FIRST))
+    }
+
+    /// What it has in a0, the first operand of a service on an alarm.
+    pub fn first_operand(&self) -> u32
+        ensures { result ≡ first_operand self.now }
+    {
+        number_at(&self.registers, STATUS)
+    }
+
+    /// What it has in a1, the second one.
+    pub fn second_operand(&self) -> u32
+        ensures { result ≡ second_operand self.now }
+    {
+        number_at(&self.registers, VALUE)
     }
 
     // Gives a register a value; x0 stays zero.

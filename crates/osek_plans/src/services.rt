@@ -1,10 +1,12 @@
 //! What a service does.
 ghost use Rattle.std.specs.Prelude.{◌≡◌, ◌<◌, ◌==◌, cond, Some, None, length, bit_and};
 ghost use Rattle.osek_scheduler.specs.State.{task};
-ghost use Rattle.osek_scheduler.specs.Services.{if_suspended, is_resource, is_task, is_there, state_number};
+ghost use Rattle.osek_scheduler.specs.Services.{if_suspended, is_alarm, is_resource, is_task, is_there, state_number};
+ghost use Rattle.osek_plans.specs.Clocked.{IsClocked};
 ghost use Rattle.osek_plans.specs.Plans.{plan, service_plan};
 ghost use Rattle.osek_plans.specs.Running.{call_in, call_plan};
 
+use crate::alarms::{cancel_alarm, get_alarm, set_absolute, set_relative};
 use crate::room::TaskRoom;
 use crate::store::{Store, is_suspended};
 use osek_scheduler::change::TaskChange;
@@ -37,8 +39,8 @@ fn events_of(store: &Store, t: u32) -> u32
     0
 }
 
-// A change of the caller alone, with a status.
-fn answers(status: u32, change: TaskChange) -> Plan
+/// A change of the caller alone, with a status.
+pub fn answers(status: u32, change: TaskChange) -> Plan
     ensures { result ≡ plan (Some status) change Other.Nothing }
 {
     Plan {
@@ -59,8 +61,8 @@ fn leaves(change: TaskChange, other: Other) -> Plan
     }
 }
 
-// The caller goes on with a status, after what is done besides.
-fn goes_on(status: u32, other: Other) -> Plan
+/// The caller goes on with a status, after what is done besides.
+pub fn goes_on(status: u32, other: Other) -> Plan
     ensures { result ≡ plan (Some status) (TaskChange.Answer status) other }
 {
     Plan {
@@ -150,8 +152,11 @@ fn service_plan(
     mask: u32,
     caller: u32,
 ) -> Plan
+    requires there { caller < length store.now.tasks }
+    requires clocked { IsClocked config.now store.now }
     ensures { result ≡ service_plan config.now service object mask caller store.now }
 {
+    let task = store.task(caller as usize);
     match service {
         Service::ActivateTask => activate_task(store, object),
         Service::TerminateTask => leaves(TaskChange::End, Other::Nothing),
@@ -168,6 +173,22 @@ fn service_plan(
         Service::ClearEvent => answers(E_OK, TaskChange::ClearEvents(mask)),
         Service::GetEvent => get_event(store, object),
         Service::WaitEvent => wait_event(store, mask, caller),
+        Service::SetRelAlarm => set_relative(
+            config,
+            store,
+            object,
+            task.first_operand(),
+            task.second_operand(),
+        ),
+        Service::SetAbsAlarm => set_absolute(
+            config,
+            store,
+            object,
+            task.first_operand(),
+            task.second_operand(),
+        ),
+        Service::CancelAlarm => cancel_alarm(store, object),
+        Service::GetAlarm => get_alarm(store, object),
     }
 }
 
@@ -188,6 +209,13 @@ fn is_resource(config: &Config, resource: u32) -> bool
     (resource as usize) < config.resources.items().len()
 }
 
+// Whether an alarm is declared.
+fn is_alarm(config: &Config, alarm: u32) -> bool
+    ensures { result ≡ is_alarm config.now alarm }
+{
+    (alarm as usize) < config.alarms.items().len()
+}
+
 // Whether what a service names is there.
 fn is_there(config: &Config, task: &TaskRoom, service: Service, object: u32) -> bool
     ensures { result ≡ is_there config.now task.now.held service object }
@@ -199,6 +227,7 @@ fn is_there(config: &Config, task: &TaskRoom, service: Service, object: u32) -> 
         ObjectKind::Nothing => true,
         ObjectKind::Task => is_task(config, object),
         ObjectKind::Resource => is_resource(config, object),
+        ObjectKind::Alarm => is_alarm(config, object),
     }
 }
 
@@ -233,7 +262,8 @@ pub fn call_plan(
     t: u32,
     call: &Call,
 ) -> Option<Plan>
-    requires { t < length store.now.tasks }
+    requires there { t < length store.now.tasks }
+    requires clocked { IsClocked config.now store.now }
     ensures { result ≡ call_plan config.now served t store.now call.now }
 {
     let there = is_there(config, store.task(t as usize), served, call.object);

@@ -1,7 +1,7 @@
 //! The system as it stands, with room for all that it may become.
 ghost use Rattle.std.specs.Prelude.{◌≡◌, ◌≤◌, ◌<◌, ◌+◌, [], length, get_or, set, map, true, false, IfOk};
 ghost use Rattle.sloth_base.specs.Arithmetic.{size_of};
-ghost use Rattle.osek_scheduler.specs.State.{opening, sleeping_task, task};
+ghost use Rattle.osek_scheduler.specs.State.{alarm, counter, opening, sleeping_task, task, with_alarm, with_counter};
 ghost use Rattle.osek_scheduler.specs.declared.state.TaskState.TheVariants as mode;
 ghost use Rattle.osek_scheduler.specs.Steps.{admitted_state, autostarted_tasks, settled_state};
 ghost use Rattle.osek_scheduler.specs.Meaning.{bytes_after_store};
@@ -10,25 +10,27 @@ ghost use Rattle.osek_plans.specs.Changes.{Allows, changed_task};
 ghost use Rattle.osek_plans.specs.Plans.{HasOther, HasRoom, carried_out, is_inside, load_of, with_change, with_other};
 
 use crate::arithmetic::size_of;
+use crate::clock::ClockRoom;
 use crate::data::Data;
 use crate::fresh::Fresh;
 use crate::room::TaskRoom;
 use osek_scheduler::change::TaskChange;
 use osek_scheduler::plan::{Other, Plan};
-use osek_scheduler::state::TaskState;
+use osek_scheduler::state::{Alarm, Counter, TaskState};
 use sloth_base::app::{App, Width};
 use sloth_base::config::Config;
 use sloth_base::memory::NoMemory;
 use std::alloc::{AllocError, Global};
 use std::marker::Model;
 
-/// The tasks and the data as they stand.
+/// The tasks, the data, the counters and the alarms as they stand.
 #[derive(Drop)]
 pub struct Store {
     tasks: Vec<TaskRoom>,
     symbols: Vec<Data>,
     booted: bool,
     fresh: Fresh,
+    clock: ClockRoom,
 }
 
 impl Model for Store {
@@ -36,7 +38,13 @@ impl Model for Store {
 
     ghost Value = { System };
 
-    ghost view = { λ s. record { tasks = s.tasks.items; symbols = s.symbols.items; booted = s.booted; fresh = s.fresh } };
+    ghost view = { λ s. record {
+      tasks = s.tasks.items;
+      symbols = s.symbols.items;
+      booted = s.booted;
+      fresh = s.fresh;
+      clock = s.clock;
+    } };
 }
 
 // A task for each declaration.
@@ -114,11 +122,13 @@ impl Store {
     {
         let tasks = sleeping_tasks(alloc, config)?;
         let symbols = declared_data(alloc, app)?;
+        let clock = ClockRoom::opening(alloc, config)?;
         Ok(Store {
             tasks,
             symbols,
             booted: false,
             fresh: Fresh::new(),
+            clock,
         })
     }
 
@@ -171,8 +181,38 @@ impl Store {
         Some(self.symbols[symbol as usize].load(width, offset))
     }
 
-    // Changes a task.
-    fn change(&mut self, t: usize, change: &TaskChange)
+    /// A counter; one that is not there is not due.
+    pub fn counter(&self, c: usize) -> Counter
+        ensures { result ≡ counter self.now c }
+    {
+        self.clock.counter(c)
+    }
+
+    /// An alarm; one that is not there is not in use.
+    pub fn alarm(&self, a: usize) -> Alarm
+        ensures { result ≡ alarm self.now a }
+    {
+        self.clock.alarm(a)
+    }
+
+    /// Replaces a counter.
+    pub fn set_counter(&mut self, c: usize, counter: Counter)
+        requires { c < length self.old.clock.counters }
+        ensures { self.new ≡ with_counter self.old c counter }
+    {
+        self.clock.set_counter(c, counter);
+    }
+
+    /// Replaces an alarm.
+    pub fn set_alarm(&mut self, a: usize, alarm: Alarm)
+        requires { a < length self.old.clock.alarms }
+        ensures { self.new ≡ with_alarm self.old a alarm }
+    {
+        self.clock.set_alarm(a, alarm);
+    }
+
+    /// Changes a task.
+    pub fn change(&mut self, t: usize, change: &TaskChange)
         requires declared { t < length self.old.tasks }
         requires allows { Allows change.now (task self.old t) }
         ensures { self.new ≡ with_change t change.now self.old }
@@ -203,6 +243,9 @@ impl Store {
                 offset,
                 value,
             ),
+            Other::SetAlarm { alarm, left, cycle } => {
+                self.set_alarm(alarm as usize, Alarm { left, cycle });
+            }
         }
     }
 

@@ -3,3 +3,4 @@ pub mod Next
 pub mod Leading
 pub mod Examples
 pub mod Outcomes
+pub mod Ticking

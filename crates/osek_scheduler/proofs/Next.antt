@@ -1,5 +1,5 @@
 -- The computed step is the relation.
-use Rattle.std.proofs.Common.{◌≡◌, ℕ, ◌<◌, ◌==◌, ◌&&◌, List, [], ◌∷◌, true, false, not, ltb, length, Option, Some, refl, sym, ◌∙◌, ap, subst, get_or}
+use Rattle.std.proofs.Common.{◌≡◌, ℕ, ◌<◌, ◌==◌, ◌&&◌, List, [], ◌∷◌, true, false, not, ltb, length, Option, Some, refl, sym, ◌∙◌, ap, subst}
 use Rattle.std.specs.Bool.{Decides}
 use Rattle.std.proofs.lemmas.Bool.{and_parts, and_from, not-true, not_from_false, eqb-true, eq-eqb}
 use Rattle.std.proofs.lemmas.Bool.Decides.{Decides-ltb, Decides-not, Decides-below_and}
@@ -21,8 +21,8 @@ use Rattle.osek_scheduler.specs.Meaning.{meaning, on_some}
 use Rattle.osek_scheduler.specs.Services.{is_there, Outcome, GoesOn, Leaves}
 use Rattle.osek_scheduler.specs.Outcomes.{outcome}
 use Rattle.osek_scheduler.specs.Steps.{settled_state, IsAt, Executes, ServesCall, OsekStep}
-use Rattle.osek_scheduler.specs.Next.{is_ready, is_due, is_top, all_below, operation_of, operation_at, meaning_of, is_position, served_outcome, going_on_with, left_state, executed_state, answer_to, next_state}
-use Rattle.osek_scheduler.proofs.Tests.{Decides-is_ready, Decides-is_active, Decides-is_due, Decides-is_top, some_one, if_true_some, if_true_is, on_some_from, on_some_is}
+use Rattle.osek_scheduler.specs.Next.{is_ready, is_due, no_ticks, is_next_tick, is_top, all_below, operation_of, operation_at, meaning_of, is_position, served_outcome, going_on_with, left_state, executed_state, answer_to, next_state}
+use Rattle.osek_scheduler.proofs.Tests.{Decides-is_ready, Decides-is_active, Decides-is_due, Decides-no_ticks, Decides-is_next_tick, Decides-is_top, some_one, if_true_some, if_true_is, on_some_from, on_some_is}
 
 -- ---- where a task runs
 
@@ -233,10 +233,19 @@ module _ (config : Config) (app : App) (s next : System) where
       let three = and_parts _ _ two.1 in
       (both.0, (Decides-is_top config s [] t).0 two.0, (Decides-is_active (task s t).state).0 three.0, three.1, sym (some_one _ _ b.1))
   step_of event.Idle h =
-      let b = if_true_some (s.booted && all_below (length config.tasks) (λ t. not (is_due s t))) _ next h in
+      let b = if_true_some (s.booted && (all_below (length config.tasks) (λ t. not (is_due s t)) && no_ticks config s)) _ next h in
       let both = and_parts _ _ b.0 in
-      (both.0, nothing_due.0 both.1, sym (some_one _ _ b.1))
+      let two = and_parts _ _ both.1 in
+      (both.0, nothing_due.0 two.0, (Decides-no_ticks config s).0 two.1, sym (some_one _ _ b.1))
   step_of event.Stray h = absurd cc
+  step_of (event.Due c) h =
+      let b = if_true_some (s.booted && ltb c (length config.counters)) _ next h in
+      let both = and_parts _ _ b.0 in
+      (both.0, (Decides-ltb c (length config.counters)).0 both.1, sym (some_one _ _ b.1))
+  step_of (event.Tick c) h =
+      let b = if_true_some (s.booted && is_next_tick config s c) _ next h in
+      let both = and_parts _ _ b.0 in
+      (both.0, (Decides-is_next_tick config s c).0 both.1, sym (some_one _ _ b.1))
 
   pub step_is : (e : Event) → OsekStep config app e s next → next_state config app e s ≡ Some next
   step_is event.Boot h = if_true_is _ _ next (not_from_false _ h.0) (ap Some (sym h.1))
@@ -260,5 +269,8 @@ module _ (config : Config) (app : App) (s next : System) where
       if_true_is _ _ next
       (and_from _ _ h.0 (and_from _ _ ((Decides-is_top config s [] t).1 h.1) (and_from _ _ ((Decides-is_active (task s t).state).1 h.2) h.3)))
       (ap Some (sym h.4))
-  step_is event.Idle h = if_true_is _ _ next (and_from _ _ h.0 (nothing_due.1 h.1)) (ap Some (sym h.2))
+  step_is event.Idle h =
+      if_true_is _ _ next (and_from _ _ h.0 (and_from _ _ (nothing_due.1 h.1) ((Decides-no_ticks config s).1 h.2))) (ap Some (sym h.3))
   step_is event.Stray h = absurd h
+  step_is (event.Due c) h = if_true_is _ _ next (and_from _ _ h.0 ((Decides-ltb c (length config.counters)).1 h.1)) (ap Some (sym h.2))
+  step_is (event.Tick c) h = if_true_is _ _ next (and_from _ _ h.0 ((Decides-is_next_tick config s c).1 h.1)) (ap Some (sym h.2))

@@ -1,12 +1,13 @@
 -- What an outcome keeps, from what the changes of its plan keep.
-use Rattle.std.proofs.Common.{◌≡◌, refl, ℕ, ◌==◌, List, Bool, true, false, ◌&&◌, Option, Some, None, bit_and, bit_or}
+use Rattle.std.proofs.Common.{◌≡◌, refl, ℕ, ◌==◌, List, Bool, true, Option, Some, None, bit_and, bit_or}
 use Rattle.std.proofs.lemmas.Bool.{cond_both, and_parts}
 use Rattle.osek_scheduler.specs.declared.plan.Other.{Other}
 use Rattle.osek_scheduler.specs.declared.plan.Other.TheVariants as other
 use Rattle.osek_scheduler.specs.declared.plan.Plan.{Plan}
+use Rattle.osek_scheduler.specs.declared.state.Alarm.{Alarm}
 use Rattle.osek_scheduler.specs.declared.state.TaskState.{TaskState}
 use Rattle.osek_scheduler.specs.declared.state.TaskState.TheVariants as mode
-use Rattle.osek_scheduler.specs.State.{Task, System, task, with_task}
+use Rattle.osek_scheduler.specs.State.{Task, System, task, with_task, with_alarm}
 use Rattle.osek_scheduler.specs.Services.{if_suspended, activated_state, woken_state, with_events, set_events, Outcome, IsAfter}
 use Rattle.osek_scheduler.specs.Changes.{changed_task, with_change}
 use Rattle.osek_scheduler.specs.Outcomes.{with_other, carried_out, shown, Decision, Does, IfSuspended, If, plan_in, outcome_of, OnPlans, all_plans}
@@ -59,11 +60,12 @@ shown_after P None after h = h
 
 -- ---- what is done besides
 
--- a fact that an activation, a setting of events and a change of the data keep
+-- a fact that an activation, a setting of events, a change of the data and the setting of an alarm keep
 pub record KeptByOthers (P : System → Type 0) : Type 0 where
   pub activates : (s : System) (t : ℕ) → P s → P (activated_state s t)
   pub sets : (s : System) (t events : ℕ) → P s → P (with_events s t events)
   pub stores : (s : System) (symbols : List (List ℕ)) → P s → P (record s { symbols = symbols })
+  pub sets_alarms : (s : System) (a : ℕ) (new : Alarm) → P s → P (with_alarm s a new)
 
 module _ (P : System → Type 0) (k : KeptByOthers P) where
   woken_keeps : (m : TaskState) (events t : ℕ) (s : System) → P s → P (woken_state m events t s)
@@ -83,6 +85,7 @@ module _ (P : System → Type 0) (k : KeptByOthers P) where
   others_keep (other.Activate t) s h = k.activates s t h
   others_keep (other.AddEvents t mask) s h = sets_keep s t mask h
   others_keep (other.Store y w offset value) s h = k.stores s _ h
+  others_keep (other.SetAlarm a left cycle) s h = k.sets_alarms s a (record { left = left; cycle = cycle }) h
 
   -- an outcome keeps what the changes of its caller keep
   pub outcome_keeps : (c : ℕ) (s : System) (d : Decision) → OnPlans s (λ p. P (with_change c p.change s)) d → IsAfter P (outcome_of c s d)

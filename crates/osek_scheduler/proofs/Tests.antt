@@ -1,14 +1,14 @@
 -- The tests of the computed step decide the facts of the relation.
-use Rattle.std.proofs.Common.{◌≡◌, ℕ, ◌≤◌, ◌⊎◌, List, Bool, true, false, not, leb, length, Option, Some, None, refl, sym, ◌∙◌, subst, inl, inr}
+use Rattle.std.proofs.Common.{◌≡◌, ℕ, ◌<◌, ◌≤◌, ◌⊎◌, List, Bool, true, false, not, leb, length, Option, Some, None, refl, sym, ◌∙◌, subst, inl, inr}
 use Rattle.std.specs.Bool.{Decides}
 use Rattle.std.proofs.lemmas.Bool.{leb-true, le-leb, false≢true, true≢false, not-true, not_from_false}
 use Rattle.std.proofs.lemmas.Bool.Decides.{Decides-and, Decides-or, Decides-not, Decides-ltb, Decides-like, Decides-below_and}
 use Rattle.sloth_base.specs.declared.config.Config.{Config}
 use Rattle.osek_scheduler.specs.declared.state.TaskState.{TaskState}
 use Rattle.osek_scheduler.specs.declared.state.TaskState.TheVariants as mode
-use Rattle.osek_scheduler.specs.State.{System, task}
-use Rattle.osek_scheduler.specs.Priority.{rank, is_in, is_active, IsDue, IsTop}
-use Rattle.osek_scheduler.specs.Next.{is_ready, is_due, all_below, yields_to, is_top}
+use Rattle.osek_scheduler.specs.State.{System, task, counter}
+use Rattle.osek_scheduler.specs.Priority.{rank, is_in, is_active, IsDue, NoTicks, IsNextTick, IsTop}
+use Rattle.osek_scheduler.specs.Next.{is_ready, is_due, all_below, yields_to, no_ticks, is_next_tick, is_top}
 use Rattle.osek_scheduler.specs.Meaning.{on_some, if_true}
 
 pub itself : (b : Bool) → Decides b (b ≡ true)
@@ -34,6 +34,24 @@ Decides-is_due s t = Decides-or _ _ (Decides-is_ready (task s t).state) (Decides
 
 pub Decides-is_false : (b : Bool) → Decides (not b) (b ≡ false)
 Decides-is_false b = (not-true b, not_from_false b)
+
+-- ---- counters
+
+-- no counter below n is due
+none_due : (s : System) (n : ℕ) → Decides (all_below n (λ c. not (counter s c).due)) ((c : ℕ) → c < n → (counter s c).due ≡ false)
+none_due s n =
+    Decides-below_and (λ c. not (counter s c).due) (λ c. (counter s c).due ≡ false) (λ m. all_below m (λ c. not (counter s c).due))
+    (λ c. Decides-is_false (counter s c).due) refl (λ _. refl) n
+
+pub Decides-no_ticks : (config : Config) (s : System) → Decides (no_ticks config s) (NoTicks config s)
+Decides-no_ticks config s = none_due s (length config.counters)
+
+pub Decides-is_next_tick : (config : Config) (s : System) (c : ℕ) → Decides (is_next_tick config s c) (IsNextTick config s c)
+Decides-is_next_tick config s c =
+    Decides-like _ (λ h. record { declared = h.0; due = h.1.0; is_first = h.1.1 }) (λ h. (h.declared, (h.due, h.is_first)))
+    (Decides-and _ _ (Decides-ltb c (length config.counters)) (Decides-and _ _ (itself (counter s c).due) (none_due s c)))
+
+-- ---- tasks
 
 module _ (config : Config) (s : System) (others : List ℕ) (t : ℕ) where
   -- a task yields where, being due and not left out, it has no greater rank
@@ -61,12 +79,14 @@ module _ (config : Config) (s : System) (others : List ℕ) (t : ℕ) where
   pub Decides-is_top : Decides (is_top config s others t) (IsTop config s others t)
   Decides-is_top =
       Decides-like _
-      (λ h. record { declared = h.0; due = h.1.0; is_not_left_out = h.1.1.0; is_greatest = λ u lt due out. h.1.1.1 u lt due out })
-      (λ top. (top.declared, (top.due, (top.is_not_left_out, λ u lt due out. top.is_greatest u lt due out))))
+      (λ h. record { declared = h.0; due = h.1.0; is_not_left_out = h.1.1.0; is_greatest = λ u lt due out. h.1.1.1.0 u lt due out; no_ticks = h.1.1.1.1 })
+      (λ top. (top.declared, (top.due, (top.is_not_left_out, ((λ u lt due out. top.is_greatest u lt due out), top.no_ticks)))))
       (Decides-and _ _ (Decides-ltb t (length config.tasks))
       (Decides-and _ _ (Decides-is_due s t)
       (Decides-and _ _ (Decides-is_false (is_in t others))
-      (Decides-below_and (yields_to config s others t) Yields (λ n. all_below n (yields_to config s others t)) Decides-yields_to refl (λ _. refl) (length config.tasks)))))
+      (Decides-and _ _
+      (Decides-below_and (yields_to config s others t) Yields (λ n. all_below n (yields_to config s others t)) Decides-yields_to refl (λ _. refl) (length config.tasks))
+      (Decides-no_ticks config s)))))
 
 -- ---- options
 

@@ -1,5 +1,5 @@
 -- When arrivals are admitted: at their moment, or when the stretch that is running then ends.
-use Rattle.std.specs.Prelude.{ℕ, ◌-◌, ◌<◌, ◌≤◌, ◌≡◌, ◌⊎◌, ◌==◌, ◌&&◌, not, List, [], ◌∷◌, ◌++◌, Bool, true, false, cond, map, filter, count_by, All, AllPairs, IsTrue, is_some, Option, Some, None}
+use Rattle.std.specs.Prelude.{ℕ, ◌-◌, ◌<◌, ◌≤◌, ◌≡◌, ◌⊎◌, ◌==◌, ◌&&◌, not, List, [], ◌∷◌, ◌++◌, Bool, true, false, cond, map, filter, count_by, All, AllPairs, IsTrue, is_some, Option, Some}
 use Rattle.sloth_base.specs.Options.{is_number}
 use Rattle.sloth_base.specs.declared.event.Arrival.{Arrival}
 use Rattle.sloth_base.specs.declared.event.Event.{Event}
@@ -10,21 +10,21 @@ use Rattle.sloth_base.specs.Stretches.{Boots, stretch_limit, longest_stretch}
 pub use Rattle.sloth_base.specs.Events.{admitted_line, is_boot}
 use Rattle.sloth_base.specs.Events.{is_single}
 
--- an event is an arrival's activation
+-- an event is the admission of an arrival: a task's activation, or that a counter is due
 abbrev pub is_admit : Stamped → Bool
 is_admit e = is_some (admitted_line e.event)
 
--- the events that are no admits
+-- the events that are no admissions
 abbrev pub others : List Stamped → List Stamped
 others events = filter (λ e. not (is_admit e)) events
 
--- how many admits of a task a moment has
+-- how many admissions of a line a moment has
 abbrev pub admits_at : ℕ → ℕ → List Stamped → ℕ
-admits_at k t events = count_by (λ e. is_number t (admitted_line e.event) && (e.stamp.at == k)) events
+admits_at k line events = count_by (λ e. is_number line (admitted_line e.event) && (e.stamp.at == k)) events
 
--- how many arrivals of a task's line a moment has
+-- how many arrivals of a line a moment has
 abbrev pub arrivals_at : ℕ → ℕ → List Arrival → ℕ
-arrivals_at k t arrivals = count_by (λ a. (a.line == t) && (a.at == k)) arrivals
+arrivals_at k line arrivals = count_by (λ a. (a.line == line) && (a.at == k)) arrivals
 
 -- ---- stamps
 
@@ -66,9 +66,9 @@ pub record LeavesOut (config : Config) (n : ℕ) (arrivals : List Arrival) (even
   pub behind : All (λ e. e.stamp.at < k) (others events)
   pub short : n - k < longest_cut_off config events
 
--- ---- where an admit stands
+-- ---- where an admission stands
 
--- what the stamps of an event and of one behind it owe, by which of the two are admits
+-- what the stamps of an event and of one behind it owe, by which of the two are admissions
 abbrev pub StandsBefore : Bool → Bool → Stamp → Stamp → Type 0
 StandsBefore false false earlier later = earlier.at < later.from
 StandsBefore true false admit later = admit.at ≤ later.at
@@ -85,7 +85,7 @@ IsSubsequence [] ys = Unit {0}
 IsSubsequence (x ∷ xs) [] = ⊥
 IsSubsequence (x ∷ xs) (y ∷ ys) = ((x ≡ y) × IsSubsequence xs ys) ⊎ IsSubsequence (x ∷ xs) ys
 
--- admits with no other event between them keep the order of the arrivals
+-- admissions with no other event between them keep the order of the arrivals
 abbrev pub KeepsOrder : List Arrival → List Stamped → Type 0
 KeepsOrder arrivals events =
     (before group behind : List Stamped) → events ≡ before ++ (group ++ behind) → All (λ e. IsTrue (is_admit e)) group

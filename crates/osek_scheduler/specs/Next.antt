@@ -10,13 +10,13 @@ use Rattle.sloth_base.specs.declared.event.Event.TheVariants as event
 use Rattle.sloth_base.specs.declared.service.Service.{Service}
 use Rattle.osek_scheduler.specs.declared.state.TaskState.{TaskState}
 use Rattle.osek_scheduler.specs.declared.state.TaskState.TheVariants as mode
-use Rattle.osek_scheduler.specs.State.{Frame, Task, System, task, with_task, declaration, body_of}
+use Rattle.osek_scheduler.specs.State.{Frame, Task, System, task, with_task, counter, declaration, body_of}
 use Rattle.sloth_base.specs.Named.{function, operation}
 use Rattle.osek_scheduler.specs.Priority.{rank, is_in, is_active}
 use Rattle.osek_scheduler.specs.Meaning.{Meant, meaning, on_some, if_true}
-use Rattle.osek_scheduler.specs.Services.{is_there, Outcome, GoesOn, Leaves, entered_state}
+use Rattle.osek_scheduler.specs.Services.{is_there, Outcome, GoesOn, Leaves, entered_state, ticked_state}
 use Rattle.osek_scheduler.specs.Outcomes.{outcome}
-use Rattle.osek_scheduler.specs.Steps.{settled_state, autostarted_tasks, admitted_state}
+use Rattle.osek_scheduler.specs.Steps.{settled_state, autostarted_tasks, admitted_state, made_due}
 
 -- a task is Ready
 abbrev pub is_ready : TaskState → Bool
@@ -38,10 +38,19 @@ all_below (suc n) test = test n && all_below n test
 abbrev pub yields_to : Config → System → List ℕ → ℕ → ℕ → Bool
 yields_to config s others t u = not (is_due s u) || (is_in u others || leb (rank config s u) (rank config s t))
 
--- a task is the greatest of those that are due and not left out
+-- no counter is due
+abbrev pub no_ticks : Config → System → Bool
+no_ticks config s = all_below (length config.counters) (λ c. not (counter s c).due)
+
+-- a counter is due, and none of lower number is
+abbrev pub is_next_tick : Config → System → ℕ → Bool
+is_next_tick config s c = ltb c (length config.counters) && ((counter s c).due && all_below c (λ d. not (counter s d).due))
+
+-- a task is the greatest of those that are due and not left out, and no counter is due
 abbrev pub is_top : Config → System → List ℕ → ℕ → Bool
 is_top config s others t =
-    ltb t (length config.tasks) && (is_due s t && (not (is_in t others) && all_below (length config.tasks) (yields_to config s others t)))
+    ltb t (length config.tasks)
+    && (is_due s t && (not (is_in t others) && (all_below (length config.tasks) (yields_to config s others t) && no_ticks config s)))
 
 -- the next operation of a task with these frames
 abbrev pub operation_of : App → List Frame → Option Op
@@ -119,7 +128,10 @@ next_state config app (event.Left t s) before = on_some (answer_to config app t 
 next_state config app (event.Back t) s =
     if_true (s.booted && (is_top config s [] t && (is_active (task s t).state && (task s t).owed)))
     (Some (settled_state (with_task s t (record (task s t) { owed = false; raised = (declaration config t).non }))))
-next_state config app event.Idle s = if_true (s.booted && all_below (length config.tasks) (λ t. not (is_due s t))) (Some (settled_state s))
+next_state config app event.Idle s =
+    if_true (s.booted && (all_below (length config.tasks) (λ t. not (is_due s t)) && no_ticks config s)) (Some (settled_state s))
+next_state config app (event.Due c) s = if_true (s.booted && ltb c (length config.counters)) (Some (made_due c s))
+next_state config app (event.Tick c) s = if_true (s.booted && is_next_tick config s c) (Some (settled_state (ticked_state config c s)))
 next_state config app event.Stray s = None
 
 -- the state after events without their counts, where each has a next state

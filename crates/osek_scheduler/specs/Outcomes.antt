@@ -1,6 +1,6 @@
--- What each service does: a plan, and then its changes (OSEK OS 2.2.3, sections 13.2 to 13.5).
-use Rattle.std.specs.Prelude.{ℕ, ◌≡◌, ◌==◌, ◌&&◌, Bool, true, false, cond, List, [], get_or, set, bit_and, Option, Some, None}
-use Rattle.sloth_base.specs.Status.{E_OK, E_OS_LIMIT, E_OS_STATE}
+-- What each service does: a plan, and then its changes (OSEK OS 2.2.3, sections 13.2 to 13.6).
+use Rattle.std.specs.Prelude.{ℕ, ◌≡◌, ◌==◌, ◌&&◌, Bool, true, false, cond, [], get_or, set, bit_and, Option, Some, None}
+use Rattle.sloth_base.specs.Status.{E_OK, E_OS_LIMIT, E_OS_NOFUNC, E_OS_STATE, E_OS_VALUE}
 use Rattle.sloth_base.specs.declared.config.Config.{Config}
 use Rattle.sloth_base.specs.declared.service.Service.{Service}
 use Rattle.sloth_base.specs.declared.service.Service.TheVariants as service
@@ -10,9 +10,10 @@ use Rattle.osek_scheduler.specs.declared.plan.Other.{Other}
 use Rattle.osek_scheduler.specs.declared.plan.Other.TheVariants as other
 use Rattle.osek_scheduler.specs.declared.plan.Plan.{Plan}
 use Rattle.osek_scheduler.specs.declared.state.TaskState.TheVariants as mode
-use Rattle.osek_scheduler.specs.State.{System, task}
+use Rattle.sloth_base.specs.Named.{alarm_declaration, counter_of}
+use Rattle.osek_scheduler.specs.State.{System, task, counter, alarm, with_alarm}
 use Rattle.osek_scheduler.specs.Meaning.{bytes_after_store}
-use Rattle.osek_scheduler.specs.Services.{if_suspended, activated_state, set_events, state_number, Outcome, GoesOn, Leaves}
+use Rattle.osek_scheduler.specs.Services.{if_suspended, activated_state, set_events, state_number, first_operand, second_operand, is_in_use, allows_relative, allows_absolute, ticks_to, Outcome, GoesOn, Leaves}
 use Rattle.osek_scheduler.specs.Changes.{with_change}
 
 -- a plan
@@ -25,6 +26,7 @@ with_other other.Nothing s = s
 with_other (other.Activate t) s = activated_state s t
 with_other (other.AddEvents t mask) s = set_events t mask s
 with_other (other.Store y w offset value) s = record s { symbols = set s.symbols y (bytes_after_store w (get_or s.symbols y []) offset value) }
+with_other (other.SetAlarm a left cycle) s = with_alarm s a (record { left = left; cycle = cycle })
 
 -- the system after a plan of task t
 abbrev pub carried_out : ℕ → Plan → System → System
@@ -90,7 +92,16 @@ goes_on c = Does (plan (Some E_OK) c other.Nothing)
 abbrev pub leaves : TaskChange → Other → Decision
 leaves c o = Does (plan None c o)
 
--- what a service does; `object` is its task or resource, `mask` that of its events
+-- the caller sets an alarm, where it is not in use and the values are allowed
+abbrev pub sets_alarm : (a : ℕ) → (allowed : Bool) → (left cycle : ℕ) → System → Decision
+sets_alarm a allowed left cycle s =
+    If (is_in_use s a) (answers_alone E_OS_STATE) (If allowed (answers_after (other.SetAlarm a left cycle)) (answers_alone E_OS_VALUE))
+
+-- the caller does something to an alarm or tells of it, where that is in use
+abbrev pub uses_alarm : (a : ℕ) → Decision → System → Decision
+uses_alarm a does s = If (is_in_use s a) does (answers_alone E_OS_NOFUNC)
+
+-- what a service does; `object` is its task, resource or alarm, `mask` that of its events
 abbrev pub decision : Config → Service → (object mask caller : ℕ) → System → Decision
 decision config service.ActivateTask t mask caller s = IfSuspended t (answers_after (other.Activate t)) (answers_alone E_OS_LIMIT)
 decision config service.TerminateTask object mask caller s = leaves change.End other.Nothing
@@ -107,6 +118,17 @@ decision config service.ClearEvent object mask caller s = goes_on (change.ClearE
 decision config service.GetEvent t mask caller s = IfSuspended t (answers_alone E_OS_STATE) (tells (task s t).events)
 decision config service.WaitEvent object mask caller s =
     If (bit_and (task s caller).events mask == 0) (leaves (change.Wait mask) other.Nothing) (answers_alone E_OK)
+decision config service.SetRelAlarm a mask caller s =
+    let ticks = first_operand (task s caller) in
+    let cycle = second_operand (task s caller) in
+    sets_alarm a (allows_relative (counter_of config a) ticks cycle) ticks cycle s
+decision config service.SetAbsAlarm a mask caller s =
+    let start = first_operand (task s caller) in
+    let cycle = second_operand (task s caller) in
+    let value = (counter s (alarm_declaration config a).counter).value in
+    sets_alarm a (allows_absolute (counter_of config a) start cycle) (ticks_to (counter_of config a).max value start) cycle s
+decision config service.CancelAlarm a mask caller s = uses_alarm a (answers_after (other.SetAlarm a 0 (alarm s a).cycle)) s
+decision config service.GetAlarm a mask caller s = uses_alarm a (tells (alarm s a).left) s
 
 -- the outcome of a call of a service by a task
 abbrev pub outcome : Config → Service → (object mask caller : ℕ) → System → Outcome

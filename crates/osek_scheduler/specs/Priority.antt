@@ -1,4 +1,4 @@
--- Priorities, the priority ceiling protocol, and the task that is due (OSEK OS 2.2.3, sections 4.5, 4.6 and 8.6).
+-- Priorities, the priority ceiling protocol, and the task or counter that is due (OSEK OS 2.2.3, sections 4.5, 4.6 and 8.6).
 use Rattle.std.specs.Prelude.{ℕ, ◌+◌, ◌*◌, ◌<◌, ◌≤◌, ◌≡◌, ◌⊎◌, ◌==◌, List, [], ◌∷◌, Bool, true, false, cond, length, map, filter, max}
 use Rattle.sloth_base.specs.declared.config.Config.{Config}
 use Rattle.sloth_base.specs.declared.config.TaskDecl.{TaskDecl}
@@ -6,7 +6,7 @@ use Rattle.sloth_base.specs.ConfigRange.{scheduler_number}
 pub use Rattle.code_rules.specs.Code.{is_in}
 use Rattle.osek_scheduler.specs.declared.state.TaskState.{TaskState}
 use Rattle.osek_scheduler.specs.declared.state.TaskState.TheVariants as mode
-use Rattle.osek_scheduler.specs.State.{Task, System, task, declaration}
+use Rattle.osek_scheduler.specs.State.{Task, System, task, counter, declaration}
 
 -- the greatest of these numbers, 0 where there is none
 abbrev pub greatest : List ℕ → ℕ
@@ -42,9 +42,20 @@ rank config s t = cond (is_active (task s t).state)
 abbrev pub IsDue : System → ℕ → Type 0
 IsDue s t = ((task s t).state ≡ mode.Ready) ⊎ ((task s t).state ≡ mode.Active)
 
--- the greatest, in this order, of the Ready and Active tasks that are not among `others`
+-- no counter is due
+abbrev pub NoTicks : Config → System → Type 0
+NoTicks config s = (c : ℕ) → c < length config.counters → (counter s c).due ≡ false
+
+-- the due counter of least number; it stands above all tasks
+pub record IsNextTick (config : Config) (s : System) (c : ℕ) : Type 0 where
+  pub declared : c < length config.counters
+  pub due : (counter s c).due ≡ true
+  pub is_first : (d : ℕ) → d < c → (counter s d).due ≡ false
+
+-- the greatest, in this order, of the Ready and Active tasks that are not among `others`, where no counter is due
 pub record IsTop (config : Config) (s : System) (others : List ℕ) (t : ℕ) : Type 0 where
   pub declared : t < length config.tasks
   pub due : IsDue s t
   pub is_greatest : (u : ℕ) → u < length config.tasks → IsDue s u → is_in u others ≡ false → rank config s u ≤ rank config s t
   pub is_not_left_out : is_in t others ≡ false
+  pub no_ticks : NoTicks config s

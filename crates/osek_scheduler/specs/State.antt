@@ -1,9 +1,11 @@
--- The state of the abstract scheduler: tasks, their registers, frames, events and resources, and the data.
+-- The state of the abstract scheduler: tasks, their registers, frames, events and resources, the data, counters and alarms.
 use Rattle.std.specs.Prelude.{ℕ, ◌<◌, List, [], Bool, false, length, get_or, set, map, replicate}
 use Rattle.sloth_base.specs.declared.config.Config.{Config}
 use Rattle.sloth_base.specs.declared.app.App.{App}
 pub use Rattle.sloth_base.specs.Named.{undeclared, declaration, body_of}
 use Rattle.sloth_base.specs.Named.{function}
+use Rattle.osek_scheduler.specs.declared.state.Alarm.{Alarm}
+use Rattle.osek_scheduler.specs.declared.state.Counter.{Counter}
 use Rattle.osek_scheduler.specs.declared.state.TaskState.{TaskState}
 use Rattle.osek_scheduler.specs.declared.state.TaskState.TheVariants as mode
 
@@ -29,6 +31,11 @@ pub record Task : Type 0 where
   -- its Schedule has not come back yet
   pub owed : Bool
 
+-- the counters and the alarms as they stand, each by its number
+pub record Clock : Type 0 where
+  pub counters : List Counter
+  pub alarms : List Alarm
+
 -- the system as it stands
 pub record System : Type 0 where
   -- by task number
@@ -38,6 +45,7 @@ pub record System : Type 0 where
   pub booted : Bool
   -- the tasks that admitted arrivals made Ready since the last event of another kind
   pub fresh : List ℕ
+  pub clock : Clock
 
 -- the registers of a task that starts
 abbrev pub zero_registers : List ℕ
@@ -55,6 +63,41 @@ task s t = get_or s.tasks t sleeping_task
 abbrev pub with_task : System → ℕ → Task → System
 with_task s t new = record s { tasks = set s.tasks t new }
 
+-- ---- counters and alarms
+
+-- what stands in the place of a counter that is not there; each counter is so as the system starts
+abbrev pub no_counter : Counter
+no_counter = record { value = 0; due = false }
+
+-- a counter by its number
+abbrev pub counter : System → ℕ → Counter
+counter s c = get_or s.clock.counters c no_counter
+
+-- the system with a counter replaced
+abbrev pub with_counter : System → ℕ → Counter → System
+with_counter s c new = record s { clock = record s.clock { counters = set s.clock.counters c new } }
+
+-- what stands in the place of an alarm that is not there
+abbrev pub no_alarm : Alarm
+no_alarm = record { left = 0; cycle = 0 }
+
+-- an alarm by its number
+abbrev pub alarm : System → ℕ → Alarm
+alarm s a = get_or s.clock.alarms a no_alarm
+
+-- the system with an alarm replaced
+abbrev pub with_alarm : System → ℕ → Alarm → System
+with_alarm s a new = record s { clock = record s.clock { alarms = set s.clock.alarms a new } }
+
+-- as the system starts: no counter has counted, and each alarm has its declared ticks
+abbrev pub opening_clock : Config → Clock
+opening_clock config = record {
+  counters = map (λ _. no_counter) config.counters;
+  alarms = map (λ d. record { left = d.time; cycle = d.cycle }) config.alarms;
+}
+
+-- ---- the opening
+
 -- a task has a body
 abbrev pub HasBody : App → ℕ → Type 0
 HasBody app t = body_of app.funcs t < length app.funcs
@@ -65,4 +108,10 @@ entry_frame app f = record { func = f; item = 0; words = replicate (function app
 
 -- before the system has started
 abbrev pub opening : Config → App → System
-opening config app = record { tasks = map (λ _. sleeping_task) config.tasks; symbols = map (λ s. s.bytes) app.symbols; booted = false; fresh = [] }
+opening config app = record {
+  tasks = map (λ _. sleeping_task) config.tasks;
+  symbols = map (λ s. s.bytes) app.symbols;
+  booted = false;
+  fresh = [];
+  clock = opening_clock config;
+}

@@ -10,15 +10,15 @@ use Rattle.sloth_base.specs.declared.event.Event.{Event}
 use Rattle.sloth_base.specs.declared.event.Event.TheVariants as event
 use Rattle.sloth_base.specs.declared.service.Service.{Service}
 use Rattle.osek_scheduler.specs.declared.state.TaskState.TheVariants as mode
-use Rattle.osek_scheduler.specs.State.{Frame, Task, System, task, with_task, declaration, HasBody}
+use Rattle.osek_scheduler.specs.State.{Frame, Task, System, task, with_task, counter, with_counter, declaration, HasBody}
 use Rattle.sloth_base.specs.Named.{function}
 use Rattle.sloth_base.specs.Named as named
-use Rattle.osek_scheduler.specs.Priority.{IsTop, IsDue}
+use Rattle.osek_scheduler.specs.Priority.{IsTop, IsDue, NoTicks, IsNextTick}
 use Rattle.osek_scheduler.specs.Meaning.{Meant, meaning}
-use Rattle.osek_scheduler.specs.Services.{if_suspended, activated_state, is_there, Outcome, GoesOn, Leaves, entered_state}
+use Rattle.osek_scheduler.specs.Services.{if_suspended, activated_state, is_there, Outcome, GoesOn, Leaves, entered_state, ticked_state}
 use Rattle.osek_scheduler.specs.Outcomes.{outcome}
 
--- every event but an admit empties `fresh`
+-- every event but an admission empties `fresh`
 abbrev pub settled_state : System → System
 settled_state s = record s { fresh = [] }
 
@@ -31,6 +31,10 @@ autostarted_tasks (d ∷ declarations) (t ∷ tasks) = cond d.autostart (record 
 -- an activation from outside
 abbrev pub admitted_state : ℕ → System → System
 admitted_state t s = if_suspended (task s t).state (record (activated_state s t) { fresh = t ∷ s.fresh }) s
+
+-- an arrival of a counter's line
+abbrev pub made_due : ℕ → System → System
+made_due c s = with_counter s c (record (counter s c) { due = true })
 
 -- a task runs and owes no `back`; its next operation is this one
 pub record IsAt (app : App) (s : System) (t : ℕ) (operation : Op) : Type 0 where
@@ -78,5 +82,8 @@ OsekStep config app (event.Left t served) s next =
 OsekStep config app (event.Back t) s next =
     (s.booted ≡ true) × IsTop config s [] t × ((task s t).state ≡ mode.Active) × ((task s t).owed ≡ true)
     × (next ≡ settled_state (with_task s t (record (task s t) { owed = false; raised = (declaration config t).non })))
-OsekStep config app event.Idle s next = (s.booted ≡ true) × ((t : ℕ) → t < length config.tasks → ¬ (IsDue s t)) × (next ≡ settled_state s)
+OsekStep config app event.Idle s next =
+    (s.booted ≡ true) × ((t : ℕ) → t < length config.tasks → ¬ (IsDue s t)) × NoTicks config s × (next ≡ settled_state s)
+OsekStep config app (event.Due c) s next = (s.booted ≡ true) × (c < length config.counters) × (next ≡ made_due c s)
+OsekStep config app (event.Tick c) s next = (s.booted ≡ true) × IsNextTick config s c × (next ≡ settled_state (ticked_state config c s))
 OsekStep config app event.Stray s next = ⊥

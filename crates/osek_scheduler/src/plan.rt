@@ -3,7 +3,7 @@
 use crate::change::TaskChange;
 use sloth_base::app::Width;
 
-/// What an event of one task does to another task, or to the data.
+/// What an event of one task does to another task, to an alarm, or to the data.
 #[derive(Clone, Copy)]
 pub enum Other {
     Nothing,
@@ -20,6 +20,12 @@ pub enum Other {
         width: Width,
         offset: u32,
         value: u32,
+    },
+    /// An alarm gets these ticks to its expiry, and this cycle.
+    SetAlarm {
+        alarm: u32,
+        left: u32,
+        cycle: u32,
     },
 }
 

@@ -1,8 +1,8 @@
 -- The order of the tasks that were entered is kept.
-use Rattle.std.proofs.Common.{◌≡◌, ℕ, ◌+◌, ◌*◌, ◌<◌, ◌≤◌, ◌==◌, ◌⊎◌, List, [], ◌∷◌, Bool, true, false, cond, length, get_or, max, refl, sym, ap, ◌∙◌, subst, arith, inl, inr, bit_and, bit_or}
+use Rattle.std.proofs.Common.{◌≡◌, ℕ, suc, ◌+◌, ◌*◌, ◌<◌, ◌≤◌, ◌==◌, ◌⊎◌, List, [], ◌∷◌, Bool, true, false, cond, length, get_or, max, refl, sym, ap, ◌∙◌, subst, arith, inl, inr}
 use Rattle.std.specs.Prelude.{◌≢◌}
-use Rattle.std.proofs.lemmas.Bool.{false≢true, cases_eq, cases_lt, cond_both, or_cases, eqb-true}
-use Rattle.std.proofs.lemmas.List.{get_or-set_same, get_or-set_other, set_past}
+use Rattle.std.proofs.lemmas.Bool.{false≢true, cases_eq, or_cases, eqb-true}
+use Rattle.std.proofs.lemmas.List.{get_or-set_same, get_or-set_other}
 use Rattle.sloth_base.specs.declared.config.Config.{Config}
 use Rattle.sloth_base.specs.declared.app.App.{App}
 use Rattle.sloth_base.specs.declared.event.Event.{Event}
@@ -10,14 +10,16 @@ use Rattle.sloth_base.specs.declared.event.Event.TheVariants as event
 use Rattle.sloth_base.specs.declared.service.Service.{Service}
 use Rattle.osek_scheduler.specs.declared.state.TaskState.{TaskState}
 use Rattle.osek_scheduler.specs.declared.state.TaskState.TheVariants as mode
-use Rattle.osek_scheduler.specs.State.{Task, System, sleeping_task, task, with_task, opening, zero_registers}
+use Rattle.osek_scheduler.specs.State.{Task, System, sleeping_task, task, with_task, opening}
 use Rattle.sloth_base.specs.Named.{declaration}
 use Rattle.osek_scheduler.specs.Priority.{is_in, is_active, rank, IsTop}
-use Rattle.osek_scheduler.specs.Services.{activated_state, with_events, Outcome, GoesOn, Leaves, IsAfter, started_task}
+use Rattle.osek_scheduler.specs.Services.{activated_state, with_events, Outcome, GoesOn, Leaves, IsAfter, started_task, ticked_state}
 use Rattle.osek_scheduler.specs.Outcomes.{decision, outcome}
 use Rattle.osek_scheduler.proofs.Outcomes.{by_suspended, KeptByOthers, outcome_keeps_all}
-use Rattle.osek_scheduler.specs.Steps.{settled_state, autostarted_tasks, admitted_state, OsekStep, Executes, ServesCall}
+use Rattle.osek_scheduler.proofs.Ticking.{parts_kept, ticked_keeps}
+use Rattle.osek_scheduler.specs.Steps.{settled_state, autostarted_tasks, admitted_state, made_due, OsekStep, Executes, ServesCall}
 use Rattle.osek_valid.specs.Apart.{priority_of, static_priority, AreTwo, Apart}
+use Rattle.osek_valid.proofs.Going.{at_set}
 use Rattle.osek_valid.proofs.Steps.{autostarted_at, asleep_at}
 
 -- ---- priorities
@@ -30,19 +32,7 @@ at_least_static config t k = max_left (static_priority config t) _
 
 -- a fact on each task, where one record is written
 pub at_task : (s : System) (t u : ℕ) (new : Task) (P : Task → Type 0) → P (task s u) → (u ≡ t → P new) → P (task (with_task s t new) u)
-at_task s t u new P same here = by (cases_eq u t)
-  where
-    within : (u < length s.tasks) ⊎ (length s.tasks ≤ u) → u ≡ t → P (task (with_task s t new) u)
-    within (inl lt) e =
-        let Q : ℕ → Type 0 = λ x. x < length s.tasks → P (task (with_task s t new) x) in
-        subst Q (sym e) (λ l. subst P (sym (get_or-set_same s.tasks t new sleeping_task l)) (here e)) lt
-    within (inr past) e =
-        let Q : List Task → Type 0 = λ l. P (get_or l u sleeping_task) in
-        subst Q (sym (set_past s.tasks t new (subst (λ x. length s.tasks ≤ x) e past))) same
-
-    by : (u ≡ t) ⊎ (u ≡ t → ⊥) → P (task (with_task s t new) u)
-    by (inl e) = within (cases_lt u (length s.tasks)) e
-    by (inr n) = subst P (sym (get_or-set_other s.tasks t u new sleeping_task n)) same
+at_task s t u new P same here = at_set s.tasks t u new sleeping_task P same here
 
 module _ (config : Config) where
   -- a task that is Active now was so before, at the same priority
@@ -77,6 +67,7 @@ module _ (config : Config) where
     activates = λ x t h. then c s x (activated_state x t) h (readied c x t);
     sets = λ x t events h. then c s x (with_events x t events) h (eventful c x t events);
     stores = λ x symbols h. h;
+    sets_alarms = λ x a new h. h;
   }
 
   pub outcome_calm : (sv : Service) (o m c : ℕ) (s : System) → IsAfter (Calm c s) (outcome config sv o m c s)
@@ -190,6 +181,12 @@ module _ (config : Config) where
       (λ _. at_task s t u (record (task s t) { state = mode.Ready }) (Same u (task s u)) (itself u (task s u)) (λ e h. absurd cc))
       (λ _. itself u (task s u))
 
+  -- a tick changes no task that is Active
+  pub tick_calm : (s : System) (c : ℕ) → c < length config.counters → (u : ℕ) → Same u (task s u) (task (ticked_state config c s) u)
+  tick_calm s c lt u =
+      let P = Calm (suc u) s in
+      ticked_keeps P config (parts_kept P config (calm_besides (suc u) s) (λ x d new h. h)) s c lt (λ v n. itself v (task s v)) u (λ e. absurd (omega (arith, e)))
+
   admit_fresh : (s : System) (t : ℕ) → Apart config s → t < length s.tasks → (u : ℕ) → is_in u (admitted_state t s).fresh ≡ true
       → (task (admitted_state t s) u).state ≡ mode.Ready
   admit_fresh s t a lt =
@@ -265,8 +262,13 @@ module _ (config : Config) where
   step_apart app (event.Left t served) s next h count a = apart_of s next t a (left_acts app t served s next h a)
   step_apart app (event.Back t) s next h count a = apart_of s next t a (back_acts app t s next h a)
   step_apart app event.Idle s next h count a =
-      subst (Apart config) (sym h.2) (apart_kept s (settled_state s) a (λ u. itself u (task s u)) (λ u x. absurd (false≢true x)))
+      subst (Apart config) (sym h.3) (apart_kept s (settled_state s) a (λ u. itself u (task s u)) (λ u x. absurd (false≢true x)))
   step_apart app event.Stray s next h count a = absurd h
+  step_apart app (event.Due c) s next h count a =
+      subst (Apart config) (sym h.2) (apart_kept s (made_due c s) a (λ u. itself u (task s u)) a.fresh_ready)
+  step_apart app (event.Tick c) s next h count a =
+      subst (Apart config) (sym h.2)
+      (apart_kept s (settled_state (ticked_state config c s)) a (tick_calm s c h.1.declared) (λ u x. absurd (false≢true x)))
 
   pub opening_apart : (app : App) → Apart config (opening config app)
   opening_apart app = record {

@@ -1,21 +1,37 @@
 -- A task that runs goes on.
-use Rattle.std.proofs.Common.{◌≡◌, ℕ, ◌<◌, ◌≤◌, ◌⊎◌, List, [], ◌∷◌, ◌++◌, true, false, not, ◌&&◌, length, get_or, sym, ap, ◌∙◌, subst, inl, inr, ⊎_elim}
+use Rattle.std.proofs.Common.{◌≡◌, ℕ, ◌<◌, ◌≤◌, ◌⊎◌, List, [], ◌∷◌, ◌++◌, true, false, not, ◌&&◌, length, get_or, set, refl, sym, ap, ◌∙◌, subst, inl, inr, ⊎_elim}
 use Rattle.std.proofs.lemmas.Bool.{true≢false, cases_eq, cases_lt}
 use Rattle.std.proofs.lemmas.List.{length-set, get_or-set_same, get_or-set_other, set_past}
 use Rattle.sloth_base.specs.declared.config.Config.{Config}
 use Rattle.sloth_base.specs.declared.app.App.{App}
 use Rattle.sloth_base.specs.declared.app.Op.{Op}
+use Rattle.osek_scheduler.specs.declared.state.Alarm.{Alarm}
+use Rattle.osek_scheduler.specs.declared.state.Counter.{Counter}
 use Rattle.osek_scheduler.specs.declared.state.TaskState.TheVariants as mode
-use Rattle.osek_scheduler.specs.State.{Frame, Task, System, sleeping_task, task, with_task}
+use Rattle.osek_scheduler.specs.State.{Frame, Task, Clock, System, sleeping_task, task, with_task, no_counter, with_counter, with_alarm}
 use Rattle.osek_scheduler.specs.Meaning.{going_on}
 use Rattle.osek_scheduler.specs.Services.{moved_frames}
 use Rattle.osek_scheduler.specs.Steps.{settled_state, IsAt}
-use Rattle.sloth_base.specs.Named.{declaration}
+use Rattle.sloth_base.specs.Named.{declaration, counter_declaration}
 use Rattle.code_rules.specs.Code.{IsItem, is_followed, held_after, is_in}
 use Rattle.osek_valid.proofs.Facts.{Facts}
 use Rattle.code_rules.specs.WellFormed.{held_before, HasEvents}
-use Rattle.osek_valid.specs.Valid.{MayHold, IsFrame, IsCalledFrom, AreCalls, held_by, AreDistinct, InState, IsValidTask, Valid}
+use Rattle.osek_valid.specs.Valid.{MayHold, IsFrame, IsCalledFrom, AreCalls, held_by, AreDistinct, InState, IsValidTask, IsTimed, Valid}
 use Rattle.osek_valid.proofs.Held.{falls_inside, falls_holds}
+
+-- a fact on each thing of a list, where one is written
+pub at_set : {A : Type 0} (xs : List A) (t u : ℕ) (new none : A) (P : A → Type 0) → P (get_or xs u none) → (u ≡ t → P new) → P (get_or (set xs t new) u none)
+at_set xs t u new none P same here = by (cases_eq u t)
+  where
+    within : (u < length xs) ⊎ (length xs ≤ u) → u ≡ t → P (get_or (set xs t new) u none)
+    within (inl lt) e =
+        let Q : ℕ → Type 0 = λ x. x < length xs → P (get_or (set xs t new) x none) in
+        subst Q (sym e) (λ l. subst P (sym (get_or-set_same xs t new none l)) (here e)) lt
+    within (inr past) e = subst (λ l. P (get_or l u none)) (sym (set_past xs t new (subst (λ x. length xs ≤ x) e past))) same
+
+    by : (u ≡ t) ⊎ (u ≡ t → ⊥) → P (get_or (set xs t new) u none)
+    by (inl e) = within (cases_lt u (length xs)) e
+    by (inr n) = subst P (sym (get_or-set_other xs t u new none n)) same
 
 -- ---- the whole state
 
@@ -34,24 +50,38 @@ module _ (config : Config) (app : App) where
         (cases_eq u t);
     sizes = v.sizes;
     asleep = λ e. absurd (true≢false (sym booted ∙ e));
+    clock = v.clock;
   }
 
+  -- the counters and alarms change
+  clock_kept : (s : System) (new : Clock) → Valid config app s → IsTimed config new → Valid config app (record s { clock = new })
+  clock_kept s new v timed = record { count = v.count; each = v.each; sizes = v.sizes; asleep = v.asleep; clock = timed }
+
+  -- one alarm changes
+  pub alarm_kept : (s : System) (a : ℕ) (new : Alarm) → Valid config app s → Valid config app (with_alarm s a new)
+  alarm_kept s a new v =
+      clock_kept s (record s.clock { alarms = set s.clock.alarms a new }) v
+      (record { counters = v.clock.counters; alarms = length-set s.clock.alarms a new ∙ v.clock.alarms; values = v.clock.values })
+
+  -- one counter changes
+  pub counter_kept : (s : System) (c : ℕ) (new : Counter) → Valid config app s → new.value ≤ (counter_declaration config c).max
+      → Valid config app (with_counter s c new)
+  counter_kept s c new v le =
+      clock_kept s (record s.clock { counters = set s.clock.counters c new }) v
+      (record {
+        counters = length-set s.clock.counters c new ∙ v.clock.counters;
+        alarms = v.clock.alarms;
+        values = λ d. at_set s.clock.counters c d new no_counter (λ (k : Counter). k.value ≤ (counter_declaration config d).max) (v.clock.values d)
+            (λ e. subst (λ x. new.value ≤ (counter_declaration config x).max) (sym e) le);
+      })
+
   pub settles : (s : System) → Valid config app s → Valid config app (settled_state s)
-  settles s v = record { count = v.count; each = v.each; sizes = v.sizes; asleep = v.asleep }
+  settles s v = record { count = v.count; each = v.each; sizes = v.sizes; asleep = v.asleep; clock = v.clock }
 
 -- the state of each task stays where that of the changed one does
 pub state_kept : (s : System) (t u : ℕ) (new : Task) → new.state ≡ (task s t).state → (task (with_task s t new) u).state ≡ (task s u).state
-state_kept s t u new e = at (cases_eq u t)
-  where
-    here : (u < length s.tasks) ⊎ (length s.tasks ≤ u) → u ≡ t → (task (with_task s t new) u).state ≡ (task s u).state
-    here (inl lt) is =
-        let P : ℕ → Type 0 = λ x. (x < length s.tasks) → (task (with_task s t new) x).state ≡ (task s x).state in
-        subst P (sym is) (λ l. ap (λ k. k.state) (get_or-set_same s.tasks t new sleeping_task l) ∙ e) lt
-    here (inr past) is = ap (λ l. (get_or l u sleeping_task).state) (set_past s.tasks t new (subst (λ x. length s.tasks ≤ x) is past))
-
-    at : (u ≡ t) ⊎ (u ≡ t → ⊥) → (task (with_task s t new) u).state ≡ (task s u).state
-    at (inl is) = here (cases_lt u (length s.tasks)) is
-    at (inr differs) = ap (λ k. k.state) (get_or-set_other s.tasks t u new sleeping_task differs)
+state_kept s t u new e =
+    at_set s.tasks t u new sleeping_task (λ (k : Task). k.state ≡ (task s u).state) refl (λ is. e ∙ ap (λ x. (task s x).state) (sym is))
 
 -- ---- one task
 

@@ -20,7 +20,7 @@ use Rattle.osek_valid.proofs.Facts.{Facts, GoesTo}
 use Rattle.code_rules.specs.WellFormed.{held_before}
 use Rattle.osek_valid.specs.Valid.{IsCalledFrom, held_by, IsValidTask, Valid}
 use Rattle.osek_valid.proofs.Held.{held_at_begin, falls_inside, falls_holds, jumps_inside, jumps_holds}
-use Rattle.osek_valid.proofs.Going.{keeps, settles, Running, running, runs_on}
+use Rattle.osek_valid.proofs.Going.{keeps, Running, running, runs_on}
 use Rattle.osek_valid.proofs.Going as going
 
 -- ---- data keep their lengths
@@ -229,4 +229,4 @@ executes_valid config app w t func item result s next v booted h =
     let new : Task = record (task s t) { registers = h.meant.registers; frames = h.meant.frames } in
     let kept = keeps config app s t new v booted h.top.declared f.0 in
     subst (Valid config app) (sym h.is)
-    (record { count = kept.count; each = kept.each; sizes = f.1 ∙ v.sizes; asleep = kept.asleep })
+    (record { count = kept.count; each = kept.each; sizes = f.1 ∙ v.sizes; asleep = kept.asleep; clock = kept.clock })

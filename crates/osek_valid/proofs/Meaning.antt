@@ -193,6 +193,7 @@ module _ (config : Config) (app : App) (w : Facts config app) (t : ℕ) (k : Tas
   object_there object.Nothing o h = refl
   object_there object.Task t h = lt-ltb _ _ h
   object_there object.Resource q h = resource_there q h
+  object_there object.Alarm a h = lt-ltb _ _ h
 
   pub there : (sv : Service) (o m : ℕ) → Running config app t k frame outer (serve sv o m) → is_there config k.held sv o ≡ true
   there sv o m r =
@@ -241,6 +242,7 @@ module _ (config : Config) (app : App) where
         due = top.due;
         is_greatest = λ u lt due out. top.is_greatest u lt due refl;
         is_not_left_out = not_fresh (is_in t s.fresh) refl;
+        no_ticks = top.no_ticks;
       }
 
       names : (call : Call) → IsAt app s t (op.Serve call) → is_there config (task s t).held call.service call.object ≡ true

@@ -10,10 +10,10 @@ use Rattle.sloth_base.specs.declared.service.Service.TheVariants as service
 use Rattle.sloth_base.specs.Named.{declaration}
 use Rattle.sloth_base.specs.ServiceCodes.{is_service}
 use Rattle.sloth_base.proofs.Services.{same_service}
-use Rattle.code_rules.specs.Code.{IsItem, serve, TaskReaches}
+use Rattle.code_rules.specs.Code.{IsItem, serve}
 use Rattle.stack_bounds.specs.Bounds.{ReachesSchedule}
 use Rattle.osek_scheduler.specs.declared.state.TaskState.TheVariants as mode
-use Rattle.osek_scheduler.specs.State.{Frame, Task, System, sleeping_task, task, with_task, opening}
+use Rattle.osek_scheduler.specs.State.{Frame, Task, System, task, with_task, opening}
 use Rattle.osek_scheduler.specs.Services.{activated_state, with_events, Outcome, GoesOn, Leaves, IsAfter, started_task}
 use Rattle.osek_scheduler.specs.Changes.{changed_task, with_change}
 use Rattle.osek_scheduler.specs.Outcomes.{OnPlans, all_plans, decision, outcome}
@@ -21,6 +21,7 @@ use Rattle.osek_scheduler.specs.declared.change.TaskChange.{TaskChange}
 use Rattle.osek_scheduler.specs.declared.change.TaskChange.TheVariants as change
 use Rattle.osek_scheduler.specs.declared.plan.Plan.{Plan}
 use Rattle.osek_scheduler.proofs.Outcomes.{by_suspended, on_all, on_tested, KeptByOthers, outcome_keeps}
+use Rattle.osek_scheduler.proofs.Ticking.{parts_kept, ticked_keeps}
 use Rattle.osek_scheduler.specs.Steps.{OsekStep, ServesCall, admitted_state}
 use Rattle.osek_valid.specs.Valid.{Valid}
 use Rattle.osek_valid.specs.Together.{OwesBySchedule}
@@ -62,7 +63,7 @@ module _ (app : App) where
   eventful s t events each = one s t (record (task s t) { events = events }) each (each t)
 
   owes_besides : KeptByOthers Owes
-  owes_besides = record { activates = readied; sets = eventful; stores = λ s symbols each. each }
+  owes_besides = record { activates = readied; sets = eventful; stores = λ s symbols each. each; sets_alarms = λ s a new each. each }
 
   -- ---- services
 
@@ -122,8 +123,11 @@ module _ (app : App) where
     step_owes (event.Left t served) s next h v each = subst Owes (sym h.1.2) (serves_owes t served s (Leaves h.1.0) h.1.1 v each)
     step_owes (event.Back t) s next h v each =
         subst Owes (sym h.4) (one s t (record (task s t) { owed = false; raised = (declaration config t).non }) each (λ e. absurd (false≢true e)))
-    step_owes event.Idle s next h v each = subst Owes (sym h.2) each
+    step_owes event.Idle s next h v each = subst Owes (sym h.3) each
     step_owes event.Stray s next h v each = absurd h
+    step_owes (event.Due c) s next h v each = subst Owes (sym h.2) each
+    step_owes (event.Tick c) s next h v each =
+        subst Owes (sym h.2) (ticked_keeps Owes config (parts_kept Owes config owes_besides (λ x d new o. o)) s c h.1.declared each)
 
     pub opening_owes : Owes (opening config app)
     opening_owes t e = absurd (false≢true (sym (ap (λ k. k.owed) (asleep_at config.tasks t)) ∙ e))

@@ -1,4 +1,4 @@
--- Some task is top wherever one is due, so a run never sticks.
+-- Some task is top wherever one is due and no counter is, so a run never sticks.
 use Rattle.std.proofs.Common.{◌≡◌, ℕ, zero, suc, ◌<◌, ◌≤◌, ◌⊎◌, [], Bool, true, false, length, refl, subst, arith, inl, inr, None}
 use Rattle.std.proofs.lemmas.Bool.{cases_lt}
 use Rattle.sloth_base.specs.declared.config.Config.{Config}
@@ -7,8 +7,8 @@ use Rattle.sloth_base.specs.declared.event.Event.{Event}
 use Rattle.sloth_base.specs.declared.event.Event.TheVariants as event
 use Rattle.osek_scheduler.specs.declared.state.TaskState.{TaskState}
 use Rattle.osek_scheduler.specs.declared.state.TaskState.TheVariants as mode
-use Rattle.osek_scheduler.specs.State.{System, task}
-use Rattle.osek_scheduler.specs.Priority.{rank, IsDue, IsTop}
+use Rattle.osek_scheduler.specs.State.{System, task, counter}
+use Rattle.osek_scheduler.specs.Priority.{rank, IsDue, NoTicks, IsNextTick, IsTop}
 use Rattle.osek_scheduler.specs.InTime.{admitted_line}
 use Rattle.osek_scheduler.specs.Steps.{OsekStep}
 use Rattle.osek_valid.proofs.Facts.{Facts}
@@ -92,16 +92,51 @@ module _ (config : Config) (s : System) where
   best_of zero = inr (λ u lt. absurd (omega (arith, lt)))
   best_of (suc n) = more n (best_of n) (is_due n)
 
-  pub some_top : ((t : ℕ) × IsTop config s [] t) ⊎ ((t : ℕ) → t < length config.tasks → ¬ (IsDue s t))
-  some_top = by (best_of (length config.tasks))
+  -- ---- counters
+
+  -- the due counter of least number below n
+  record FirstDue (n : ℕ) : Type 0 where
+    which : ℕ
+    below : which < n
+    due : (counter s which).due ≡ true
+    first : (d : ℕ) → d < which → (counter s d).due ≡ false
+
+  abbrev NoneTicks : ℕ → Type 0
+  NoneTicks n = (c : ℕ) → c < n → (counter s c).due ≡ false
+
+  -- one more counter
+  more_due : (n : ℕ) → FirstDue n ⊎ NoneTicks n → (b : Bool) → (counter s n).due ≡ b → FirstDue (suc n) ⊎ NoneTicks (suc n)
+  more_due n (inl found) b e =
+      inl (record { which = found.which; below = let l = found.below in omega (arith, l); due = found.due; first = found.first })
+  more_due n (inr none) true e = inl (record { which = n; below = omega arith; due = e; first = none })
+  more_due n (inr none) false e = inr (λ c lt. split (λ x. (counter s x).due ≡ false) n c lt (none c) e)
+
+  first_due : (n : ℕ) → FirstDue n ⊎ NoneTicks n
+  first_due zero = inr (λ c lt. absurd (omega (arith, lt)))
+  first_due (suc n) = more_due n (first_due n) (counter s n).due refl
+
+  pub some_tick : ((c : ℕ) × IsNextTick config s c) ⊎ NoTicks config s
+  some_tick = by (first_due (length config.counters))
+    where
+      by : FirstDue (length config.counters) ⊎ NoneTicks (length config.counters) → ((c : ℕ) × IsNextTick config s c) ⊎ NoTicks config s
+      by (inl found) = inl (found.which, record { declared = found.below; due = found.due; is_first = found.first })
+      by (inr none) = inr none
+
+  -- ---- what comes next
+
+  pub some_top : NoTicks config s → ((t : ℕ) × IsTop config s [] t) ⊎ ((t : ℕ) → t < length config.tasks → ¬ (IsDue s t))
+  some_top quiet = by (best_of (length config.tasks))
     where
       by : Best (length config.tasks) ⊎ NoneDue (length config.tasks) → ((t : ℕ) × IsTop config s [] t) ⊎ ((t : ℕ) → t < length config.tasks → ¬ (IsDue s t))
       by (inl best) =
-          inl (best.which, record { declared = best.below; due = best.due; is_greatest = λ u lt due out. best.greatest u lt due; is_not_left_out = refl })
+          inl (
+            best.which,
+            record { declared = best.below; due = best.due; is_greatest = λ u lt due out. best.greatest u lt due; is_not_left_out = refl; no_ticks = quiet },
+          )
       by (inr none) = inr none
 
   pub never_sticks : (app : App) → Facts config app → Valid config app s → Apart config s → (e : Event) × (admitted_line e ≡ None) × (next : System) × OsekStep config app e s next
-  never_sticks app w v a = by s.booted refl some_top
+  never_sticks app w v a = by s.booted refl some_tick
     where
       owing : (t : ℕ) → s.booted ≡ true → IsTop config s [] t → (task s t).state ≡ mode.Active → (o : Bool) → (task s t).owed ≡ o
           → (e : Event) × (admitted_line e ≡ None) × (next : System) × OsekStep config app e s next
@@ -112,8 +147,13 @@ module _ (config : Config) (s : System) where
       due t booted top (inl ready) = (event.Enter t, refl, _, (booted, top, ready, (has_body config app w t top.declared).0, refl))
       due t booted top (inr active) = owing t booted top active (task s t).owed refl
 
-      by : (b : Bool) → s.booted ≡ b → ((t : ℕ) × IsTop config s [] t) ⊎ ((t : ℕ) → t < length config.tasks → ¬ (IsDue s t))
+      quiet_next : s.booted ≡ true → NoTicks config s → ((t : ℕ) × IsTop config s [] t) ⊎ ((t : ℕ) → t < length config.tasks → ¬ (IsDue s t))
           → (e : Event) × (admitted_line e ≡ None) × (next : System) × OsekStep config app e s next
-      by false e top = (event.Boot, refl, _, (e, refl))
-      by true e (inl top) = due top.0 e top.1 top.1.due
-      by true e (inr none) = (event.Idle, refl, _, (e, none, refl))
+      quiet_next e quiet (inl top) = due top.0 e top.1 top.1.due
+      quiet_next e quiet (inr none) = (event.Idle, refl, _, (e, none, quiet, refl))
+
+      by : (b : Bool) → s.booted ≡ b → ((c : ℕ) × IsNextTick config s c) ⊎ NoTicks config s
+          → (e : Event) × (admitted_line e ≡ None) × (next : System) × OsekStep config app e s next
+      by false e tick = (event.Boot, refl, _, (e, refl))
+      by true e (inl tick) = (event.Tick tick.0, refl, _, (e, tick.1, refl))
+      by true e (inr quiet) = quiet_next e quiet (some_top quiet)

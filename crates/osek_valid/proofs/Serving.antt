@@ -13,11 +13,11 @@ use Rattle.sloth_base.specs.declared.service.Service.{Service}
 use Rattle.sloth_base.specs.declared.service.Service.TheVariants as service
 use Rattle.osek_scheduler.specs.declared.state.TaskState.{TaskState}
 use Rattle.osek_scheduler.specs.declared.state.TaskState.TheVariants as mode
-use Rattle.osek_scheduler.specs.State.{Frame, Task, System, sleeping_task, task, with_task, zero_registers}
+use Rattle.osek_scheduler.specs.State.{Frame, Task, System, sleeping_task, task, with_task, alarm, zero_registers}
 use Rattle.sloth_base.specs.Named.{declaration, undeclared}
-use Rattle.sloth_base.specs.Status.{E_OK, E_OS_LIMIT, E_OS_STATE}
+use Rattle.sloth_base.specs.Status.{E_OK, E_OS_LIMIT, E_OS_NOFUNC, E_OS_STATE, E_OS_VALUE}
 use Rattle.osek_scheduler.specs.Services.{activated_state, answers, answers_with, answered_state, answered_with, ended_state, waiting_task, woken_state, with_events, set_events, moved_frames, Outcome, IsAfter, state_number}
-use Rattle.osek_scheduler.specs.Outcomes.{carried_out, shown, OnPlans, decision, outcome}
+use Rattle.osek_scheduler.specs.Outcomes.{carried_out, shown, OnPlans, sets_alarm, decision, outcome}
 use Rattle.osek_scheduler.proofs.Outcomes.{on_outcome}
 use Rattle.osek_scheduler.specs.Steps.{ServesCall}
 use Rattle.code_rules.specs.Code.{serve, is_followed, held_after, Pauses, Ends, is_in, without_last}
@@ -25,7 +25,7 @@ use Rattle.osek_valid.proofs.Facts.{Facts}
 use Rattle.code_rules.specs.WellFormed.{held_before, HasEvents}
 use Rattle.osek_valid.specs.Valid.{MayHold, held_by, InState, IsValidTask, Valid}
 use Rattle.osek_valid.proofs.Stacks.{is_in-append, distinct-push, in-without_last, distinct-without_last, without_last-push, task_reaches, outer_free, outer_new, in_body_alone}
-use Rattle.osek_valid.proofs.Going.{keeps, state_kept, Running, running, falls_on, goes_on}
+use Rattle.osek_valid.proofs.Going.{keeps, alarm_kept, state_kept, Running, running, falls_on, goes_on}
 
 -- ---- events
 
@@ -117,7 +117,7 @@ module _ (config : Config) (app : App) where
   woken_by (mode.Waiting mask) events t s e v booted declared =
       cond_both (bit_and events mask == 0) s (activated_state s t) (Valid config app) (λ _. v) (λ _. woken_valid s t mask v booted declared e)
 
-  set_events_valid : (s : System) (t mask : ℕ) → Valid config app s → s.booted ≡ true → t < length config.tasks → ((task s t).state ≡ mode.Suspended → ⊥)
+  pub set_events_valid : (s : System) (t mask : ℕ) → Valid config app s → s.booted ≡ true → t < length config.tasks → ((task s t).state ≡ mode.Suspended → ⊥)
       → HasEvents (declaration config t) mask → Valid config app (set_events t mask s)
   set_events_valid s t mask v booted declared awake covers =
       let events = bit_or (task s t).events mask in
@@ -294,6 +294,19 @@ module _ (config : Config) (app : App) (w : Facts config app) (s : System) (v : 
         );
       })
 
+  -- ---- alarms
+
+  -- a service that sets an alarm: its caller goes on, whichever its answer is
+  sets_are : (o : Op) → Running config app c k frame outer o → is_followed o ≡ true → ((held : List ℕ) → held_after o held ≡ held)
+      → (a : ℕ) (allowed : Bool) (left cycle : ℕ) → OnPlans s (λ p. IsAfter (Valid config app) (shown p.answer (carried_out c p s))) (sets_alarm a allowed left cycle s)
+  sets_are o r goes holds a allowed left cycle = (
+    λ _. answered_is o r goes holds E_OS_STATE,
+    λ _. (
+      λ _. alarm_kept config app (answered_state E_OK c s) a (record { left = left; cycle = cycle }) (answered_is o r goes holds E_OK),
+      λ _. answered_is o r goes holds E_OS_VALUE,
+    ),
+  )
+
   -- ---- all services
 
   plans_valid : (sv : Service) (o m : ℕ) → Running config app c k frame outer (serve sv o m) → PlansAreValid sv o m
@@ -323,6 +336,17 @@ module _ (config : Config) (app : App) (w : Facts config app) (s : System) (v : 
     λ _. answered_with_is (serve service.GetEvent t m) r refl (λ _. refl) (task s t).events,
   )
   plans_valid service.WaitEvent o m r = (λ _. waits_is o m r, λ _. answered_is (serve service.WaitEvent o m) r refl (λ _. refl) E_OK)
+  plans_valid service.SetRelAlarm a m r = sets_are (serve service.SetRelAlarm a m) r refl (λ _. refl) a _ _ _
+  plans_valid service.SetAbsAlarm a m r = sets_are (serve service.SetAbsAlarm a m) r refl (λ _. refl) a _ _ _
+  plans_valid service.CancelAlarm a m r = (
+    λ _. alarm_kept config app (answered_state E_OK c s) a (record (alarm s a) { left = 0 })
+        (answered_is (serve service.CancelAlarm a m) r refl (λ _. refl) E_OK),
+    λ _. answered_is (serve service.CancelAlarm a m) r refl (λ _. refl) E_OS_NOFUNC,
+  )
+  plans_valid service.GetAlarm a m r = (
+    λ _. answered_with_is (serve service.GetAlarm a m) r refl (λ _. refl) (alarm s a).left,
+    λ _. answered_is (serve service.GetAlarm a m) r refl (λ _. refl) E_OS_NOFUNC,
+  )
 
   pub outcome_valid : (sv : Service) (o m : ℕ) → Running config app c k frame outer (serve sv o m) → IsAfter (Valid config app) (outcome config sv o m c s)
   outcome_valid sv o m r = on_outcome (IsAfter (Valid config app)) c s (decision config sv o m c s) (plans_valid sv o m r)

@@ -1,15 +1,15 @@
--- What every step of the abstract scheduler keeps true of each task.
-use Rattle.std.specs.Prelude.{ℕ, ◌<◌, ◌≡◌, ◌≢◌, ◌⊎◌, ◌++◌, List, [], ◌∷◌, true, false, not, ◌&&◌, length, map}
+-- What every step of the abstract scheduler keeps true of each task, and of the counters and alarms.
+use Rattle.std.specs.Prelude.{ℕ, ◌<◌, ◌≤◌, ◌≡◌, ◌≢◌, ◌⊎◌, ◌++◌, List, [], ◌∷◌, true, false, not, ◌&&◌, length, get_or, map}
 use Rattle.sloth_base.specs.declared.config.Config.{Config}
 use Rattle.sloth_base.specs.declared.app.App.{App}
 use Rattle.sloth_base.specs.declared.app.Op.TheVariants as op
-use Rattle.sloth_base.specs.Named.{function, declaration, body_of}
+use Rattle.sloth_base.specs.Named.{function, declaration, counter_declaration, body_of}
 use Rattle.sloth_base.specs.ConfigRange.{scheduler_number}
 use Rattle.code_rules.specs.Code.{IsItem, is_in}
 use Rattle.code_rules.specs.WellFormed.{held_before, Lists, HasEvents}
 use Rattle.osek_scheduler.specs.declared.state.TaskState.{TaskState}
 use Rattle.osek_scheduler.specs.declared.state.TaskState.TheVariants as mode
-use Rattle.osek_scheduler.specs.State.{Frame, Task, System, task}
+use Rattle.osek_scheduler.specs.State.{Frame, Task, Clock, System, task, no_counter}
 
 -- ---- calls in progress
 
@@ -70,7 +70,15 @@ pub record IsValidTask (config : Config) (app : App) (t : ℕ) (own : Task) : Ty
   pub events : HasEvents (declaration config t) own.events
   pub in_state : InState config t own own.state
 
--- ---- all tasks
+-- ---- counters and alarms
+
+-- there is one of each for each declaration, and no value is above its counter's greatest
+pub record IsTimed (config : Config) (clock : Clock) : Type 0 where
+  pub counters : length clock.counters ≡ length config.counters
+  pub alarms : length clock.alarms ≡ length config.alarms
+  pub values : (c : ℕ) → (get_or clock.counters c no_counter).value ≤ (counter_declaration config c).max
+
+-- ---- the whole system
 
 -- what every step keeps true of the system
 pub record Valid (config : Config) (app : App) (s : System) : Type 0 where
@@ -79,3 +87,4 @@ pub record Valid (config : Config) (app : App) (s : System) : Type 0 where
   -- the data keep their sizes
   pub sizes : map length s.symbols ≡ map (λ y. length y.bytes) app.symbols
   pub asleep : s.booted ≡ false → (t : ℕ) → (task s t).state ≡ mode.Suspended
+  pub clock : IsTimed config s.clock

@@ -47,16 +47,16 @@ abbrev pub ItemsMean : Type 0
 ItemsMean = (config : Config) (app : App) (s : System) (t : ℕ) → WellFormed config app → Valid config app s
     → t < length config.tasks → IsActive s t → (task s t).owed ≡ false → (o : Op) × (at : IsAt app s t o) × MeansOrServes app s t o at
 
--- there is a next event that is no admit
+-- there is a next event that is no admission
 abbrev pub HasNext : Config → App → System → Type 0
 HasNext config app s = (event : Event) × (admitted_line event ≡ None) × (next : System) × OsekStep config app event s next
 
--- where a task runs and owes no `back`, there is a next event that is no admit
+-- where a task runs and owes no `back`, there is a next event that is no admission
 abbrev pub RunningGoesOn : Type 0
 RunningGoesOn = (config : Config) (app : App) (s : System) (t : ℕ) → WellFormed config app → Valid config app s → Apart config s
     → s.booted ≡ true → IsTop config s [] t → IsActive s t → (task s t).owed ≡ false → HasNext config app s
 
--- a run never sticks: each valid state has a next event that is no admit
+-- a run never sticks: each valid state has a next event that is no admission
 abbrev pub RunsNeverStick : Type 0
 RunsNeverStick = (config : Config) (app : App) (s : System) → WellFormed config app → Valid config app s → Apart config s → HasNext config app s
 

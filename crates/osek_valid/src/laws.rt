@@ -27,12 +27,12 @@ pub fn items_mean()
     ensures { ItemsMean }
 {}
 
-/// The running task always has a next event that is no admit.
+/// The running task always has a next event that is no admission.
 pub fn running_goes_on()
     ensures { RunningGoesOn }
 {}
 
-/// Each valid state has a next event that is no admit.
+/// Each valid state has a next event that is no admission.
 pub fn runs_never_stick()
     ensures { RunsNeverStick }
 {}

@@ -6,6 +6,7 @@ use Rattle.rv32_instr.specs.declared.InstrKind.{InstrKind}
 use Rattle.masked_code.specs.Masked.{Masked, WithArrivals}
 use Rattle.masked_code.specs.Place.{at}
 use Rattle.masked_code.proofs.Masked.{masked_more}
+use Rattle.code_lengths.specs.CodeLengths.{prologue_length}
 use Rattle.prologue_gen.specs.Fresh.{vector, Entered}
 use Rattle.prologue_gen.specs.Resumed.{MayStart}
 use Rattle.prologue_gen.specs.Places.{DoesEnter}
@@ -30,6 +31,12 @@ does_enter extended task level first frame words is_task low_level fits few in_r
     let same : memory_base + (frame - memory_base) ≡ frame = omega arith in
     subst (λ x. DoesEnter extended task level first (frame - memory_base) words (code extended task level x words first)) same
     (by_offset extended task level first (frame - memory_base) words is_task low_level fits few)
+
+-- how many instructions it has
+pub length_is : (extended : Bool) (task level first frame words : ℕ) (code : List InstrKind) → DoesEnter extended task level first frame words code
+    → length code ≡ prologue_length extended words
+length_is true task level first frame words code h = h.size
+length_is false task level first frame words code h = h.size
 
 pub size : (extended : Bool) (task level first frame words : ℕ) (code : List InstrKind) → DoesEnter extended task level first frame words code
     → (0 < length code) × (length code ≤ 109 + words)

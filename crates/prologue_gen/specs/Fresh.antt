@@ -1,6 +1,7 @@
 -- The prologue of a task that starts anew: what was preempted is saved in a context, and the task begins.
 use Rattle.std.specs.Prelude.{ℕ, ℤ, ◌+◌, ◌*◌, ◌%◌, ◌≡◌, ◌<◌, ◌≤◌, ◌⊎◌, false, true, List, [], ◌∷◌, length, replicate, slice_index}
 use Rattle.sloth_base.specs.Machine.{Core, State}
+use Rattle.code_lengths.specs.CodeLengths.{prologue_length}
 use Rattle.sloth_region.specs.Layout.{cur, active, below_word, idle_context, context_bytes}
 use Rattle.rv32_instr.specs.declared.InstrKind.{InstrKind}
 use Rattle.rv32_instr.specs.declared.InstrKind.TheVariants.{Jal}
@@ -60,7 +61,7 @@ pub record Entered (task level first place frame words : ℕ) (touched : List �
 
 -- Code of a prologue: with the jump of the vector word, at most 75 + words instructions lead to its effect, whatever lines arrive.
 pub record Enters (task level first frame words : ℕ) (code : List InstrKind) : Type 0 where
-  pub size : length code ≡ 74 + words
+  pub size : length code ≡ prologue_length false words
   pub runs :
       (offset place : ℕ) (core : Core) → first % 4 ≡ 0 → MayEnter offset task place frame words code core
       → Masked (75 + words) (at (vector task) core) (WithArrivals (Entered task level first place frame words) (at (vector task) core))

@@ -14,10 +14,6 @@ use Rattle.rv32_instr.specs.declared.InstrKind.{InstrKind}
 use Rattle.prologue_gen.specs.Fresh.{Enters}
 use Rattle.prologue_gen.specs.Resumed.{EntersOrResumes}
 
--- the function at this place is the task's body
-abbrev pub IsBody : List Func → ℕ → ℕ → Type 0
-IsBody funcs task body = (body < length funcs) × ((d : Func) → (slice_index_or funcs body d).task ≡ Some task)
-
 -- the task has no events, so it never waits
 abbrev pub IsBasic : List TaskDecl → ℕ → Type 0
 IsBasic tasks task = (d : TaskDecl) → (slice_index_or tasks task d).extended ≡ false

@@ -2,6 +2,7 @@
 use Rattle.std.specs.Prelude.{ℕ, ℤ, ◌+◌, ◌*◌, ◌%◌, ◌≡◌, ◌≢◌, ◌<◌, ◌≤◌, ◌⊎◌, false, true, List, [], ◌∷◌, length, slice_index}
 use Rattle.sloth_base.specs.Machine.{Core, State}
 use Rattle.sloth_base.specs.Status.{E_OK}
+use Rattle.code_lengths.specs.CodeLengths.{prologue_length}
 use Rattle.sloth_region.specs.Layout.{cur, active, resume, below_word, idle_context, context_bytes}
 use Rattle.rv32_instr.specs.declared.InstrKind.{InstrKind}
 use Rattle.rv32_instr.specs.declared.InstrKind.TheVariants.{Jal}
@@ -57,7 +58,7 @@ pub record Resumed (task level place own : ℕ) (touched : List ℕ) (start end 
 -- Code of the prologue of an extended task: with the jump of the vector word, at most 110 + words instructions lead to a start
 -- where no context is kept, and to the place of the wait where one is, whatever lines arrive.
 pub record EntersOrResumes (task level first frame words : ℕ) (code : List InstrKind) : Type 0 where
-  pub size : length code ≡ 109 + words
+  pub size : length code ≡ prologue_length true words
   pub starts :
       (offset place : ℕ) (core : Core) → first % 4 ≡ 0 → MayStart offset task place frame words code core
       → Masked (110 + words) (at (vector task) core) (WithArrivals (Entered task level first place frame words) (at (vector task) core))

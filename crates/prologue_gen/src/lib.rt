@@ -1,7 +1,6 @@
 //! The prologues: the code that runs where a task's interrupt line is taken.
 #![tactic(auto)]
 
-mod body;
 mod fresh;
 mod prologue_block;
 mod resumed;

@@ -1,11 +1,13 @@
 //! The block of a prologue.
 ghost use Rattle.std.specs.Prelude.{◌≡◌, ◌+◌, ◌-◌, ◌*◌, ◌<◌, ◌≤◌, ℕ, [], All, IfOk, slice_index, length};
 ghost use Rattle.sloth_base.specs.MemoryMap.{memory_base};
-ghost use Rattle.prologue_gen.specs.Places.{IsBody, IsTop, EntersTask, DoesEnter, frame_at};
+ghost use Rattle.code_lengths.specs.Bodies.{IsBody};
+ghost use Rattle.code_lengths.specs.CodeLengths.{prologue_length, IsPrologueLength};
+ghost use Rattle.prologue_gen.specs.Places.{IsTop, EntersTask, DoesEnter, frame_at};
 
-use crate::body::body_of;
 use crate::fresh::{mark_active, save_context, start_anew};
 use crate::resumed::take_up;
+use code_lengths::body_of;
 use rv32_instr::{Block, Instr};
 use sloth_base::app::App;
 use sloth_base::config::Config;
@@ -34,7 +36,7 @@ pub fn prologue(
     requires items { (length app.now.funcs ≤ length map.now.places.first) × All (λ i. i < length map.now.places.items) map.now.places.first }
     ensures at { IfOk result (λ block. block.at ≡ slice_index map.now.handlers task) }
     ensures marks { IfOk result (λ block. block.marks ≡ []) }
-    ensures size { IfOk result (λ block. length block.code ≤ 256) }
+    ensures size { IfOk result (λ block. IsPrologueLength task config.now app.now (length block.code)) }
     ensures effect { IfOk result (λ block. EntersTask task config.now app.now levels.now map.now block.code) }
 {
     let code = entry(alloc, task, config, app, levels, map)?;
@@ -60,7 +62,7 @@ fn entry(
     requires frames { All (λ func. func.frame_words ≤ 32) app.now.funcs }
     requires tops { (length map.now.tops ≡ length config.now.tasks) × All IsTop map.now.tops }
     requires items { (length app.now.funcs ≤ length map.now.places.first) × All (λ i. i < length map.now.places.items) map.now.places.first }
-    ensures size { IfOk result (λ code. length code.items ≤ 256) }
+    ensures size { IfOk result (λ code. IsPrologueLength task config.now app.now (length code.items)) }
     ensures enters { IfOk result (λ code. EntersTask task config.now app.now levels.now map.now code.items) }
 {
     let body = body_of(app.funcs.items(), task);
@@ -104,7 +106,7 @@ fn code_of(
 ) -> Result<Vec<Instr>, AllocError>
     requires small { (task < 30) × (level < 32) × (words ≤ 32) }
     requires in_ram { memory_base ≤ frame }
-    ensures size { IfOk result (λ code. length code.items ≤ 256) }
+    ensures size { IfOk result (λ code. length code.items ≡ prologue_length extended words) }
     ensures enters { IfOk result (λ code. DoesEnter extended task level first (frame - memory_base) words code.items) }
 {
     let mut code = Vec::new(alloc);

@@ -1,4 +1,5 @@
 -- What each service leaves of the frames of the tasks, and of what they owe: those of all others as they were, and its caller's behind it.
+-- A tick leaves them all.
 use Rattle.std.proofs.Common.{◌≡◌, ℕ, ◌<◌, ◌⊎◌, [], ◌∷◌, true, false, ◌&&◌, not, Bool, length, Option, Some, None, refl, sym, ap, ◌∙◌, subst, inl, inr}
 use Rattle.std.specs.Prelude.{◌≢◌}
 use Rattle.std.proofs.lemmas.Bool.{false≢true, and_parts, not-true}
@@ -13,11 +14,12 @@ use Rattle.osek_scheduler.specs.declared.change.TaskChange.TheVariants as change
 use Rattle.osek_scheduler.specs.declared.plan.Plan.{Plan}
 use Rattle.osek_scheduler.specs.declared.state.TaskState.TheVariants as mode
 use Rattle.osek_scheduler.specs.State.{Task, System, sleeping_task, task, with_task}
-use Rattle.osek_scheduler.specs.Services.{activated_state, with_events, moved_frames, Outcome, GoesOn, Leaves}
+use Rattle.osek_scheduler.specs.Services.{activated_state, with_events, moved_frames, Outcome, GoesOn, Leaves, ticked_state}
 use Rattle.osek_scheduler.specs.Changes.{changed_task, with_change}
 use Rattle.osek_scheduler.specs.Outcomes.{carried_out, shown, decision, outcome}
 use Rattle.osek_scheduler.specs.Steps.{admitted_state}
 use Rattle.osek_scheduler.proofs.Outcomes.{by_suspended, on_tested, on_outcome, KeptByOthers, others_keep}
+use Rattle.osek_scheduler.proofs.Ticking.{parts_kept, ticked_keeps}
 use Rattle.osek_valid.proofs.Apart.{at_task}
 
 -- the frames are the same, what is owed, and what is held
@@ -61,6 +63,18 @@ pub admitted_keeps : (s : System) (t : ℕ) → KeepsFrames s (admitted_state t 
 admitted_keeps s t =
     by_suspended (task s t).state (record (activated_state s t) { fresh = t ∷ s.fresh }) s (KeepsFrames s) (λ _. readied s t)
     (λ _ u. same_frames (task s u))
+
+frames_besides : (s : System) → KeptByOthers (KeepsFrames s)
+frames_besides s = record {
+  activates = λ x t h u. joined _ _ _ (h u) (readied x t u);
+  sets = λ x t events h u. joined _ _ _ (h u) (eventful x t events u);
+  stores = λ x symbols h. h;
+  sets_alarms = λ x a new h. h;
+}
+
+pub ticked_frames : (config : Config) (s : System) (c : ℕ) → c < length config.counters → KeepsFrames s (ticked_state config c s)
+ticked_frames config s c lt =
+    ticked_keeps (KeepsFrames s) config (parts_kept (KeepsFrames s) config (frames_besides s) (λ x d new h. h)) s c lt (λ u. same_frames (task s u))
 
 -- ---- a change of the caller, and what is done besides
 
@@ -120,6 +134,7 @@ module _ (c : ℕ) (s : System) where
         (at_task x t c (record (task x t) { events = events }) (λ k. k.state ≡ mode.Active → (task x c).state ≡ mode.Active) (λ a. a)
         (λ e a. let P : ℕ → Type 0 = λ v. (task x v).state ≡ mode.Active in subst P (sym e) a));
     stores = λ x symbols h. record { others = h.others; caller = h.caller };
+    sets_alarms = λ x a new h. record { others = h.others; caller = h.caller };
   }
 
   changed : (p : Plan) → Changed (changed_task p.change (task s c)) (carried_out c p s)

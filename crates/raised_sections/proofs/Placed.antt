@@ -33,7 +33,7 @@ use Rattle.osek_valid.proofs.Stacks.{has_body, in_body_alone}
 use Rattle.osek_valid.proofs.Steps.{autostarted_at, asleep_at, step_valid}
 use Rattle.raised_sections.specs.Walks.{first_position, chains_itself, WalksOn}
 use Rattle.raised_sections.proofs.Reached.{IsReached, reached_next, reached_first}
-use Rattle.raised_sections.proofs.Frames.{SameFrames, same_frames, KeepsOthers, KeepsFrames, own, admitted_keeps, Served, served_frames}
+use Rattle.raised_sections.proofs.Frames.{SameFrames, same_frames, KeepsOthers, KeepsFrames, own, admitted_keeps, ticked_frames, Served, served_frames}
 use Rattle.raised_sections.proofs.Stepping.{position_of, StepsOn, runs, serves}
 
 module _ (app : App) where
@@ -79,6 +79,8 @@ FrameEffect app s next (event.Left t served) = Departs app t s next
 FrameEffect app s next (event.Back t) = Returns t s next
 FrameEffect app s next event.Idle = KeepsFrames s next
 FrameEffect app s next event.Stray = ⊥
+FrameEffect app s next (event.Due c) = KeepsFrames s next
+FrameEffect app s next (event.Tick c) = KeepsFrames s next
 
 module _ (config : Config) (app : App) (w : Facts config app) (s next : System) (v : Valid config app s) where
   at_least : (t : ℕ) → t < length config.tasks → t < length s.tasks
@@ -201,8 +203,10 @@ module _ (config : Config) (app : App) (w : Facts config app) (s next : System) 
     where
       new : Task
       new = record (task s t) { owed = false; raised = (declaration config t).non }
-  frame_effect event.Idle h = subst (KeepsFrames s) (sym h.2) (λ u. same_frames (task s u))
+  frame_effect event.Idle h = subst (KeepsFrames s) (sym h.3) (λ u. same_frames (task s u))
   frame_effect event.Stray h = h
+  frame_effect (event.Due c) h = subst (KeepsFrames s) (sym h.2) (λ u. same_frames (task s u))
+  frame_effect (event.Tick c) h = subst (KeepsFrames s) (sym h.2) (ticked_frames config s c h.1.declared)
 
 -- ---- each stands where a walk leads
 
@@ -239,6 +243,8 @@ module _ (config : Config) (app : App) where
   step_placed s next (event.Back t) f p = split s next t p f.others (subst (IsPlaced app t) (sym f.frames) (p t))
   step_placed s next event.Idle f p = still_placed s next p f
   step_placed s next event.Stray f p = absurd f
+  step_placed s next (event.Due c) f p = still_placed s next p f
+  step_placed s next (event.Tick c) f p = still_placed s next p f
 
   pub opening_placed : Placed app (opening config app)
   opening_placed u = inl (ap (λ k. k.frames) (asleep_at config.tasks u))

@@ -181,7 +181,7 @@ module _ {config : Config} {app : App} {h l : ℕ} (pair : LowerPair config app 
     at_most_cons : (e : Stamped) (events : List Stamped) → AtMost events → AtMost (e ∷ events)
     at_most_cons e events again s end x b leads = by (cases_Bool (is_entry_of h e.event))
       where
-        -- an event that is no admit: h is not fresh behind it
+        -- an event that is no admission: h is not fresh behind it
         behind : is_entry_of h e.event ≡ false → Onward pair s leads.0 e events → leads.0.fresh ≡ [] → count pair (e ∷ events) ≤ suc n
         behind c o settles =
             let f = within leads.0 (count pair events) (found_all events leads.0 end o.waits (ap (is_in h) settles) o.blocked leads.2) in
@@ -200,6 +200,9 @@ module _ {config : Config} {app : App} {h l : ℕ} (pair : LowerPair config app 
         at c o (event.Back t) is f = behind c o f.moves.acts.settles
         at c o event.Idle is f = behind c o f.settles
         at c o event.Stray is f = absurd f
+        at c o (event.Due d) is f =
+            subst (λ k. k ≤ suc n) (sym (uncounted pair e events c (ap (λ v. is_lower config h (working_task v)) is))) (again leads.0 end o.waits o.blocked leads.2)
+        at c o (event.Tick d) is f = behind c o f.settles
 
         by : (is_entry_of h e.event ≡ true) ⊎ (is_entry_of h e.event ≡ false) → count pair (e ∷ events) ≤ suc n
         by (inl c) = subst (λ k. k ≤ suc n) (sym (stops pair e events c)) (omega arith)

@@ -129,6 +129,8 @@ module _ {config : Config} {app : App} {h l : ℕ} (pair : LowerPair config app 
             at (inr n) = keeps refl (p.others l (λ e. n (sym e))) (λ a. (f.moves.acts.calm l (λ e. n (sym e)) a).0)
         by event.Idle step one f p = keeps refl (p l) (λ a. (f.same l a).0)
         by event.Stray step one f p = absurd f
+        by (event.Due c) step one f p = keeps refl (p l) (λ a. (f.same l a).0)
+        by (event.Tick c) step one f p = keeps refl (p l) (λ a. (f.same l a).0)
 
   -- ---- what blocks, behind an event
 

@@ -12,12 +12,12 @@ use Rattle.sloth_base.specs.Events.{is_boot}
 use Rattle.sloth_base.specs.Owners.{line_kind}
 use Rattle.observe.specs.Observe.{View, stamp, admission, arrival_event}
 use Rattle.osek_scheduler.specs.InTime.{is_admit}
-use Rattle.raised_sections.specs.Pace.{item_counts, last_count, IsPaced}
+use Rattle.raised_sections.specs.Pace.{event_counts, last_count, IsPaced}
 use Rattle.run_bounds.specs.PacedRun.{LastsBriefly, BeginsWithBoot}
 
 -- the events keep the pace behind count `at`, and the last of them ends at this one
 pub record Continues (config : Config) (at : ℕ) (events : List Stamped) (to : ℕ) : Type 0 where
-  pub paced : IsPaced at events
+  pub paced : IsPaced config at events
   pub last : last_count at events ≡ to
   pub brief : AllByRecursion (LastsBriefly config) events
 
@@ -37,7 +37,7 @@ module _ (config : Config) where
   admit_in_front e events at to is brief f =
       let here : cond (is_admit e) at e.stamp.at ≡ at = ap (λ b. cond b at e.stamp.at) is in
       record {
-        paced = (λ other. absurd (true≢false (sym is ∙ other)), subst (λ k. IsPaced k events) (sym here) f.paced);
+        paced = (λ other. absurd (true≢false (sym is ∙ other)), subst (λ k. IsPaced config k events) (sym here) f.paced);
         last = ap (λ k. last_count k events) here ∙ f.last;
         brief = (brief, f.brief);
       }
@@ -49,10 +49,11 @@ module _ (config : Config) where
       by : (kind : LineKind) → Continues config at (map (admission view) arrivals) at
           → Continues config at (stamp a.at a.at (arrival_event kind) ∷ map (admission view) arrivals) at
       by (line_of.Task t) f = admit_in_front (stamp a.at a.at (arrival_event (line_of.Task t))) (map (admission view) arrivals) at at refl (omega arith) f
+      by (line_of.Counter c) f = admit_in_front (stamp a.at a.at (arrival_event (line_of.Counter c))) (map (admission view) arrivals) at at refl (omega arith) f
       by line_of.Unused f = admit_in_front (stamp a.at a.at (arrival_event line_of.Unused)) (map (admission view) arrivals) at at refl (omega arith) f
 
   -- an event that is no admit
-  pub one_event : (at from to : ℕ) (what : Event) → is_admit (stamp from to what) ≡ false → (is_boot what ≡ false → to ≤ at + item_counts)
+  pub one_event : (at from to : ℕ) (what : Event) → is_admit (stamp from to what) ≡ false → (is_boot what ≡ false → to ≤ at + event_counts config what)
       → LastsBriefly config (stamp from to what) → Continues config at (stamp from to what ∷ []) to
   one_event at from to what other soon brief = record {
     paced = ((λ _ later. soon later), tt);
@@ -67,4 +68,5 @@ admissions_alone view (a ∷ arrivals) h = by (line_kind view.owners a.line) h
   where
     by : (kind : LineKind) → is_boot (arrival_event kind) ≡ true → ⊥
     by (line_of.Task t) h = cc
+    by (line_of.Counter c) h = cc
     by line_of.Unused h = cc

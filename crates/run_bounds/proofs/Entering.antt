@@ -1,9 +1,10 @@
 -- The entry of the task of highest priority ends within its latency.
 use Rattle.std.proofs.Common.{◌≡◌, ℕ, suc, ◌+◌, ◌*◌, ◌<◌, ◌≤◌, ◌⊎◌, ◌&&◌, leb, List, [], ◌∷◌, ◌++◌, Bool, true, false, cond, length, is_some, refl, sym, ap, ◌∙◌, subst, arith, inl, inr}
-use Rattle.std.specs.Prelude.{AllPairs, slice_index_or}
+use Rattle.std.specs.Prelude.{AllPairs, slice_index_or, ◌||◌, max}
 use Rattle.std.specs.List.{AllByRecursion}
 use Rattle.std.proofs.lemmas.Bool.{cases_Bool, cond-true, cond-false, false≢true, leb-false}
 use Rattle.std.proofs.lemmas.List.{append-nil}
+use Rattle.std.proofs.Math.Nat.{le-max_left, le-max_right}
 use Rattle.sloth_base.specs.declared.config.Config.{Config}
 use Rattle.sloth_base.specs.declared.app.App.{App}
 use Rattle.sloth_base.specs.declared.event.Event.{Event}
@@ -24,49 +25,62 @@ use Rattle.osek_valid.proofs.Steps.{step_valid, opening_valid}
 use Rattle.osek_blocking.specs.Blocking.{is_entry_of, up_to_entry}
 use Rattle.osek_blocking.proofs.Effects.{step_ordered, opening_ordered, leads_ordered}
 use Rattle.osek_blocking.proofs.Once.{block_once}
-use Rattle.raised_sections.specs.Pace.{item_counts, last_count, IsPaced}
+use Rattle.raised_sections.specs.Pace.{item_counts, entry_counts, event_counts, takes_line, last_count, IsPaced}
 use Rattle.sim_induction.proofs.Events.{each_both}
 use Rattle.raised_sections.proofs.Counts.{behind_paced}
 use Rattle.raised_sections.proofs.Placed.{frame_effect, step_placed, opening_placed, leads_placed}
 use Rattle.run_bounds.specs.PacedRun.{LastsBriefly, BeginsWithBoot, IsPacedRun}
-use Rattle.run_bounds.specs.Latency.{running_limit, latency, EntersBefore, EntersInTime}
-use Rattle.run_bounds.proofs.Turns.{Awaits}
-use Rattle.run_bounds.proofs.Waiting.{waiting, waits_at_most, no_boot}
+use Rattle.run_bounds.specs.Latency.{any_stretch, running_limit, is_tick, tick_counts, latency_with_ticks, EntersBefore, EntersInTime}
+use Rattle.run_bounds.proofs.Turns.{Awaits, is_outside}
+use Rattle.run_bounds.proofs.Waiting.{waiting, IsOnTheWay, waits_at_most, on_the_way}
 
 -- ---- counts of events
 
 -- where each event ends soon behind the one before it, so many events that are no admits end soon
-ends_step : (at : ℕ) (e : Stamped) (events : List Stamped) → (is_admit e ≡ false → e.stamp.at ≤ at + item_counts)
-    → ((k : ℕ) → cond (is_admit e) at e.stamp.at ≡ k → last_count k events ≤ k + item_counts * waiting events)
-    → last_count (cond (is_admit e) at e.stamp.at) events ≤ at + item_counts * (cond (is_admit e) 0 1 + waiting events)
-ends_step at e events soon further = by (cases_Bool (is_admit e))
-  where
-    by : (is_admit e ≡ true) ⊎ (is_admit e ≡ false)
-        → last_count (cond (is_admit e) at e.stamp.at) events ≤ at + item_counts * (cond (is_admit e) 0 1 + waiting events)
-    by (inl is) =
-        let same = ap (λ b. cond b at e.stamp.at) is in
-        let le = further at same in
-        let front = ap {B = ℕ} (λ b. cond b 0 1) is in
-        let last = ap (λ v. last_count v events) same in
-        omega (arith, le, front, last)
-    by (inr other) =
-        let same = ap (λ b. cond b at e.stamp.at) other in
-        let le = further e.stamp.at same in
-        let near = soon other in
-        let front = ap {B = ℕ} (λ b. cond b 0 1) other in
-        let last = ap (λ v. last_count v events) same in
-        omega (arith, le, near, front, last)
+module _ (config : Config) where
+  ends_step : (at : ℕ) (e : Stamped) (events : List Stamped) → takes_line e.event ≡ is_tick e.event
+      → (is_admit e ≡ false → e.stamp.at ≤ at + event_counts config e.event)
+      → ((k : ℕ) → cond (is_admit e) at e.stamp.at ≡ k → last_count k events ≤ k + item_counts * waiting events + tick_counts config events)
+      → last_count (cond (is_admit e) at e.stamp.at) events
+      ≤ at + item_counts * (cond (is_outside e.event) 0 1 + waiting events) + (cond (is_tick e.event) (entry_counts config) 0 + tick_counts config events)
+  ends_step at e events takes soon further = by (cases_Bool (is_admit e)) (cases_Bool (is_tick e.event))
+    where
+      by : (is_admit e ≡ true) ⊎ (is_admit e ≡ false) → (is_tick e.event ≡ true) ⊎ (is_tick e.event ≡ false)
+          → last_count (cond (is_admit e) at e.stamp.at) events
+          ≤ at + item_counts * (cond (is_outside e.event) 0 1 + waiting events) + (cond (is_tick e.event) (entry_counts config) 0 + tick_counts config events)
+      by (inl is) which =
+          let same = ap (λ b. cond b at e.stamp.at) is in
+          let le = further at same in
+          let front = ap {B = ℕ} (λ b. cond (b || is_tick e.event) 0 1) is in
+          let last = ap (λ v. last_count v events) same in
+          omega (arith, le, front, last)
+      by (inr other) (inl tick) =
+          let same = ap (λ b. cond b at e.stamp.at) other in
+          let le = further e.stamp.at same in
+          let near = soon other in
+          let limit = ap (λ b. cond b (entry_counts config) item_counts) (takes ∙ tick) in
+          let spent = ap (λ b. cond b (entry_counts config) 0) tick in
+          let last = ap (λ v. last_count v events) same in
+          omega (arith, le, near, limit, spent, last)
+      by (inr other) (inr none) =
+          let same = ap (λ b. cond b at e.stamp.at) other in
+          let le = further e.stamp.at same in
+          let near = soon other in
+          let limit = ap (λ b. cond b (entry_counts config) item_counts) (takes ∙ none) in
+          let front = ap {B = ℕ} (λ b. cond (b || is_tick e.event) 0 1) other ∙ ap {B = ℕ} (λ b. cond b 0 1) none in
+          let last = ap (λ v. last_count v events) same in
+          omega (arith, le, near, limit, front, last)
 
-ends_by : (at : ℕ) (events : List Stamped) → IsPaced at events → AllByRecursion (λ e. is_boot e.event ≡ false) events
-    → last_count at events ≤ at + item_counts * waiting events
-ends_by at [] p none = omega arith
-ends_by at (e ∷ events) p none =
-    ends_step at e events (λ other. p.0 other none.0)
-    (λ k is. subst (λ v. last_count v events ≤ v + item_counts * waiting events) is (ends_by (cond (is_admit e) at e.stamp.at) events p.1 none.1))
+  ends_by : (at : ℕ) (events : List Stamped) → IsPaced config at events → AllByRecursion IsOnTheWay events
+      → last_count at events ≤ at + item_counts * waiting events + tick_counts config events
+  ends_by at [] p none = omega arith
+  ends_by at (e ∷ events) p way =
+      ends_step at e events way.0.1 (λ other. p.0 other way.0.0)
+      (λ k is. subst (λ v. last_count v events ≤ v + item_counts * waiting events + tick_counts config events) is (ends_by (cond (is_admit e) at e.stamp.at) events p.1 way.1))
 
-front_paced : (at : ℕ) (before behind : List Stamped) → IsPaced at (before ++ behind) → IsPaced at before
-front_paced at [] behind p = tt
-front_paced at (e ∷ before) behind p = (p.0, front_paced (cond (is_admit e) at e.stamp.at) before behind p.1)
+  front_paced : (at : ℕ) (before behind : List Stamped) → IsPaced config at (before ++ behind) → IsPaced config at before
+  front_paced at [] behind p = tt
+  front_paced at (e ∷ before) behind p = (p.0, front_paced (cond (is_admit e) at e.stamp.at) before behind p.1)
 
 last-append : (at : ℕ) (a b : List Stamped) → last_count at (a ++ b) ≡ last_count (last_count at a) b
 last-append at [] b = refl
@@ -79,19 +93,25 @@ module _ (config : Config) (moment : ℕ) where
   abbrev Stood : Stamped → Type 0
   Stood e = (is_admit e ≡ false → e.stamp.from < moment) × LastsBriefly config e
 
-  either : (P : ℕ → Type 0) (b : Bool) (rest : ℕ) → P (stretch_limit config Boots) → P rest → P (cond b (stretch_limit config Boots) rest)
+  either : (P : ℕ → Type 0) (b : Bool) (rest : ℕ) → P (any_stretch config) → P rest → P (cond b (any_stretch config) rest)
   either P true rest f g = f
   either P false rest f g = g
+
+  longest_fits : longest_stretch config ≤ any_stretch config
+  longest_fits = le-max_right (stretch_limit config Boots) (longest_stretch config)
+
+  boot_fits : stretch_limit config Boots ≤ any_stretch config
+  boot_fits = le-max_left (stretch_limit config Boots) (longest_stretch config)
 
   at_least : (before : List Stamped) → longest_stretch config ≤ running_limit config moment before
   at_least [] = omega arith
   at_least (e ∷ before) =
-      either (λ k. longest_stretch config ≤ k) (is_boot e.event && leb moment e.stamp.at) (running_limit config moment before) (omega arith) (at_least before)
+      either (λ k. longest_stretch config ≤ k) (is_boot e.event && leb moment e.stamp.at) (running_limit config moment before) longest_fits (at_least before)
 
-  at_most : (before : List Stamped) → running_limit config moment before ≤ stretch_limit config Boots
-  at_most [] = omega arith
+  at_most : (before : List Stamped) → running_limit config moment before ≤ any_stretch config
+  at_most [] = longest_fits
   at_most (e ∷ before) =
-      either (λ k. k ≤ stretch_limit config Boots) (is_boot e.event && leb moment e.stamp.at) (running_limit config moment before) (omega arith)
+      either (λ k. k ≤ any_stretch config) (is_boot e.event && leb moment e.stamp.at) (running_limit config moment before) (omega arith)
       (at_most before)
 
   ended : (e : Stamped) (before : List Stamped) → is_admit e ≡ false → Stood e → e.stamp.at + 2 ≤ moment + running_limit config moment (e ∷ before)
@@ -101,13 +121,14 @@ module _ (config : Config) (moment : ℕ) where
       first = s.0 other
 
       by : (is_boot e.event ≡ true) ⊎ (is_boot e.event ≡ false) → (leb moment e.stamp.at ≡ true) ⊎ (leb moment e.stamp.at ≡ false)
-          → e.stamp.at + 2 ≤ moment + cond (is_boot e.event && leb moment e.stamp.at) (stretch_limit config Boots) (running_limit config moment before)
+          → e.stamp.at + 2 ≤ moment + cond (is_boot e.event && leb moment e.stamp.at) (any_stretch config) (running_limit config moment before)
       by (inl boots) (inl later) =
-          let limit = ap (λ b. cond (b && leb moment e.stamp.at) (stretch_limit config Boots) (running_limit config moment before)) boots
-          ∙ ap (λ b. cond b (stretch_limit config Boots) (running_limit config moment before)) later in
+          let limit = ap (λ b. cond (b && leb moment e.stamp.at) (any_stretch config) (running_limit config moment before)) boots
+          ∙ ap (λ b. cond b (any_stretch config) (running_limit config moment before)) later in
           let brief = s.1 in
           let lasts = ap (λ b. cond b (stretch_limit config Boots) (longest_stretch config)) boots in
-          omega (arith, first, limit, brief, lasts)
+          let fits = boot_fits in
+          omega (arith, first, limit, brief, lasts, fits)
       by (inl boots) (inr over) =
           let lt = leb-false _ _ over in
           let le = at_least (e ∷ before) in
@@ -179,6 +200,8 @@ begins config app e events end leads = by e.event leads.1
     by (event.Left t served) step = absurd (false≢true step.0)
     by (event.Back t) step = absurd (false≢true step.0)
     by event.Idle step = absurd (false≢true step.0)
+    by (event.Due c) step = absurd (false≢true step.0)
+    by (event.Tick c) step = absurd (false≢true step.0)
     by event.Stray step = absurd step
 
 some_boot : (config : Config) (app : App) (before behind : List Stamped) (made : Stamped) (end : System)
@@ -188,10 +211,10 @@ some_boot config app (e ∷ before) behind made end leads = begins config app e 
 
 -- ---- the entry
 
--- an entry is neither an admit nor boot
-entry_counts : (h : ℕ) (e : Event) → is_entry_of h e ≡ true → (is_some (admitted_line e) ≡ false) × (is_boot e ≡ false)
-entry_counts h (event.Enter t) is = (refl, refl)
-entry_counts h e is = absurd (false≢true is)
+-- an entry is neither an admit nor boot, and begins with the taking of a line
+entry_facts : (h : ℕ) (e : Event) → is_entry_of h e ≡ true → (is_some (admitted_line e) ≡ false) × (is_boot e ≡ false) × (takes_line e ≡ true)
+entry_facts h (event.Enter t) is = (refl, refl, refl)
+entry_facts h e is = absurd (false≢true is)
 
 -- the first entry of the events, or there is none
 data Entry (h : ℕ) (events : List Stamped) : Type 0 where
@@ -267,33 +290,34 @@ module _ (config : Config) (app : App) (n : ℕ) (events : List Stamped) (code :
       same : cond (is_admit made) at made.stamp.at ≡ at
       same = ap (λ c. cond c at made.stamp.at) admits
 
-      pace : IsPaced at behind
+      pace : IsPaced config at behind
       pace =
-          let rest = behind_paced 0 before (made ∷ behind) (subst (IsPaced 0) is paced.paced) in
-          subst (λ k. IsPaced k behind) same rest.1
+          let rest = behind_paced config 0 before (made ∷ behind) (subst (IsPaced config 0) is paced.paced) in
+          subst (λ k. IsPaced config k behind) same rest.1
 
       reach : (window further : List Stamped) → behind ≡ window ++ further → up_to_entry h behind ≡ window
-          → last_count at window ≤ at + item_counts * b
+          → last_count at window ≤ at + item_counts * b + tick_counts config window
       reach window further split front =
-          let p = front_paced at window further (subst (IsPaced at) split pace) in
-          let none = subst (AllByRecursion (λ e. is_boot e.event ≡ false)) front
-          (no_boot config app w h makes.declared highest behind s run.0 stands behind_leads) in
-          let le = ends_by at window p none in
+          let p = front_paced config at window further (subst (IsPaced config at) split pace) in
+          let way = subst (AllByRecursion IsOnTheWay) front (on_the_way config app w h makes.declared highest behind s run.0 stands behind_leads) in
+          let le = ends_by config at window p way in
           let few = subst (λ es. waiting es ≤ b) front most in
           omega (arith, le, few)
 
-      by : Entry h behind → EntersBefore h (made.stamp.at + latency (running_limit config made.stamp.at before) b) behind
+      by : Entry h behind → EntersBefore h (made.stamp.at + latency_with_ticks config h b made.stamp.at before behind) behind
       by (enters entry rest entered split) =
           let le = reach (up_to_entry h behind) (entry ∷ rest) split refl in
-          let p = behind_paced at (up_to_entry h behind) (entry ∷ rest) (subst (IsPaced at) split pace) in
-          let counts = entry_counts h entry.event entered in
-          let soon = p.0 counts.0 counts.1 in
+          let p = behind_paced config at (up_to_entry h behind) (entry ∷ rest) (subst (IsPaced config at) split pace) in
+          let facts = entry_facts h entry.event entered in
+          let soon = p.0 facts.0 facts.1 in
+          let limit = ap (λ c. cond c (entry_counts config) item_counts) facts.2 in
           let start = near in
-          record { entry = entry; rest = rest; is_entry = entered; first = split; in_time = omega (arith, le, soon, start) }
+          record { entry = entry; rest = rest; is_entry = entered; first = split; in_time = omega (arith, le, soon, limit, start) }
       by (enters_not all) =
           let le = reach behind [] (sym (append-nil behind)) all in
           let end = paced.reaches (subst BeginsWithBoot (sym is) (some_boot config app before behind made run.0 whole)) in
           let last = ap (last_count 0) is ∙ last-append 0 before (made ∷ behind) ∙ ap (λ k. last_count k behind) same in
           let start = near in
+          let ticks = ap (tick_counts config) all in
           let enough = many in
-          absurd (omega (arith, le, end, last, start, enough))
+          absurd (omega (arith, le, end, last, start, ticks, enough))

@@ -1,8 +1,8 @@
 -- The events of a run whose stretches and gaps are short keep the pace.
 use Rattle.std.proofs.Common.{◌≡◌, ℕ, suc, ◌+◌, ◌==◌, ◌<◌, ◌≤◌, ◌⊎◌, List, [], ◌∷◌, ◌++◌, map, length, Bool, true, false, cond, Option, Some, None, refl, sym, ap, ◌∙◌, subst, arith, inl, inr}
-use Rattle.std.specs.Prelude.{filter, not}
+use Rattle.std.specs.Prelude.{filter, not, nat_lt, slice_index}
 use Rattle.std.specs.List.{AllByRecursion, flat_map}
-use Rattle.std.proofs.lemmas.Bool.{false≢true, cases_lt}
+use Rattle.std.proofs.lemmas.Bool.{false≢true, cases_lt, ne_eqb}
 use Rattle.std.proofs.lemmas.List.{append_assoc, length-append}
 use Rattle.sloth_base.specs.declared.config.Config.{Config}
 use Rattle.sloth_base.specs.declared.event.Arrival.{Arrival}
@@ -13,16 +13,21 @@ use Rattle.sloth_base.specs.declared.image.Mark.{Mark}
 use Rattle.sloth_base.specs.declared.image.MarkKind.{MarkKind}
 use Rattle.sloth_base.specs.declared.image.MarkKind.TheVariants as kind
 use Rattle.sloth_base.specs.declared.step.Step.{Step}
+use Rattle.sloth_base.specs.declared.lines.LineKind.{LineKind}
+use Rattle.sloth_base.specs.declared.lines.LineKind.TheVariants as line_of
 use Rattle.sloth_base.specs.Arrivals.{moments}
+use Rattle.sloth_base.specs.Owners.{first_counter_line, line_kind}
 use Rattle.sloth_base.specs.Events.{is_boot}
+use Rattle.sloth_base.specs.ServiceCodes.{service_of}
+use Rattle.sloth_base.specs.declared.service.Service.{Service}
 use Rattle.sloth_base.specs.Stretches.{Boots, beginning_of, later_beginning, stretch_limit, longest_stretch}
 use Rattle.sloth_base.proofs.Stretches.{begins_later, within_longest}
 use Rattle.rv32_machine.specs.Coherent.{Coherent}
 use Rattle.observe.specs.Pieces.{Piece, Outside, Stretch, steps_of, IsPiece}
-use Rattle.observe.specs.Observe.{View, stamp, admission, is_early, masked_from, last_of, stretch_event, later_event, stretch_events, events_of_kind, outside_events, mark_at, piece_events}
+use Rattle.observe.specs.Observe.{View, NO_TASK, NO_COUNTER, running_task, service_event, marked_event, unentered_event, stamp, admission, is_early, masked_from, last_of, stretch_event, later_event, entry_event, stretch_events, events_of_kind, outside_events, mark_at, piece_events}
 use Rattle.sim_induction.specs.Short.{IsShort, IsShortPiece, passed_by, passed_length, HasShortGaps}
 use Rattle.sim_induction.proofs.Shown.{stretch_long}
-use Rattle.raised_sections.specs.Pace.{item_counts}
+use Rattle.raised_sections.specs.Pace.{item_counts, entry_counts, event_counts, takes_line}
 use Rattle.run_bounds.specs.PacedRun.{LastsBriefly}
 use Rattle.run_bounds.proofs.Continuing.{Continues, nothing, joined, admissions, one_event}
 
@@ -95,9 +100,75 @@ module _ (config : Config) (view : View) (arrivals : List Arrival) where
       let most = within_longest config first.entered in
       omega (arith, le, is, most)
 
-  either_limit : (b : Bool) (from to : ℕ) → to < from + longest_stretch config → to < from + cond b (stretch_limit config Boots) (longest_stretch config)
-  either_limit true from to lt = omega (arith, lt)
-  either_limit false from to lt = lt
+  -- behind boot its event is that of what begins it, and not boot
+  later_shown : (first last : Step) → 0 < first.count → stretch_event view first last ≡ later_event first.entered view first last
+  later_shown first last later = ap (λ b. cond b event.Boot (later_event first.entered view first last)) (ne_eqb first.count 0 (λ e. omega (arith, later, e)))
+
+  never_boots : (entered : Option ℕ) (first last : Step) → is_boot (later_event entered view first last) ≡ false
+  never_boots (Some line) first last = by (line_kind view.owners line)
+    where
+      by : (kind : LineKind) → is_boot (entry_event line kind) ≡ false
+      by (line_of.Task t) = refl
+      by (line_of.Counter c) = refl
+      by line_of.Unused = either (nat_lt line first_counter_line)
+        where
+          either : (b : Bool) → is_boot (cond b (event.Enter NO_TASK) (event.Tick NO_COUNTER)) ≡ false
+          either true = refl
+          either false = refl
+  never_boots None first last = by (mark_at view first.pc)
+    where
+      served : (called : Option Service) → is_boot (service_event called view first last) ≡ false
+      served None = refl
+      served (Some s) = either (first.cur_before == last.cur_after)
+        where
+          t : ℕ
+          t = running_task view.owners.tasks first.cur_before
+
+          either : (b : Bool) → is_boot (cond b (event.Call t s (slice_index last.regs 10)) (event.Left t s)) ≡ false
+          either true = refl
+          either false = refl
+
+      marked : (k : MarkKind) (mark : Mark) → is_boot (marked_event k view mark first last) ≡ false
+      marked kind.Opening mark = served (service_of mark.a)
+      marked k mark = refl
+
+      by : (m : Option Mark) → is_boot (unentered_event m view first last) ≡ false
+      by None = refl
+      by (Some mark) = marked mark.kind mark
+
+  -- it ends soon behind an event: one that the taking of a line begins may be longer
+  ends_soon : (first : Step) (more : List Step) (at before : ℕ) → IsShort config (first ∷ more) → 0 < first.count
+      → (last_of first more).count ≡ first.count + length more → first.count ≤ at + 1 + before → before ≤ 40
+      → (last_of first more).count ≤ at + event_counts config (stretch_event view first (last_of first more))
+  ends_soon first more at before short later last near few =
+      subst (λ e. (last_of first more).count ≤ at + event_counts config e) (sym (later_shown first (last_of first more) later)) (by first.entered (sym (ap (stretch_limit config) (begins_later first later))))
+    where
+      at_least : (e : Event) → item_counts ≤ event_counts config e
+      at_least e = either (takes_line e)
+        where
+          either : (b : Bool) → item_counts ≤ cond b (entry_counts config) item_counts
+          either true = omega arith
+          either false = omega arith
+
+      by : (entered : Option ℕ) → stretch_limit config (later_beginning entered) ≡ stretch_limit config (beginning_of first)
+          → (last_of first more).count ≤ at + event_counts config (later_event entered view first (last_of first more))
+      by None limit =
+          let le = short.0 in
+          let least = at_least (later_event None view first (last_of first more)) in
+          omega (arith, le, limit, least, last, near, few)
+      by (Some line) limit =
+          let le = later_limit first more short later in
+          let longest = ap (λ b. cond b (entry_counts config) item_counts) (taken line (line_kind view.owners line)) in
+          omega (arith, le, longest, last, near, few)
+        where
+          taken : (line : ℕ) (kind : LineKind) → takes_line (entry_event line kind) ≡ true
+          taken line (line_of.Task t) = refl
+          taken line (line_of.Counter c) = refl
+          taken line line_of.Unused = either (nat_lt line first_counter_line)
+            where
+              either : (b : Bool) → takes_line (cond b (event.Enter NO_TASK) (event.Tick NO_COUNTER)) ≡ true
+              either true = refl
+              either false = refl
 
   -- its event
   stretch_shows : (first : Step) (more : List Step) (at before : ℕ) → IsShort config (first ∷ more) → (last_of first more).count ≡ first.count + length more
@@ -108,7 +179,7 @@ module _ (config : Config) (view : View) (arrivals : List Arrival) where
       what : Event
       what = stretch_event view first (last_of first more)
 
-      shows : (is_boot what ≡ false → (last_of first more).count ≤ at + item_counts) → LastsBriefly config (stamp first.count (last_of first more).count what)
+      shows : (is_boot what ≡ false → (last_of first more).count ≤ at + event_counts config what) → LastsBriefly config (stamp first.count (last_of first more).count what)
           → Reaches at (stamp first.count (last_of first more).count what ∷ []) (first.count + suc (length more)) 0
       shows soon brief = record {
         to = (last_of first more).count;
@@ -116,11 +187,17 @@ module _ (config : Config) (view : View) (arrivals : List Arrival) where
         near = omega (arith, last);
       }
 
+      brief_for : 0 < first.count → (last_of first more).count < first.count + longest_stretch config
+          → LastsBriefly config (stamp first.count (last_of first more).count what)
+      brief_for later lt =
+          let boots = ap is_boot (later_shown first (last_of first more) later) ∙ never_boots first.entered first (last_of first more) in
+          subst (λ b. (last_of first more).count < first.count + cond b (stretch_limit config Boots) (longest_stretch config)) (sym boots) lt
+
       by : (0 < first.count) ⊎ (first.count ≤ 0)
           → Reaches at (stamp first.count (last_of first more).count what ∷ []) (first.count + suc (length more)) 0
       by (inl later) =
           let le = later_limit first more short later in
-          shows (λ _. omega (arith, le, last, near, few)) (either_limit (is_boot what) first.count (last_of first more).count (omega (arith, le, last)))
+          shows (λ _. ends_soon first more at before short later last near few) (brief_for later (omega (arith, le, last)))
       by (inr zero_count) =
           let z : first.count ≡ 0 = omega (arith, zero_count) in
           let is : what ≡ event.Boot = ap (λ k. cond (k == 0) event.Boot (later_event first.entered view first (last_of first more))) z in

@@ -23,7 +23,7 @@ use Rattle.observe.specs.Observe.{View, view_of_image, masked_from, found_admits
 use Rattle.observe.proofs.Rule.{is-cut}
 use Rattle.sim_induction.specs.Short.{IsShort, IsShortPiece, Short}
 use Rattle.sim_induction.specs.Sound.{SoundRun, events_of}
-use Rattle.raised_sections.specs.Pace.{item_counts, last_count}
+use Rattle.raised_sections.specs.Pace.{entry_counts, last_count}
 use Rattle.raised_sections.proofs.KeptBounds.{keeps_bounds}
 use Rattle.raised_sections.proofs.Counts.{keeps_counts}
 use Rattle.run_bounds.specs.PacedRun.{BeginsWithBoot, IsPacedRun}
@@ -87,7 +87,7 @@ module _ (config : Config) (view : View) (arrivals : List Arrival) where
           → last_count 0 (flat_map (piece_events view arrivals) (pieces [] steps) ++ found_admits view arrivals (cut_off [] steps)) ≡ p.to
           → BeginsWithBoot (flat_map (piece_events view arrivals) (pieces [] steps) ++ found_admits view arrivals (cut_off [] steps))
           → (pieces [] steps ≡ []) ⊎ (0 < p.next)
-          → n ≤ last_count 0 (flat_map (piece_events view arrivals) (pieces [] steps) ++ found_admits view arrivals (cut_off [] steps)) + 1 + item_counts
+          → n ≤ last_count 0 (flat_map (piece_events view arrivals) (pieces [] steps) ++ found_admits view arrivals (cut_off [] steps)) + 1 + entry_counts config
       near p last boot (inl none) =
           absurd (found_alone (cut_off [] steps)
           (subst (λ ps. BeginsWithBoot (flat_map (piece_events view arrivals) ps ++ found_admits view arrivals (cut_off [] steps))) none boot))

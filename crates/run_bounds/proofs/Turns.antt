@@ -1,6 +1,6 @@
 -- While the task of highest priority is Ready: whose turn each event is, and what it leaves.
-use Rattle.std.proofs.Common.{◌≡◌, ℕ, ◌<◌, ◌⊎◌, ◌&&◌, [], true, false, not, cond, length, map, is_some, Some, None, refl, sym, ap, ◌∙◌, subst, arith, inl, inr}
-use Rattle.std.specs.Prelude.{◌≢◌}
+use Rattle.std.proofs.Common.{◌≡◌, ℕ, ◌<◌, ◌⊎◌, ◌&&◌, [], Bool, true, false, not, cond, length, map, is_some, Some, None, refl, sym, ap, ◌∙◌, subst, arith, inl, inr}
+use Rattle.std.specs.Prelude.{◌≢◌, ◌||◌}
 use Rattle.std.proofs.lemmas.Bool.{cases_Bool, eqb-false, false≢true}
 use Rattle.sloth_base.specs.declared.config.Config.{Config}
 use Rattle.sloth_base.specs.declared.app.App.{App}
@@ -25,7 +25,12 @@ use Rattle.osek_blocking.proofs.Once.{Blocks, stays}
 use Rattle.raised_sections.specs.Sections.{IsLower}
 use Rattle.raised_sections.proofs.Raised.{owing}
 use Rattle.raised_sections.proofs.Placed.{Placed, Advances, FrameEffect, frame_effect, step_placed}
-use Rattle.run_bounds.specs.Latency.{IsHighest}
+use Rattle.raised_sections.specs.Pace.{takes_line}
+use Rattle.run_bounds.specs.Latency.{IsHighest, is_tick}
+
+-- the event is no task's turn: an admission, or a tick
+abbrev pub is_outside : Event → Bool
+is_outside e = is_some (admitted_line e) || is_tick e
 
 module _ (config : Config) (app : App) (w : Facts config app) (h : ℕ) (declared : h < length config.tasks) (highest : IsHighest config h) where
   pub record Awaits (s : System) : Type 0 where
@@ -96,19 +101,23 @@ module _ (config : Config) (app : App) (w : Facts config app) (h : ℕ) (declare
       pub held : (task next t).held ≡ (task s t).held
 
     pub data Turn (e : Event) : Type 0 where
-      turn_admit : working_task e ≡ None → is_some (admitted_line e) ≡ true → Turn e
-      turn_work : (t : ℕ) → is_some (admitted_line e) ≡ false → Working e t → Turn e
-      turn_leave : (t : ℕ) → is_some (admitted_line e) ≡ false → Leaving e t → Turn e
+      turn_outside : working_task e ≡ None → is_outside e ≡ true → Turn e
+      turn_work : (t : ℕ) → is_outside e ≡ false → Working e t → Turn e
+      turn_leave : (t : ℕ) → is_outside e ≡ false → Leaving e t → Turn e
 
     -- no other event comes
-    pub turn : (e : Event) → OsekStep config app e s next → is_entry_of h e ≡ false → (is_boot e ≡ false) × Turn e
+    pub turn : (e : Event) → OsekStep config app e s next → is_entry_of h e ≡ false → (is_boot e ≡ false) × (takes_line e ≡ is_tick e) × Turn e
     turn e step away = by e step away (effect config app s next x.ordered e step) (frame_effect config app w s next x.valid e step)
       where
-        by : (e : Event) → OsekStep config app e s next → is_entry_of h e ≡ false → Effect config s next e → FrameEffect app s next e → (is_boot e ≡ false) × Turn e
+        by : (e : Event) → OsekStep config app e s next → is_entry_of h e ≡ false → Effect config s next e → FrameEffect app s next e
+            → (is_boot e ≡ false) × (takes_line e ≡ is_tick e) × Turn e
         by event.Boot step away f p = absurd (clash (task s h).state x.ready (inr (x.valid.asleep step.0 h)))
-        by (event.Admit t) step away f p = (refl, turn_admit refl refl)
+        by (event.Admit t) step away f p = (refl, refl, turn_outside refl refl)
+        by (event.Due c) step away f p = (refl, refl, turn_outside refl refl)
+        by (event.Tick c) step away f p = (refl, refl, turn_outside refl refl)
         by (event.Enter t) step away f p = absurd (no_other_entry t f.moves.top f.was away)
         by (event.Run t func item result) step away f p = (
+          refl,
           refl,
           turn_work t refl
               (record {
@@ -123,6 +132,7 @@ module _ (config : Config) (app : App) (w : Facts config app) (h : ℕ) (declare
         )
         by (event.Call t served status) step away f p = (
           refl,
+          refl,
           turn_work t refl
               (record {
                 works = refl;
@@ -135,6 +145,7 @@ module _ (config : Config) (app : App) (w : Facts config app) (h : ℕ) (declare
               }),
         )
         by (event.Left t served) step away f p = (
+          refl,
           refl,
           turn_leave t refl
               (record { works_not = refl; lower = lower_of t f.moves.top.declared f.was; calls = f; gone = p.gone; held = p.held }),

@@ -10,7 +10,6 @@ use Rattle.sloth_base.specs.Named.{declaration}
 use Rattle.sloth_base.specs.Events.{is_boot}
 use Rattle.osek_scheduler.specs.State.{System, task}
 use Rattle.osek_scheduler.specs.Priority.{is_in}
-use Rattle.osek_scheduler.specs.InTime.{is_admit}
 use Rattle.osek_scheduler.specs.Steps.{OsekStep}
 use Rattle.osek_scheduler.specs.Runs.{Leads}
 use Rattle.osek_valid.specs.Apart.{static_priority, priority_of, IsActive}
@@ -22,13 +21,18 @@ use Rattle.raised_sections.specs.Sections.{IsLower, IsBound, lowest, above, None
 use Rattle.raised_sections.specs.Kept.{is_lower, lower_events}
 use Rattle.raised_sections.proofs.Window.{LowerPair, Waits, blocked_next}
 use Rattle.raised_sections.proofs.Sectioned.{Found, in_front, found_all, within}
-use Rattle.run_bounds.specs.Latency.{IsHighest}
-use Rattle.run_bounds.proofs.Turns.{Awaits, next_awaits, Working, Leaving, Turn, turn_admit, turn_work, turn_leave, turn, raised_non, leaves_non}
+use Rattle.raised_sections.specs.Pace.{takes_line}
+use Rattle.run_bounds.specs.Latency.{IsHighest, is_tick}
+use Rattle.run_bounds.proofs.Turns.{Awaits, is_outside, next_awaits, Working, Leaving, Turn, turn_outside, turn_work, turn_leave, turn, raised_non, leaves_non}
 
--- how many of these events are no admits
+-- how many of these events are a task's turn
 abbrev pub waiting : List Stamped → ℕ
 waiting [] = 0
-waiting (e ∷ events) = cond (is_admit e) 0 1 + waiting events
+waiting (e ∷ events) = cond (is_outside e.event) 0 1 + waiting events
+
+-- an event on the way to the entry of a task: neither boot nor the entry of another one
+abbrev pub IsOnTheWay : Stamped → Type 0
+IsOnTheWay e = (is_boot e.event ≡ false) × (takes_line e.event ≡ is_tick e.event)
 
 module _ (config : Config) (app : App) (w : Facts config app) (h : ℕ) (declared : h < length config.tasks) (highest : IsHighest config h) where
   abbrev Stands : System → Type 0
@@ -71,10 +75,10 @@ module _ (config : Config) (app : App) (w : Facts config app) (h : ℕ) (declare
   nobody_cons : (e : Stamped) (events : List Stamped) → NobodyWaits events → NobodyWaits (e ∷ events)
   nobody_cons e events again s end x out nobody leads =
       goes_on s x e events leads.0 leads.1 (λ es. waiting es ≡ 0) refl
-      (λ away. by away (turn config app w h declared highest s leads.0 x e.event leads.1 away).1)
+      (λ away. by away (turn config app w h declared highest s leads.0 x e.event leads.1 away).2)
     where
       by : is_entry_of h e.event ≡ false → TurnOf s leads.0 x e.event → waiting (e ∷ up_to events) ≡ 0
-      by away (turn_admit none is) =
+      by away (turn_outside none is) =
           let rest = again leads.0 end (next_awaits config app w h declared highest s leads.0 x e.event leads.1 away)
           (out_next s x e events leads.0 leads.1 out) (λ u b. nobody u (no_new s x e events leads.0 leads.1 out u b)) leads.2 in
           let front = ap {B = ℕ} (λ b. cond b 0 1) is in
@@ -95,7 +99,7 @@ module _ (config : Config) (app : App) (w : Facts config app) (h : ℕ) (declare
   few_cons : (e : Stamped) (events : List Stamped) → FewWait events → FewWait (e ∷ events)
   few_cons e events again s end u x out alone leads =
       goes_on s x e events leads.0 leads.1 (λ es. waiting es ≤ lower_events config h es + cond (declaration config u).non 1 0) (omega arith)
-      (λ away. by away (turn config app w h declared highest s leads.0 x e.event leads.1 away).1)
+      (λ away. by away (turn config app w h declared highest s leads.0 x e.event leads.1 away).2)
     where
       next_stands : is_entry_of h e.event ≡ false → Stands leads.0
       next_stands away = next_awaits config app w h declared highest s leads.0 x e.event leads.1 away
@@ -107,7 +111,7 @@ module _ (config : Config) (app : App) (w : Facts config app) (h : ℕ) (declare
 
       by : is_entry_of h e.event ≡ false → TurnOf s leads.0 x e.event
           → waiting (e ∷ up_to events) ≤ lower_events config h (e ∷ up_to events) + cond (declaration config u).non 1 0
-      by away (turn_admit none is) =
+      by away (turn_outside none is) =
           let rest = still away in
           let front = ap {B = ℕ} (λ b. cond b 0 1) is in
           omega (arith, rest, front)
@@ -223,10 +227,10 @@ module _ (config : Config) (app : App) (w : Facts config app) (h : ℕ) (declare
     most_cons e events again s end l x blocked leads =
         cond_both (is_entry_of h e.event) [] (e ∷ up_to events)
         (λ es. IsBlockedBy config app h s es l → waiting es ≤ suc m) (λ _ _. omega arith)
-        (λ away now. by away now (turn config app w h declared highest s leads.0 x e.event leads.1 away).1) blocked
+        (λ away now. by away now (turn config app w h declared highest s leads.0 x e.event leads.1 away).2) blocked
       where
         by : is_entry_of h e.event ≡ false → IsBlockedBy config app h s (e ∷ up_to events) l → TurnOf s leads.0 x e.event → waiting (e ∷ up_to events) ≤ suc m
-        by away now (turn_admit none is) =
+        by away now (turn_outside none is) =
             let rest = again leads.0 end l (next_awaits config app w h declared highest s leads.0 x e.event leads.1 away)
             (record {
               of_one = λ front rest y u eq lower. now.of_one (e ∷ front) rest y u (ap (λ es. e ∷ es) eq) lower;
@@ -256,10 +260,10 @@ module _ (config : Config) (app : App) (w : Facts config app) (h : ℕ) (declare
     none_cons : (e : Stamped) (events : List Stamped) → NoneWaits events → NoneWaits (e ∷ events)
     none_cons e events again s end x leads =
         goes_on s x e events leads.0 leads.1 (λ es. waiting es ≡ 0) refl
-        (λ away. by away (turn config app w h declared highest s leads.0 x e.event leads.1 away).1)
+        (λ away. by away (turn config app w h declared highest s leads.0 x e.event leads.1 away).2)
       where
         by : is_entry_of h e.event ≡ false → TurnOf s leads.0 x e.event → waiting (e ∷ up_to events) ≡ 0
-        by away (turn_admit none is) =
+        by away (turn_outside none is) =
             let rest = again leads.0 end (next_awaits config app w h declared highest s leads.0 x e.event leads.1 away) leads.2 in
             let front = ap {B = ℕ} (λ b. cond b 0 1) is in
             omega (arith, rest, front)
@@ -275,18 +279,17 @@ module _ (config : Config) (app : App) (w : Facts config app) (h : ℕ) (declare
   waits_at_most events s end l b x blocked leads (lowest nobody) = let none = none_waits nobody events s end x leads in omega (arith, none)
   waits_at_most events s end l b x blocked leads (above m most) = most_wait m most.none_larger events s end l x blocked leads
 
-  -- and none of them is boot
-  abbrev NoBoot : List Stamped → Type 0
-  NoBoot events = (s end : System) → Stands s → Leads config app events s end → AllByRecursion (λ e. is_boot e.event ≡ false) (up_to events)
+  -- and none of them is boot, or the entry of another task
+  abbrev OnTheWay : List Stamped → Type 0
+  OnTheWay events = (s end : System) → Stands s → Leads config app events s end → AllByRecursion IsOnTheWay (up_to events)
 
-  no_boot_cons : (e : Stamped) (events : List Stamped) → NoBoot events → NoBoot (e ∷ events)
-  no_boot_cons e events again s end x leads =
-      goes_on s x e events leads.0 leads.1 (AllByRecursion (λ y. is_boot y.event ≡ false)) tt
-      (λ away. (
-        (turn config app w h declared highest s leads.0 x e.event leads.1 away).0,
-        again leads.0 end (next_awaits config app w h declared highest s leads.0 x e.event leads.1 away) leads.2,
-      ))
+  on_the_way_cons : (e : Stamped) (events : List Stamped) → OnTheWay events → OnTheWay (e ∷ events)
+  on_the_way_cons e events again s end x leads =
+      goes_on s x e events leads.0 leads.1 (AllByRecursion IsOnTheWay) tt
+      (λ away.
+      let whose = turn config app w h declared highest s leads.0 x e.event leads.1 away in
+      ((whose.0, whose.1), again leads.0 end (next_awaits config app w h declared highest s leads.0 x e.event leads.1 away) leads.2))
 
-  pub no_boot : (events : List Stamped) → NoBoot events
-  no_boot [] s end x leads = tt
-  no_boot (e ∷ events) s end x leads = no_boot_cons e events (no_boot events) s end x leads
+  pub on_the_way : (events : List Stamped) → OnTheWay events
+  on_the_way [] s end x leads = tt
+  on_the_way (e ∷ events) s end x leads = on_the_way_cons e events (on_the_way events) s end x leads

@@ -1,7 +1,9 @@
 -- How long the task of highest priority may wait for its entry (OSEK OS 2.2.3, section 4.6).
-use Rattle.std.specs.Prelude.{ℕ, ◌+◌, ◌*◌, ◌<◌, ◌≤◌, ◌≡◌, ◌≢◌, ◌&&◌, leb, List, [], ◌∷◌, ◌++◌, true, cond, length}
+use Rattle.std.specs.Prelude.{ℕ, ◌+◌, ◌*◌, ◌<◌, ◌≤◌, ◌≡◌, ◌≢◌, ◌&&◌, leb, max, List, [], ◌∷◌, ◌++◌, Bool, true, false, cond, length}
 use Rattle.sloth_base.specs.declared.config.Config.{Config}
 use Rattle.sloth_base.specs.declared.app.App.{App}
+use Rattle.sloth_base.specs.declared.event.Event.{Event}
+use Rattle.sloth_base.specs.declared.event.Event.TheVariants as event
 use Rattle.sloth_base.specs.declared.event.Stamped.{Stamped}
 use Rattle.sloth_base.specs.Events.{is_boot}
 use Rattle.sloth_base.specs.Stretches.{Boots, stretch_limit, longest_stretch}
@@ -11,21 +13,41 @@ use Rattle.osek_scheduler.specs.Runs.{Leads}
 use Rattle.osek_valid.specs.Apart.{static_priority}
 use Rattle.osek_blocking.specs.Blocking.{is_entry_of, up_to_entry, MakesReady}
 use Rattle.raised_sections.specs.Sections.{IsBound}
-use Rattle.raised_sections.specs.Pace.{item_counts}
+use Rattle.raised_sections.specs.Pace.{item_counts, entry_counts}
 
 -- every other task of the configuration is of lower static priority
 abbrev pub IsHighest : Config → (h : ℕ) → Type 0
 IsHighest config h = (t : ℕ) → t < length config.tasks → t ≢ h → static_priority config t < static_priority config h
 
--- The most counts of a stretch that may be running at a moment, behind these events: that of boot, where boot ends at the moment or later.
+-- the most counts of any stretch, that of boot too
+abbrev pub any_stretch : Config → ℕ
+any_stretch config = max (stretch_limit config Boots) (longest_stretch config)
+
+-- The most counts of a stretch that may be running at a moment, behind these events: boot may be, where it ends at the moment or later.
 abbrev pub running_limit : Config → (moment : ℕ) → List Stamped → ℕ
 running_limit config moment [] = longest_stretch config
 running_limit config moment (e ∷ before) =
-    cond (is_boot e.event && leb moment e.stamp.at) (stretch_limit config Boots) (running_limit config moment before)
+    cond (is_boot e.event && leb moment e.stamp.at) (any_stretch config) (running_limit config moment before)
 
--- the most counts from a moment to the end of the entry: the stretch that is running, an item for each event of the bound, and the entry
-abbrev pub latency : (running bound : ℕ) → ℕ
-latency running bound = running + item_counts * bound + item_counts
+-- a counter ticks
+abbrev pub is_tick : Event → Bool
+is_tick (event.Tick c) = true
+is_tick _ = false
+
+-- the most counts that the ticks among these events take
+abbrev pub tick_counts : Config → List Stamped → ℕ
+tick_counts config [] = 0
+tick_counts config (e ∷ events) = cond (is_tick e.event) (entry_counts config) 0 + tick_counts config events
+
+-- the most counts from a moment to the end of the entry, ticks left out: the stretch that is running, an item for each event of the bound, and
+-- the entry
+abbrev pub latency : Config → (running bound : ℕ) → ℕ
+latency config running bound = running + item_counts * bound + entry_counts config
+
+-- the same with the ticks among the events up to the entry of task h, where the events `behind` follow one of the moment, and `before` come before it
+abbrev pub latency_with_ticks : Config → (h bound moment : ℕ) → (before behind : List Stamped) → ℕ
+latency_with_ticks config h bound moment before behind =
+    latency config (running_limit config moment before) bound + tick_counts config (up_to_entry h behind)
 
 -- task h is entered among these events, for the first time, and its entry ends before this count
 pub record EntersBefore (h limit : ℕ) (events : List Stamped) : Type 0 where
@@ -35,11 +57,11 @@ pub record EntersBefore (h limit : ℕ) (events : List Stamped) : Type 0 where
   pub first : events ≡ up_to_entry h events ++ entry ∷ rest
   pub in_time : entry.stamp.at < limit
 
--- From the moment of an arrival that makes the task of highest priority Ready its entry ends within its latency, if the run has that many
--- instructions.
+-- From the moment of an arrival that makes the task of highest priority Ready its entry ends within its latency and the time of the ticks on the
+-- way, if the run has that many instructions.
 abbrev pub EntersInTime : Config → App → (n : ℕ) → List Stamped → Type 0
 EntersInTime config app n events =
     (before behind : List Stamped) (made : Stamped) (h b : ℕ) (found s : System) → events ≡ before ++ made ∷ behind
     → Leads config app before (opening config app) found → MakesReady config app h made.event found s → is_admit made ≡ true
-    → IsHighest config h → IsBound config app h b → made.stamp.at + latency (running_limit config made.stamp.at before) b ≤ n
-    → EntersBefore h (made.stamp.at + latency (running_limit config made.stamp.at before) b) behind
+    → IsHighest config h → IsBound config app h b → made.stamp.at + latency_with_ticks config h b made.stamp.at before behind ≤ n
+    → EntersBefore h (made.stamp.at + latency_with_ticks config h b made.stamp.at before behind) behind

@@ -1,7 +1,9 @@
 //! A configuration of one task, its levels and its task code, and the map of its kernel.
 ghost use Rattle.std.specs.Prelude.{◌≡◌, ◌↔◌, ◌<◌, ◌≤◌, ℕ, All, IfOk, false, length, slice_index};
 ghost use Rattle.sloth_base.specs.ConfigRange.{InRange};
-ghost use Rattle.prologue_gen.specs.Places.{IsBody, IsBasic, IsTop};
+ghost use Rattle.code_lengths.specs.Bodies.{IsBody};
+ghost use Rattle.prologue_gen.specs.Places.{IsBasic, IsTop};
+ghost use Rattle.rv32_words.specs.Alone.{alone};
 ghost use Rattle.vector_gen.specs.Vectors.{AreInReach};
 
 use sloth_base::app::{App, Func};
@@ -40,12 +42,21 @@ pub fn config(alloc: Global, extended: bool, non: bool, autostart: bool) -> Resu
     };
     let mut events = Vec::new(alloc);
     events.push(event).map_err(|_| NoMemory)?;
-    Ok(Config {
+    Ok(alone(alloc, tasks, events))
+}
+
+// The configuration of these tasks and events alone.
+fn alone(alloc: Global, tasks: Vec<TaskDecl>, events: Vec<EventDecl>) -> Config
+    ensures { result ≡ alone tasks.items events.items }
+{
+    Config {
         tasks: List::from_vec(tasks),
         resources: List::from_vec(Vec::new(alloc)),
         events: List::from_vec(events),
         res_scheduler: false,
-    })
+        counters: List::from_vec(Vec::new(alloc)),
+        alarms: List::from_vec(Vec::new(alloc)),
+    }
 }
 
 /// Its body, with a frame of so many words.

@@ -1,12 +1,11 @@
 -- The generated OIL text declares 30 tasks: its tokens are cut and its objects built by computation.
-use Rattle.std.proofs.Common.{◌≡◌, ◌≤◌, ◌<◌, ◌∙◌, ℕ, List, [], ◌∷◌, length, filter, take, drop, Some, refl, sym, ap, arith}
+use Rattle.std.proofs.Common.{◌≡◌, ◌≤◌, ◌∙◌, ℕ, List, [], ◌∷◌, length, filter, take, drop, Some, refl, sym, ap, arith}
 use Rattle.std.specs.Prelude.{codes}
 use Rattle.std.specs.Fmt.{digits}
 use Rattle.std.proofs.lemmas.List.{take-append-drop, length-drop, length-map}
-use Rattle.sloth_base.specs.declared.config.TaskDecl.{TaskDecl}
 use Rattle.sloth_base.specs.declared.config.Config.{Config}
 use Rattle.app_gen.specs.Oil.{oil_text, event_object, resource_object, schedule_of, autostart_of, event_attribute, task_object}
-use Rattle.app_gen.specs.Pieces.{numbered}
+use Rattle.app_gen.specs.Pieces.{number_behind}
 use Rattle.oil_lex.specs.Bytes.{class_of, is_word_byte, is_digit, is_hex_digit, is_quoted, is_not_lf}
 use Rattle.oil_lex.specs.Front.{front_piece, comment_length, comment_piece, text_piece, slash_piece, number_piece, piece_by}
 use Rattle.oil_lex.specs.Pieces.{Piece, Cut}
@@ -17,7 +16,7 @@ use Rattle.oil_parse.specs.declared.tree.OilObject.{OilObject}
 use Rattle.oil_parse.specs.declared.tree.OilTree.{OilTree}
 use Rattle.oil_parse.specs.declared.machine.Expect.TheVariants.{Start}
 use Rattle.oil_parse.specs.Grammar.{IsFile}
-use Rattle.oil_parse.specs.Machine.{nothing_built, next, taken, Built}
+use Rattle.oil_parse.specs.Machine.{nothing_built, next, built_after, Built}
 use Rattle.oil_parse.specs.Shapes.{key_of, sign_of, shape_by}
 use Rattle.oil_parse.proofs.Steps.{build}
 use Rattle.oil_parse.proofs.Complete.{file_takes}
@@ -63,7 +62,7 @@ same-objects t ts tree are is =
 
 -- 30 of the objects of the generated text are tasks
 thirty-objects : length (filter (is_of_kind (codes "TASK")) (objects_of (tokens_in (oil_text 30)))) ≡ 30
-unfolding pieces oil_text event_object resource_object schedule_of autostart_of event_attribute task_object numbered digits class_of is_word_byte is_digit is_hex_digit is_quoted is_not_lf comment_length comment_piece text_piece slash_piece number_piece piece_by next taken key_of sign_of shape_by
+unfolding pieces oil_text event_object resource_object schedule_of autostart_of event_attribute task_object number_behind digits class_of is_word_byte is_digit is_hex_digit is_quoted is_not_lf comment_length comment_piece text_piece slash_piece number_piece piece_by next built_after key_of sign_of shape_by
 thirty-objects = refl
 
 pub thirty-tasks : (config : Config) → OilText (oil_text 30) config → length config.tasks ≡ 30

@@ -1,3 +1,4 @@
 pub mod Drawing
 pub mod Every
+pub mod OnePicture
 pub mod Sampling

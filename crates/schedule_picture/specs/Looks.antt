@@ -31,7 +31,7 @@ lane_look tasks sample lane = if lane == tasks then cond (is_kernel sample) (Som
 abbrev pub no_sample : Sample
 no_sample = record {
   seen = None;
-  interrupts = record { pending = []; level = 0; masked = false };
+  interrupts = record { pending = []; counters_pending = []; level = 0; masked = false };
   taken = None;
 }
 

@@ -3,14 +3,15 @@ use Rattle.std.specs.Prelude.{ℕ, List}
 use Rattle.sloth_base.specs.declared.places.Levels.{Levels}
 use Rattle.sloth_base.specs.declared.service.Service.{Service}
 use Rattle.sloth_base.specs.declared.service.Service.TheVariants.{SetEvent, ClearEvent, GetEvent, WaitEvent}
-use Rattle.sloth_base.specs.ServiceCodes.{object_kind, IsObjectNumber}
+use Rattle.sloth_base.specs.ServiceCodes.{object_kind}
+use Rattle.block_parts.specs.Objects.{HasCode}
 use Rattle.rv32_instr.specs.declared.InstrKind.{InstrKind}
 use Rattle.service_gen.specs.Block as others
 use Rattle.event_gen.specs.Block as events
 
--- the objects with which a service may be called: a task, a resource, or 0 where there is none
+-- the objects with which a service that has generated code may be called: a task, a resource, or 0 where there is none
 abbrev pub IsCalledWith : Service → ℕ → Type 0
-IsCalledWith service object = IsObjectNumber (object_kind service) object
+IsCalledWith service object = HasCode (object_kind service) object
 
 -- the code of a service with its object has the service's effect
 abbrev pub ServesCall : Service → ℕ → Levels → List InstrKind → Type 0

@@ -77,4 +77,4 @@ module _ (offset task : ℕ) (c : Core) (h : MayActivate offset task (masking �
   runs_it = opens offset 16 (body task) c (Activated task) h.goes_back.can_run (omega arith) body_owes
 
 pub activates : (task : ℕ) → Activates task (masking ∷ body task)
-activates task = record { size = (let n : length (masking ∷ body task) ≡ 17 = refl in omega arith); masks = (body task, refl); runs = λ offset core h. runs_it offset task core h }
+activates task = record { size = refl; masks = (body task, refl); runs = λ offset core h. runs_it offset task core h }

@@ -122,4 +122,4 @@ module _ (offset task own place : ℕ) (c : Core) (h : MayChain offset task own 
   runs_it = opens_within offset 63 (body task) c (Chained task own place) h.goes_back.can_run (omega arith) body_owes
 
 pub chains : (task : ℕ) → Chains task (masking ∷ body task)
-chains task = record { size = (let n : length (masking ∷ body task) ≡ 69 = refl in omega arith); masks = (body task, refl); runs = λ offset own place core h. runs_it offset task own place core h }
+chains task = record { size = refl; masks = (body task, refl); runs = λ offset own place core h. runs_it offset task own place core h }

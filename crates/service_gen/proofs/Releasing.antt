@@ -37,4 +37,4 @@ module _ (offset resource : ℕ) (c : Core) (h : MayRelease offset resource (mas
   runs_it = opens offset 6 (body resource) c (Released resource) h.goes_back.can_run (omega arith) body_owes
 
 pub releases : (resource : ℕ) → Releases resource (masking ∷ body resource)
-releases resource = record { size = (let n : length (masking ∷ body resource) ≡ 7 = refl in omega arith); masks = (body resource, refl); runs = λ offset core h. runs_it offset resource core h }
+releases resource = record { size = refl; masks = (body resource, refl); runs = λ offset core h. runs_it offset resource core h }

@@ -157,4 +157,4 @@ module _ (offset task own : ℕ) (c : Core) (h : MayTellState offset task own (m
   runs_it = opens_within offset 15 (body task) c (StateTold task own) h.goes_back.can_run (omega arith) body_owes
 
 pub tells_state : (task : ℕ) → TellsState task (masking ∷ body task)
-tells_state task = record { size = (let n : length (masking ∷ body task) ≡ 24 = refl in omega arith); masks = (body task, refl); runs = λ offset own core h. runs_it offset task own core h }
+tells_state task = record { size = refl; masks = (body task, refl); runs = λ offset own core h. runs_it offset task own core h }

@@ -66,4 +66,4 @@ module _ (offset resource ceiling : ℕ) (small : ceiling < 256) (c : Core) (h :
   runs_it = opens offset 10 (body resource ceiling) c (Taken resource ceiling) h.goes_back.can_run (omega arith) body_owes
 
 pub taken : (resource ceiling : ℕ) → ceiling < 256 → Takes resource ceiling (masking ∷ body resource ceiling)
-taken resource ceiling small = record { size = (let n : length (masking ∷ body resource ceiling) ≡ 11 = refl in omega arith); masks = (body resource ceiling, refl); runs = λ offset core h. runs_it offset resource ceiling small core h }
+taken resource ceiling small = record { size = refl; masks = (body resource ceiling, refl); runs = λ offset core h. runs_it offset resource ceiling small core h }

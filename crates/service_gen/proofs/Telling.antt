@@ -36,4 +36,4 @@ module _ (offset task : ℕ) (c : Core) (h : MayTell offset task (masking ∷ bo
   runs_it = opens offset 8 body c (Told task) h.goes_back.can_run (omega arith) body_owes
 
 pub tells : TellsTask (masking ∷ body)
-tells = record { size = (let n : length (masking ∷ body) ≡ 9 = refl in omega arith); masks = (body, refl); runs = λ offset task core h. runs_it offset task core h }
+tells = record { size = refl; masks = (body, refl); runs = λ offset task core h. runs_it offset task core h }

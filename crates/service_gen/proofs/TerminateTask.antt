@@ -43,4 +43,4 @@ module _ (offset task place : ℕ) (c : Core) (h : MayTerminate offset task plac
   runs_it = opens offset 49 body c (Terminated task place) h.can_run (omega arith) body_owes
 
 pub terminates : Terminates (masking ∷ body)
-terminates = record { size = let n : length (masking ∷ body) ≡ 50 = refl in omega arith; masks = (body, refl); runs = λ offset task place core h. runs_it offset task place core h }
+terminates = record { size = refl; masks = (body, refl); runs = λ offset task place core h. runs_it offset task place core h }

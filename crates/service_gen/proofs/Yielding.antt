@@ -164,7 +164,7 @@ module _ (offset : ℕ) (c : Core) (h : MayComeBack offset (masking ∷ body) c)
 pub yields : Yields (masking ∷ body)
 yields =
     record {
-      size = (let n : length (masking ∷ body) ≡ 17 = refl in omega arith);
+      size = refl;
       masks = (body, refl);
       runs = record {
         masks_again = (masking ∷ lowering, returning, refl, refl);

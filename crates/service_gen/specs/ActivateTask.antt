@@ -1,5 +1,6 @@
 -- ActivateTask (OSEK OS 2.2.3, section 13.2.3.1).
 use Rattle.std.specs.Prelude.{ℕ, ◌≡◌, ◌<◌, ◌⊎◌, List, [], ◌∷◌, slice_index, slice_set}
+use Rattle.sloth_base.specs.declared.service.Service.TheVariants as service
 use Rattle.sloth_base.specs.Machine.{Core, State}
 use Rattle.sloth_base.specs.Status.{E_OK, E_OS_LIMIT}
 use Rattle.block_parts.specs.Looks.{LooksSuspended}
@@ -31,4 +32,4 @@ pub record Activated (task : ℕ) (touched : List ℕ) (start end : State) : Typ
 -- Code of ActivateTask: behind its first instruction at most 16 more lead to its effect, whatever lines arrive.
 abbrev pub Activates : ℕ → List InstrKind → Type 0
 Activates task code =
-    IsServiceCode 17 code ((offset : ℕ) (core : Core) → MayActivate offset task code core → FromOpening 16 (at offset core) (Activated task))
+    IsServiceCode service.ActivateTask code ((offset : ℕ) (core : Core) → MayActivate offset task code core → FromOpening 16 (at offset core) (Activated task))

@@ -1,5 +1,6 @@
 -- ChainTask (OSEK OS 2.2.3, section 13.2.3.3).
 use Rattle.std.specs.Prelude.{ℕ, ◌+◌, ◌≡◌, ◌≢◌, ◌<◌, ◌⊎◌, List, [], ◌∷◌, slice_index}
+use Rattle.sloth_base.specs.declared.service.Service.TheVariants as service
 use Rattle.sloth_base.specs.Machine.{Core, State}
 use Rattle.sloth_base.specs.Status.{E_OS_LIMIT}
 use Rattle.sloth_base.specs.Arrive.{state_arrive}
@@ -48,5 +49,5 @@ Chained task own place touched start end = HasChained task own place touched sta
 -- Code of ChainTask: behind its first instruction at most 63 more lead to its effect, whatever lines arrive.
 abbrev pub Chains : ℕ → List InstrKind → Type 0
 Chains task code =
-    IsServiceCode 69 code ((offset own place : ℕ) (core : Core) → MayChain offset task own place code core
+    IsServiceCode service.ChainTask code ((offset own place : ℕ) (core : Core) → MayChain offset task own place code core
     → FromOpening 63 (at offset core) (Chained task own place))

@@ -1,5 +1,6 @@
 -- GetResource (OSEK OS 2.2.3, section 13.4.3.1), with the priority ceiling protocol.
 use Rattle.std.specs.Prelude.{ℕ, max, ◌≡◌, ◌<◌, ◌≤◌, List, [], slice_index}
+use Rattle.sloth_base.specs.declared.service.Service.TheVariants as service
 use Rattle.sloth_base.specs.Machine.{Core, State}
 use Rattle.sloth_base.specs.Status.{E_OK}
 use Rattle.sloth_region.specs.Layout.{saved_level}
@@ -29,4 +30,4 @@ pub record Taken (resource ceiling : ℕ) (touched : List ℕ) (start end : Stat
 -- Code of GetResource: behind its first instruction at most 10 more lead to its effect, whatever lines arrive.
 abbrev pub Takes : ℕ → ℕ → List InstrKind → Type 0
 Takes resource ceiling code =
-    IsServiceCode 11 code ((offset : ℕ) (core : Core) → MayTake offset resource code core → FromOpening 10 (at offset core) (Taken resource ceiling))
+    IsServiceCode service.GetResource code ((offset : ℕ) (core : Core) → MayTake offset resource code core → FromOpening 10 (at offset core) (Taken resource ceiling))

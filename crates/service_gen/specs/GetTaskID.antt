@@ -1,5 +1,6 @@
 -- GetTaskID (OSEK OS 2.2.3, section 13.2.3.5).
 use Rattle.std.specs.Prelude.{ℕ, ◌+◌, ◌≡◌, ◌<◌, List, [], slice_index}
+use Rattle.sloth_base.specs.declared.service.Service.TheVariants as service
 use Rattle.sloth_base.specs.Machine.{Core, State}
 use Rattle.sloth_base.specs.Status.{E_OK}
 use Rattle.sloth_region.specs.Layout.{cur}
@@ -27,4 +28,4 @@ pub record Told (task : ℕ) (touched : List ℕ) (start end : State) : Type 0 w
 -- Code of GetTaskID: behind its first instruction at most 8 more lead to its effect, whatever lines arrive.
 abbrev pub TellsTask : List InstrKind → Type 0
 TellsTask code =
-    IsServiceCode 9 code ((offset task : ℕ) (core : Core) → MayTell offset task code core → FromOpening 8 (at offset core) (Told task))
+    IsServiceCode service.GetTaskID code ((offset task : ℕ) (core : Core) → MayTell offset task code core → FromOpening 8 (at offset core) (Told task))

@@ -1,5 +1,6 @@
 -- GetTaskState (OSEK OS 2.2.3, section 13.2.3.4).
 use Rattle.std.specs.Prelude.{ℕ, ◌+◌, ◌≡◌, ◌≢◌, ◌<◌, List, [], ◌∷◌, slice_index}
+use Rattle.sloth_base.specs.declared.service.Service.TheVariants as service
 use Rattle.sloth_base.specs.Machine.{Core, State}
 use Rattle.sloth_base.specs.Status.{E_OK}
 use Rattle.sloth_region.specs.Layout.{cur, active}
@@ -41,4 +42,4 @@ pub record StateTold (task own : ℕ) (touched : List ℕ) (start end : State) :
 -- Code of GetTaskState: behind its first instruction at most 15 more lead to its effect, whatever lines arrive.
 abbrev pub TellsState : ℕ → List InstrKind → Type 0
 TellsState task code =
-    IsServiceCode 24 code ((offset own : ℕ) (core : Core) → MayTellState offset task own code core → FromOpening 15 (at offset core) (StateTold task own))
+    IsServiceCode service.GetTaskState code ((offset own : ℕ) (core : Core) → MayTellState offset task own code core → FromOpening 15 (at offset core) (StateTold task own))

@@ -1,5 +1,6 @@
 -- ReleaseResource (OSEK OS 2.2.3, section 13.4.3.2).
 use Rattle.std.specs.Prelude.{ℕ, ◌≡◌, ◌<◌, ◌≤◌, List, [], slice_index}
+use Rattle.sloth_base.specs.declared.service.Service.TheVariants as service
 use Rattle.sloth_base.specs.Machine.{Core, State}
 use Rattle.sloth_base.specs.Status.{E_OK}
 use Rattle.sloth_region.specs.Layout.{saved_level}
@@ -25,4 +26,4 @@ pub record Released (resource : ℕ) (touched : List ℕ) (start end : State) : 
 -- Code of ReleaseResource: behind its first instruction at most 6 more lead to its effect, whatever lines arrive.
 abbrev pub Releases : ℕ → List InstrKind → Type 0
 Releases resource code =
-    IsServiceCode 7 code ((offset : ℕ) (core : Core) → MayRelease offset resource code core → FromOpening 6 (at offset core) (Released resource))
+    IsServiceCode service.ReleaseResource code ((offset : ℕ) (core : Core) → MayRelease offset resource code core → FromOpening 6 (at offset core) (Released resource))

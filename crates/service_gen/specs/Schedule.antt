@@ -1,5 +1,6 @@
 -- Schedule (OSEK OS 2.2.3, section 13.2.3.3), and the way back from it.
 use Rattle.std.specs.Prelude.{ℕ, ◌+◌, ◌≡◌, ◌≢◌, ◌<◌, ◌≤◌, true, List, [], ◌∷◌, ◌++◌, length, slice_index}
+use Rattle.sloth_base.specs.declared.service.Service.TheVariants as service
 use Rattle.sloth_base.specs.Machine.{Core, State}
 use Rattle.sloth_base.specs.Status.{E_OK}
 use Rattle.sloth_base.specs.MemoryMap.{memory_base}
@@ -60,4 +61,4 @@ pub record RunsAndComesBack (code : List InstrKind) : Type 0 where
 
 -- code of Schedule
 abbrev pub Yields : List InstrKind → Type 0
-Yields code = IsServiceCode 17 code (RunsAndComesBack code)
+Yields code = IsServiceCode service.Schedule code (RunsAndComesBack code)

@@ -1,5 +1,6 @@
 -- TerminateTask (OSEK OS 2.2.3, section 13.2.3.2).
 use Rattle.std.specs.Prelude.{ℕ, ◌+◌, ◌*◌, ◌≡◌, ◌<◌, ◌≤◌, true, List, [], ◌∷◌, slice_index, slice_set}
+use Rattle.sloth_base.specs.declared.service.Service.TheVariants as service
 use Rattle.sloth_base.specs.Machine.{Core, State}
 use Rattle.sloth_base.specs.MemoryMap.{memory_base}
 use Rattle.sloth_region.specs.Layout.{cur, active, events, below_word, context_bytes, context_level, context_cur, context_below}
@@ -42,5 +43,5 @@ pub record Terminated (task place : ℕ) (touched : List ℕ) (start end : State
 -- Code of TerminateTask: behind its first instruction at most 49 more lead to the end of the task, whatever lines arrive.
 abbrev pub Terminates : List InstrKind → Type 0
 Terminates code =
-    IsServiceCode 50 code ((offset task place : ℕ) (core : Core) → MayTerminate offset task place code core
+    IsServiceCode service.TerminateTask code ((offset task place : ℕ) (core : Core) → MayTerminate offset task place code core
     → FromOpening 49 (at offset core) (Terminated task place))

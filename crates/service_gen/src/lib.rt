@@ -1,8 +1,9 @@
 //! The code of the operating system services (OSEK OS 2.2.3, section 13) that need no events.
 #![tactic(auto)]
 
-ghost use Rattle.std.specs.Prelude.{◌≡◌, ◌∷◌, IfOk};
+ghost use Rattle.std.specs.Prelude.{◌≡◌, ◌∷◌, IfOk, length};
 ghost use Rattle.sloth_base.specs.ServiceCodes.{code_of};
+ghost use Rattle.code_lengths.specs.CodeLengths.{service_length};
 ghost use Rattle.block_parts.specs.Marks.{opening};
 ghost use Rattle.block_parts.specs.ServiceBlock.{IsServiceBlock};
 ghost use Rattle.service_gen.specs.Block.{further_marks, HasBlock, Serves};
@@ -73,7 +74,8 @@ fn code(
     levels: &Levels,
 ) -> Result<Vec<Instr>, AllocError>
     requires { HasBlock service object }
-    ensures { IfOk result (λ code. Serves service object levels.now code.items) }
+    ensures long { IfOk result (λ code. length code.items ≡ service_length service) }
+    ensures serves { IfOk result (λ code. Serves service object levels.now code.items) }
 {
     match service {
         Service::ActivateTask => activate_task::code(alloc, object),

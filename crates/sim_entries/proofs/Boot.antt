@@ -3,6 +3,7 @@ use Rattle.std.proofs.Common.{◌≡◌, ℕ, zero, suc, ◌-◌, ◌<◌, ◌�
 use Rattle.std.specs.Prelude.{slice_index, replicate}
 use Rattle.std.proofs.lemmas.Bool.{cases_Bool}
 use Rattle.std.proofs.lemmas.List.{length-append, length-replicate}
+use Rattle.sloth_base.specs.ConfigRange.{HasNoCounters}
 use Rattle.sloth_base.specs.declared.event.Event.TheVariants as event
 use Rattle.sloth_base.specs.declared.image.Image.{Image}
 use Rattle.sloth_base.specs.Machine.{State}
@@ -36,7 +37,7 @@ length-ram bytes h =
     let n = length-replicate {A = ℕ} (2097152 - length bytes) 0 in
     omega arith
 
-module _ (b : Build) (image : Image) (levels : List ℕ) (end : State) (fits : Fits b) (is : IsImage b image) (ranks : AreLevelsOf b levels)
+module _ (b : Build) (image : Image) (levels : List ℕ) (end : State) (fits : Fits b) (none : HasNoCounters b.config) (is : IsImage b image) (ranks : AreLevelsOf b levels)
     (effect : Booted b.config.tasks levels b.idle [] (start image) end) where
   ram_is : (i : ℕ) → slice_index end.core.ram i ≡ slice_index b.memory i
   ram_is i = ap (λ r. slice_index r i) effect.left.ram ∙ ram_at image.memory i ∙ ap (λ m. slice_index m i) is.memory
@@ -80,4 +81,4 @@ module _ (b : Build) (image : Image) (levels : List ℕ) (end : State) (fits : F
 
   -- boot is the event Boot, and the relation stands behind it
   pub boots_law : OsekStep b.config b.app event.Boot (opening b.config b.app) (started_system b) × Stands b end (started_system b)
-  boots_law = ((refl, refl), starts_stand b end fits starts)
+  boots_law = ((refl, refl), starts_stand b end fits none starts)

@@ -5,6 +5,7 @@ use Rattle.sloth_base.specs.declared.event.Arrival.{Arrival}
 use Rattle.sloth_base.specs.declared.image.Image.{Image}
 use Rattle.sloth_base.specs.Machine.{State}
 use Rattle.sloth_base.specs.Arrive.{state_arrive}
+use Rattle.sloth_base.specs.ConfigRange.{HasNoCounters}
 use Rattle.sloth_base.specs.Owners.{owners_in, IsOwned}
 use Rattle.rv32_machine.specs.Start.{start}
 use Rattle.masked_code.specs.Trace.{Trace, touched_lines, early, late}
@@ -30,7 +31,7 @@ use Rattle.sim_entries.proofs.Boot.{boots_law, ram_at}
 pub none_early : (trace : Trace) → touched_lines trace ≡ [] → early trace ≡ []
 none_early trace h = sym (lines_before 0 trace) ∙ ap (map (λ (a : Arrival). a.line)) (nothing_before 0 trace h)
 
-module _ (b : Build) (view : View) (arrivals : List Arrival) (setting : IsSetting (setting_of b view arrivals)) (image : Image) (fits : Fits b) (is : IsImage b image)
+module _ (b : Build) (view : View) (arrivals : List Arrival) (setting : IsSetting (setting_of b view arrivals)) (image : Image) (fits : Fits b) (none : HasNoCounters b.config) (is : IsImage b image)
     (boot : BootStands b) where
   abbrev first : State
   first = start image
@@ -65,7 +66,7 @@ module _ (b : Build) (view : View) (arrivals : List Arrival) (setting : IsSettin
       let effect : Booted b.config.tasks boot.levels b.idle [] first route.last =
       subst (λ x. Booted b.config.tasks boot.levels b.idle x first route.last) untouched
       (subst (λ x. Booted b.config.tasks boot.levels b.idle (touched_lines route.trace) (state_arrive x first) route.last) (none_early route.trace untouched) route.effect) in
-      let law = boots_law b image boot.levels route.last fits is boot.ranks effect in
+      let law = boots_law b image boot.levels route.last fits none is boot.ranks effect in
       let in_range = lines_trace (IsOwned (owners_in b.config)) (suc route.more) 0 (lines_at arrivals) first route.trace route.end (owned_at (setting_of b view arrivals) setting) route.steps in
       let few : length b.config.tasks ≤ 32 = let f = fits.few_tasks in omega arith in
       record {
@@ -79,5 +80,5 @@ module _ (b : Build) (view : View) (arrivals : List Arrival) (setting : IsSettin
         after = started_system b;
         step_is = law.0;
         related = subst (λ x. Stands b x (with_admits (late route.trace) (started_system b))) (sym route.late_behind)
-            (stands_arrived b (late route.trace) route.last (started_system b) few in_range.1 law.1);
+            (stands_arrived b (late route.trace) route.last (started_system b) fits.few_tasks in_range.1 law.1);
       }

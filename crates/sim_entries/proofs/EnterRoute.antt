@@ -73,7 +73,7 @@ module _ (b : Build) (view : View) (arrivals : List Arrival) (setting : IsSettin
   found = with_admits (lines_at arrivals count) s
 
   k : Stands b now found
-  k = stands_arrived b (lines_at arrivals count) state s few (owned_at (setting_of b view arrivals) setting count) stands
+  k = stands_arrived b (lines_at arrivals count) state s fits.few_tasks (owned_at (setting_of b view arrivals) setting count) stands
 
   abbrev Stretches : Type 0
   Stretches = (next : State) × (trace : Trace) × (end : State) × StretchLaw (setting_of b view arrivals) (Stands b) count state s next trace end
@@ -146,7 +146,7 @@ module _ (b : Build) (view : View) (arrivals : List Arrival) (setting : IsSettin
             step_is = subst (λ x. OsekStep b.config b.app (event.Enter t) (with_admits x found) after) (sym nothing_early) enters.0;
             passes = λ past h. tt;
             related = subst (λ x. Stands b x (with_admits (late route.trace) after)) (sym route.late_behind)
-                (stands_arrived b (late route.trace) route.last after few in_range.1 enters.1);
+                (stands_arrived b (late route.trace) route.last after fits.few_tasks in_range.1 enters.1);
           }
 
       stretches : Stretches

@@ -311,7 +311,9 @@ module _ (config : Config) (app : App) (levels : Levels) (map : Map) (bounds : B
     places = refl;
     idle_is = refl;
     tops = tops;
+    no_counters = g.no_counters;
     tasks = ap length g.names.tasks ∙ length-map config.tasks (λ (d : TaskDecl). d.name);
+    counters = g.counters;
     is_image = linked_is_image map config app bounds size blocks symbols image back g.linked;
     bytes = g.bytes;
     vectors = g.has_code.vectors.block.code;

@@ -1,5 +1,5 @@
 -- Blocks in extents that follow one another.
-use Rattle.std.proofs.Common.{◌≢◌, ◌≤◌, ◌<◌, ◌+◌, ℕ, zero, suc, List, [], ◌∷◌, ◌++◌, length, get_or, arith}
+use Rattle.std.proofs.Common.{◌≡◌, ◌≢◌, ◌≤◌, ◌<◌, ◌+◌, ◌*◌, ◌∙◌, ℕ, zero, suc, List, [], ◌∷◌, ◌++◌, length, get_or, subst, arith}
 use Rattle.std.specs.Prelude.{All}
 use Rattle.std.proofs.lemmas.List.Elements.{All-nil, All-cons}
 use Rattle.sloth_base.specs.declared.image.Mark.{Mark}
@@ -11,7 +11,7 @@ use Rattle.mem_map.specs.Zones.{code_zone}
 use Rattle.sloth_link.specs.Linked.{addresses, marks_of}
 use Rattle.sloth_link.proofs.Written.{code_bytes_length}
 use Rattle.sim_image.specs.Zones.{IsInCode}
-use Rattle.sim_image.specs.Rooms.{FitRooms, MarksRise, BlocksAreIn, BlocksAreInCode, MarksDiffer}
+use Rattle.sim_image.specs.Rooms.{FitRooms, FollowClosely, MarksRise, BlocksAreIn, BlocksAreInCode, BlocksFollowClosely, MarksDiffer}
 use Rattle.sim_image.proofs.Following.{ends}
 
 pub blocks_are_in : BlocksAreIn
@@ -22,8 +22,19 @@ blocks_are_in (r ∷ rooms) (b ∷ blocks) h =
     let l = code_bytes_length b.code in
     let at = h.0.at in
     let above = h.0.above in
-    let short = h.0.short in
-    ((omega (arith, at, above), omega (arith, at, above, short, l)), blocks_are_in rooms blocks h.1)
+    let long = h.0.long in
+    ((omega (arith, at, above), omega (arith, at, above, long, l)), blocks_are_in rooms blocks h.1)
+
+pub blocks_follow_closely : BlocksFollowClosely
+blocks_follow_closely from end [] [] c h = c
+blocks_follow_closely from end [] (b ∷ blocks) c h = absurd h
+blocks_follow_closely from end (r ∷ rooms) [] c h = absurd h
+blocks_follow_closely from end (r ∷ rooms) (b ∷ blocks) c h =
+    let at = h.0.at in
+    let long = h.0.long in
+    let same : r.base + r.len ≡ b.at + 4 * length b.code = omega (arith, at, long) in
+    let P : ℕ → Type 0 = λ free. FollowClosely free end blocks in
+    (at ∙ c.0, subst P same (blocks_follow_closely (r.base + r.len) end rooms blocks c.1 h.1))
 
 -- ---- the zone of code
 
@@ -35,11 +46,11 @@ in_code map from (r ∷ rooms) [] le f h = absurd h
 in_code map from (r ∷ rooms) (b ∷ blocks) le f h =
     let at = h.0.at in
     let aligned = h.0.aligned in
-    let short = h.0.short in
+    let long = h.0.long in
     let a = f.0 in
     let end = ends (r.base + r.len) ((code_zone map).base + (code_zone map).len) rooms f.2 in
     All-cons (IsInCode map) b blocks
-    (record { aligned = omega (arith, at, aligned); from = omega (arith, at, le, a); to = omega (arith, at, short, end) })
+    (record { aligned = omega (arith, at, aligned); from = omega (arith, at, le, a); to = omega (arith, at, long, end) })
     (in_code map (r.base + r.len) rooms blocks (omega (arith, le, a)) f.2 h.1)
 
 pub blocks_are_in_code : BlocksAreInCode
@@ -75,9 +86,9 @@ marks_rise from end [] (b ∷ blocks) f h = absurd h
 marks_rise from end (r ∷ rooms) [] f h = absurd h
 marks_rise from end (r ∷ rooms) (b ∷ blocks) f h =
     let at = h.0.at in
-    let short = h.0.short in
+    let long = h.0.long in
     joined from r.base (r.base + r.len) b.marks (marks_of blocks) f.0 (omega arith) h.0.few h.0.rising
-    (λ k d l. let m = h.0.marks k d l in (omega (arith, at, m.0), omega (arith, at, short, m.1)))
+    (λ k d l. let m = h.0.marks k d l in (omega (arith, at, m.0), omega (arith, at, long, m.1)))
     (marks_rise (r.base + r.len) end rooms blocks f.2 h.1)
 
 least : (from : ℕ) (numbers : List ℕ) → Rises from numbers → (j d : ℕ) → j < length numbers → from ≤ get_or numbers j d

@@ -9,4 +9,8 @@ use Rattle.service_blocks.specs.Calls.{ServesCall}
 -- the code of a service has an instruction
 pub some_code : (s : Service) (object : ℕ) (levels : Levels) (code : List InstrKind) → ServesCall s object levels code → 0 < length code
 some_code service.Schedule object levels code h = let n = ap length h.masks.1 in omega (arith, n)
+some_code service.SetRelAlarm object levels code h = absurd h
+some_code service.SetAbsAlarm object levels code h = absurd h
+some_code service.CancelAlarm object levels code h = absurd h
+some_code service.GetAlarm object levels code h = absurd h
 some_code s object levels code h = let n = ap length h.masks.1 in omega (arith, n)

@@ -1,7 +1,9 @@
 -- Every piece of generated code is one of the blocks that were linked; so what is built is generated.
 use Rattle.std.specs.Prelude.{ℕ, ◌+◌, ◌%◌, ◌<◌, ◌≡◌, List, [], ◌∷◌, length, All, Contains, slice_index}
+use Rattle.std.specs.Prelude as prelude
 use Rattle.std.specs.List.Sorted.{IsPermutation, IsStrictlyIncreasing}
 use Rattle.sloth_base.specs.Named.{operation}
+use Rattle.sloth_base.specs.ConfigRange.{HasNoCounters}
 use Rattle.sloth_base.specs.ServiceCodes.{code_of}
 use Rattle.sloth_base.specs.declared.app.App.{App}
 use Rattle.sloth_base.specs.declared.app.Call.{Call}
@@ -71,6 +73,8 @@ pub record HasItemBlocks (config : Config) (app : App) (places : Places) (blocks
 pub record IsBuiltBy (config : Config) (app : App) (levels : Levels) (map : Map) (bounds : Bounds) (back size : ℕ) (blocks : List Block) (symbols : List Datum)
     (image : Image) : Type 0 where
   pub are_levels : AreLevels config levels
+  pub no_counters : HasNoCounters config
+  pub counters : image.counters ≡ prelude.map (λ c. c.name) config.counters
   pub linked : IsLinkedIn map config app bounds size blocks symbols image.memory
   pub has_code : HasCode config app levels map blocks
   pub has_items : HasItemBlocks config app map.places blocks

@@ -8,6 +8,7 @@ use Rattle.sloth_region.specs.declared.extent.Extent.{Extent}
 use Rattle.sloth_region.specs.declared.map.Map.{Map}
 use Rattle.sloth_region.specs.Region.{FollowWithin}
 use Rattle.rv32_instr.specs.declared.block.Block.{Block}
+use Rattle.mem_map.specs.Run.{AreClose}
 use Rattle.mem_map.specs.Zones.{code_zone}
 use Rattle.sloth_link.specs.Linked.{HaveOwnAddresses, block_section, marks_of}
 use Rattle.sloth_link.specs.Room.{AreIn}
@@ -23,12 +24,12 @@ MarksRise [] = Unit {0}
 MarksRise (mark ∷ []) = Unit {0}
 MarksRise (mark ∷ next ∷ marks) = (mark.address < next.address) × MarksRise (next ∷ marks)
 
--- a block begins where its extent does and isn't longer, and has at most two marks
+-- a block fills its extent, and has at most two marks
 pub record FitsRoom (room : Extent) (block : Block) : Type 0 where
   pub at : block.at ≡ room.base
   pub above : memory_base ≤ room.base
   pub aligned : room.base % 4 ≡ 0
-  pub short : 4 * length block.code ≤ room.len
+  pub long : 4 * length block.code ≡ room.len
   pub few : length block.marks ≤ 2
   pub rising : MarksRise block.marks
   pub marks : HasOwnMarks block
@@ -36,6 +37,16 @@ pub record FitsRoom (room : Extent) (block : Block) : Type 0 where
 -- each block in its own extent
 abbrev pub FitRooms : List Extent → List Block → Type 0
 FitRooms = AllZip FitsRoom
+
+-- each block begins where the one before it ends: there is no hole between them
+abbrev pub FollowClosely : ℕ → ℕ → List Block → Type 0
+FollowClosely from end [] = from ≡ end
+FollowClosely from end (block ∷ rest) = (block.at ≡ from) × FollowClosely (block.at + 4 * length block.code) end rest
+
+-- they do so where their extents do
+abbrev pub BlocksFollowClosely : Type 0
+BlocksFollowClosely = (from end : ℕ) (rooms : List Extent) (blocks : List Block) → AreClose from end rooms → FitRooms rooms blocks
+    → FollowClosely from end blocks
 
 -- its code lies there as a section
 abbrev pub BlocksAreIn : Type 0

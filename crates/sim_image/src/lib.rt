@@ -4,7 +4,7 @@
 ghost use Rattle.sim_image.specs.Zones.{ZonesFit, StacksAreApart, BlocksArePlaced, BlocksCanRun};
 ghost use Rattle.sim_image.specs.Symbols.{SymbolsAreInData, SymbolsAreIn, SymbolsAreApart};
 ghost use Rattle.sim_image.specs.Standing.{LinkedIsImage};
-ghost use Rattle.sim_image.specs.Rooms.{BlocksAreIn, BlocksAreInCode, MarksDiffer};
+ghost use Rattle.sim_image.specs.Rooms.{BlocksAreIn, BlocksAreInCode, BlocksFollowClosely, MarksDiffer};
 ghost use Rattle.sim_image.specs.Generated.{BuiltIsGenerated, BuiltIsInPlace};
 
 /// The places of what is built fit where its map has zones.
@@ -55,6 +55,11 @@ pub fn blocks_are_in()
 /// Blocks that fit extents in the zone of code lie in it.
 pub fn blocks_are_in_code()
     ensures { BlocksAreInCode }
+{}
+
+/// Blocks that fill extents with no hole between them have none between them.
+pub fn blocks_follow_closely()
+    ensures { BlocksFollowClosely }
 {}
 
 /// Blocks in extents that follow one another have marks at different addresses.

@@ -29,6 +29,7 @@ use Rattle.osek_scheduler.specs.InTime.{is_admit, admits_at, arrivals_at, IsOrde
 use Rattle.sim_induction.specs.Short.{IsShort, IsShortPiece, TouchesOnly, HasShortGaps}
 use Rattle.sim_induction.specs.Sound.{stands_before}
 use Rattle.sim_induction.specs.Admits.{Setting, IsSetting, lines_at, with_admits, admit_event, before_event, behind_event, at_moment}
+use Rattle.sim_induction.proofs.Lines.{spans_admit, admit_behind}
 use Rattle.sim_induction.specs.Observed.{trace_of, IsTraced}
 use Rattle.sim_induction.specs.Advances.{RunTo, EachPair, IsWithin}
 use Rattle.sim_induction.specs.PieceLaws.{BootLaw, seen_at}
@@ -174,7 +175,7 @@ module _ (given : Setting) (setting : IsSetting given) (R : State → System →
     law.step_is,
     tt,
     subst (λ a. Follows given.config given.app (boot ∷ []) law.after (map admit_event (behind_event 0 law.trace)) (with_admits a law.after)) (lines_behind 0 law.trace)
-        (follows_admits given.config given.app (boot ∷ []) (behind_event 0 law.trace) law.after after_booted owned_behind),
+        (follows_admits given.config given.app (boot ∷ []) (behind_event 0 law.trace) law.after setting.few_tasks after_booted owned_behind),
   )
 
   -- no line arrives at count 0
@@ -192,11 +193,11 @@ module _ (given : Setting) (setting : IsSetting given) (R : State → System →
   within0 : AllByRecursion (IsWithin 0 J) E0
   within0 = (
     record { begins = omega arith; ordered = omega arith; ends = omega arith; spans = tt },
-    each_arrival (IsWithin 0 J) (IsFrom 1 J) (λ a h. record { begins = omega arith; ordered = omega arith; ends = h.1; spans = refl }) (behind_event 0 law.trace) late_from,
+    each_arrival (IsWithin 0 J) (IsFrom 1 J) (λ a h. record { begins = omega arith; ordered = omega arith; ends = h.1; spans = spans_admit a }) (behind_event 0 law.trace) late_from,
   )
 
   placed0 : EachPair IsOrdered E0
-  placed0 = (each_arrival (IsOrdered boot) (IsFrom 1 J) (λ a h. let l : 0 < a.at = omega arith in l) (behind_event 0 law.trace) late_from, admit_pairs (behind_event 0 law.trace))
+  placed0 = (each_arrival (IsOrdered boot) (IsFrom 1 J) (λ a h. admit_behind a boot (let l : 0 < a.at = omega arith in l)) (behind_event 0 law.trace) late_from, admit_pairs (behind_event 0 law.trace))
 
   counted0 : (i t : ℕ) → admits_at i t E0 ≡ arrivals_at i t inside
   counted0 i t = stretch_counts i t boot [] inside [] (behind_event 0 law.trace) p refl none_early all_late

@@ -9,6 +9,7 @@ use Rattle.sloth_base.specs.Arrivals.{moments}
 use Rattle.osek_scheduler.specs.InTime.{is_admit, admitted_line, admits_at, arrivals_at}
 use Rattle.sloth_base.specs.Options.{is_number}
 use Rattle.sim_induction.specs.Admits.{admit_event}
+use Rattle.sim_induction.proofs.Lines.{line_back}
 use Rattle.std.specs.List.{AllByRecursion}
 
 pub admits-cons : (i t : ℕ) (e : Stamped) (a : List Stamped) → admits_at i t (e ∷ a) ≡ cond (is_number t (admitted_line e.event) && (e.stamp.at == i)) 1 0 + admits_at i t a
@@ -27,7 +28,8 @@ arrivals-append i t a b = sum_by-append (λ (x : Arrival). cond ((x.line == t) &
 pub admits_of : (i t : ℕ) (a : List Arrival) → admits_at i t (map admit_event a) ≡ arrivals_at i t a
 admits_of i t [] = refl
 admits_of i t (x ∷ a) =
-    admits-cons i t (admit_event x) (map admit_event a) ∙ ap (λ n. cond ((x.line == t) && (x.at == i)) 1 0 + n) (admits_of i t a) ∙ sym (arrivals-cons i t x a)
+    admits-cons i t (admit_event x) (map admit_event a)
+    ∙ ap (λ o. cond (is_number t o && (x.at == i)) 1 0 + admits_at i t (map admit_event a)) (line_back x.line) ∙ ap (λ n. cond ((x.line == t) && (x.at == i)) 1 0 + n) (admits_of i t a) ∙ sym (arrivals-cons i t x a)
 
 no_task : (i t at n : ℕ) (o : Option ℕ) → is_some o ≡ false → cond (is_number t o && (at == i)) 1 0 + n ≡ n
 no_task i t at n None h = omega arith

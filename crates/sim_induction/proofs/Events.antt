@@ -8,6 +8,7 @@ use Rattle.sloth_base.specs.Arrivals.{moments}
 use Rattle.osek_scheduler.specs.InTime.{IsOrdered}
 use Rattle.masked_code.specs.Trace.{Trace, touched_of, untouched_of}
 use Rattle.sim_induction.specs.Admits.{admit_event, at_moment, lines_at, before_event, behind_event}
+use Rattle.sim_induction.proofs.Lines.{admits_ordered}
 use Rattle.sim_induction.proofs.Schedule.{moment_is}
 use Rattle.sim_induction.specs.Advances.{EachPair}
 use Rattle.std.specs.List.{AllByRecursion}
@@ -57,7 +58,7 @@ admit_pairs (x ∷ xs) = (all xs, admit_pairs xs)
   where
     all : (ys : List Arrival) → AllByRecursion (IsOrdered (admit_event x)) (map admit_event ys)
     all [] = tt
-    all (y ∷ ys) = (tt, all ys)
+    all (y ∷ ys) = (admits_ordered x y, all ys)
 
 -- ---- the moments of arrivals
 

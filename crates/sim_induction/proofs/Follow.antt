@@ -1,12 +1,11 @@
 -- Runs of the abstract scheduler, joined; and the events of arrivals.
-use Rattle.std.proofs.Common.{◌≡◌, ℕ, List, [], ◌∷◌, ◌++◌, refl, sym, ◌∙◌, subst, append_assoc, append-nil, true}
+use Rattle.std.proofs.Common.{◌≡◌, ℕ, List, [], ◌∷◌, ◌++◌, ◌≤◌, length, refl, sym, ◌∙◌, subst, append_assoc, append-nil, true}
 use Rattle.std.specs.Prelude.{map}
 use Rattle.sloth_base.specs.declared.config.Config.{Config}
 use Rattle.sloth_base.specs.declared.app.App.{App}
 use Rattle.sloth_base.specs.declared.event.Arrival.{Arrival}
 use Rattle.sloth_base.specs.declared.event.Stamped.{Stamped}
-use Rattle.sloth_base.specs.Owners.{owners_in, AreOwned}
-use Rattle.sloth_base.proofs.Owners.{owned_task}
+use Rattle.sloth_base.specs.Owners.{first_counter_line, owners_in, AreOwned}
 use Rattle.osek_scheduler.specs.declared.state.TaskState.{TaskState}
 use Rattle.osek_scheduler.specs.declared.state.TaskState.TheVariants as mode
 use Rattle.osek_scheduler.specs.State.{System, task}
@@ -14,7 +13,8 @@ use Rattle.osek_scheduler.specs.Services.{if_suspended, activated_state}
 use Rattle.osek_scheduler.specs.Steps.{admitted_state}
 use Rattle.osek_scheduler.specs.Runs.{Leads, Follows}
 pub use Rattle.osek_scheduler.proofs.Leading.{leads-append, follows_leads}
-use Rattle.sim_induction.specs.Admits.{with_admits, admit_event}
+use Rattle.sim_induction.specs.Admits.{with_arrival, with_admits, admit_event}
+use Rattle.sim_induction.proofs.Lines.{arrival_cases, arrival_steps, arrival_passes}
 
 pub follows-append : (c : Config) (app : App) (past : List Stamped) (s x z : System) (a b : List Stamped) → Follows c app past s a x → Follows c app (past ++ a) x b z → Follows c app past s (a ++ b) z
 follows-append c app past s x z [] b h k =
@@ -33,15 +33,18 @@ booted_if (mode.Waiting m) x s h = refl
 pub booted_admitted : (t : ℕ) (s : System) → (admitted_state t s).booted ≡ s.booted
 booted_admitted t s = booted_if (task s t).state (record (activated_state s t) { fresh = t ∷ s.fresh }) s refl
 
+pub booted_arrival : (line : ℕ) (s : System) → (with_arrival line s).booted ≡ s.booted
+booted_arrival line s = arrival_cases (λ z. z.booted ≡ s.booted) line s (booted_admitted line s) (λ c. refl)
+
 pub booted_admits : (lines : List ℕ) (s : System) → (with_admits lines s).booted ≡ s.booted
 booted_admits [] s = refl
-booted_admits (t ∷ lines) s = booted_admits lines (admitted_state t s) ∙ booted_admitted t s
+booted_admits (line ∷ lines) s = booted_admits lines (with_arrival line s) ∙ booted_arrival line s
 
-pub follows_admits : (c : Config) (app : App) (past : List Stamped) (a : List Arrival) (s : System) → s.booted ≡ true → AreOwned (owners_in c) (map (λ x. x.line) a)
+pub follows_admits : (c : Config) (app : App) (past : List Stamped) (a : List Arrival) (s : System) → length c.tasks ≤ first_counter_line → s.booted ≡ true → AreOwned (owners_in c) (map (λ x. x.line) a)
     → Follows c app past s (map admit_event a) (with_admits (map (λ x. x.line) a) s)
-follows_admits c app past [] s b h = refl
-follows_admits c app past (x ∷ a) s b h =
-    (admitted_state x.line s, (b, owned_task (owners_in c) x.line h.0, refl), tt, follows_admits c app (past ++ admit_event x ∷ []) a (admitted_state x.line s) (booted_admitted x.line s ∙ b) h.1)
+follows_admits c app past [] s few b h = refl
+follows_admits c app past (x ∷ a) s few b h =
+    (with_arrival x.line s, arrival_steps c app x.line s few h.0 b, arrival_passes c app past x.line s x.at, follows_admits c app (past ++ admit_event x ∷ []) a (with_arrival x.line s) few (booted_arrival x.line s ∙ b) h.1)
 
-pub leads_admits : (c : Config) (app : App) (a : List Arrival) (s : System) → s.booted ≡ true → AreOwned (owners_in c) (map (λ x. x.line) a) → Leads c app (map admit_event a) s (with_admits (map (λ x. x.line) a) s)
-leads_admits c app a s b h = follows_leads c app [] s (map admit_event a) (with_admits (map (λ x. x.line) a) s) (follows_admits c app [] a s b h)
+pub leads_admits : (c : Config) (app : App) (a : List Arrival) (s : System) → length c.tasks ≤ first_counter_line → s.booted ≡ true → AreOwned (owners_in c) (map (λ x. x.line) a) → Leads c app (map admit_event a) s (with_admits (map (λ x. x.line) a) s)
+leads_admits c app a s few b h = follows_leads c app [] s (map admit_event a) (with_admits (map (λ x. x.line) a) s) (follows_admits c app [] a s few b h)

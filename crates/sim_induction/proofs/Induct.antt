@@ -1,8 +1,8 @@
 -- The induction: from a count that finds MIE 1 to the next.
-use Rattle.std.proofs.Common.{◌≡◌, ℕ, zero, suc, ◌+◌, ◌-◌, ◌<◌, ◌≤◌, List, [], ◌∷◌, ◌++◌, length, take, refl, sym, ap, ◌∙◌, subst, arith, append_assoc, append-nil, Bool, true, false, cond, Some, ⊎_elim, filter}
+use Rattle.std.proofs.Common.{◌≡◌, ℕ, zero, suc, ◌+◌, ◌-◌, ◌<◌, ◌≤◌, List, [], ◌∷◌, ◌++◌, length, take, refl, sym, ap, ◌∙◌, subst, arith, append_assoc, append-nil, Bool, true, false, cond, Some, ⊎_elim, filter, nat_le, nat_lt}
 use Rattle.std.specs.Prelude.{map}
 use Rattle.std.specs.List.{flat_map, AllByRecursion}
-use Rattle.std.proofs.lemmas.Bool.{cases_lt, le-leb}
+use Rattle.std.proofs.lemmas.Bool.{cases_lt, le-leb, true≢false}
 use Rattle.std.proofs.lemmas.List.Elements.{filter-append}
 use Rattle.sloth_base.specs.declared.event.Arrival.{Arrival}
 use Rattle.sloth_base.specs.declared.event.Stamped.{Stamped}
@@ -21,6 +21,7 @@ use Rattle.osek_scheduler.specs.InTime.{is_admit, admits_at, arrivals_at, IsOrde
 use Rattle.sim_induction.specs.Short.{IsShort, IsShortPiece, HasShortGaps, passed_length}
 use Rattle.sim_induction.specs.Sound.{stands_before}
 use Rattle.sim_induction.specs.Admits.{Setting, IsSetting, lines_at, with_admits, admit_event}
+use Rattle.sim_induction.proofs.Lines.{is_admitted, spans_admit, admit_before}
 use Rattle.sim_induction.specs.Advances.{EachPair, IsWithin, found_by, Advances}
 use Rattle.sim_induction.specs.Related.{IsSimulation}
 use Rattle.sim_induction.proofs.Follow.{leads-append, follows-append, follows_leads, follows_admits}
@@ -64,16 +65,16 @@ module _ (given : Setting) (setting : IsSetting given) (R : State → System →
   owned_here = owned_at given setting
 
   follow_mine : (past : List Stamped) (k : ℕ) (m : State) (s : System) → R m s → Follows given.config given.app past s (mine k) (with_admits (lines_at A k) s)
-  follow_mine past k m s r = follows_admits given.config given.app past (here k) s (simulation.booted m s r) (owned_here k)
+  follow_mine past k m s r = follows_admits given.config given.app past (here k) s setting.few_tasks (simulation.booted m s r) (owned_here k)
 
   mine_within : (k hi : ℕ) → k < hi → AllByRecursion (IsWithin k hi) (mine k)
-  mine_within k hi l = each_arrival (IsWithin k hi) (λ a. a.at ≡ k) (λ a e. record { begins = omega arith; ordered = omega arith; ends = omega arith; spans = refl }) (here k) (moment_within k A)
+  mine_within k hi l = each_arrival (IsWithin k hi) (λ a. a.at ≡ k) (λ a e. record { begins = omega arith; ordered = omega arith; ends = omega arith; spans = spans_admit a }) (here k) (moment_within k A)
 
   mine_ends : (k to : ℕ) → AllByRecursion (λ e. is_admit e ≡ false → e.stamp.at < to) (mine k)
-  mine_ends k to = each_arrival (λ e. is_admit e ≡ false → e.stamp.at < to) (λ a. a.at ≡ k) (λ a e z. cc) (here k) (moment_within k A)
+  mine_ends k to = each_arrival (λ e. is_admit e ≡ false → e.stamp.at < to) (λ a. a.at ≡ k) (λ a e z. absurd (true≢false (sym (is_admitted a) ∙ z))) (here k) (moment_within k A)
 
   mine_before : (x k : ℕ) → k ≤ x → AllByRecursion (λ e. stands_before x e ≡ true) (mine k)
-  mine_before x k h = each_arrival (λ e. stands_before x e ≡ true) (λ a. a.at ≡ k) (λ a e. le-leb a.at x (omega arith)) (here k) (moment_within k A)
+  mine_before x k h = each_arrival (λ e. stands_before x e ≡ true) (λ a. a.at ≡ k) (λ a e. ap (λ b. cond b (nat_le a.at x) (nat_lt a.at x)) (is_admitted a) ∙ le-leb a.at x (omega arith)) (here k) (moment_within k A)
 
   none_mine : (k : ℕ) → moments k k A ≡ []
   none_mine k = moments-none k A
@@ -224,7 +225,7 @@ module _ (given : Setting) (setting : IsSetting given) (R : State → System →
     piece_placed =
         pairs-append IsOrdered (mine k) a.others (admit_pairs (here k)) a.placed
         (each_arrival (λ x. AllByRecursion (IsOrdered x) a.others) (λ y. y.at ≡ k)
-        (λ y e. each_map (IsWithin k (k + j)) (IsOrdered (admit_event y)) (λ z w. by y (is_admit z) z e w) a.others a.stamps) (here k) (moment_within k A))
+        (λ y e. each_map (IsWithin k (k + j)) (IsOrdered (admit_event y)) (λ z w. admit_before y z (by y (is_admit z) z e w)) a.others a.stamps) (here k) (moment_within k A))
       where
         by : (y : Arrival) (b : Bool) (z : Stamped) → y.at ≡ k → IsWithin k (k + j) z → StandsBefore true b (admit_event y).stamp z.stamp
         by y true z e w = tt

@@ -51,7 +51,7 @@ module _ (given : Setting) (setting : IsSetting given) (R : State → System →
   admits_keep : (k : ℕ) (s : System) → s.booted ≡ true → J s → J (with_admits (lines_at given.arrivals k) s)
   admits_keep k s b j =
       along_events given.config given.app J keep_j (map admit_event (moments k (k + 1) given.arrivals)) s (with_admits (lines_at given.arrivals k) s)
-      (leads_admits given.config given.app (moments k (k + 1) given.arrivals) s b (owned_at given setting k)) j
+      (leads_admits given.config given.app (moments k (k + 1) given.arrivals) s setting.few_tasks b (owned_at given setting k)) j
 
   pub strengthen : (k : ℕ) (m : State) (s : System) → s.booted ≡ true → With R I J m s → Advances given R progress k m s → Advances given (With R I J) progress k m s
   strengthen k m s b w a = record {
@@ -122,7 +122,7 @@ module _ (given : Setting) (setting : IsSetting given) (R : State → System →
           machine = along_run given.arrivals I keep_i (suc law.more) 0 m law.end r.steps r.runs i;
           system = subst (λ v. J (with_admits v law.after)) (lines_behind 0 law.trace)
               (along_events given.config given.app J keep_j (map admit_event (behind_event 0 law.trace)) law.after (with_admits (map (λ a. a.line) (behind_event 0 law.trace)) law.after)
-              (leads_admits given.config given.app (behind_event 0 law.trace) law.after b late_below)
+              (leads_admits given.config given.app (behind_event 0 law.trace) law.after setting.few_tasks b late_below)
               (keep_j event.Boot (opening given.config given.app) law.after law.step_is j));
         };
       }

@@ -21,3 +21,4 @@ pub mod Routes
 pub mod Passing
 pub mod Invariants
 pub mod Stretched
+pub mod Lines

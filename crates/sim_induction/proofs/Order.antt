@@ -7,6 +7,7 @@ use Rattle.sloth_base.specs.declared.event.Arrival.{Arrival}
 use Rattle.sloth_base.specs.declared.event.Stamped.{Stamped}
 use Rattle.osek_scheduler.specs.InTime.{is_admit, admitted_line, IsSubsequence, KeepsOrder}
 use Rattle.sim_induction.specs.Admits.{admit_event}
+use Rattle.sim_induction.proofs.Lines.{line_back}
 use Rattle.std.specs.List.{AllByRecursion}
 
 abbrev pub Key : Type 0
@@ -112,7 +113,7 @@ orders-append xs ys a b h k before group behind e admits =
 
 keys_of : (xs : List Arrival) → map key (map admit_event xs) ≡ keys xs
 keys_of [] = refl
-keys_of (x ∷ xs) = ap (λ u. (x.at, Some x.line) ∷ u) (keys_of xs)
+keys_of (x ∷ xs) = ap (λ o. (x.at, o) ∷ map key (map admit_event xs)) (line_back x.line) ∙ ap (λ u. (x.at, Some x.line) ∷ u) (keys_of xs)
 
 pub admits_order : (xs : List Arrival) → KeepsOrder xs (map admit_event xs)
 admits_order xs before group behind e admits =

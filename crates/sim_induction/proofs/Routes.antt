@@ -169,7 +169,7 @@ pub entered_event : (view : View) (k : ℕ) (n x : State) (last : Step) (line : 
 entered_event view k n x last line l h t =
     ap (λ b. cond b event.Boot (later_event (line_to_take n) view (seen_step k n x) last)) (ne_eqb k 0 (λ z. omega arith))
     ∙ ap (λ o. later_event o view (seen_step k n x) last) h
-    ∙ ap entry_event (kind_of_task view.owners line t)
+    ∙ ap (entry_event line) (kind_of_task view.owners line t)
 
 pub opened_event : (view : View) (k : ℕ) (n x : State) (last : Step) (mark : Mark) → 0 < k → line_to_take n ≡ None → mark_at view (entered n).pc ≡ Some mark
     → stretch_event view (seen_step k n x) last ≡ marked_event mark.kind view mark (seen_step k n x) last

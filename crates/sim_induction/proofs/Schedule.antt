@@ -7,11 +7,11 @@ use Rattle.sloth_base.specs.declared.event.Arrival.{Arrival}
 use Rattle.sloth_base.specs.declared.image.Mark.{Mark}
 use Rattle.sloth_base.specs.declared.lines.Owners.{Owners}
 use Rattle.sloth_base.specs.Arrivals.{moments, NeverFalls}
-use Rattle.sloth_base.specs.Owners.{owners_in, IsOwned, AreOwned}
-use Rattle.sloth_base.proofs.Owners.{kind_of_task, owned_task}
-use Rattle.observe.specs.Observe.{view_from, admission, arrival_event}
+use Rattle.sloth_base.specs.Owners.{first_counter_line, owners_in, IsOwned, AreOwned}
+use Rattle.observe.specs.Observe.{view_from, admission}
 use Rattle.observe.proofs.Moments.{moments-later}
 use Rattle.sim_induction.specs.Admits.{Setting, IsSetting, lines_at, admit_event, at_moment}
+use Rattle.sim_induction.proofs.Lines.{arrival_shown}
 
 pub from_zero : (xs : List Arrival) → NeverFalls 1 xs → NeverFalls 0 xs
 from_zero [] h = tt
@@ -92,12 +92,12 @@ pub owned_at : (given : Setting) → IsSetting given → (k : ℕ) → AreOwned 
 owned_at given setting k = lines_moments (IsOwned (owners_in given.config)) k (k + 1) given.arrivals setting.lines
 
 -- the observer's admits of lines that have owners
-admits_owned : (owners : Owners) (marks : List Mark) (xs : List Arrival) → AreOwned owners (map (λ a. a.line) xs) → map (admission (view_from marks owners)) xs ≡ map admit_event xs
-admits_owned owners marks [] h = refl
-admits_owned owners marks (x ∷ xs) h =
-    ap (λ kind. record (admit_event x) { event = arrival_event kind } ∷ map (admission (view_from marks owners)) xs) (kind_of_task owners x.line (owned_task owners x.line h.0))
-    ∙ ap (λ u. admit_event x ∷ u) (admits_owned owners marks xs h.1)
+admits_owned : (owners : Owners) (marks : List Mark) (xs : List Arrival) → owners.tasks ≤ first_counter_line → AreOwned owners (map (λ a. a.line) xs) → map (admission (view_from marks owners)) xs ≡ map admit_event xs
+admits_owned owners marks [] few h = refl
+admits_owned owners marks (x ∷ xs) few h =
+    ap (λ what. record (admit_event x) { event = what } ∷ map (admission (view_from marks owners)) xs) (arrival_shown owners x.line few h.0)
+    ∙ ap (λ u. admit_event x ∷ u) (admits_owned owners marks xs few h.1)
 
 pub admits_are : (given : Setting) → IsSetting given → (xs : List Arrival) → AreOwned (owners_in given.config) (map (λ a. a.line) xs) → map (admission given.view) xs ≡ map admit_event xs
 admits_are given setting xs h =
-    ap (λ owners. map (admission (view_from given.view.marks owners)) xs) setting.owners ∙ admits_owned (owners_in given.config) given.view.marks xs h
+    ap (λ owners. map (admission (view_from given.view.marks owners)) xs) setting.owners ∙ admits_owned (owners_in given.config) given.view.marks xs setting.few_tasks h

@@ -1,7 +1,7 @@
 -- What events stretches and single instructions show.
 use Rattle.std.proofs.Common.{◌≡◌, ℕ, List, [], ◌∷◌, refl, Bool, true, false, cond, Option, Some, None}
 use Rattle.std.specs.List.{AllByRecursion}
-use Rattle.std.specs.Prelude.{◌==◌, slice_index}
+use Rattle.std.specs.Prelude.{◌==◌, nat_lt, slice_index}
 use Rattle.sloth_base.specs.declared.service.Service.{Service}
 use Rattle.sloth_base.specs.declared.image.Mark.{Mark}
 use Rattle.sloth_base.specs.declared.image.MarkKind.{MarkKind}
@@ -10,9 +10,9 @@ use Rattle.sloth_base.specs.declared.event.Event.{Event}
 use Rattle.sloth_base.specs.declared.event.Event.TheVariants as event
 use Rattle.sloth_base.specs.declared.event.Stamped.{Stamped}
 use Rattle.sloth_base.specs.declared.step.Step.{Step}
-use Rattle.observe.specs.Observe.{View, stretch_event, later_event, unentered_event, marked_event, service_event, running_task, mark_at, outside_events, events_of_kind, stamp, entry_event}
+use Rattle.observe.specs.Observe.{View, stretch_event, later_event, unentered_event, marked_event, service_event, running_task, mark_at, outside_events, events_of_kind, stamp, entry_event, NO_TASK, NO_COUNTER}
 use Rattle.sloth_base.specs.ServiceCodes.{service_of}
-use Rattle.sloth_base.specs.Owners.{line_kind}
+use Rattle.sloth_base.specs.Owners.{first_counter_line, line_kind}
 use Rattle.sloth_base.specs.declared.lines.LineKind.{LineKind}
 use Rattle.sloth_base.specs.declared.lines.LineKind.TheVariants as line_of
 use Rattle.osek_scheduler.specs.InTime.{is_admit, SpansFor}
@@ -45,12 +45,13 @@ unentered_long : (m : Option Mark) (view : View) (first last : Step) → IsLong 
 unentered_long (Some mark) view first last = marked_long mark.kind view mark first last
 unentered_long None view first last = (refl, λ e. tt)
 
-entry_long : (k : LineKind) → IsLong (entry_event k)
-entry_long (line_of.Task t) = (refl, λ e. tt)
-entry_long line_of.Unused = (refl, λ e. tt)
+entry_long : (line : ℕ) (k : LineKind) → IsLong (entry_event line k)
+entry_long line (line_of.Task t) = (refl, λ e. tt)
+entry_long line (line_of.Counter c) = (refl, λ e. tt)
+entry_long line line_of.Unused = pick IsLong (nat_lt line first_counter_line) (event.Enter NO_TASK) (event.Tick NO_COUNTER) (refl, λ e. tt) (refl, λ e. tt)
 
 later_long : (entered : Option ℕ) (view : View) (first last : Step) → IsLong (later_event entered view first last)
-later_long (Some line) view first last = entry_long (line_kind view.owners line)
+later_long (Some line) view first last = entry_long line (line_kind view.owners line)
 later_long None view first last = unentered_long (mark_at view first.pc) view first last
 
 pub stretch_long : (view : View) (first last : Step) → IsLong (stretch_event view first last)

@@ -1,12 +1,15 @@
 -- Every run of an image is one of the abstract scheduler, where a relation goes on from each count that finds MIE 1 to the next.
-use Rattle.std.proofs.Common.{◌≡◌, ℕ, List, length, ap}
+use Rattle.std.proofs.Common.{◌≡◌, ◌≤◌, ◌∙◌, ℕ, List, length, ap}
+use Rattle.std.specs.Prelude.{map}
+use Rattle.std.proofs.Math.ListN.{length-map}
+use Rattle.sloth_base.specs.declared.config.CounterDecl.{CounterDecl}
 use Rattle.sloth_base.specs.declared.config.Config.{Config}
 use Rattle.sloth_base.specs.declared.app.App.{App}
 use Rattle.sloth_base.specs.declared.image.Image.{Image}
 use Rattle.sloth_base.specs.declared.event.Arrival.{Arrival}
 use Rattle.sloth_base.specs.Machine.{State}
 use Rattle.sloth_base.specs.Arrivals.{AreArrivals}
-use Rattle.sloth_base.specs.Owners.{owners_in}
+use Rattle.sloth_base.specs.Owners.{first_counter_line, owners_in}
 use Rattle.rv32_machine.specs.Start.{start}
 use Rattle.osek_scheduler.specs.State.{System}
 use Rattle.sim_induction.specs.Sound.{SoundRun, Sound}
@@ -16,9 +19,16 @@ use Rattle.sim_induction.specs.Related.{IsSimulation}
 use Rattle.sim_induction.proofs.Boot.{whole_run}
 use Rattle.sim_induction.proofs.WholeRun.{setting_of, sound_of}
 
-pub is_setting : (config : Config) (app : App) (image : Image) (arrivals : List Arrival) → length image.tasks ≡ length config.tasks → AreArrivals (owners_in config) arrivals
+pub is_setting : (config : Config) (app : App) (image : Image) (arrivals : List Arrival) → length config.tasks ≤ first_counter_line → length image.tasks ≡ length config.tasks → image.counters ≡ map (λ c. c.name) config.counters → AreArrivals (owners_in config) arrivals
     → IsSetting (setting_of config app image arrivals)
-is_setting config app image arrivals tasks are = record { owners = ap (λ (n : ℕ). record { tasks = n }) tasks; ordered = are.ordered; lines = are.lines_owned }
+is_setting config app image arrivals few tasks counters are =
+    let counted : length image.counters ≡ length config.counters = ap length counters ∙ length-map config.counters (λ (c : CounterDecl). c.name) in
+    record {
+      owners = ap (λ (n : ℕ). record { tasks = n; counters = length image.counters }) tasks ∙ ap (λ (n : ℕ). record { tasks = length config.tasks; counters = n }) counted;
+      few_tasks = few;
+      ordered = are.ordered;
+      lines = are.lines_owned;
+    }
 
 pub sound_run : (config : Config) (app : App) (image : Image) (arrivals : List Arrival) (R : State → System → Type 0) (progress : State → System → ℕ)
     → IsSetting (setting_of config app image arrivals) → IsSimulation (setting_of config app image arrivals) R progress → BootLaw (setting_of config app image arrivals) R (start image)
@@ -27,9 +37,11 @@ sound_run config app image arrivals R progress setting simulation boot n =
     sound_of config app image arrivals R progress setting simulation n
     (whole_run (setting_of config app image arrivals) setting R progress simulation (start image) boot n)
 
-pub sound : (config : Config) (app : App) (image : Image) (R : State → System → Type 0) (progress : State → System → ℕ) → length image.tasks ≡ length config.tasks
+pub sound : (config : Config) (app : App) (image : Image) (R : State → System → Type 0) (progress : State → System → ℕ) → length config.tasks ≤ first_counter_line → length image.tasks ≡ length config.tasks
+    → image.counters ≡ map (λ c. c.name) config.counters
     → ((arrivals : List Arrival) → AreArrivals (owners_in config) arrivals → IsSimulation (setting_of config app image arrivals) R progress × BootLaw (setting_of config app image arrivals) R (start image))
     → Sound config app image
-sound config app image R progress tasks laws = record {
-  each = λ arrivals n are few. sound_run config app image arrivals R progress (is_setting config app image arrivals tasks are) (laws arrivals are).0 (laws arrivals are).1 n;
+sound config app image R progress few tasks counters laws = record {
+  counters = counters;
+  each = λ arrivals n are bound. sound_run config app image arrivals R progress (is_setting config app image arrivals few tasks counters are) (laws arrivals are).0 (laws arrivals are).1 n;
 }

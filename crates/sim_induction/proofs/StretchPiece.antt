@@ -20,6 +20,7 @@ use Rattle.osek_scheduler.specs.Runs.{Leads, Follows}
 use Rattle.osek_scheduler.specs.InTime.{is_admit, admits_at, arrivals_at, IsOrdered, StandsBefore, SpansFor, KeepsOrder}
 use Rattle.sim_induction.specs.Short.{IsShort, IsShortAt, TouchesOnly}
 use Rattle.sim_induction.specs.Admits.{Setting, IsSetting, lines_at, with_admits, admit_event, before_event, behind_event}
+use Rattle.sim_induction.proofs.Lines.{spans_admit, admit_before, admit_behind, admits_ordered}
 use Rattle.sim_induction.specs.Observed.{IsTraced}
 use Rattle.sim_induction.specs.Advances.{RunTo, EachPair, IsWithin, found_by, Advances}
 use Rattle.std.specs.List.{AllByRecursion}
@@ -42,7 +43,7 @@ abbrev pub masked_events : ℕ → Trace → Stamped → List Stamped
 masked_events k t e = map admit_event (before_event k t) ++ (e ∷ map admit_event (behind_event k t))
 
 pub within_admits : (from to : ℕ) (a : Arrival) → IsFrom from to a → IsWithin from to (admit_event a)
-within_admits from to a h = record { begins = h.0; ordered = omega arith; ends = h.1; spans = refl }
+within_admits from to a h = record { begins = h.0; ordered = omega arith; ends = h.1; spans = spans_admit a }
 
 -- an event of the counts from k to below k + 1 + j, with the arrivals of the counts behind k
 module _ (k j : ℕ) (t : Trace) (e : Stamped) (long : length t ≡ j) (from_is : e.stamp.from ≡ k) (at_is : e.stamp.at ≡ k + j) (other : is_admit e ≡ false) where
@@ -54,14 +55,14 @@ module _ (k j : ℕ) (t : Trace) (e : Stamped) (long : length t ≡ j) (from_is 
       (each_arrival (λ x. AllByRecursion (IsOrdered x) (e ∷ map admit_event (behind_event (k + 1) t))) (IsFrom (k + 1) (k + 1 + j)) (λ a h. (before_it a h, all a (behind_event (k + 1) t))) (before_event (k + 1) t) (before_within (k + 1) (k + 1 + j) (k + 1) t (omega arith) (omega arith)))
     where
       before_it : (a : Arrival) → IsFrom (k + 1) (k + 1 + j) a → IsOrdered (admit_event a) e
-      before_it a h = subst (λ b. StandsBefore true b (admit_event a).stamp e.stamp) (sym other) (let l : a.at ≤ e.stamp.at = omega arith in l)
+      before_it a h = admit_before a e (subst (λ b. StandsBefore true b (admit_event a).stamp e.stamp) (sym other) (let l : a.at ≤ e.stamp.at = omega arith in l))
 
       after_it : (a : Arrival) → IsFrom (k + 1) (k + 1 + j) a → IsOrdered e (admit_event a)
-      after_it a h = subst (λ b. StandsBefore b true e.stamp (admit_event a).stamp) (sym other) (let l : e.stamp.from < a.at = omega arith in l)
+      after_it a h = admit_behind a e (subst (λ b. StandsBefore b true e.stamp (admit_event a).stamp) (sym other) (let l : e.stamp.from < a.at = omega arith in l))
 
       all : (a : Arrival) (ys : List Arrival) → AllByRecursion (IsOrdered (admit_event a)) (map admit_event ys)
       all a [] = tt
-      all a (y ∷ ys) = (tt, all a ys)
+      all a (y ∷ ys) = (admits_ordered a y, all a ys)
 
   pub masked_later : AllByRecursion (λ x. is_admit x ≡ true → k < x.stamp.at) (masked_events (k + 1) t e)
   masked_later =
@@ -190,21 +191,21 @@ module _ (given : Setting) (setting : IsSetting given) (R : State → System →
   lead_others : Leads given.config given.app others s1 (with_admits (late t) law.after)
   lead_others =
       leads-append given.config given.app (map admit_event (before_event (k + 1) t)) (event ∷ map admit_event (behind_event (k + 1) t)) s1 (with_admits (early t) s1) (with_admits (late t) law.after)
-      (subst (λ a. Leads given.config given.app (map admit_event (before_event (k + 1) t)) s1 (with_admits a s1)) (lines_before (k + 1) t) (leads_admits given.config given.app (before_event (k + 1) t) s1 s1_booted owned_before)) (
+      (subst (λ a. Leads given.config given.app (map admit_event (before_event (k + 1) t)) s1 (with_admits a s1)) (lines_before (k + 1) t) (leads_admits given.config given.app (before_event (k + 1) t) s1 setting.few_tasks s1_booted owned_before)) (
         law.after,
         law.step_is,
-        subst (λ a. Leads given.config given.app (map admit_event (behind_event (k + 1) t)) law.after (with_admits a law.after)) (lines_behind (k + 1) t) (leads_admits given.config given.app (behind_event (k + 1) t) law.after after_booted owned_behind),
+        subst (λ a. Leads given.config given.app (map admit_event (behind_event (k + 1) t)) law.after (with_admits a law.after)) (lines_behind (k + 1) t) (leads_admits given.config given.app (behind_event (k + 1) t) law.after setting.few_tasks after_booted owned_behind),
       )
 
   follow_others : (past : List Stamped) → Leads given.config given.app past (opening given.config given.app) s1 → Follows given.config given.app past s1 others (with_admits (late t) law.after)
   follow_others past h =
       follows-append given.config given.app past s1 (with_admits (early t) s1) (with_admits (late t) law.after) (map admit_event (before_event (k + 1) t)) (event ∷ map admit_event (behind_event (k + 1) t))
-      (subst (λ a. Follows given.config given.app past s1 (map admit_event (before_event (k + 1) t)) (with_admits a s1)) (lines_before (k + 1) t) (follows_admits given.config given.app past (before_event (k + 1) t) s1 s1_booted owned_before)) (
+      (subst (λ a. Follows given.config given.app past s1 (map admit_event (before_event (k + 1) t)) (with_admits a s1)) (lines_before (k + 1) t) (follows_admits given.config given.app past (before_event (k + 1) t) s1 setting.few_tasks s1_booted owned_before)) (
         law.after,
         law.step_is,
         law.passes past h,
         subst (λ a. Follows given.config given.app ((past ++ map admit_event (before_event (k + 1) t)) ++ event ∷ []) law.after (map admit_event (behind_event (k + 1) t)) (with_admits a law.after)) (lines_behind (k + 1) t)
-            (follows_admits given.config given.app ((past ++ map admit_event (before_event (k + 1) t)) ++ event ∷ []) (behind_event (k + 1) t) law.after after_booted owned_behind),
+            (follows_admits given.config given.app ((past ++ map admit_event (before_event (k + 1) t)) ++ event ∷ []) (behind_event (k + 1) t) law.after setting.few_tasks after_booted owned_behind),
       )
 
   touching : AllByRecursion (TouchesOnly law.lines) r.steps

@@ -16,7 +16,7 @@ use Rattle.rv32_machine.specs.Run.{arrived}
 use Rattle.masked_code.specs.Trace.{Trace, touched_lines, early, late}
 use Rattle.observe.specs.Observe.{mark_at, marked_event, service_event, running_task}
 use Rattle.sloth_base.specs.ServiceCodes.{service_of}
-use Rattle.sloth_base.specs.Owners.{owners_in, AreTasks}
+use Rattle.sloth_base.specs.Owners.{first_counter_line, owners_in, AreTasks}
 use Rattle.sloth_base.specs.Stretches.{Masks, later_beginning, stretch_limit, touch_limit}
 use Rattle.osek_scheduler.specs.declared.state.TaskState.TheVariants as mode
 use Rattle.osek_scheduler.specs.State.{System, task}
@@ -65,6 +65,7 @@ pub record ServesFrom (given : Setting) (R : State → System → Type 0) (k : �
   pub is_called : service_of mark.a ≡ Some called
   -- the task that calls
   pub is_task : t < given.view.owners.tasks
+  pub few_tasks : length given.config.tasks ≤ first_counter_line
   pub runs : word_at m.core.ram 0 ≡ t + 1
   pub booted : s.booted ≡ true
   pub top : IsTop given.config (with_admits (lines_at given.arrivals k) s) [] t
@@ -116,7 +117,7 @@ service_law given R k m s t called most Effect e h =
       step_is = h.step_is;
       passes = λ past p. both_pass given (past ++ map admit_event (before_event (k + 1) e.trace)) (with_admits (early e.trace) (with_admits admits s)) k t called
           (slice_index e.end.core.registers 10) (t + 1 == word_at e.end.core.ram 0)
-          (passes_inner given.config given.app past k t (with_admits admits s) e.trace p (booted_admits admits s ∙ h.booted) h.tasks_alone h.top h.active);
+          (passes_inner given.config given.app past k t (with_admits admits s) e.trace h.few_tasks p (booted_admits admits s ∙ h.booted) h.tasks_alone h.top h.active);
       related = subst (λ x. R x (with_admits (late e.trace) h.after)) (sym e.late_behind) h.related;
     }
 

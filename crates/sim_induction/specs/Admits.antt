@@ -1,15 +1,16 @@
 -- Arrivals as the abstract scheduler sees them.
-use Rattle.std.specs.Prelude.{ℕ, ◌+◌, ◌<◌, ◌≡◌, List, [], ◌∷◌, ◌++◌, map, All}
+use Rattle.std.specs.Prelude.{ℕ, ◌+◌, ◌-◌, ◌≤◌, ◌<◌, ◌≡◌, if◌then◌else◌, nat_lt, List, [], ◌∷◌, ◌++◌, map, length, All}
 use Rattle.sloth_base.specs.declared.config.Config.{Config}
 use Rattle.sloth_base.specs.declared.app.App.{App}
 use Rattle.sloth_base.specs.declared.event.Arrival.{Arrival}
+use Rattle.sloth_base.specs.declared.event.Event.{Event}
 use Rattle.sloth_base.specs.declared.event.Event.TheVariants as event
 use Rattle.sloth_base.specs.declared.event.Stamped.{Stamped}
 use Rattle.sloth_base.specs.Arrivals.{moments, NeverFalls}
-use Rattle.sloth_base.specs.Owners.{owners_in, IsOwned}
+use Rattle.sloth_base.specs.Owners.{first_counter_line, owners_in, IsOwned}
 use Rattle.observe.specs.Observe.{View, stamp}
 use Rattle.osek_scheduler.specs.State.{System}
-use Rattle.osek_scheduler.specs.Steps.{admitted_state}
+use Rattle.osek_scheduler.specs.Steps.{admitted_state, made_due}
 use Rattle.masked_code.specs.Trace.{Trace, touched_of, untouched_of}
 
 -- what is fixed in a run: the system, what the run is observed by, and what arrives
@@ -19,9 +20,10 @@ pub record Setting : Type 0 where
   pub view : View
   pub arrivals : List Arrival
 
--- the run is observed by the owners of lines, each line that arrives has one, and the moments, from 1 on, never fall
+-- The run is observed by the owners of lines, each line that arrives has one, and the moments, from 1 on, never fall. No task's line is a counter's.
 pub record IsSetting (given : Setting) : Type 0 where
   pub owners : given.view.owners ≡ owners_in given.config
+  pub few_tasks : length given.config.tasks ≤ first_counter_line
   pub ordered : NeverFalls 1 given.arrivals
   pub lines : All (λ a. IsOwned (owners_in given.config) a.line) given.arrivals
 
@@ -29,14 +31,22 @@ pub record IsSetting (given : Setting) : Type 0 where
 abbrev pub lines_at : List Arrival → ℕ → List ℕ
 lines_at arrivals count = map (λ a. a.line) (moments count (count + 1) arrivals)
 
--- the system after these lines, in order, have activated their tasks
+-- the event of an arrival of a line that has an owner: its task is activated, or its counter is due
+abbrev pub line_event : ℕ → Event
+line_event line = if nat_lt line first_counter_line then event.Admit line else event.Due (line - first_counter_line)
+
+-- the system after the line arrived
+abbrev pub with_arrival : ℕ → System → System
+with_arrival line s = if nat_lt line first_counter_line then admitted_state line s else made_due (line - first_counter_line) s
+
+-- the same after these lines, in order
 abbrev pub with_admits : List ℕ → System → System
 with_admits [] s = s
-with_admits (t ∷ lines) s = with_admits lines (admitted_state t s)
+with_admits (line ∷ lines) s = with_admits lines (with_arrival line s)
 
--- the event of an arrival of a line that has an owner
+-- the event of an arrival
 abbrev pub admit_event : Arrival → Stamped
-admit_event a = stamp a.at a.at (event.Admit a.line)
+admit_event a = stamp a.at a.at (line_event a.line)
 
 -- the arrivals of these lines at a moment
 abbrev pub at_moment : ℕ → List ℕ → List Arrival

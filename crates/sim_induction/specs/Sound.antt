@@ -1,5 +1,5 @@
 -- A run of an image is one of the abstract scheduler: the promise of the builder.
-use Rattle.std.specs.Prelude.{ℕ, ◌<◌, ◌≤◌, ◌≡◌, List, Bool, true, filter, nat_le, nat_lt, if◌then◌else◌, Some, None}
+use Rattle.std.specs.Prelude.{ℕ, ◌<◌, ◌≤◌, ◌≡◌, List, Bool, true, filter, map, nat_le, nat_lt, if◌then◌else◌, Some, None}
 use Rattle.sloth_base.specs.declared.config.Config.{Config}
 use Rattle.sloth_base.specs.declared.app.App.{App}
 use Rattle.sloth_base.specs.declared.image.Image.{Image}
@@ -39,6 +39,7 @@ pub record SoundRun (config : Config) (app : App) (image : Image) (arrivals : Li
   pub mirrors : (count : ℕ) (state : State) → count < n → state_after count arrivals (start image) ≡ Some state → state.core.mie ≡ true
       → MirrorsAt config app (filter (stands_before count) (events_of image arrivals n)) (arrived arrivals count state)
 
--- for every list of arrivals and every number of instructions
+-- for every list of arrivals and every number of instructions; the image has the names of the counters
 pub record Sound (config : Config) (app : App) (image : Image) : Type 0 where
+  pub counters : image.counters ≡ map (λ c. c.name) config.counters
   pub each : (arrivals : List Arrival) (n : ℕ) → AreArrivals (owners_in config) arrivals → n ≤ 1000000 → SoundRun config app image arrivals n

@@ -32,7 +32,7 @@ use Rattle.sim_relation.specs.Context.{Running, RunsIdle}
 use Rattle.sim_relation.specs.Stands.{Stands}
 use Rattle.sim_relation.proofs.Arrive.{stands_arrived, stands_fresh}
 use Rattle.sim_relation.proofs.Placed.{placed_in, first_by_word}
-use Rattle.sim_relation.proofs.Choice.{running_top, none_due}
+use Rattle.sim_relation.proofs.Choice.{quiet, running_top, none_due}
 use Rattle.sim_items.proofs.Cases.{mark_shows}
 use Rattle.sim_items.specs.Place.{AtItem, ItemStands, IsStraight, HasNumbers}
 use Rattle.sim_items.specs.ItemSteps.{RunsItem}
@@ -54,7 +54,7 @@ module _ (b : Build) (view : View) (arrivals : List Arrival) (progress : State �
   few = let f = here.fits.few_tasks in omega arith
 
   pub now : Stands b n s1
-  now = stands_arrived b (lines_at arrivals count) state s few (owned_at (setting_of b view arrivals) here.setting count) here.stands
+  now = stands_arrived b (lines_at arrivals count) state s here.fits.few_tasks (owned_at (setting_of b view arrivals) here.setting count) here.stands
 
   pub none : line_to_take n ≡ None
   none = ap (λ m. cond m (choose n.core) None) here.stands.fixed.open_to_lines ∙ here.none
@@ -159,5 +159,5 @@ module _ (b : Build) (view : View) (arrivals : List Arrival) (progress : State �
       one_instruction n (event.Idle ∷ []) (settled_state s1) stays (ap touched n_is ∙ idle.idles.untouched idle.offset n.core placed)
           (marked_shows n idle.mark (event.Idle ∷ []) (ap (mark_at view) runs_idle.pc ∙ idle.marked)
           (ap (λ k. events_of_kind k view idle.mark (seen_at given count state n)) idle.shows))
-          (now.tidy.booted, none_due b n s1 now few here.none empty, refl) (λ e. cc) (stands_fresh b n s1 [] now),
+          (now.tidy.booted, none_due b n s1 now few here.none empty, quiet b n s1 now, refl) (λ e. cc) (stands_fresh b n s1 [] now),
     )

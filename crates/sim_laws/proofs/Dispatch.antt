@@ -155,7 +155,7 @@ module _ (b : Build) (image : Image) (kernel : Kernel b image) where
     Goes = Advances (setting_of b view arrivals) (Stands b) (progress_in b) count state s
 
     k : Stands b n s1
-    k = stands_arrived b (lines_at arrivals count) state s few (owned_at (setting_of b view arrivals) setting count) stands
+    k = stands_arrived b (lines_at arrivals count) state s kernel.fits.few_tasks (owned_at (setting_of b view arrivals) setting count) stands
 
     -- one instruction outside the stretches
     outside : GoesOutside b view arrivals (progress_in b) count state s → Goes
@@ -377,6 +377,11 @@ module _ (b : Build) (image : Image) (kernel : Kernel b image) where
                   holds_nothing = pauses_holding_nothing (inl is);
                   words = bounded.core.registers;
                 }))
+            -- no code is generated of a service on alarms
+            served levels are service.SetRelAlarm is block = absurd block.serves
+            served levels are service.SetAbsAlarm is block = absurd block.serves
+            served levels are service.CancelAlarm is block = absurd block.serves
+            served levels are service.GetAlarm is block = absurd block.serves
 
           at_block : AtBlock b p.frame (thread_of n) → IsKnown b view p.frame.func p.frame.item → Goes
           at_block a (computes h) = absurd (subst (IsStraight b.app p.frame.func) a.is h.straight)

@@ -77,7 +77,9 @@ module _ (b : Build) (image : Image) (levels : Levels) (map : Map) (g : IsGenera
   generated_kernel = record {
     fits = g.fits;
     well_formed = g.well_formed;
+    no_counters = g.no_counters;
     tasks = g.tasks;
+    counters = g.counters;
     is_image = g.is_image;
     bytes = g.bytes;
     boot = record {

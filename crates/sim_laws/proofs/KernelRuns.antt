@@ -112,14 +112,14 @@ module _ (b : Build) (image : Image) (kernel : Kernel b image) where
     steady_found : (count : ℕ) (s : System) → s.booted ≡ true → IsSteady b.config b.app s → IsSteady b.config b.app (with_admits (lines_at arrivals count) s)
     steady_found count s booted h =
         along_events b.config b.app (IsSteady b.config b.app) (steady_stays b.config b.app kernel.well_formed) (map admit_event (moments count (count + 1) arrivals)) s (with_admits (lines_at arrivals count) s)
-        (leads_admits b.config b.app (moments count (count + 1) arrivals) s booted (owned_at (setting_of b view arrivals) setting count)) h
+        (leads_admits b.config b.app (moments count (count + 1) arrivals) s setting.few_tasks booted (owned_at (setting_of b view arrivals) setting count)) h
 
     simulation : IsSimulation (setting_of b view arrivals) R (progress_in b)
     simulation =
         simulation_with (setting_of b view arrivals) setting (Stands b) IsBounded (IsSteady b.config b.app) (progress_in b) (bounds_stay arrivals) (steady_stays b.config b.app kernel.well_formed)
         (λ count state s positive w.
         advance b image kernel arrivals setting count positive state s w.base (arrive_fits (lines_at arrivals count) state w.machine) (steady_found count s w.base.tidy.booted w.system))
-        (λ count state s w. stands_arrived b (lines_at arrivals count) state s few (owned_at (setting_of b view arrivals) setting count) w.base)
+        (λ count state s w. stands_arrived b (lines_at arrivals count) state s kernel.fits.few_tasks (owned_at (setting_of b view arrivals) setting count) w.base)
         (λ count state h. arrive_fits (lines_at arrivals count) state h)
         (λ state s w. w.base.tidy.booted)
         (λ state s w. mirror_of b state s w.base)
@@ -127,15 +127,15 @@ module _ (b : Build) (image : Image) (kernel : Kernel b image) where
 
     booting : BootLaw (setting_of b view arrivals) R (start image)
     booting =
-        let law = boot_stretch b view arrivals setting image kernel.fits kernel.is_image kernel.boot in
+        let law = boot_stretch b view arrivals setting image kernel.fits kernel.no_counters kernel.is_image kernel.boot in
         boot_with (setting_of b view arrivals) setting (Stands b) IsBounded (IsSteady b.config b.app) (progress_in b) (bounds_stay arrivals) (steady_stays b.config b.app kernel.well_formed)
         (start image) law (sym (booted_admits (late law.trace) law.after) ∙ law.related.tidy.booted)
         (start_bounded image kernel.bytes) (opening_steady b.config b.app kernel.well_formed)
 
   pub sound_kernel : Sound b.config b.app image
   sound_kernel =
-      sound b.config b.app image R (progress_in b) kernel.tasks
-      (λ arrivals are. let setting = is_setting b.config b.app image arrivals kernel.tasks are in (simulation arrivals setting, booting arrivals setting))
+      sound b.config b.app image R (progress_in b) kernel.fits.few_tasks kernel.tasks kernel.counters
+      (λ arrivals are. let setting = is_setting b.config b.app image arrivals kernel.fits.few_tasks kernel.tasks kernel.counters are in (simulation arrivals setting, booting arrivals setting))
 
   -- at each count that finds MIE 1 the relation stands
   pub stands_kernel : (arrivals : List Arrival) (n count : ℕ) (state : State) → AreArrivals (owners_in b.config) arrivals → n ≤ 1000000 → count < n
@@ -143,7 +143,7 @@ module _ (b : Build) (image : Image) (kernel : Kernel b image) where
       → (s : System) × Leads b.config b.app (filter (stands_before count) (events_of image arrivals n)) (opening b.config b.app) s
       × StandsNested b (arrived arrivals count state) s
   stands_kernel arrivals n count state are bound before after enabled =
-      let setting = is_setting b.config b.app image arrivals kernel.tasks are in
+      let setting = is_setting b.config b.app image arrivals kernel.fits.few_tasks kernel.tasks kernel.counters are in
       let whole = whole_run (setting_of b view arrivals) setting R (progress_in b) (simulation arrivals setting) (start image) (booting arrivals setting) n in
       let found = whole.mirrors count before state after enabled in
       let related = found.2 in (

@@ -1,6 +1,8 @@
 -- A kernel in place, said by the contracts of what generates its code.
 use Rattle.std.specs.Prelude.{ℕ, ◌+◌, ◌<◌, ◌≤◌, ◌≡◌, ◌≢◌, List, length, slice_index}
+use Rattle.std.specs.Prelude as prelude
 use Rattle.sloth_base.specs.declared.image.Image.{Image}
+use Rattle.sloth_base.specs.ConfigRange.{HasNoCounters}
 use Rattle.sloth_base.specs.declared.places.Levels.{Levels}
 use Rattle.sloth_region.specs.declared.map.Map.{Map}
 use Rattle.rv32_instr.specs.declared.InstrKind.{InstrKind}
@@ -45,7 +47,9 @@ pub record IsGenerated (b : Build) (image : Image) (levels : Levels) (map : Map)
   pub places : b.places ≡ map.places
   pub idle_is : b.idle ≡ map.idle
   pub tops : (t : ℕ) → t < length b.config.tasks → memory_base + b.top t ≡ slice_index map.tops t
+  pub no_counters : HasNoCounters b.config
   pub tasks : length image.tasks ≡ length b.config.tasks
+  pub counters : image.counters ≡ prelude.map (λ c. c.name) b.config.counters
   pub is_image : IsImage b image
   pub bytes : AreBelow 256 image.memory
   pub vectors : List InstrKind

@@ -1,6 +1,7 @@
 -- A kernel in place: what the builder says of an image.
-use Rattle.std.specs.Prelude.{ℕ, ◌+◌, ◌*◌, ◌<◌, ◌≤◌, ◌≡◌, ◌≢◌, ◌⊎◌, length}
+use Rattle.std.specs.Prelude.{ℕ, ◌+◌, ◌*◌, ◌<◌, ◌≤◌, ◌≡◌, ◌≢◌, ◌⊎◌, length, map}
 use Rattle.sloth_base.specs.declared.image.Image.{Image}
+use Rattle.sloth_base.specs.ConfigRange.{HasNoCounters}
 use Rattle.sloth_base.specs.declared.app.Call.{Call}
 use Rattle.sloth_base.specs.declared.app.Op.TheVariants as op
 use Rattle.sloth_base.specs.declared.service.Service.TheVariants as service
@@ -72,7 +73,10 @@ WayBackStands b view = (func item : ℕ) (call : Call) → item < length (functi
 pub record Kernel (b : Build) (image : Image) : Type 0 where
   pub fits : Fits b
   pub well_formed : WellFormed b.config b.app
+  -- no code serves counters and alarms yet
+  pub no_counters : HasNoCounters b.config
   pub tasks : length image.tasks ≡ length b.config.tasks
+  pub counters : image.counters ≡ map (λ c. c.name) b.config.counters
   pub is_image : IsImage b image
   pub bytes : AreBelow 256 image.memory
   pub boot : BootStands b

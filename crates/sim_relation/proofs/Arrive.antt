@@ -12,7 +12,8 @@ use Rattle.osek_scheduler.specs.State.{Task, System, sleeping_task, task, with_t
 use Rattle.osek_scheduler.specs.Priority.{is_in, is_active}
 use Rattle.osek_scheduler.specs.Services.{if_suspended, activated_state}
 use Rattle.osek_scheduler.specs.Steps.{admitted_state}
-use Rattle.sim_induction.specs.Admits.{with_admits}
+use Rattle.sim_induction.specs.Admits.{with_arrival, with_admits}
+use Rattle.sim_induction.proofs.Lines.{task_arrival}
 use Rattle.sim_relation.specs.Build.{Build}
 use Rattle.sim_relation.specs.ServiceWords.{ServiceWords, active_word}
 use Rattle.sim_relation.specs.Stands.{Stands, IsLineOf, IsAlive, TidyTask}
@@ -156,11 +157,14 @@ module _ (b : Build) (state : State) (s : System) (l : ℕ) (k : Stands b state 
       (is_suspended (task s l).state)
 
 -- Arrivals at a count that finds MIE 1 are the admits of their tasks.
-pub stands_arrived : (b : Build) (lines : List ℕ) (state : State) (s : System) → length b.config.tasks ≤ 32 → AreOwned (owners_in b.config) lines
+pub stands_arrived : (b : Build) (lines : List ℕ) (state : State) (s : System) → length b.config.tasks ≤ 30 → AreOwned (owners_in b.config) lines
     → Stands b state s → Stands b (state_arrive lines state) (with_admits lines s)
 stands_arrived b [] state s few h k = k
 stands_arrived b (l ∷ lines) state s few h k =
-    stands_arrived b lines (state_arrive (l ∷ []) state) (admitted_state l s) few h.1 (arrived_one b state s l k (owned_task (owners_in b.config) l h.0) few)
+    let declared = owned_task (owners_in b.config) l (ap length k.lines.no_counters.counters) h.0 in
+    let one : Stands b (state_arrive (l ∷ []) state) (with_arrival l s) =
+    subst (Stands b (state_arrive (l ∷ []) state)) (sym (task_arrival l s (omega (arith, declared, few)))) (arrived_one b state s l k declared (omega (arith, few))) in
+    stands_arrived b lines (state_arrive (l ∷ []) state) (with_arrival l s) few h.1 one
 
 -- nothing here speaks of `fresh`
 pub stands_fresh : (b : Build) (state : State) (s : System) (fresh : List ℕ) → Stands b state s → Stands b state (record s { fresh = fresh })
@@ -169,7 +173,7 @@ stands_fresh b state s fresh k =
     record {
       stack = k.stack;
       active = record { falling = falling_kept b s next k.stack (λ u h. refl) k.active.falling; all = k.active.all };
-      lines = record { each = k.lines.each; bits = k.lines.bits; levels = k.lines.levels; others = k.lines.others };
+      lines = record { each = k.lines.each; bits = k.lines.bits; levels = k.lines.levels; no_counters = k.lines.no_counters; others = k.lines.others };
       running = running_tasks b state state s next k.stack refl refl refl refl (λ u h. refl) k.running;
       words = k.words;
       data_stands = k.data_stands;

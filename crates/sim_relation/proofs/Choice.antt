@@ -1,5 +1,5 @@
 -- The line that is taken is that of the top task.
-use Rattle.std.proofs.Common.{◌≡◌, ℕ, ◌<◌, ◌≤◌, List, [], ◌∷◌, length, refl, sym, subst, arith, ⊎_elim, inl, inr, true, cond, Some, None}
+use Rattle.std.proofs.Common.{◌≡◌, ℕ, ◌<◌, ◌≤◌, List, [], ◌∷◌, length, refl, sym, ap, subst, arith, ⊎_elim, inl, inr, true, cond, Some, None}
 use Rattle.std.specs.Prelude.{◌⊎◌, slice_index}
 use Rattle.std.proofs.lemmas.Bool.{cases_lt, false≢true}
 use Rattle.sloth_base.specs.Machine.{Core, State}
@@ -9,7 +9,7 @@ use Rattle.sloth_base.proofs.Choosing.{choose_line-is}
 use Rattle.osek_scheduler.specs.declared.state.TaskState.{TaskState}
 use Rattle.osek_scheduler.specs.declared.state.TaskState.TheVariants as mode
 use Rattle.osek_scheduler.specs.State.{System, task, declaration}
-use Rattle.osek_scheduler.specs.Priority.{is_in, IsDue, IsTop}
+use Rattle.osek_scheduler.specs.Priority.{is_in, IsDue, IsTop, NoTicks}
 use Rattle.sim_induction.specs.Mirror.{priority_of}
 use Rattle.sloth_base.specs.PriorityLevels.{level_of}
 use Rattle.sloth_base.specs.Owners.{owners_in, IsOwned}
@@ -32,6 +32,10 @@ chosen_some core line h e = subst (IsChosen (lines_of core) core.ilevel) e (choi
 -- where it chooses none there is none
 pub chosen_none : (core : Core) → core.controller ≡ true → choose core ≡ None → IsChosen (lines_of core) core.ilevel None
 chosen_none core h e = subst (IsChosen (lines_of core) core.ilevel) e (choice_is core h)
+
+-- no counter is due, where there is none
+pub quiet : (b : Build) (state : State) (s : System) → Stands b state s → NoTicks b.config s
+quiet b state s k c declared = absurd (let none = ap length k.lines.no_counters.counters in omega (arith, none, declared))
 
 ready_line : (m : TaskState) (pending enabled : ℕ) → m ≡ mode.Ready → IsLineOf m pending enabled → (pending ≡ 1) × (enabled ≡ 1)
 ready_line mode.Ready p e q h = h
@@ -93,6 +97,7 @@ module _ (b : Build) (state : State) (s : System) (k : Stands b state s) (few : 
       let a = none_above e u h r in
       let v = run.level in
       at_most_from b.config u (priority_of b.config s t) h (omega arith))
+      (quiet b state s k)
 
   -- and where no task is Active, none is due
   pub none_due : choose state.core ≡ None → k.stack ≡ [] → (u : ℕ) → u < length b.config.tasks → ¬ (IsDue s u)
@@ -166,6 +171,7 @@ module _ (b : Build) (state : State) (s : System) (k : Stands b state s) (few : 
           omega arith)
           due;
       is_not_left_out = refl;
+      no_ticks = quiet b state s k;
     }
 
 -- a line that is taken is enabled, so it has an owner
@@ -178,4 +184,4 @@ taken_owned b state s k line e unused =
 
 -- the line of a task, where the relation says what it is for
 pub taken_declared : (b : Build) (state : State) (s : System) → Stands b state s → (line : ℕ) → choose state.core ≡ Some line → line < length b.config.tasks
-taken_declared b state s k line e = owned_task (owners_in b.config) line (taken_owned b state s k line e)
+taken_declared b state s k line e = owned_task (owners_in b.config) line (ap length k.lines.no_counters.counters) (taken_owned b state s k line e)

@@ -122,6 +122,7 @@ module _ (b : Build) (old now : State) (s : System) (k : Stands b old s) (t : �
           ⊎_elim (λ (e : u ≡ t). subst (λ l. slice_index now.core.pending l < 2) (sym e) r.own_bit)
           (λ (n : u ≡ t → ⊥). subst (λ p. p < 2) (sym (r.other_pending u n)) (k.lines.bits u h)) (cases_eq u t);
       levels = λ u h. ap (λ l. slice_index l u) r.machine.levels ∙ k.lines.levels u h;
+      no_counters = k.lines.no_counters;
       others = λ l h. r.other_enabled l (λ e. let c = r.declared in let f = unused_behind (owners_in b.config) l h in omega arith) ∙ k.lines.others l h;
     };
     running = r.running;

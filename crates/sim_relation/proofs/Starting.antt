@@ -3,6 +3,7 @@ use Rattle.std.proofs.Common.{◌≡◌, ℕ, zero, suc, ◌+◌, ◌<◌, ◌�
 use Rattle.std.specs.Prelude.{◌≢◌, map, slice_index}
 use Rattle.sloth_base.specs.Machine.{State}
 use Rattle.sloth_base.specs.declared.config.TaskDecl.{TaskDecl}
+use Rattle.sloth_base.specs.ConfigRange.{HasNoCounters}
 use Rattle.sloth_base.specs.Owners.{owners_in}
 use Rattle.sloth_base.proofs.Owners.{unused_behind}
 use Rattle.sloth_region.specs.Layout.{active, events, resume, idle_context}
@@ -59,7 +60,7 @@ words_of : (b : Build) (ram : List ℕ) (t : ℕ) (autostart : Bool) → word_at
 words_of b ram t true a e r = record { activity = a; event_mask = e; wait_mask = tt; resumption = r; held = tt }
 words_of b ram t false a e r = record { activity = a; event_mask = e; wait_mask = tt; resumption = r; held = tt }
 
-module _ (b : Build) (state : State) (fits : Fits b) (start : Starts b state) where
+module _ (b : Build) (state : State) (fits : Fits b) (none : HasNoCounters b.config) (start : Starts b state) where
   abbrev s : System
   s = started_system b
 
@@ -93,6 +94,7 @@ module _ (b : Build) (state : State) (fits : Fits b) (start : Starts b state) wh
           (λ t h. line_of (declaration b.config t).autostart (slice_index state.core.pending t) (slice_index state.core.enabled t) (start.pending t h) (start.enabled t h));
       bits = λ t h. small (declaration b.config t).autostart (slice_index state.core.pending t) (start.pending t h);
       levels = start.levels;
+      no_counters = none;
       others = λ line unused. start.other_enabled line (unused_behind (owners_in b.config) line unused);
     };
     running = record { level = start.level; current = zero_at 0 (omega arith); pc = start.pc; x2 = start.x2 };

@@ -4,7 +4,7 @@ use Rattle.std.proofs.lemmas.Bool.{cases_Bool, eqb-true, eq-eqb, or_cases, or_le
 use Rattle.sloth_base.specs.declared.config.Config.{Config}
 use Rattle.osek_scheduler.specs.declared.state.TaskState.TheVariants as mode
 use Rattle.osek_scheduler.specs.State.{System, task, declaration}
-use Rattle.osek_scheduler.specs.Priority.{rank, is_in, is_active, IsTop}
+use Rattle.osek_scheduler.specs.Priority.{rank, is_in, is_active, IsTop, NoTicks}
 use Rattle.sim_induction.specs.Mirror.{priority_of}
 use Rattle.sim_relation.specs.Build.{Build}
 use Rattle.sim_relation.specs.Stands.{IsActive, Falling, AreActive}
@@ -90,8 +90,8 @@ falling_active b s (t ∷ below) f u h =
 -- the running task is the top one where no Ready task has a higher priority
 pub top_running : (b : Build) (s : System) (t : ℕ) (below others : List ℕ) → AreActive b s (t ∷ below) → is_in t others ≡ false
     → ((u : ℕ) → u < length b.config.tasks → (task s u).state ≡ mode.Ready → is_in u others ≡ false → (declaration b.config u).priority ≤ priority_of b.config s t)
-    → IsTop b.config s others t
-top_running b s t below others active out low =
+    → NoTicks b.config s → IsTop b.config s others t
+top_running b s t below others active out low quiet =
     let h = falling_head b s t below active.falling in
     record {
       declared = h.declared;
@@ -110,4 +110,5 @@ top_running b s t below others active out low =
           omega arith)
           due;
       is_not_left_out = out;
+      no_ticks = quiet;
     }

@@ -9,7 +9,7 @@ use Rattle.sim_induction.specs.Mirror.{Runs}
 use Rattle.sim_relation.specs.Build.{Build}
 use Rattle.sim_relation.specs.Stands.{Stands, AreActive}
 use Rattle.sim_relation.specs.RelationKept.{IsUndisturbed}
-use Rattle.sim_relation.proofs.Choice.{running_top, none_due}
+use Rattle.sim_relation.proofs.Choice.{quiet, running_top, none_due}
 use Rattle.sim_relation.proofs.MirrorOf.{first_is}
 use Rattle.sim_relation.proofs.Tops.{falling_head}
 use Rattle.std.proofs.lemmas.Bool.{falseâ‰¢true}
@@ -32,4 +32,4 @@ module _ (b : Build) (state : State) (s : System) (few : length b.config.tasks â
       absurd (none u f.declared f.active)
 
   pub undisturbed : IsUndisturbed b s
-  undisturbed = record { running = tops k.stack refl; idle = idles k.stack refl }
+  undisturbed = record { running = tops k.stack refl; idle = idles k.stack refl; quiet = quiet b state s k }

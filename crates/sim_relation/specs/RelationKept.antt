@@ -3,12 +3,13 @@ use Rattle.std.specs.Prelude.{ℕ, ◌<◌, ◌≤◌, ◌≡◌, List, [], leng
 use Rattle.sloth_base.specs.Machine.{State}
 use Rattle.sloth_base.specs.Arrive.{state_arrive}
 use Rattle.sloth_base.specs.Choose.{choose}
+use Rattle.sloth_base.specs.ConfigRange.{HasNoCounters}
 use Rattle.sloth_base.specs.Owners.{owners_in, IsOwned, AreOwned}
 use Rattle.osek_scheduler.specs.declared.state.TaskState.{TaskState}
 use Rattle.osek_scheduler.specs.declared.state.TaskState.TheVariants as mode
 use Rattle.masked_code.specs.Kernel.{IsBelow}
 use Rattle.osek_scheduler.specs.State.{Task, System, task, with_task}
-use Rattle.osek_scheduler.specs.Priority.{IsTop, IsDue}
+use Rattle.osek_scheduler.specs.Priority.{IsTop, IsDue, NoTicks}
 use Rattle.osek_scheduler.specs.Steps.{settled_state}
 use Rattle.sim_induction.specs.Admits.{with_admits}
 use Rattle.sim_induction.specs.Mirror.{Mirror, Runs}
@@ -25,7 +26,7 @@ MirrorOfStands = (b : Build) (state : State) (s : System) → Stands b state s �
 
 -- lines with owners that arrive where MIE is 1 are the activations of their tasks
 abbrev pub ArrivalsAreAdmits : Type 0
-ArrivalsAreAdmits = (b : Build) (lines : List ℕ) (state : State) (s : System) → length b.config.tasks ≤ 32
+ArrivalsAreAdmits = (b : Build) (lines : List ℕ) (state : State) (s : System) → length b.config.tasks ≤ 30
     → AreOwned (owners_in b.config) lines → Stands b state s → Stands b (state_arrive lines state) (with_admits lines s)
 
 -- the line that is taken has an owner
@@ -37,10 +38,11 @@ abbrev pub TakenIsTop : Type 0
 TakenIsTop = (b : Build) (state : State) (s : System) → length b.config.tasks ≤ 32 → Stands b state s
     → (t : ℕ) → t < length b.config.tasks → choose state.core ≡ Some t → IsTop b.config s [] t × ((task s t).state ≡ mode.Ready)
 
--- where no line is taken, the running task is the top task, and where none runs none is due
+-- where no line is taken, the running task is the top task, and where none runs none is due; no counter is
 pub record IsUndisturbed (b : Build) (s : System) : Type 0 where
   pub running : (t : ℕ) → Runs b.config s t → IsTop b.config s [] t
   pub idle : ((t : ℕ) → t < length b.config.tasks → ¬ ((task s t).state ≡ mode.Active)) → (t : ℕ) → t < length b.config.tasks → ¬ (IsDue s t)
+  pub quiet : NoTicks b.config s
 
 -- where no line is taken nothing disturbs the running task
 abbrev pub NoneTaken : Type 0
@@ -81,4 +83,4 @@ BelowIsFound = (b : Build) (state : State) (s : System) (t : ℕ) → Fits b →
 
 -- it stands where boot has started the system
 abbrev pub StartsStand : Type 0
-StartsStand = (b : Build) (state : State) → Fits b → Starts b state → Stands b state (started_system b)
+StartsStand = (b : Build) (state : State) → Fits b → HasNoCounters b.config → Starts b state → Stands b state (started_system b)

@@ -6,6 +6,7 @@ use Rattle.osek_scheduler.specs.declared.state.TaskState.TheVariants as mode
 use Rattle.osek_scheduler.specs.State.{Task, System, task, declaration}
 use Rattle.osek_scheduler.specs.Priority.{is_in, is_active}
 use Rattle.sim_induction.specs.Mirror.{priority_of}
+use Rattle.sloth_base.specs.ConfigRange.{HasNoCounters}
 use Rattle.sloth_base.specs.PriorityLevels.{level_of}
 use Rattle.sloth_base.specs.Owners.{line_kind, owners_in}
 use Rattle.sloth_base.specs.declared.lines.LineKind.TheVariants as line_of
@@ -29,6 +30,8 @@ pub record LinesStand (b : Build) (core : Core) (s : System) : Type 0 where
   -- whatever the state, a pending byte is 0 or 1
   pub bits : (t : ℕ) → t < length b.config.tasks → slice_index core.pending t < 2
   pub levels : (t : ℕ) → t < length b.config.tasks → slice_index core.levels t ≡ level_of b.config (declaration b.config t).priority
+  -- no line is a counter's
+  pub no_counters : HasNoCounters b.config
   -- a line that nothing owns is not enabled
   pub others : (line : ℕ) → line_kind (owners_in b.config) line ≡ line_of.Unused → slice_index core.enabled line ≡ 0
 

@@ -92,7 +92,7 @@ module _ (b : Build) (view : View) (arrivals : List Arrival) (count : ℕ) (stat
   all_owned = owned_at (setting_of b view arrivals) setting
 
   there : Stands b n s1
-  there = stands_arrived b (lines_at arrivals count) state s few (all_owned count) stands
+  there = stands_arrived b (lines_at arrivals count) state s fits.few_tasks (all_owned count) stands
 
   here : IsActive b s1 t
   here = active_by_word b n s1 t there opens.current
@@ -196,7 +196,7 @@ module _ (b : Build) (view : View) (arrivals : List Arrival) (count : ℕ) (stat
         step_is = subst (λ lines. OsekStep b.config b.app (event.Back t) (with_admits lines s1) answer.after) (sym no_early) answer.step_is;
         passes = λ past h. tt;
         related = subst (λ (x : State). Stands b x (with_admits (late e.trace) answer.after)) (sym e.late_behind)
-            (stands_arrived b (late e.trace) e.last answer.after few in_range.1 answer.stands);
+            (stands_arrived b (late e.trace) e.last answer.after fits.few_tasks in_range.1 answer.stands);
       }
 
   -- the way back

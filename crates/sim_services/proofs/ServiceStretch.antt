@@ -72,7 +72,7 @@ module _ (b : Build) (view : View) (arrivals : List Arrival) (count : ℕ) (stat
 
   -- the relation at the opening, behind what arrived
   pub k : Stands b n s1
-  k = stands_arrived b (lines_at arrivals count) state s few (all_owned count) stands
+  k = stands_arrived b (lines_at arrivals count) state s fits.few_tasks (all_owned count) stands
 
   none : line_to_take n ≡ None
   none = ap (λ m. cond m (choose n.core) None) stands.fixed.open_to_lines ∙ opens.none
@@ -156,7 +156,7 @@ module _ (b : Build) (view : View) (arrivals : List Arrival) (count : ℕ) (stat
 
       is_served : IsServed b (state_arrive (early e.trace) n) s2 t (task s1 t) served
       is_served = record {
-        stands = stands_arrived b (early e.trace) n s1 few in_range.0 k;
+        stands = stands_arrived b (early e.trace) n s1 fits.few_tasks in_range.0 k;
         own_is = kept_admits (early e.trace) t s1 (not_suspended (task s1 t).state here.active);
         opening = record {
           current = op.current;
@@ -168,7 +168,7 @@ module _ (b : Build) (view : View) (arrivals : List Arrival) (count : ℕ) (stat
           block = op.block;
           calls = op.calls;
         };
-        top = still_top b.config s1 t (early e.trace) top here.active opens.not_fresh;
+        top = still_top b.config s1 t (early e.trace) fits.few_tasks early_tasks top here.active opens.not_fresh;
         bytes = opens.bytes;
       }
 
@@ -197,10 +197,11 @@ module _ (b : Build) (view : View) (arrivals : List Arrival) (count : ℕ) (stat
             lines = a.one ∷ a.other ∷ [];
             few_lines = omega arith;
             touches = a.touches;
+            few_tasks = fits.few_tasks;
             tasks_alone = early_tasks;
             after = a.after;
             step_is = subst (λ (x : State). OsekStep b.config b.app (served_event t served x) s2 a.after) (sym e.late_behind) a.step_is;
-            related = stands_arrived b (late e.trace) e.last a.after few in_range.1 a.stands;
+            related = stands_arrived b (late e.trace) e.last a.after fits.few_tasks in_range.1 a.stands;
           })
 
   -- the machine is as the service's contract asks

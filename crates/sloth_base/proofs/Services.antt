@@ -1,5 +1,5 @@
 -- The one list of services: each stands in it at its number.
-use Rattle.std.proofs.Common.{◌≡◌, ◌∙◌, ℕ, zero, suc, ◌<◌, ◌≤◌, List, [], ◌∷◌, Bool, true, length, Option, Some, refl, sym, ap, subst, arith}
+use Rattle.std.proofs.Common.{◌≡◌, ◌∙◌, ℕ, zero, suc, ◌<◌, ◌≤◌, List, [], ◌∷◌, Bool, true, length, Some, refl, sym, ap, subst, arith}
 use Rattle.std.specs.Prelude.{slice_get}
 use Rattle.std.specs.List.{list_all}
 use Rattle.std.proofs.lemmas.Bool.{and_parts, eqb-true, eq-eqb}
@@ -57,3 +57,4 @@ pub object_number_few : (kind : ObjectKind) (number : ℕ) → IsObjectNumber ki
 object_number_few object.Nothing number h = omega (arith, h)
 object_number_few object.Task number h = omega (arith, h)
 object_number_few object.Resource number h = h
+object_number_few object.Alarm number h = omega (arith, h)

@@ -9,7 +9,7 @@ block_objects = 40
 
 -- the places of all services
 abbrev pub block_count : ℕ
-block_count = 512
+block_count = 640
 
 -- the place of a service with its object
 abbrev pub block_number : Service → ℕ → ℕ

@@ -1,9 +1,14 @@
 -- When a configuration is in range: what its text may have declared.
-use Rattle.std.specs.Prelude.{◌≡◌, ℕ, ◌<◌, ◌≤◌, ◌⊎◌, not, ◌==◌, bit_and, bit_or, IsTrue, List, [], ◌∷◌, map, length, All, AllPairs, ◌≢◌}
+use Rattle.std.specs.Prelude.{◌≡◌, ℕ, ◌<◌, ◌≤◌, ◌⊎◌, not, ◌==◌, bit_and, bit_or, IsTrue, List, [], ◌∷◌, map, length, get_or, All, AllPairs, ◌≢◌}
 use Rattle.sloth_base.specs.declared.config.TaskDecl.{TaskDecl}
 use Rattle.sloth_base.specs.declared.config.EventDecl.{EventDecl}
+use Rattle.sloth_base.specs.declared.config.CounterDecl.{CounterDecl}
+use Rattle.sloth_base.specs.declared.config.Action.{Action}
+use Rattle.sloth_base.specs.declared.config.Action.TheVariants as action
+use Rattle.sloth_base.specs.declared.config.AlarmDecl.{AlarmDecl}
 use Rattle.sloth_base.specs.declared.config.Config.{Config}
-use Rattle.sloth_base.specs.ImageRange.{AreNames}
+use Rattle.sloth_base.specs.ImageRange.{AreNames, AreApart}
+use Rattle.sloth_base.specs.Named.{declaration, counter_declaration}
 
 -- "RES_SCHEDULER"
 abbrev pub res_scheduler_name : List ℕ
@@ -27,6 +32,35 @@ pub record IsTask (config : Config) (task : TaskDecl) : Type 0 where
   pub events : IsUnionOf config.events task.events
   pub extended : task.extended ≡ not (task.events == 0)
 
+-- the limits of a counter
+pub record IsCounter (counter : CounterDecl) : Type 0 where
+  pub max : (1 ≤ counter.max) × (counter.max ≤ 2147483647)
+  pub min_cycle : (1 ≤ counter.min_cycle) × (counter.min_cycle ≤ 2147483647)
+
+-- what stands in the place of an event that is not there
+abbrev pub no_event : EventDecl
+no_event = record { name = []; mask = 0 }
+
+-- what an alarm may do: activate a task, or set one event that its task lists
+abbrev pub IsAction : Config → Action → Type 0
+IsAction config (action.Activate t) = t < length config.tasks
+IsAction config (action.Set t mask) =
+    (t < length config.tasks) × ((e : ℕ) × (e < length config.events) × (mask ≡ (get_or config.events e no_event).mask))
+    × (bit_and mask (declaration config t).events ≡ mask)
+
+-- the cycle of an alarm of this counter: 0 where it expires once
+abbrev pub IsCycle : CounterDecl → ℕ → Type 0
+IsCycle counter cycle = (cycle ≡ 0) ⊎ ((counter.min_cycle ≤ cycle) × (cycle ≤ counter.max))
+
+-- an alarm of a configuration with these counters, tasks and events
+pub record IsAlarm (config : Config) (alarm : AlarmDecl) : Type 0 where
+  pub counter : alarm.counter < length config.counters
+  pub action : IsAction config alarm.action
+  pub time : alarm.time ≤ (counter_declaration config alarm.counter).max
+  pub cycle : IsCycle (counter_declaration config alarm.counter) alarm.cycle
+  -- one that does not start by itself has neither
+  pub asleep : alarm.time ≡ 0 → alarm.cycle ≡ 0
+
 -- the configuration is in range
 pub record InRange (config : Config) : Type 0 where
   pub few_tasks : length config.tasks ≤ 30
@@ -40,3 +74,16 @@ pub record InRange (config : Config) : Type 0 where
   pub tasks : All (IsTask config) config.tasks
   -- where RES_SCHEDULER exists, no RESOURCE object has its name
   pub scheduler_alone : IsTrue config.res_scheduler → All (λ name. name ≢ res_scheduler_name) config.resources
+  pub few_counters : length config.counters ≤ 2
+  pub few_alarms : length config.alarms ≤ 32
+  pub counter_names : AreNames (map (λ c. c.name) config.counters)
+  pub alarm_names : AreNames (map (λ a. a.name) config.alarms)
+  -- no counter has a task's name
+  pub counters_apart : AreApart (map (λ c. c.name) config.counters) (map (λ t. t.name) config.tasks)
+  pub counters : All IsCounter config.counters
+  pub alarms : All (IsAlarm config) config.alarms
+
+-- a configuration without counters, and so without alarms
+pub record HasNoCounters (config : Config) : Type 0 where
+  pub counters : config.counters ≡ []
+  pub alarms : config.alarms ≡ []

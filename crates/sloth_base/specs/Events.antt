@@ -2,15 +2,17 @@
 use Rattle.std.specs.Prelude.{ℕ, Bool, true, false, Option, Some, None}
 use Rattle.sloth_base.specs.declared.event.Event.{Event}
 use Rattle.sloth_base.specs.declared.event.Event.TheVariants as event
+use Rattle.sloth_base.specs.Owners.{counter_line}
 
 -- the start of the system
 abbrev pub is_boot : Event → Bool
 is_boot event.Boot = true
 is_boot _ = false
 
--- the line whose arrival an event admits
+-- the line whose arrival an event admits: a task's, or that of a counter that it makes due
 abbrev pub admitted_line : Event → Option ℕ
 admitted_line (event.Admit t) = Some t
+admitted_line (event.Due c) = Some (counter_line c)
 admitted_line _ = None
 
 -- the task that an event enters
@@ -40,6 +42,8 @@ abbrev pub named_task : Event → Option ℕ
 named_task event.Boot = None
 named_task event.Idle = None
 named_task event.Stray = None
+named_task (event.Due c) = None
+named_task (event.Tick c) = None
 named_task (event.Admit t) = Some t
 named_task (event.Enter t) = Some t
 named_task (event.Run t func item result) = Some t
@@ -52,4 +56,5 @@ abbrev pub is_single : Event → Bool
 is_single event.Idle = true
 is_single (event.Run t func item result) = true
 is_single (event.Admit t) = true
+is_single (event.Due c) = true
 is_single _ = false

@@ -1,5 +1,5 @@
 -- Names that are words, and images in the range of the image file format.
-use Rattle.std.specs.Prelude.{◌≡◌, ◌≢◌, ◌≤◌, ◌<◌, ◌+◌, ◌%◌, ◌==◌, ◌||◌, ℕ, Bool, IsTrue, List, [], ◌∷◌, length, map, All}
+use Rattle.std.specs.Prelude.{◌≡◌, ◌≢◌, ◌≤◌, ◌<◌, ◌+◌, ◌%◌, ◌==◌, ◌||◌, ℕ, Bool, IsTrue, if◌then◌else◌, List, [], ◌∷◌, length, map, All}
 use Rattle.std.specs.Char.{is_ascii_alphabetic, is_ascii_alphanumeric}
 use Rattle.std.specs.List.{AllPass, AllPairs}
 use Rattle.std.specs.List.Sorted.{IsStrictlyIncreasing}
@@ -32,20 +32,28 @@ pub record AreNames (names : List (List ℕ)) : Type 0 where
   pub each : All IsName names
   pub distinct : AllPairs (λ one other. one ≢ other) names
 
--- what the fields `a`, `b` and `c` of a mark may be, in an image of so many functions
-abbrev pub AreFields : ℕ → MarkKind → ℕ → ℕ → ℕ → Type 0
-AreFields functions kind.Item a b c = (a < 32) × (b < functions) × (c ≤ 4095)
-AreFields functions kind.Jump a b c = (a ≤ 11) × (b < functions) × (c ≤ 4095)
-AreFields functions kind.Opening a b c = (a ≤ 11) × (b ≡ 0) × (c ≡ 0)
-AreFields functions kind.Idle a b c = (a ≡ 0) × (b ≡ 0) × (c ≡ 0)
-AreFields functions kind.Back a b c = (a ≡ 0) × (b ≡ 0) × (c ≡ 0)
+-- none of the names is one of the others
+abbrev pub AreApart : List (List ℕ) → List (List ℕ) → Type 0
+AreApart names others = All (λ name. All (λ other. other ≢ name) others) names
+
+-- how many services the marks of an image with so many counters may name: those on alarms need a counter
+abbrev pub service_limit : ℕ → ℕ
+service_limit counters = if counters == 0 then 12 else 16
+
+-- what the fields `a`, `b` and `c` of a mark may be, in an image of so many services and functions
+abbrev pub AreFields : (services functions : ℕ) → MarkKind → ℕ → ℕ → ℕ → Type 0
+AreFields services functions kind.Item a b c = (a < 32) × (b < functions) × (c ≤ 4095)
+AreFields services functions kind.Jump a b c = (a < services) × (b < functions) × (c ≤ 4095)
+AreFields services functions kind.Opening a b c = (a < services) × (b ≡ 0) × (c ≡ 0)
+AreFields services functions kind.Idle a b c = (a ≡ 0) × (b ≡ 0) × (c ≡ 0)
+AreFields services functions kind.Back a b c = (a ≡ 0) × (b ≡ 0) × (c ≡ 0)
 
 -- a mark on a word of a memory of so many bytes, which begins at its base
-pub record IsMark (functions size : ℕ) (mark : Mark) : Type 0 where
+pub record IsMark (services functions size : ℕ) (mark : Mark) : Type 0 where
   pub aligned : mark.address % 4 ≡ 0
   pub above : memory_base ≤ mark.address
   pub below : mark.address < memory_base + size
-  pub fields : AreFields functions mark.kind mark.a mark.b mark.c
+  pub fields : AreFields services functions mark.kind mark.a mark.b mark.c
 
 -- the addresses of the marks rise
 abbrev pub AreAscending : List Mark → Type 0
@@ -55,10 +63,14 @@ AreAscending marks = IsStrictlyIncreasing (map (λ mark. mark.address) marks)
 pub record InFormat (image : Image) : Type 0 where
   pub few_tasks : length image.tasks ≤ 30
   pub few_functions : length image.funcs ≤ 64
+  pub few_counters : length image.counters ≤ 2
   pub tasks : AreNames image.tasks
   pub functions : AreNames image.funcs
+  pub counters : AreNames image.counters
+  -- no counter has a task's name
+  pub counters_apart : AreApart image.counters image.tasks
   pub memory_fits : length image.memory ≤ 2097152
   pub whole_words : length image.memory % 4 ≡ 0
   pub few_marks : length image.marks ≤ 16384
-  pub marks : All (IsMark (length image.funcs) (length image.memory)) image.marks
+  pub marks : All (IsMark (service_limit (length image.counters)) (length image.funcs) (length image.memory)) image.marks
   pub ascending : AreAscending image.marks

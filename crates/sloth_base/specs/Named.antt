@@ -1,7 +1,10 @@
 -- What the numbers in a configuration and in task code name.
-use Rattle.std.specs.Prelude.{ℕ, suc, ◌<◌, ◌≡◌, List, [], ◌∷◌, false, cond, length, Some, None, get_or}
+use Rattle.std.specs.Prelude.{ℕ, zero, suc, ◌<◌, ◌≡◌, ◌==◌, List, [], ◌∷◌, false, cond, length, Some, None, get_or, count_by, max}
 use Rattle.sloth_base.specs.declared.config.Config.{Config}
 use Rattle.sloth_base.specs.declared.config.TaskDecl.{TaskDecl}
+use Rattle.sloth_base.specs.declared.config.CounterDecl.{CounterDecl}
+use Rattle.sloth_base.specs.declared.config.AlarmDecl.{AlarmDecl}
+use Rattle.sloth_base.specs.declared.config.Action.TheVariants as action
 use Rattle.sloth_base.specs.declared.app.App.{App}
 use Rattle.sloth_base.specs.declared.app.Func.{Func}
 use Rattle.sloth_base.specs.declared.app.Item.{Item}
@@ -18,6 +21,43 @@ undeclared = record { name = []; priority = 0; extended = false; non = false; au
 -- a task's declaration
 abbrev pub declaration : Config → ℕ → TaskDecl
 declaration config t = get_or config.tasks t undeclared
+
+-- ---- counters and alarms
+
+-- what stands in the place of a counter that is not declared
+abbrev pub undeclared_counter : CounterDecl
+undeclared_counter = record { name = []; max = 0; min_cycle = 0 }
+
+-- a counter's declaration
+abbrev pub counter_declaration : Config → ℕ → CounterDecl
+counter_declaration config c = get_or config.counters c undeclared_counter
+
+-- what stands in the place of an alarm that is not declared
+abbrev pub undeclared_alarm : AlarmDecl
+undeclared_alarm = record { name = []; counter = 0; action = action.Activate 0; time = 0; cycle = 0 }
+
+-- an alarm's declaration
+abbrev pub alarm_declaration : Config → ℕ → AlarmDecl
+alarm_declaration config a = get_or config.alarms a undeclared_alarm
+
+-- the declaration of an alarm's counter
+abbrev pub counter_of : Config → (alarm : ℕ) → CounterDecl
+counter_of config a = counter_declaration config (alarm_declaration config a).counter
+
+-- how many alarms a counter has
+abbrev pub alarms_of : Config → (counter : ℕ) → ℕ
+alarms_of config c = count_by (λ alarm. alarm.counter == c) config.alarms
+
+-- the greatest of the first n values of a function, 0 where there is none
+abbrev pub greatest_below : ℕ → (ℕ → ℕ) → ℕ
+greatest_below zero f = 0
+greatest_below (suc n) f = max (f n) (greatest_below n f)
+
+-- the greatest number of alarms of one counter
+abbrev pub most_alarms : Config → ℕ
+most_alarms config = greatest_below (length config.counters) (alarms_of config)
+
+-- ---- functions, items and data
 
 -- what stands in the place of a function that is not there
 abbrev pub missing : Func

@@ -1,5 +1,5 @@
 -- What the lines of the interrupt controller are for (Sloth, RTSS 2009: a task is entered by its line).
-use Rattle.std.specs.Prelude.{ℕ, ◌<◌, ◌≢◌, if◌then◌else◌, nat_lt, List, length}
+use Rattle.std.specs.Prelude.{ℕ, ◌+◌, ◌-◌, ◌<◌, ◌≢◌, ◌&&◌, if◌then◌else◌, nat_lt, nat_le, Bool, List, length}
 use Rattle.std.specs.List.{AllByRecursion}
 use Rattle.sloth_base.specs.declared.config.Config.{Config}
 use Rattle.sloth_base.specs.declared.image.Image.{Image}
@@ -7,17 +7,31 @@ use Rattle.sloth_base.specs.declared.lines.LineKind.{LineKind}
 use Rattle.sloth_base.specs.declared.lines.LineKind.TheVariants as line_of
 use Rattle.sloth_base.specs.declared.lines.Owners.{Owners}
 
+-- the line of the first counter; the others follow it
+abbrev pub first_counter_line : ℕ
+first_counter_line = 30
+
+-- the line of a counter
+abbrev pub counter_line : ℕ → ℕ
+counter_line c = first_counter_line + c
+
 -- the owners of lines in a configuration
 abbrev pub owners_in : Config → Owners
-owners_in config = record { tasks = length config.tasks }
+owners_in config = record { tasks = length config.tasks; counters = length config.counters }
 
 -- those that an image names
 abbrev pub owners_named : Image → Owners
-owners_named image = record { tasks = length image.tasks }
+owners_named image = record { tasks = length image.tasks; counters = length image.counters }
+
+-- the line is a counter's
+abbrev pub is_counter_line : Owners → ℕ → Bool
+is_counter_line owners line = nat_le first_counter_line line && nat_lt (line - first_counter_line) owners.counters
 
 -- what a line is for: a task's line has the task's number
 abbrev pub line_kind : Owners → ℕ → LineKind
-line_kind owners line = if nat_lt line owners.tasks then line_of.Task line else line_of.Unused
+line_kind owners line =
+    if nat_lt line owners.tasks then line_of.Task line
+    else if is_counter_line owners line then line_of.Counter (line - first_counter_line) else line_of.Unused
 
 -- the line has an owner
 abbrev pub IsOwned : Owners → ℕ → Type 0

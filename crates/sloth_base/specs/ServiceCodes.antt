@@ -19,12 +19,17 @@ code_of service.SetEvent = 8
 code_of service.ClearEvent = 9
 code_of service.GetEvent = 10
 code_of service.WaitEvent = 11
+code_of service.SetRelAlarm = 12
+code_of service.SetAbsAlarm = 13
+code_of service.CancelAlarm = 14
+code_of service.GetAlarm = 15
 
 -- the services in the order of their numbers
 abbrev pub services : List Service
 services =
     service.ActivateTask ∷ service.TerminateTask ∷ service.ChainTask ∷ service.Schedule ∷ service.GetTaskID ∷ service.GetTaskState
-    ∷ service.GetResource ∷ service.ReleaseResource ∷ service.SetEvent ∷ service.ClearEvent ∷ service.GetEvent ∷ service.WaitEvent ∷ []
+    ∷ service.GetResource ∷ service.ReleaseResource ∷ service.SetEvent ∷ service.ClearEvent ∷ service.GetEvent ∷ service.WaitEvent
+    ∷ service.SetRelAlarm ∷ service.SetAbsAlarm ∷ service.CancelAlarm ∷ service.GetAlarm ∷ []
 
 -- the service of a number
 abbrev pub service_of : ℕ → Option Service
@@ -50,6 +55,10 @@ service_name service.SetEvent = codes "SetEvent"
 service_name service.ClearEvent = codes "ClearEvent"
 service_name service.GetEvent = codes "GetEvent"
 service_name service.WaitEvent = codes "WaitEvent"
+service_name service.SetRelAlarm = codes "SetRelAlarm"
+service_name service.SetAbsAlarm = codes "SetAbsAlarm"
+service_name service.CancelAlarm = codes "CancelAlarm"
+service_name service.GetAlarm = codes "GetAlarm"
 
 -- the first of these services that has this name
 abbrev pub service_among : List Service → List ℕ → Option Service
@@ -71,6 +80,10 @@ object_kind service.SetEvent = object.Task
 object_kind service.GetEvent = object.Task
 object_kind service.GetResource = object.Resource
 object_kind service.ReleaseResource = object.Resource
+object_kind service.SetRelAlarm = object.Alarm
+object_kind service.SetAbsAlarm = object.Alarm
+object_kind service.CancelAlarm = object.Alarm
+object_kind service.GetAlarm = object.Alarm
 object_kind _ = object.Nothing
 
 -- it has a mask of events
@@ -85,3 +98,4 @@ abbrev pub IsObjectNumber : ObjectKind → ℕ → Type 0
 IsObjectNumber object.Nothing number = number ≡ 0
 IsObjectNumber object.Task number = number < 30
 IsObjectNumber object.Resource number = number ≤ 32
+IsObjectNumber object.Alarm number = number < 32

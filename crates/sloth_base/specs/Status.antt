@@ -9,6 +9,14 @@ E_OK = 0
 abbrev pub E_OS_LIMIT : ℕ
 E_OS_LIMIT = 4
 
--- a task is in a state in which the service does nothing
+-- an alarm is not in use
+abbrev pub E_OS_NOFUNC : ℕ
+E_OS_NOFUNC = 5
+
+-- a task is in a state in which the service does nothing, or an alarm is in use
 abbrev pub E_OS_STATE : ℕ
 E_OS_STATE = 7
+
+-- a value is outside a counter's limits
+abbrev pub E_OS_VALUE : ℕ
+E_OS_VALUE = 8

@@ -1,10 +1,11 @@
 -- How long generated code may keep interrupts masked, and how many lines it may touch, by how it begins.
-use Rattle.std.specs.Prelude.{ℕ, ◌==◌, if◌then◌else◌, Option, Some, None}
+use Rattle.std.specs.Prelude.{ℕ, ◌+◌, ◌*◌, ◌==◌, if◌then◌else◌, Option, Some, None}
 use Rattle.sloth_base.specs.declared.config.Config.{Config}
 use Rattle.sloth_base.specs.declared.lines.LineKind.{LineKind}
 use Rattle.sloth_base.specs.declared.lines.LineKind.TheVariants as line_of
 use Rattle.sloth_base.specs.declared.step.Step.{Step}
 use Rattle.sloth_base.specs.Owners.{line_kind, owners_in}
+use Rattle.sloth_base.specs.Named.{alarms_of, most_alarms}
 
 -- how a stretch begins: boot at count 0, with the taking of a line, or with the instruction that masks interrupts
 pub data Beginning : Type 0 where
@@ -22,27 +23,29 @@ abbrev pub beginning_of : Step → Beginning
 beginning_of first = if first.count == 0 then Boots else later_beginning first.entered
 
 -- the most instructions of a stretch that begins with the taking of a line of this kind
-abbrev pub entry_limit : LineKind → ℕ
-entry_limit (line_of.Task t) = 160
-entry_limit line_of.Unused = 160
+abbrev pub entry_limit : Config → LineKind → ℕ
+entry_limit config (line_of.Task t) = 160
+entry_limit config (line_of.Counter c) = 160 + 40 * alarms_of config c
+entry_limit config line_of.Unused = 160
 
 -- the most instructions of a stretch
 abbrev pub stretch_limit : Config → Beginning → ℕ
 stretch_limit config Boots = 400
-stretch_limit config (Takes line) = entry_limit (line_kind (owners_in config) line)
+stretch_limit config (Takes line) = entry_limit config (line_kind (owners_in config) line)
 stretch_limit config Masks = 160
 
 -- the most lines whose pending bytes a stretch touches that begins with the taking of a line of this kind
-abbrev pub entry_touches : LineKind → ℕ
-entry_touches (line_of.Task t) = 2
-entry_touches line_of.Unused = 2
+abbrev pub entry_touches : Config → LineKind → ℕ
+entry_touches config (line_of.Task t) = 2
+entry_touches config (line_of.Counter c) = alarms_of config c
+entry_touches config line_of.Unused = 2
 
 -- the most lines whose pending bytes a stretch touches
 abbrev pub touch_limit : Config → Beginning → ℕ
 touch_limit config Boots = 0
-touch_limit config (Takes line) = entry_touches (line_kind (owners_in config) line)
+touch_limit config (Takes line) = entry_touches config (line_kind (owners_in config) line)
 touch_limit config Masks = 2
 
 -- the most instructions of any stretch behind boot
 abbrev pub longest_stretch : Config → ℕ
-longest_stretch config = 160
+longest_stretch config = 160 + 40 * most_alarms config

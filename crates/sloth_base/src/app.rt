@@ -55,7 +55,7 @@ pub enum Width {
     HalfU,
 }
 
-/// A service with its operands: the task or resource, or 0; the mask of the events, or 0.
+/// A service with its operands: the task, resource or alarm, or 0; the mask of the events, or 0.
 #[derive(Clone, Copy, Debug)]
 pub struct Call {
     pub service: Service,

@@ -2,7 +2,7 @@
 
 use crate::list::List;
 use crate::name::Name;
-use crate::numbers::ResId;
+use crate::numbers::{ResId, TaskId};
 
 /// A TASK object.
 #[derive(Drop)]
@@ -29,6 +29,38 @@ pub struct EventDecl {
     pub mask: u32,
 }
 
+/// A COUNTER object.
+#[derive(Drop)]
+pub struct CounterDecl {
+    pub name: Name,
+    /// Its greatest value, behind which comes 0.
+    pub max: u32,
+    /// The least cycle of an alarm that is not 0.
+    pub min_cycle: u32,
+}
+
+/// What an alarm does as it expires.
+#[derive(Clone, Copy)]
+pub enum Action {
+    /// It activates a task.
+    Activate(TaskId),
+    /// It sets the events of this mask of a task.
+    Set(TaskId, u32),
+}
+
+/// An ALARM object.
+#[derive(Drop)]
+pub struct AlarmDecl {
+    pub name: Name,
+    /// The number of its counter.
+    pub counter: u32,
+    pub action: Action,
+    /// The ticks to its first expiry as the system starts, 0 where it does not start by itself.
+    pub time: u32,
+    /// The ticks from one expiry to the next, 0 where it expires once.
+    pub cycle: u32,
+}
+
 /// A configuration.
 #[derive(Drop)]
 pub struct Config {
@@ -39,4 +71,8 @@ pub struct Config {
     pub events: List<EventDecl>,
     /// RES_SCHEDULER exists.
     pub res_scheduler: bool,
+    /// The counters, in the order of their numbers.
+    pub counters: List<CounterDecl>,
+    /// The alarms, in the order of their numbers.
+    pub alarms: List<AlarmDecl>,
 }

@@ -17,7 +17,7 @@ pub struct Stamp {
     pub at: u32,
 }
 
-/// What is observed. A task number of 4,294,967,295 is that of no task.
+/// What is observed. A task or counter number of 4,294,967,295 is that of none.
 #[derive(Clone, Copy, Debug, PartialEq, Eq)]
 pub enum Event {
     Boot,
@@ -41,6 +41,10 @@ pub enum Event {
     Back(u32),
     Idle,
     Stray,
+    /// A counter's line arrived: the counter is due.
+    Due(u32),
+    /// A counter counts on, and serves its alarms.
+    Tick(u32),
 }
 
 /// An event and its counts.

@@ -33,6 +33,7 @@ pub struct Mark {
 pub struct Image {
     pub tasks: List<Name>,
     pub funcs: List<Name>,
+    pub counters: List<Name>,
     pub memory: List<u8>,
     pub marks: List<Mark>,
 }

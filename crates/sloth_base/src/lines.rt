@@ -9,13 +9,19 @@ use crate::numbers::Line;
 pub enum LineKind {
     /// It enters this task.
     Task(u32),
+    /// Each arrival is a tick of this counter.
+    Counter(u32),
     Unused,
 }
 
-/// The owners of lines: so many tasks.
+/// The line of the first counter; the others follow it.
+pub const COUNTER_LINE: u8 = 30;
+
+/// The owners of lines: so many tasks, and so many counters.
 #[derive(Clone, Copy, Debug, PartialEq, Eq)]
 pub struct Owners {
     pub tasks: usize,
+    pub counters: usize,
 }
 
 impl Owners {
@@ -25,6 +31,8 @@ impl Owners {
     {
         if usize::from(line.0) < self.tasks {
             LineKind::Task(u32::from(line.0))
+        } else if COUNTER_LINE <= line.0 && usize::from(line.0 - COUNTER_LINE) < self.counters {
+            LineKind::Counter(u32::from(line.0 - COUNTER_LINE))
         } else {
             LineKind::Unused
         }

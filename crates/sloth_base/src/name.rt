@@ -1,4 +1,4 @@
-//! Names of tasks, resources, events, functions, symbols and labels.
+//! Names of tasks, resources, events, counters, alarms, functions, symbols and labels.
 ghost use Rattle.std.specs.Prelude.{◌≡◌, ◌↔◌, IsTrue, IfOk};
 ghost use Rattle.sloth_base.specs.ImageRange.{begins_word, continues_word, IsName};
 

@@ -10,7 +10,7 @@ use crate::service::Service;
 pub const BLOCK_OBJECTS: u32 = 40;
 
 /// The places of that table.
-pub const BLOCK_COUNT: usize = 512;
+pub const BLOCK_COUNT: usize = 640;
 
 /// The levels of the tasks, of the resources' ceilings and of RES_SCHEDULER (the last entry of `ceiling`).
 #[derive(Clone, Copy)]

@@ -8,10 +8,16 @@ pub const E_OK: u32 = 0;
 /// The status where a task has no activation left.
 pub const E_OS_LIMIT: u32 = 4;
 
-/// The status where a task is in a state in which the service does nothing.
+/// The status where an alarm is not in use.
+pub const E_OS_NOFUNC: u32 = 5;
+
+/// The status where a task is in a state in which the service does nothing, or an alarm is in use.
 pub const E_OS_STATE: u32 = 7;
 
-/// A service, in the order of the codes 0 to 11.
+/// The status where a value is outside a counter's limits.
+pub const E_OS_VALUE: u32 = 8;
+
+/// A service, in the order of the codes 0 to 15.
 #[derive(Clone, Copy, Debug, PartialEq, Eq)]
 pub enum Service {
     ActivateTask,
@@ -26,6 +32,10 @@ pub enum Service {
     ClearEvent,
     GetEvent,
     WaitEvent,
+    SetRelAlarm,
+    SetAbsAlarm,
+    CancelAlarm,
+    GetAlarm,
 }
 
 /// What a service names.
@@ -34,10 +44,11 @@ pub enum ObjectKind {
     Nothing,
     Task,
     Resource,
+    Alarm,
 }
 
 // In the order of their codes.
-const SERVICES: [Service; 12] = [
+const SERVICES: [Service; 16] = [
     Service::ActivateTask,
     Service::TerminateTask,
     Service::ChainTask,
@@ -50,13 +61,17 @@ const SERVICES: [Service; 12] = [
     Service::ClearEvent,
     Service::GetEvent,
     Service::WaitEvent,
+    Service::SetRelAlarm,
+    Service::SetAbsAlarm,
+    Service::CancelAlarm,
+    Service::GetAlarm,
 ];
 
 impl Service {
     /// The service's number in marks and in addresses of its code.
     pub fn code(self) -> u8
         ensures is { result ≡ code_of self }
-        ensures below { result < 12 }
+        ensures below { result < 16 }
     {
         self as u8
     }
@@ -65,7 +80,7 @@ impl Service {
     pub fn from_code(code: u8) -> Option<Service>
         ensures is { result ≡ service_of code }
         ensures some { IfSome result (λ service. code_of service ≡ code) }
-        ensures none { IfNone result (12 ≤ code) }
+        ensures none { IfNone result (16 ≤ code) }
     {
         SERVICES.get(usize::from(code)).copied()
     }
@@ -95,6 +110,10 @@ impl Service {
             Service::ClearEvent => b"ClearEvent",
             Service::GetEvent => b"GetEvent",
             Service::WaitEvent => b"WaitEvent",
+            Service::SetRelAlarm => b"SetRelAlarm",
+            Service::SetAbsAlarm => b"SetAbsAlarm",
+            Service::CancelAlarm => b"CancelAlarm",
+            Service::GetAlarm => b"GetAlarm",
         }
     }
 
@@ -109,6 +128,10 @@ impl Service {
             | Service::SetEvent
             | Service::GetEvent => ObjectKind::Task,
             Service::GetResource | Service::ReleaseResource => ObjectKind::Resource,
+            Service::SetRelAlarm
+            | Service::SetAbsAlarm
+            | Service::CancelAlarm
+            | Service::GetAlarm => ObjectKind::Alarm,
             Service::TerminateTask
             | Service::Schedule
             | Service::GetTaskID

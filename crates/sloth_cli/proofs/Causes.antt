@@ -9,6 +9,7 @@ use Rattle.sloth_base.specs.declared.image.Image.{Image}
 use Rattle.sloth_base.specs.Owners.{owners_in}
 use Rattle.sloth_io.specs.Counts.{Rose}
 use Rattle.sloth_io.specs.Sink.{Output}
+use Rattle.sloth_io.proofs.Gains.{part-whole}
 use Rattle.sloth_io.specs.Store.{Files, KeepsFiles, is_space_for}
 use Rattle.image_file.specs.ImageText.{image_bytes}
 use Rattle.sloth_source.specs.Texts.{Accepted}
@@ -19,8 +20,8 @@ use Rattle.sloth_cli.specs.declared.top.Status.{Status}
 use Rattle.sloth_cli.specs.declared.top.Status.TheVariants as status
 use Rattle.sloth_cli.specs.declared.failure.Failure.{Failure}
 use Rattle.sloth_cli.specs.declared.failure.Failure.TheVariants as failure
-use Rattle.sloth_cli.specs.Top.{World, world, inputs_of, names_of, AreInputs, FilesStay, IsAccepted, IsBuiltImage}
-use Rattle.sloth_cli.specs.Top.{IsWritten, IsDone, Requires, Puts, BrokeOff, Answers, done_text}
+use Rattle.sloth_cli.specs.Top.{World, world, inputs_of, names_of, counter_names, AreInputs, FilesStay, IsAccepted, IsBuiltImage}
+use Rattle.sloth_cli.specs.Top.{IsWritten, IsDone, Requires, Took, Puts, Closes, BrokeOff, Answers, done_text}
 use Rattle.sloth_cli.specs.Failures.{ReadFailed, JudgeFailed, PerformFailed, Ends, EndsPlainly, CommandFailed, IsPerformed, Finished}
 use Rattle.sloth_cli.proofs.Ceilings.{shown-keep, shown-keep_bounds}
 use Rattle.sloth_cli.proofs.ToolCauses.{end-required}
@@ -58,7 +59,7 @@ pub record IsBuilt (old mid : Files) (c : Building) (image : Image) (arrivals : 
   pub kept : KeepsFiles old mid
 
 pub built-of : (old mid : Files) (c : Building) (config : Config) (app : App) (image : Image) (arrivals : List Arrival) (oil src arr : List ℕ)
-    → AreInputs old c oil src arr → Accepted oil src config app → AreRead (names_of config) arr arrivals → AreArrivals (owners_in config) arrivals
+    → AreInputs old c oil src arr → Accepted oil src config app → AreRead (names_of config) (counter_names config) arr arrivals → AreArrivals (owners_in config) arrivals
     → IsBuiltImage config app image → IsInLimit c.run → KeepsFiles old mid → IsBuilt old mid c image arrivals
 built-of old mid c config app image arrivals oil src arr inputs accepted read in_range is_image in_limit kept = record {
   config = config;
@@ -190,10 +191,17 @@ finished failure.Put words c old files mid new answer is h d = record {
   puts = inr (d.0, subst (λ (x : Output). BrokeOff old.sink x h.1) (sym d.1) h.3);
 }
 
-pub answered : (words : List (List ℕ)) (c : Command) (old new : World) (s : Status) → IsCommand words c → IsPerformed s old new c → Answers words old new s
-answered words c old new s is h = record {
+-- a text that was taken, and then what the sink holds back
+pub closed : (wanted answer : Status) (old mid new : Output) (text : List ℕ) → Took old mid text → Closes wanted answer mid new
+    → Puts wanted answer old new text
+closed wanted answer old mid new text took (inl done) = inl (done.0, done.1 ∙ took)
+closed wanted answer old mid new text took (inr failed) = inr (failed.0, part-whole old mid new text took failed.1)
+
+pub answered : (words : List (List ℕ)) (c : Command) (old : World) (files : Files) (mid new : Output) (s answer : Status) → IsCommand words c
+    → IsPerformed s old (world files mid) c → Closes s answer mid new → Answers words old (world files new) answer
+answered words c old files mid new s answer is h d = record {
   wanted = s;
   text = h.0;
-  required = required s words c old.files new.files h.0 is h.1;
-  puts = inl (refl, h.2);
+  required = required s words c old.files files h.0 is h.1;
+  puts = closed s answer old.sink mid new h.0 h.2 d;
 }

@@ -75,7 +75,7 @@ exec-failed (failure.NotAnImage fault) old new sink out e image arrivals is stay
 exec-failed failure.WriteFile old new sink out e image arrivals is stay h = absurd h
 
 pub runnable : (old : Files) (e : Execution) (image : Image) (arrivals : List Arrival) (file arr : List ℕ) → AreExecInputs old e file arr → ImageText file image
-    → AreRead image.tasks arr arrivals → AreArrivals (owners_named image) arrivals → IsRunnable old e image arrivals
+    → AreRead image.tasks image.counters arr arrivals → AreArrivals (owners_named image) arrivals → IsRunnable old e image arrivals
 runnable old e image arrivals file arr inputs is read in_range =
     record { file = file; arr = arr; inputs = inputs; is_image = is; read = read; in_range = in_range }
 

@@ -11,7 +11,7 @@ use Rattle.image_file.specs.ImageText.{ImageText}
 use Rattle.image_file.specs.Faults.{Faulty}
 use Rattle.image_file.specs.declared.fault.ImageFault.{ImageFault}
 use Rattle.image_file.proofs.Faulted.{fault_is_one, none_is_both}
-use Rattle.image_file.proofs.Unique.{image-unique}
+use Rattle.image_file.proofs.Images.{image-unique}
 use Rattle.trace_text.specs.ArrivalsText.{ArrivalsFault, arrivals_in}
 use Rattle.trace_text.specs.Listing.{listing}
 use Rattle.sloth_source.proofs.Least.{one_least}
@@ -202,13 +202,13 @@ tells-no-image words old new answer h c is tells file i works none =
 
 -- the inputs that are told have one image and one list of arrivals
 one-image : (old : Files) (e : Execution) (file arr : List ℕ) (image other : Image) (arrivals others : List Arrival) → IsTrue old.tells → AreExecInputs old e file arr
-    → ImageText file image → AreRead image.tasks arr arrivals → IsRunnable old e other others → (other ≡ image) × (others ≡ arrivals)
+    → ImageText file image → AreRead image.tasks image.counters arr arrivals → IsRunnable old e other others → (other ≡ image) × (others ≡ arrivals)
 one-image old e file arr image other arrivals others tells i is read a =
     let file_is : a.file ≡ file = told old e.img a.file file tells a.inputs.image_file.read i.image_file.read in
     let arr_is : a.arr ≡ arr = told old e.arr a.arr arr tells a.inputs.arrivals_file.read i.arrivals_file.read in
     let same : other ≡ image = image-unique other image file (subst (λ x. ImageText x other) file_is a.is_image) is in (
       same,
-      a.read.arrivals_are ∙ ap (λ (x : Image). arrivals_in x.tasks a.arr) same ∙ ap (arrivals_in image.tasks) arr_is ∙ sym read.arrivals_are,
+      a.read.arrivals_are ∙ ap (λ (x : Image). arrivals_in x.tasks x.counters a.arr) same ∙ ap (arrivals_in image.tasks image.counters) arr_is ∙ sym read.arrivals_are,
     )
 
 same-end : (image other : Image) (arrivals others : List Arrival) (n : ℕ) → (other ≡ image) × (others ≡ arrivals) → run_end other others n ≡ run_end image arrivals n
@@ -220,7 +220,7 @@ same-text image other arrivals others n same = ap (λ (x : Image). exec_text x o
 module _ (words : List (List ℕ)) (old new : World) (answer : Status) (e : Execution) (file arr : List ℕ) (image : Image) (is : IsCommand words (Executes e))
     (tells : IsTrue old.files.tells) (i : AreExecInputs old.files e file arr) (is_image : ImageText file image) where
   -- a run of the image, whole or not, is the one that is wanted
-  ended-by : (end : RunEnd) (arrivals : List Arrival) (text : List ℕ) → AreRead image.tasks arr arrivals → PutsWork old.sink new.sink (exec_text image arrivals e.n)
+  ended-by : (end : RunEnd) (arrivals : List Arrival) (text : List ℕ) → AreRead image.tasks image.counters arr arrivals → PutsWork old.sink new.sink (exec_text image arrivals e.n)
       → IsExecuted old.files e end text → Requires (end_status end) words old.files new.files text → Puts (end_status end) answer old.sink new.sink text
       → EndsAs (end_status (run_end image arrivals e.n)) words old new answer
   ended-by end arrivals text read lines d q p =
@@ -236,7 +236,7 @@ module _ (words : List (List ℕ)) (old new : World) (answer : Status) (e : Exec
       let same : n.file ≡ file = told-file old.files (Executes e) n.file file tells n.inputs (arr, i) in
       none_is_both file image fault is_image (subst (Faulty fault) same n.faulty)
 
-  executed-by : (wanted : Status) (arrivals : List Arrival) (text : List ℕ) → AreRead image.tasks arr arrivals → LinesWork old new (exec_text image arrivals e.n)
+  executed-by : (wanted : Status) (arrivals : List Arrival) (text : List ℕ) → AreRead image.tasks image.counters arr arrivals → LinesWork old new (exec_text image arrivals e.n)
       → Requires wanted words old.files new.files text → Puts wanted answer old.sink new.sink text
       → EndsAs (end_status (run_end image arrivals e.n)) words old new answer ⊎ EndsAs status.NoMemory words old new answer
   executed-by status.Done arrivals text read works q p =
@@ -252,7 +252,7 @@ module _ (words : List (List ℕ)) (old new : World) (answer : Status) (e : Exec
       let file_is : d.file ≡ file = told old.files e.img d.file file tells d.inputs.image_file.read i.image_file.read in
       let arr_is : d.arr ≡ arr = told old.files e.arr d.arr arr tells d.inputs.arrivals_file.read i.arrivals_file.read in
       let same : d.image ≡ image = image-unique d.image image file (subst (λ x. ImageText x d.image) file_is d.is_image) is_image in
-      absurd (read.no_fault q.2 (subst (λ x. ArrivalsFault image.tasks x q.2) arr_is (subst (λ (x : Image). ArrivalsFault x.tasks d.arr q.2) same d.least.is_fault)))
+      absurd (read.no_fault q.2 (subst (λ x. ArrivalsFault image.tasks image.counters x q.2) arr_is (subst (λ (x : Image). ArrivalsFault x.tasks x.counters d.arr q.2) same d.least.is_fault)))
   executed-by status.NotAnImage arrivals text read works q p =
       absurd (no-fault q.2 (subst (λ x. IsNoImage old.files x q.2) (one-command words q.0 (Executes e) q.1 is) q.3))
   executed-by status.Usage arrivals text read works q p = absurd (q.0 (Executes e) is)
@@ -267,22 +267,22 @@ module _ (words : List (List ℕ)) (old new : World) (answer : Status) (e : Exec
   executed-by status.NoHolds arrivals text read works q p = absurd (no-tool words q.0 (Executes e) q.1 is tt)
 
   -- accepted arrivals are not refused
-  not-accepted : (other : Image) (others : List Arrival) (r : Refusal) → IsRunnable old.files e other others → IsLeast (ArrivalsFault image.tasks arr) r → ⊥
+  not-accepted : (other : Image) (others : List Arrival) (r : Refusal) → IsRunnable old.files e other others → IsLeast (ArrivalsFault image.tasks image.counters arr) r → ⊥
   not-accepted other others r a least =
       let file_is : a.file ≡ file = told old.files e.img a.file file tells a.inputs.image_file.read i.image_file.read in
       let arr_is : a.arr ≡ arr = told old.files e.arr a.arr arr tells a.inputs.arrivals_file.read i.arrivals_file.read in
       let same : other ≡ image = image-unique other image file (subst (λ x. ImageText x other) file_is a.is_image) is_image in
-      a.read.no_fault r (subst (λ (x : Image). ArrivalsFault x.tasks a.arr r) (sym same) (subst (λ x. ArrivalsFault image.tasks x r) (sym arr_is) least.is_fault))
+      a.read.no_fault r (subst (λ (x : Image). ArrivalsFault x.tasks x.counters a.arr r) (sym same) (subst (λ x. ArrivalsFault image.tasks image.counters x r) (sym arr_is) least.is_fault))
 
-  refused-by : (wanted : Status) (text : List ℕ) (r : Refusal) → ReadsWork old.files new.files → IsLeast (ArrivalsFault image.tasks arr) r
+  refused-by : (wanted : Status) (text : List ℕ) (r : Refusal) → ReadsWork old.files new.files → IsLeast (ArrivalsFault image.tasks image.counters arr) r
       → Requires wanted words old.files new.files text → Puts wanted answer old.sink new.sink text → AnswersRefused old new r answer
   refused-by status.Refused text r works least q (inl p) =
       let d = subst (λ x. CommandRefused old.files x q.2) (one-command words q.0 (Executes e) q.1 is) q.3 in
       let file_is : d.file ≡ file = told old.files e.img d.file file tells d.inputs.image_file.read i.image_file.read in
       let arr_is : d.arr ≡ arr = told old.files e.arr d.arr arr tells d.inputs.arrivals_file.read i.arrivals_file.read in
       let same : d.image ≡ image = image-unique d.image image file (subst (λ x. ImageText x d.image) file_is d.is_image) is_image in
-      let least_too = subst (λ x. IsLeast (ArrivalsFault image.tasks x) q.2) arr_is (subst (λ (x : Image). IsLeast (ArrivalsFault x.tasks d.arr) q.2) same d.least) in
-      let one : q.2 ≡ r = one_least Arr (ArrivalsFault image.tasks arr) (of-arrivals image.tasks arr) q.2 r least_too least in
+      let least_too = subst (λ x. IsLeast (ArrivalsFault image.tasks image.counters x) q.2) arr_is (subst (λ (x : Image). IsLeast (ArrivalsFault x.tasks x.counters d.arr) q.2) same d.least) in
+      let one : q.2 ≡ r = one_least Arr (ArrivalsFault image.tasks image.counters arr) (of-arrivals image.tasks image.counters arr) q.2 r least_too least in
       inl (p.0, subst (λ x. Took old.sink new.sink x) (q.4 ∙ ap refusal_line one) p.1)
   refused-by status.Refused text r works least q (inr p) = inr (inr (p.0, counted-put old.sink new.sink text p.1))
   refused-by status.NoMemory text r works least q (inl p) = inr (inl p.0)

@@ -35,7 +35,7 @@ first-of files u (b ∷ rest) reads is read = record { rest = rest; first = read
 no-image-file : (files : Files) (u : ToolUse) (fault : ImageFault) → IsToolUse u → IsToolAnswer files u (tool_answer.NotAnImage fault)
     → IsNoImage files (Uses u) fault
 no-image-file files u fault is h =
-    let no = no-image u.tool u.number h.inputs fault h.is in
+    let no = no-image u.tool u.counts h.inputs fault h.is in
     record { file = input h.inputs 0; inputs = first-of files u h.inputs no.0 is h.read; faulty = no.1 }
 
 -- ---- what the answer requires
@@ -113,8 +113,8 @@ module _ (old mid : Files) (sink : Output) (new : World) (u : ToolUse) (kept : K
 
 -- the answer to what was read
 pub answer-of : (files : Files) (u : ToolUse) (inputs slice : List (List ℕ)) (a : ToolAnswer) → AreToolInputs files u.inputs inputs → slice ≡ inputs
-    → IsAnswer u.tool u.number slice a → IsToolAnswer files u a
-answer-of files u inputs slice a read same is = record { inputs = inputs; read = read; is = subst (λ xs. IsAnswer u.tool u.number xs a) same is }
+    → IsAnswer u.tool u.counts slice a → IsToolAnswer files u a
+answer-of files u inputs slice a read same is = record { inputs = inputs; read = read; is = subst (λ xs. IsAnswer u.tool u.counts xs a) same is }
 
 -- three facts of a call that succeeds
 pub all-told : {T E : Type 0} (r : Result T E) (P : T → Type 0) (Q R : Type 0) (W : T → Type 0) → ((t : T) → P t → Q → R → W t) → IfOk r P → OnOk r Q → OnOk r R → IfOk r W

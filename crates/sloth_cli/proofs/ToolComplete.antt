@@ -48,8 +48,8 @@ pub tool-image : (old : Files) (u : ToolUse) (file : List ℕ) (b : ToolAnswer) 
     → HasImage file ⊎ ((fault : ImageFault) × (b ≡ tool_answer.NotAnImage fault))
 tool-image old u file b tells i h =
     let same : h.inputs ≡ file ∷ i.rest = told-inputs old u.inputs h.inputs (file ∷ i.rest) tells h.read i.read in
-    let is = subst (λ xs. IsAnswer u.tool u.number xs b) same h.is in
-    image-or-fault u.tool u.number (file ∷ i.rest) b i.first is
+    let is = subst (λ xs. IsAnswer u.tool u.counts xs b) same h.is in
+    image-or-fault u.tool u.counts (file ∷ i.rest) b i.first is
 
 -- the write of an answer's file failed
 abbrev IsUnwrittenFor : ToolAnswer → Option (List ℕ) → Files → Files → Type 0
@@ -71,12 +71,12 @@ data Told (words : List (List ℕ)) (a : ToolAnswer) (output : Option (List ℕ)
 
 module _ (words : List (List ℕ)) (old new : World) (answer : Status) (u : ToolUse) (is : IsCommand words (Uses u)) (tells : IsTrue old.files.tells)
     (inputs : List (List ℕ)) (i : AreToolInputs old.files u.inputs inputs) (works : ReadsWork old.files new.files) (a : ToolAnswer)
-    (is_answer : IsAnswer u.tool u.number inputs a) where
+    (is_answer : IsAnswer u.tool u.counts inputs a) where
   -- the tool's answer is this one
   the-answer : (b : ToolAnswer) → IsToolAnswer old.files u b → b ≡ a
   the-answer b h =
       let same : h.inputs ≡ inputs = told-inputs old.files u.inputs h.inputs inputs tells h.read i in
-      one_answer u.tool u.number inputs b a (subst (λ xs. IsAnswer u.tool u.number xs b) same h.is) is_answer
+      one_answer u.tool u.counts inputs b a (subst (λ xs. IsAnswer u.tool u.counts xs b) same h.is) is_answer
 
   ended : (wanted : Status) (b : ToolAnswer) (text : List ℕ) → IsToolAnswer old.files u b → wanted ≡ tool_status b → text ≡ tool_text b
       → FilesAfter b old.files new.files u.output → Puts wanted answer old.sink new.sink text → Told words a u.output old new answer
@@ -102,13 +102,13 @@ module _ (words : List (List ℕ)) (old new : World) (answer : Status) (u : Tool
       by (inl image) = absurd (none_is_both n.file image.0 fault image.1 n.faulty)
       by (inr other) =
           let same : inputs ≡ n.file ∷ n.inputs.rest = told-inputs old.files u.inputs inputs (n.file ∷ n.inputs.rest) tells i n.inputs.read in
-          let is_no : IsAnswer u.tool u.number (n.file ∷ n.inputs.rest) (tool_answer.NotAnImage other.0) =
-          subst (λ xs. IsAnswer u.tool u.number xs (tool_answer.NotAnImage other.0)) same (subst (λ x. IsAnswer u.tool u.number inputs x) other.1 is_answer) in
-          let fault_is : other.0 ≡ fault = fault_is_one n.file other.0 fault (no-image u.tool u.number (n.file ∷ n.inputs.rest) other.0 is_no).1 n.faulty in
+          let is_no : IsAnswer u.tool u.counts (n.file ∷ n.inputs.rest) (tool_answer.NotAnImage other.0) =
+          subst (λ xs. IsAnswer u.tool u.counts xs (tool_answer.NotAnImage other.0)) same (subst (λ x. IsAnswer u.tool u.counts inputs x) other.1 is_answer) in
+          let fault_is : other.0 ≡ fault = fault_is_one n.file other.0 fault (no-image u.tool u.counts (n.file ∷ n.inputs.rest) other.0 is_no).1 n.faulty in
           record {
             inputs = n.file ∷ n.inputs.rest;
             read = n.inputs.read;
-            is = subst (λ f. IsAnswer u.tool u.number (n.file ∷ n.inputs.rest) (tool_answer.NotAnImage f)) fault_is is_no;
+            is = subst (λ f. IsAnswer u.tool u.counts (n.file ∷ n.inputs.rest) (tool_answer.NotAnImage f)) fault_is is_no;
           }
 
   unwritten-for : (b : ToolAnswer) → b ≡ a → IsUnwrittenFor b u.output old.files new.files → IsUnwrittenFor a u.output old.files new.files

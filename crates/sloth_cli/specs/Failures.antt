@@ -74,7 +74,7 @@ SampleFailed _ seed = ⊥
 -- no image and no arrivals were read of these files for this reason
 abbrev pub LoadFailed : Failure → List ℕ → List ℕ → Type 0
 LoadFailed (failure.NotAnImage fault) file arr = Faulty fault file
-LoadFailed (failure.Refused refusal) file arr = (image : Image) × ImageText file image × IsLeast (ArrivalsFault image.tasks arr) refusal
+LoadFailed (failure.Refused refusal) file arr = (image : Image) × ImageText file image × IsLeast (ArrivalsFault image.tasks image.counters arr) refusal
 LoadFailed failure.NoMemory file arr = Unit {0}
 LoadFailed _ file arr = ⊥
 

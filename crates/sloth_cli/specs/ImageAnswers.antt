@@ -58,13 +58,13 @@ abbrev pub TellsExecRefused : List (List ℕ) → World → World → Status →
 TellsExecRefused words old new answer =
     (e : Execution) → IsCommand words (Executes e) → IsTrue old.files.tells → (file arr : List ℕ) → AreExecInputs old.files e file arr
     → ReadsWork old.files new.files → (image : Image) → ImageText file image
-    → (refusal : Refusal) → IsLeast (ArrivalsFault image.tasks arr) refusal → AnswersRefused old new refusal answer
+    → (refusal : Refusal) → IsLeast (ArrivalsFault image.tasks image.counters arr) refusal → AnswersRefused old new refusal answer
 
 -- `exec`: the inputs are there and accepted, and no read or put failed: Done, or Stopped where the run stops, or memory was wanting.
 abbrev pub TellsExecuted : List (List ℕ) → World → World → Status → Type 0
 TellsExecuted words old new answer =
     (e : Execution) → IsCommand words (Executes e) → IsTrue old.files.tells → (file arr : List ℕ) → AreExecInputs old.files e file arr
-    → (image : Image) → ImageText file image → (arrivals : List Arrival) → AreRead image.tasks arr arrivals
+    → (image : Image) → ImageText file image → (arrivals : List Arrival) → AreRead image.tasks image.counters arr arrivals
     → LinesWork old new (exec_text image arrivals e.n)
     → EndsAs (end_status (run_end image arrivals e.n)) words old new answer ⊎ EndsAs status.NoMemory words old new answer
 

@@ -12,7 +12,7 @@ use Rattle.image_file.specs.Faults.{Faulty}
 use Rattle.image_file.specs.declared.fault.ImageFault.{ImageFault}
 use Rattle.trace_text.specs.ArrivalsText.{ArrivalsFault}
 use Rattle.trace_text.specs.Listing.{listing}
-use Rattle.trace_text.specs.declared.print.Form.TheVariants as form
+use Rattle.trace_text.specs.declared.printing.Form.TheVariants as form
 use Rattle.command_line.specs.Command.{Command, Execution, Builds, Executes, Lists, Samples, Uses}
 use Rattle.sloth_cli.specs.Inputs.{AreRead}
 use Rattle.sloth_cli.specs.FileInputs.{IsInput}
@@ -45,7 +45,7 @@ pub record IsRunnable (old : Files) (e : Execution) (image : Image) (arrivals : 
   pub arr : List ℕ
   pub inputs : AreExecInputs old e file arr
   pub is_image : ImageText file image
-  pub read : AreRead image.tasks arr arrivals
+  pub read : AreRead image.tasks image.counters arr arrivals
   -- so the machine has their lines
   pub in_range : AreArrivals (owners_named image) arrivals
 
@@ -73,7 +73,7 @@ pub record IsExecRefused (old : Files) (e : Execution) (refusal : Refusal) : Typ
   pub image : Image
   pub inputs : AreExecInputs old e file arr
   pub is_image : ImageText file image
-  pub least : IsLeast (ArrivalsFault image.tasks arr) refusal
+  pub least : IsLeast (ArrivalsFault image.tasks image.counters arr) refusal
 
 -- ---- `list`
 

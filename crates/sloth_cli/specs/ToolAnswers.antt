@@ -44,11 +44,11 @@ pub record ToolWorks (a : ToolAnswer) (output : Option (List ℕ)) (old new : Wo
 abbrev pub TellsTool : List (List ℕ) → World → World → Status → Type 0
 TellsTool words old new answer =
     (u : ToolUse) → IsCommand words (Uses u) → IsTrue old.files.tells → (inputs : List (List ℕ)) → AreToolInputs old.files u.inputs inputs
-    → ReadsWork old.files new.files → (a : ToolAnswer) → IsAnswer u.tool u.number inputs a → AnswersTool words a u.output old new answer
+    → ReadsWork old.files new.files → (a : ToolAnswer) → IsAnswer u.tool u.counts inputs a → AnswersTool words a u.output old new answer
 
 -- And no call failed: this answer, or memory was wanting.
 abbrev pub TellsToolDone : List (List ℕ) → World → World → Status → Type 0
 TellsToolDone words old new answer =
     (u : ToolUse) → IsCommand words (Uses u) → IsTrue old.files.tells → (inputs : List (List ℕ)) → AreToolInputs old.files u.inputs inputs
-    → (a : ToolAnswer) → IsAnswer u.tool u.number inputs a → ToolWorks a u.output old new
+    → (a : ToolAnswer) → IsAnswer u.tool u.counts inputs a → ToolWorks a u.output old new
     → IsTold a u.output old new answer ⊎ EndsAs status.NoMemory words old new answer

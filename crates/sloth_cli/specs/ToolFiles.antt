@@ -20,7 +20,7 @@ AreToolInputs files (name ∷ names) (bytes ∷ rest) = IsInput files name bytes
 pub record IsToolAnswer (files : Files) (u : ToolUse) (answer : ToolAnswer) : Type 0 where
   pub inputs : List (List ℕ)
   pub read : AreToolInputs files u.inputs inputs
-  pub is : IsAnswer u.tool u.number inputs answer
+  pub is : IsAnswer u.tool u.counts inputs answer
 
 -- the tool reads an image file first, which has these bytes
 pub record ReadsImageFirst (files : Files) (u : ToolUse) (file : List ℕ) : Type 0 where

@@ -16,7 +16,7 @@ use Rattle.next_events.specs.NextEvents.{IsOnlyRun}
 use Rattle.sim_induction.specs.Sound.{Sound, events_of}
 use Rattle.sim_states.specs.Shown.{ShowsStates}
 use Rattle.sloth_io.specs.Counts.{Rose, Stays}
-use Rattle.sloth_io.specs.Sink.{Output, output_with, GainsPart}
+use Rattle.sloth_io.specs.Sink.{Output, output_with, GainsPart, FailsToPassOn}
 use Rattle.sloth_io.specs.Store.{Files, Holds, KeepsOthers, IsMissing, IsTooLong, IsUnwritten, is_space_for}
 use Rattle.image_file.specs.ImageText.{image_bytes}
 use Rattle.image_file.specs.declared.fault.ImageFault.{ImageFault}
@@ -30,7 +30,7 @@ use Rattle.tool_commands.specs.declared.answer.ToolAnswer.{ToolAnswer}
 use Rattle.tool_commands.specs.declared.answer.ToolAnswer.TheVariants as tool_answer
 use Rattle.tool_commands.specs.declared.answer.Outcome.{Outcome}
 use Rattle.tool_commands.specs.declared.answer.TraceFault.{TraceFault}
-pub use Rattle.trace_command.specs.Inputs.{names_of, IsRefusal}
+pub use Rattle.trace_command.specs.Inputs.{names_of, counter_names, IsRefusal}
 use Rattle.sloth_cli.specs.Inputs.{input_limit, AreRead}
 use Rattle.sloth_cli.specs.ToolFiles.{IsToolAnswer, tool_status}
 use Rattle.sloth_cli.specs.ImageFiles.{IsExecuted, IsExecRefused, IsListed, IsNoImage}
@@ -118,7 +118,7 @@ pub record IsAccepted (old : Files) (c : Building) (config : Config) (app : App)
   pub arr : List ℕ
   pub inputs : AreInputs old c oil src arr
   pub accepted : Accepted oil src config app
-  pub read : AreRead (names_of config) arr arrivals
+  pub read : AreRead (names_of config) (counter_names config) arr arrivals
   -- so they are among those of which an image is sound
   pub in_range : AreArrivals (owners_in config) arrivals
 
@@ -156,8 +156,9 @@ pub record IsBuiltImage (config : Config) (app : App) (image : Image) : Type 0 w
   pub items : ItemsInPlace image config app
   -- its numbers and names are those of an image file
   pub format : InFormat image
-  -- its tasks have the names of the configuration
+  -- its tasks and counters have the names of the configuration
   pub names : image.tasks ≡ names_of config
+  pub counters : image.counters ≡ counter_names config
 
 -- the events that a run of the image shows keep the priority ceiling protocol; a command that runs nothing shows none
 abbrev pub ShownKeepProtocol : Config → App → Image → List Arrival → Option Run → Type 0
@@ -306,6 +307,10 @@ BrokeOff old new text = GainsPart old new text
 abbrev pub Puts : Status → Status → Output → Output → List ℕ → Type 0
 Puts wanted answer old new text = ((answer ≡ wanted) × Took old new text) ⊎ ((answer ≡ status.WriteFault) × BrokeOff old new text)
 
+-- what the sink holds back was handed on, with this answer; or it was not, which is answered by WriteFault
+abbrev pub Closes : Status → Status → Output → Output → Type 0
+Closes wanted answer old new = ((answer ≡ wanted) × (new ≡ old)) ⊎ ((answer ≡ status.WriteFault) × FailsToPassOn old new)
+
 -- What an answer requires: its cause, this text, and what the files hold.
 abbrev pub Requires : Status → List (List ℕ) → Files → Files → List ℕ → Type 0
 Requires status.Done words old new text = (c : Command) × IsCommand words c × CommandDone old new c text
@@ -403,5 +408,5 @@ TellsRefused words old new answer =
 abbrev pub IsComplete : List (List ℕ) → World → World → Status → Type 0
 IsComplete words old new answer =
     (c : Building) → IsCommand words (Builds c) → (oil src arr : List ℕ) → AreThere old.files c oil src arr
-    → (config : Config) (app : App) → Accepted oil src config app → (arrivals : List Arrival) → AreRead (names_of config) arr arrivals
+    → (config : Config) (app : App) → Accepted oil src config app → (arrivals : List Arrival) → AreRead (names_of config) (counter_names config) arr arrivals
     → CallsWork c config app arrivals old new → EndsAs status.Done words old new answer ⊎ EndsAs status.NoMemory words old new answer

@@ -28,7 +28,7 @@ use sloth_io::sink::{Sink, SinkFault};
 use sloth_io::store::Store;
 use sloth_runner::runner::{RunEnd, Runner};
 use std::alloc::Global;
-use trace_text::print::Form;
+use trace_text::printing::Form;
 use trace_text::read_arrivals;
 
 // An image file and an arrivals file.
@@ -62,12 +62,17 @@ struct Loaded {
 fn load(alloc: Global, inputs: &ExecInputs) -> Result<Loaded, Failure>
     requires { length inputs.now.arr.items ≤ input_limit }
     ensures image { IfOk result (λ loaded. ImageText inputs.now.file.items loaded.image) }
-    ensures read { IfOk result (λ loaded. AreRead loaded.image.tasks inputs.now.arr.items loaded.arrivals.items) }
+    ensures read { IfOk result (λ loaded. AreRead loaded.image.tasks loaded.image.counters inputs.now.arr.items loaded.arrivals.items) }
     ensures in_range { IfOk result (λ loaded. AreArrivals (owners_named loaded.image) loaded.arrivals.items) }
     ensures err { IfErr result (λ failure. LoadFailed failure inputs.now.file.items inputs.now.arr.items) }
 {
     let image = read_image(alloc, inputs.file.as_slice())?;
-    let arrivals = read_arrivals(alloc, inputs.arr.as_slice(), image.tasks.items())?;
+    let arrivals = read_arrivals(
+        alloc,
+        inputs.arr.as_slice(),
+        image.tasks.items(),
+        image.counters.items(),
+    )?;
     Ok(Loaded { image, arrivals })
 }
 

@@ -155,6 +155,6 @@ pub fn use_tool<F: Store, S: Sink>(
         (world (F.seen files.old) (S.seen out.old)) (world (F.seen files.new) (S.seen out.new)) (Uses (use_of words.now))) }
 {
     let inputs = fetch_all(alloc, files, words.inputs)?;
-    let answer = judge(alloc, words.tool, words.number, inputs.as_slice())?;
+    let answer = judge(alloc, words.tool, words.counts, inputs.as_slice())?;
     tell(files, out, words, &answer)
 }

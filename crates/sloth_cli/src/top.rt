@@ -11,8 +11,8 @@ ghost use Rattle.command_line.specs.Words.{building_of, command_of, run_of};
 ghost use Rattle.sloth_cli.specs.Inputs.{input_limit, AreRead};
 ghost use Rattle.command_line.specs.LastLine.{built_line};
 ghost use Rattle.sloth_runner.specs.Runner.{run_text};
-ghost use Rattle.sloth_cli.specs.Top.{world, arrivals_named, inputs_of, names_of, AreInputs, HoldsArrivals, IsBuiltImage, IsWritten, done_text};
-ghost use Rattle.sloth_cli.specs.Top.{Took, Puts, Answers, TellsUsage, TellsRefused, IsComplete};
+ghost use Rattle.sloth_cli.specs.Top.{world, arrivals_named, inputs_of, names_of, counter_names, AreInputs, HoldsArrivals, IsBuiltImage, IsWritten, done_text};
+ghost use Rattle.sloth_cli.specs.Top.{Took, Puts, Closes, Answers, TellsUsage, TellsRefused, IsComplete};
 ghost use Rattle.sloth_cli.specs.ImageAnswers.{TellsFault, TellsNoImage, TellsExecRefused, TellsExecuted, TellsListed};
 ghost use Rattle.sloth_cli.specs.SampleAnswers.{TellsSampleRefused, TellsSampled};
 ghost use Rattle.sloth_cli.specs.ToolAnswers.{TellsTool, TellsToolDone};
@@ -134,12 +134,17 @@ fn judge(alloc: Global, inputs: &Inputs) -> Result<Judged, Failure>
     requires arr { length inputs.now.arr.items ≤ input_limit }
     ensures accepted { IfOk result (λ judged. Accepted inputs.now.oil.items inputs.now.src.items judged.config judged.app) }
     ensures image { IfOk result (λ judged. IsBuiltImage judged.config judged.app judged.image) }
-    ensures read { IfOk result (λ judged. AreRead (names_of judged.config) inputs.now.arr.items judged.arrivals.items) }
+    ensures read { IfOk result (λ judged. AreRead (names_of judged.config) (counter_names judged.config) inputs.now.arr.items judged.arrivals.items) }
     ensures in_range { IfOk result (λ judged. AreArrivals (owners_in judged.config) judged.arrivals.items) }
     ensures err { IfErr result (λ failure. JudgeFailed failure inputs.now.oil.items inputs.now.src.items inputs.now.arr.items) }
 {
     let Built { config, app, image } = build(alloc, inputs.oil.as_slice(), inputs.src.as_slice())?;
-    let arrivals = read_arrivals(alloc, inputs.arr.as_slice(), image.tasks.items())?;
+    let arrivals = read_arrivals(
+        alloc,
+        inputs.arr.as_slice(),
+        image.tasks.items(),
+        image.counters.items(),
+    )?;
     Ok(Judged {
         config,
         app,
@@ -276,12 +281,22 @@ fn obey<F: Store, S: Sink>(
     }
 }
 
-// Puts a last line. Where it can't be put, the status is WriteFault.
+// Hands on what the sink holds back. Where it can't be, the status is WriteFault.
+fn close<S: Sink>(out: &mut S, status: Status) -> Status
+    ensures { Closes status result (S.seen out.old) (S.seen out.new) }
+{
+    match out.flush() {
+        Ok(()) => status,
+        Err(_) => Status::WriteFault,
+    }
+}
+
+// Puts a last line. Where it can't be put or handed on, the status is WriteFault.
 fn say<S: Sink>(out: &mut S, line: &[u8], status: Status) -> Status
     ensures { Puts status result (S.seen out.old) (S.seen out.new) line.now }
 {
     match out.put(line) {
-        Ok(()) => status,
+        Ok(()) => close(out, status),
         Err(_) => Status::WriteFault,
     }
 }
@@ -310,7 +325,7 @@ fn answer<F: Store, S: Sink>(alloc: Global, words: &[String], files: &mut F, out
     };
     match obey(alloc, files, out, &c) {
         Err(failure) => finish(out, failure),
-        Ok(status) => status,
+        Ok(status) => close(out, status),
     }
 }
 

@@ -4,7 +4,7 @@ use Rattle.std.proofs.Common.{append_assoc, append-nil, take, drop, Bool, true, 
 use Rattle.std.specs.Prelude.{◌&&◌, nat_le, is_none}
 use Rattle.std.proofs.lemmas.List.{take-append-drop, length-append}
 use Rattle.sloth_io.specs.MemSink.{limit_of, part_of, told_space}
-use Rattle.sloth_io.specs.Sink.{Output, longer_bytes, output_with, failed_output, GainsPart, HasNoSpace}
+use Rattle.sloth_io.specs.Sink.{Output, longer_bytes, output_with, failed_output, GainsPart, HasNoSpace, FailsToPassOn}
 
 longer-longer : (taken : Option (List ℕ)) (one other : List ℕ) → longer_bytes (longer_bytes taken one) other ≡ longer_bytes taken (one ++ other)
 longer-longer None one other = refl
@@ -45,6 +45,13 @@ part-behind before between after front piece more all h p e =
       p.3 ∙ ap (λ x. failed_output (output_with x p.0)) h ∙ ap failed_output (gains-gains before front p.0),
       no-space-behind before.taken before.space front piece more all e (subst N h p.4),
     )
+
+-- a text that was taken and could not be handed on: all of it is the part that was taken
+pub part-whole : (old mid new : Output) (text : List ℕ) → mid ≡ output_with old text → FailsToPassOn mid new → GainsPart old new text
+part-whole old mid new text took failed =
+    let untold : old.space ≡ None = sym (ap (λ (x : Output). x.space) took) ∙ failed.0 in
+    let none : HasNoSpace old.taken old.space text = subst (λ (s : Option ℕ). HasNoSpace old.taken s text) (sym untold) tt in
+    (text, [], sym (append-nil text), failed.1 ∙ ap failed_output took, none)
 
 -- what a sink in memory shows
 abbrev pub sink_shown : List ℕ → ℕ → List (ℕ × ℕ) → ℕ → Output

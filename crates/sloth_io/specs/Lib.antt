@@ -5,3 +5,4 @@ pub mod MemSink
 pub mod MemStore
 pub mod FileStore
 pub mod OutSink
+pub mod Buffered

@@ -1,5 +1,5 @@
 -- Standard output.
-use Rattle.std.specs.Prelude.{ℕ, None}
+use Rattle.std.specs.Prelude.{◌≡◌, ℕ, List, ◌++◌, None}
 use Rattle.sloth_io.specs.Sink.{Output}
 use Rattle.sloth_io.specs.declared.out_sink.OutSink.{OutSink}
 
@@ -7,6 +7,10 @@ use Rattle.sloth_io.specs.declared.out_sink.OutSink.{OutSink}
 abbrev pub shown_output : {P : Type 0} → OutSink P → Output
 shown_output sink = record { taken = None; space = None; faults = sink.faults }
 
--- how many bytes of the last piece were taken
-abbrev pub taken_bytes : {P : Type 0} → OutSink P → ℕ
-taken_bytes sink = sink.taken
+-- the bytes that were taken and are not yet written
+abbrev pub held_back : {P : Type 0} → OutSink P → List ℕ
+held_back sink = sink.to.backlog
+
+-- these are the last bytes of a text
+abbrev pub EndsWith : List ℕ → List ℕ → Type 0
+EndsWith text last = (front : List ℕ) × (text ≡ front ++ last)

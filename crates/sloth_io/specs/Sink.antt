@@ -30,3 +30,7 @@ HasNoSpace (Some taken) (Some space) piece = space < length taken + length piece
 abbrev pub GainsPart : Output → Output → List ℕ → Type 0
 GainsPart old new piece =
     (part rest : List ℕ) × (piece ≡ part ++ rest) × (new ≡ failed_output (output_with old part)) × HasNoSpace old.taken old.space piece
+
+-- what was taken was not handed on, which a sink that tells its space never answers; one failed call is counted
+abbrev pub FailsToPassOn : Output → Output → Type 0
+FailsToPassOn old new = (old.space ≡ None) × (new ≡ failed_output old)

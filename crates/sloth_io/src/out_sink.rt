@@ -1,31 +1,44 @@
 //! Standard output.
-ghost use Rattle.std.specs.Prelude.{◌≡◌, ◌≤◌, ◌<◌, OnErr, OnOk, length};
-ghost use Rattle.sloth_io.specs.Sink.{output_with, GainsPart};
-ghost use Rattle.sloth_io.specs.OutSink.{shown_output, taken_bytes};
+ghost use Rattle.std.specs.Prelude.{◌≡◌, ◌≤◌, ◌++◌, [], OnErr, OnOk};
+ghost use Rattle.sloth_io.specs.Sink.{output_with, failed_output, GainsPart, FailsToPassOn};
+ghost use Rattle.sloth_io.specs.OutSink.{shown_output, held_back, EndsWith};
 
+use crate::buffered::Buffered;
 use crate::sink::{Sink, SinkFault};
-use crate::whole::write_whole;
 use std::io;
 use std::io::Write;
 
-/// Standard output. It tells nothing, counts its faults, and keeps how many bytes of the last piece were taken.
+/// Standard output, behind a buffer. It tells nothing, and counts its faults.
 #[derive(Drop)]
 pub struct OutSink<'a, P> {
-    to: &'a P,
+    to: Buffered<Printer<'a, P>>,
     faults: u64,
-    taken: usize,
 }
 
 impl<'a, P: Print> OutSink<'a, P> {
-    /// What this handle prints to, with no fault counted.
+    /// What this handle prints to, with no fault counted, and nothing held back.
     pub fn new(to: &'a P) -> OutSink<'a, P>
-        ensures { (shown_output result).faults ≡ 0 }
+        ensures faults { (shown_output result).faults ≡ 0 }
+        ensures backlog { held_back result ≡ [] }
     {
         OutSink {
-            to,
+            to: Buffered::new(Printer(to)),
             faults: 0,
-            taken: 0,
         }
+    }
+
+    // Counts a failed call.
+    fn counted(&mut self, outcome: Result<(), SinkFault>) -> Result<(), SinkFault>
+        ensures outcome { result ≡ outcome }
+        ensures ok { OnOk result (shown_output self.new ≡ shown_output self.old) }
+        ensures err { OnErr result (shown_output self.new ≡ failed_output (shown_output self.old)) }
+        ensures never_falls { (shown_output self.old).faults ≤ (shown_output self.new).faults }
+        ensures to { self.new.to ≡ self.old.to }
+    {
+        if outcome.is_err() {
+            self.faults = self.faults.saturating_add(1);
+        }
+        outcome
     }
 }
 
@@ -51,15 +64,20 @@ impl<'a, P: Print> Sink for OutSink<'a, P> {
         ensures err { OnErr result (GainsPart (shown_output self.old) (shown_output self.new) piece.now) }
         ensures never_falls { (shown_output self.old).faults ≤ (shown_output self.new).faults }
 
-        // A put is done exactly where all bytes were taken.
-        ensures taken { OnOk result (taken_bytes self.new ≡ length piece.now) }
-        ensures short { OnErr result (taken_bytes self.new < length piece.now) }
+        // What is not written of the bytes taken is held back.
+        ensures kept { OnOk result (EndsWith (held_back self.old ++ piece.now) (held_back self.new)) }
     {
-        self.taken = write_whole(&mut Printer(self.to), piece);
-        if self.taken == piece.len() {
-            return Ok(());
-        }
-        self.faults = self.faults.saturating_add(1);
-        Err(SinkFault::Failed)
+        let outcome = self.to.put(piece);
+        self.counted(outcome)
+    }
+
+    fn flush(&mut self) -> Result<(), SinkFault>
+        ensures ok { OnOk result (shown_output self.new ≡ shown_output self.old) }
+        ensures err { OnErr result (FailsToPassOn (shown_output self.old) (shown_output self.new)) }
+        ensures never_falls { (shown_output self.old).faults ≤ (shown_output self.new).faults }
+        ensures backlog { held_back self.new ≡ [] }
+    {
+        let outcome = self.to.flush();
+        self.counted(outcome)
     }
 }

@@ -1,6 +1,6 @@
 //! Where lines are printed.
 ghost use Rattle.std.specs.Prelude.{◌≡◌, ◌≤◌, OnErr, OnOk};
-ghost use Rattle.sloth_io.specs.Sink.{Output, output_with, GainsPart};
+ghost use Rattle.sloth_io.specs.Sink.{Output, output_with, GainsPart, FailsToPassOn};
 
 use thiserror::Error;
 
@@ -11,7 +11,7 @@ pub enum SinkFault {
     Failed,
 }
 
-/// Where bytes go. A sink may tell what it took, and counts its faults.
+/// Where bytes go. A sink may tell what it took, and counts its faults. One that holds back what it took hands it on in `flush`.
 pub trait Sink {
     /// What the sink took and how much more it takes, where it tells that, and its count.
     ghost seen: { Self → Output };
@@ -21,4 +21,14 @@ pub trait Sink {
         ensures ok { OnOk result (seen self.new ≡ output_with (seen self.old) piece.now) }
         ensures err { OnErr result (GainsPart (seen self.old) (seen self.new) piece.now) }
         ensures never_falls { (seen self.old).faults ≤ (seen self.new).faults };
+
+    /// Hands on what was taken and is held back. Nothing that is taken changes. A failed call alone is counted; a sink that
+    /// tells its space has none.
+    fn flush(&mut self) -> Result<(), SinkFault>
+        ensures ok { OnOk result (seen self.new ≡ seen self.old) }
+        ensures err { OnErr result (FailsToPassOn (seen self.old) (seen self.new)) }
+        ensures never_falls { (seen self.old).faults ≤ (seen self.new).faults }
+    {
+        Ok(())
+    }
 }

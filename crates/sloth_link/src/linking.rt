@@ -8,13 +8,13 @@ ghost use Rattle.rv32_expand.specs.InPlace.{ItemsInPlace};
 ghost use Rattle.mem_map.specs.Zones.{data_zone};
 ghost use Rattle.sloth_link.specs.Image.{MayLink, all_blocks, all_data, memory_size};
 ghost use Rattle.sloth_link.specs.Linked.{marks_of, HaveOwnAddresses, addresses, HaveRoom, AreLinked, sections_of, BlockStands, datum_section, Holds, linked};
-ghost use Rattle.sloth_link.specs.Names.{task_names, function_names};
+ghost use Rattle.sloth_link.specs.Names.{task_names, counter_names, function_names};
 ghost use Rattle.sloth_link.specs.Standing.{ItemsStand};
 
 use crate::datum::Datum;
 use crate::items::items;
 use crate::marking::marks;
-use crate::names::{function_names, task_names};
+use crate::names::{counter_names, function_names, task_names};
 use crate::symbols::symbols;
 use crate::writing::{write_blocks, write_data};
 use mem_map::data_zone;
@@ -157,6 +157,7 @@ pub fn link(
     ensures ascending { IfOk result (λ image. IsStrictlyIncreasing (addresses image.marks)) }
     ensures tasks { IfOk result (λ image. image.tasks ≡ task_names config.now) }
     ensures functions { IfOk result (λ image. image.funcs ≡ function_names app.now) }
+    ensures counters { IfOk result (λ image. image.counters ≡ counter_names config.now) }
 {
     let items = items(alloc, app, &map.places)?;
     let symbols = symbols(alloc, app, &map.places)?;
@@ -164,6 +165,7 @@ pub fn link(
     Ok(Image {
         tasks: task_names(alloc, config)?,
         funcs: function_names(alloc, app)?,
+        counters: counter_names(alloc, config)?,
         memory: linked.memory,
         marks: linked.marks,
     })

@@ -1,6 +1,6 @@
 //! The names in an image.
 ghost use Rattle.std.specs.Prelude.{◌≡◌, ◌++◌, ◌∷◌, [], IfOk, OnOk};
-ghost use Rattle.sloth_link.specs.Names.{task_names, function_names};
+ghost use Rattle.sloth_link.specs.Names.{task_names, counter_names, function_names};
 
 use sloth_base::app::App;
 use sloth_base::config::Config;
@@ -26,6 +26,17 @@ pub fn task_names(alloc: Global, config: &Config) -> Result<List<Name>, NoMemory
     let mut names = Vec::new(alloc);
     for task in config.tasks.items() {
         push(&mut names, Name::new(alloc, task.name.bytes())?)?;
+    }
+    Ok(List::from_vec(names))
+}
+
+/// The name of each counter.
+pub fn counter_names(alloc: Global, config: &Config) -> Result<List<Name>, NoMemory>
+    ensures { IfOk result (λ names. names ≡ counter_names config.now) }
+{
+    let mut names = Vec::new(alloc);
+    for counter in config.counters.items() {
+        push(&mut names, Name::new(alloc, counter.name.bytes())?)?;
     }
     Ok(List::from_vec(names))
 }

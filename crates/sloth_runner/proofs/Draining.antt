@@ -6,10 +6,10 @@ use Rattle.sloth_base.specs.declared.event.Stamped.{Stamped}
 use Rattle.sloth_io.specs.Sink.{Output, output_with, GainsPart}
 use Rattle.sloth_io.proofs.Gains.{gains-gains, gains-nil, part-behind}
 use Rattle.trace_text.specs.Texts.{text_after, ends_idle, is_idle}
-use Rattle.trace_text.specs.declared.print.Form.{Form}
-use Rattle.trace_text.specs.declared.print.Form.TheVariants as form
+use Rattle.trace_text.specs.declared.printing.Form.{Form}
+use Rattle.trace_text.specs.declared.printing.Form.TheVariants as form
 use Rattle.trace_text.proofs.Appends.{text_after-append}
-use Rattle.observe.specs.declared.observer.Observer.{Observer}
+use Rattle.observe.specs.declared.observing.Observer.{Observer}
 use Rattle.observe.specs.Progress.{Fed, remaining, view_of, arrivals_of, expected_of}
 use Rattle.sloth_runner.specs.Runner.{HandsOut, HandingOut, Draining}
 

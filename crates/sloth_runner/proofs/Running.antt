@@ -7,8 +7,8 @@ use Rattle.sloth_base.specs.declared.event.Stamped.{Stamped}
 use Rattle.sloth_io.specs.Sink.{Output, output_with, GainsPart}
 use Rattle.sloth_io.proofs.Gains.{gains-gains, gains-nil, part-behind}
 use Rattle.trace_text.specs.Texts.{text_after, text_in, ends_idle}
-use Rattle.trace_text.specs.declared.print.Form.{Form}
-use Rattle.trace_text.specs.declared.print.Form.TheVariants as form
+use Rattle.trace_text.specs.declared.printing.Form.{Form}
+use Rattle.trace_text.specs.declared.printing.Form.TheVariants as form
 use Rattle.trace_text.proofs.Appends.{text_after-append}
 use Rattle.observe.specs.Observe.{observe, view_of_image}
 use Rattle.observe.proofs.Growing.{observe-front, observe-nothing}

@@ -20,8 +20,8 @@ use Rattle.sloth_runner.proofs.Turning.{advanced-adds}
 use Rattle.sloth_runner.proofs.Bounded.{few-events}
 
 -- the number of a kind
-at : (events : List Stamped) (kind d : ℕ) → kind < 9 → get_or (counts_of events) kind d ≡ count_of_kind events kind
-at events kind d h = get_or-map-range_with_len (count_of_kind events) 0 9 kind kind d h (omega arith)
+at : (events : List Stamped) (kind d : ℕ) → kind < 10 → get_or (counts_of events) kind d ≡ count_of_kind events kind
+at events kind d h = get_or-map-range_with_len (count_of_kind events) 0 10 kind kind d h (omega arith)
 
 -- one event more
 one-of : (events : List Stamped) (e : Stamped) (kind : ℕ) → count_of_kind (events ++ e ∷ []) kind ≡ count_of_kind events kind + cond (kind_of e.event == kind) 1 0
@@ -29,7 +29,7 @@ one-of events e kind =
     let one : 0 + cond (kind_of e.event == kind) 1 0 ≡ cond (kind_of e.event == kind) 1 0 = omega arith in
     sum_by-append (λ (x : Stamped). cond (kind_of x.event == kind) 1 0) events (e ∷ []) ∙ ap (λ k. count_of_kind events kind + k) one
 
-kind-below : (e : Event) → kind_of e < 9
+kind-below : (e : Event) → kind_of e < 10
 kind-below event.Boot = omega arith
 kind-below e = omega arith
 
@@ -41,7 +41,7 @@ one-more events e =
     let v = slice_index old k + 1 in
     ext_get_or 0 (set old k v) (counts_of (events ++ e ∷ [])) (length-set old k v) (λ i h.
     let size = length-set old k v in
-    let inside : i < 9 = omega (arith, size, h) in
+    let inside : i < 10 = omega (arith, size, h) in
     let new = sym (one-of events e i) ∙ sym (at (events ++ e ∷ []) i 0 inside) in
     ⊎_elim
     (λ yes. ap (λ j. get_or (set old k v) j 0) (sym yes.1) ∙ get_or-set_same old k v 0 below ∙ ap (λ x. x + 1) (at events k 0 below)

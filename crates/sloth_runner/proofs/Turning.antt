@@ -10,10 +10,10 @@ use Rattle.sloth_base.specs.declared.event.Stamped.{Stamped}
 use Rattle.sloth_base.specs.declared.step.Step.{Step}
 use Rattle.sloth_base.specs.Owners.{owners_named, IsOwned}
 use Rattle.sloth_base.specs.declared.lines.Owners.{Owners}
-use Rattle.sloth_base.proofs.Owners.{owned_task}
+use Rattle.sloth_base.proofs.Owners.{owned_below}
 use Rattle.observe.specs.Observe.{observe, view_of_image}
 use Rattle.observe.specs.Progress.{Fed, remaining, view_of, arrivals_of, expected_of, from, here, behind}
-use Rattle.observe.specs.declared.observer.Observer.{Observer}
+use Rattle.observe.specs.declared.observing.Observer.{Observer}
 use Rattle.observe.proofs.Moments.{here-from, behind-from}
 use Rattle.observe.proofs.Growing.{observe-nothing}
 use Rattle.rv32_machine.specs.Start.{start}
@@ -161,8 +161,8 @@ pub lines-drop : (n : ℕ) (A : List Arrival) → AreLines A → AreLines (drop 
 lines-drop n A h = All-drop (λ (a : Arrival). a.line < 32) n A h
 
 -- lines that have owners are lines of the controller
-pub controller-lines : (owners : Owners) (A : List Arrival) → owners.tasks ≤ 30 → All (λ (a : Arrival). IsOwned owners a.line) A → AreLines A
-controller-lines owners A few h k d l = let below = owned_task owners _ (h k d l) in omega arith
+pub controller-lines : (owners : Owners) (A : List Arrival) → owners.tasks ≤ 30 → owners.counters ≤ 2 → All (λ (a : Arrival). IsOwned owners a.line) A → AreLines A
+controller-lines owners A few counters h k d l = owned_below owners _ few counters (h k d l)
 
 -- an observer that was fed nothing
 pub first-fed : (o : Observer) (image : Image) → Fed o [] [] → Fed o (run_steps image (arrivals_of o) 0) (events_of image (arrivals_of o) 0)

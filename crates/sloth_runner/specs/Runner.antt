@@ -9,10 +9,10 @@ use Rattle.sloth_base.specs.declared.event.Stamped.{Stamped}
 use Rattle.sloth_base.specs.declared.step.Step.{Step}
 use Rattle.sloth_io.specs.Sink.{Output, output_with, GainsPart}
 use Rattle.trace_text.specs.Texts.{text_after, text_in, ends_idle}
-use Rattle.trace_text.specs.declared.print.Form.{Form}
+use Rattle.trace_text.specs.declared.printing.Form.{Form}
 use Rattle.observe.specs.Observe.{view_of_image}
 use Rattle.observe.specs.Progress.{Fed, remaining, view_of, arrivals_of, expected_of, from, behind}
-use Rattle.observe.specs.declared.observer.Observer.{Observer}
+use Rattle.observe.specs.declared.observing.Observer.{Observer}
 use Rattle.sim_induction.specs.Sound.{events_of}
 use Rattle.rv32_machine.specs.Start.{start}
 use Rattle.rv32_machine.specs.Advance.{Goes, Halts, advance}

@@ -1,13 +1,14 @@
 -- What a run shows of its tasks at a count.
-use Rattle.std.specs.Prelude.{ℕ, ◌≡◌, ◌+◌, ◌<◌, ◌≤◌, List, length, Option, Some, None, true, false, not, if◌then◌else◌}
+use Rattle.std.specs.Prelude.{ℕ, ◌≡◌, ◌+◌, ◌<◌, ◌≤◌, Bool, List, [], ◌∷◌, length, Option, Some, None, true, false, not, if◌then◌else◌}
 use Rattle.sloth_base.specs.declared.image.Image.{Image}
 use Rattle.sloth_base.specs.declared.event.Arrival.{Arrival}
 use Rattle.sloth_base.specs.Machine.{State}
-use Rattle.rv32_instr.specs.Memory.{memory_of}
+use Rattle.rv32_instr.specs.Memory.{Memory, memory_of}
 use Rattle.rv32_machine.specs.Start.{start}
 use Rattle.rv32_machine.specs.Run.{arrived, state_after}
 use Rattle.osek_scheduler.specs.declared.state.TaskState.{TaskState}
-use Rattle.sloth_inspect.specs.States.{states_in, running_in, pending_in, levels_in}
+use Rattle.sloth_base.specs.Owners.{counter_line}
+use Rattle.sloth_inspect.specs.States.{states_in, running_in, is_pending_in, pending_in, levels_in}
 use Rattle.sloth_runner.specs.declared.runner.RunEnd.TheVariants as ends
 use Rattle.sloth_runner.specs.declared.sight.Interrupts.{Interrupts}
 use Rattle.sloth_runner.specs.declared.sight.Seen.{Seen}
@@ -23,10 +24,16 @@ task_states image state = states_in (memory_of state.core) (length image.tasks)
 abbrev pub running_task : State → ℕ
 running_task state = running_in (memory_of state.core)
 
--- what a state of the machine shows of interrupts: which lines of the image's tasks are pending, the running level, and whether all are masked
+-- the lines of the two counters that there may be are pending
+abbrev pub counters_pending_in : Memory → List Bool
+counters_pending_in memory = is_pending_in memory (counter_line 0) ∷ is_pending_in memory (counter_line 1) ∷ []
+
+-- what a state of the machine shows of interrupts: which lines of the image's tasks and which of counters are pending, the running level, and
+-- whether all are masked
 abbrev pub interrupts_in : Image → State → Interrupts
 interrupts_in image state = record {
   pending = pending_in (memory_of state.core) (length image.tasks);
+  counters_pending = counters_pending_in (memory_of state.core);
   level = state.core.ilevel;
   masked = not state.core.mie;
 }

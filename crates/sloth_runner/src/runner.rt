@@ -9,14 +9,15 @@ ghost use Rattle.trace_text.specs.Texts.{ends_idle, is_idle};
 ghost use Rattle.observe.specs.Progress.{remaining, view_of, arrivals_of, expected_of, here};
 ghost use Rattle.sloth_runner.specs.Runner.{AreLines, sloth_state, lines_of, HandsOut};
 
-use observe::observer::Observer;
+use observe::Observer;
 use rv32_machine::{Machine, SlothBus, Step, Stop, blank_step};
 use sloth_base::event::{Arrival, Event, Stamped};
 use sloth_base::image::Image;
 use sloth_base::memory::NoMemory;
 use sloth_io::sink::{Sink, SinkFault};
 use std::alloc::Global;
-use trace_text::print::{Form, print};
+use trace_text::print;
+use trace_text::printing::Form;
 
 /// How a run ended: after all its instructions, or before an instruction at `pc` that the machine stops at.
 #[derive(Clone, Copy, Debug, PartialEq, Eq)]

@@ -2,11 +2,13 @@
 ghost use Rattle.std.specs.Prelude.{◌≡◌, ◌<◌, ◌≤◌, length};
 ghost use Rattle.sloth_inspect.specs.States.{states_in, running_in};
 ghost use Rattle.sloth_runner.specs.Runner.{sloth_state};
-ghost use Rattle.sloth_runner.specs.Sight.{seen_at, interrupts_in, task_levels};
+ghost use Rattle.sloth_runner.specs.Sight.{seen_at, counters_pending_in, interrupts_in, task_levels};
 
 use crate::runner::Runner;
 use osek_scheduler::state::TaskState;
 use rv32_machine::{SlothBus, Stop};
+use sloth_base::lines::COUNTER_LINE;
+use sloth_base::numbers::Line;
 use sloth_inspect::{TASKS, levels, pending, running, states};
 
 /// The states of the tasks at a count, in 30 places.
@@ -23,11 +25,16 @@ pub struct Seen {
 pub struct Interrupts {
     /// Whether each task's line is pending, in 30 places.
     pub pending: [bool; TASKS],
+    /// Whether the line of each counter is pending.
+    pub counters_pending: [bool; COUNTERS],
     /// The running level, 0 to 255.
     pub level: u8,
     /// Whether interrupts are masked.
     pub masked: bool,
 }
+
+/// How many counters there are at most.
+pub const COUNTERS: usize = 2;
 
 /// What a run shows of its tasks.
 #[derive(Clone, Copy, Debug, PartialEq, Eq)]
@@ -51,6 +58,16 @@ fn seen_of(bus: &mut SlothBus, count: u32, tasks: u32) -> Seen
         tasks: states(bus, tasks),
         running: running(bus),
     }
+}
+
+// Whether the line of each counter is pending.
+fn counters_pending(bus: &SlothBus) -> [bool; COUNTERS]
+    ensures { result ≡ counters_pending_in bus.now }
+{
+    [
+        bus.is_pending(Line(COUNTER_LINE)),
+        bus.is_pending(Line(COUNTER_LINE + 1)),
+    ]
 }
 
 impl<'a> Runner<'a> {
@@ -79,6 +96,7 @@ impl<'a> Runner<'a> {
         let tasks = self.image.tasks.items().len() as u32;
         Interrupts {
             pending: pending(self.machine.bus_mut(), tasks),
+            counters_pending: counters_pending(self.machine.bus_mut()),
             level: self.machine.level(),
             masked: !self.machine.enabled(),
         }

@@ -8,7 +8,7 @@ use trace_text::summary::{KINDS, kind_line};
 
 // Puts the line of a kind.
 fn put_kind<S: Sink>(counts: &[u32; KINDS], kind: usize, out: &mut S) -> Result<(), SinkFault>
-    requires { kind < 9 }
+    requires { kind < 10 }
     ensures ok { OnOk result (S.seen out.new ≡ output_with (S.seen out.old) (kind_line counts.now kind)) }
     ensures err { OnErr result (GainsPart (S.seen out.old) (S.seen out.new) (kind_line counts.now kind)) }
 {

@@ -7,7 +7,7 @@ ghost use Rattle.sloth_runner.specs.Runner.{HandsOut};
 ghost use Rattle.sloth_runner.specs.Tally.{counts_with};
 
 use crate::runner::{RunEnd, Runner};
-use observe::observer::Observer;
+use observe::Observer;
 use trace_text::summary::{KINDS, kind_of};
 
 /// The numbers of the events of each kind, in the order of the summary, and how the run ended.

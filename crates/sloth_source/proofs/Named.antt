@@ -1,17 +1,16 @@
 -- The body of a task has the task's name.
-use Rattle.std.proofs.Common.{◌≡◌, ◌∙◌, ap, sym, refl, subst, ℕ, ◌<◌, Bool, true, false, cond, List, [], length, map, get_or, Option, Some, None, arith}
+use Rattle.std.proofs.Common.{◌≡◌, ◌∙◌, ap, sym, ℕ, Bool, true, false, cond, List, [], get_or, Some, None, arith}
 use Rattle.std.specs.Prelude.{position}
 use Rattle.std.specs.Str.{bytes_eq}
 use Rattle.std.proofs.lemmas.List.{length-map, get_or-map}
-use Rattle.sloth_base.specs.Named.{function, missing, declaration, undeclared, IsBodyOf}
-use Rattle.sloth_base.specs.declared.app.App.{App}
+use Rattle.sloth_base.specs.Named.{function, missing, declaration, undeclared}
 use Rattle.sloth_base.specs.declared.app.Func.{Func}
 use Rattle.sloth_base.specs.declared.config.Config.{Config}
 use Rattle.sloth_base.specs.declared.config.TaskDecl.{TaskDecl}
 use Rattle.asm_lines.specs.declared.source_line.SourceLine.{SourceLine}
 use Rattle.asm_names.specs.Bodies.{BodyText, bodies_of, body_name, is_task_body}
 use Rattle.asm_names.specs.Scopes.{scope_of, task_names}
-use Rattle.asm_parse.specs.Apps.{func_of, body_task, app_of}
+use Rattle.asm_parse.specs.Apps.{func_of, app_of}
 use Rattle.asm_parse.proofs.BodiesRead.{no_body}
 use Rattle.asm_parse.proofs.Places.{stands}
 use Rattle.sloth_source.specs.SourceText.{BodiesAreNamed}

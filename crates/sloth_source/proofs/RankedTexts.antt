@@ -1,5 +1,5 @@
 -- What texts mean before the rules of task code are judged, and their refusals then.
-use Rattle.std.proofs.Common.{◌≡◌, ◌∙◌, ℕ, List, sym, ap, subst, inl, inr}
+use Rattle.std.proofs.Common.{◌≡◌, ℕ, List, subst, inl, inr}
 use Rattle.sloth_base.specs.declared.config.Config.{Config}
 use Rattle.sloth_base.specs.declared.app.App.{App}
 use Rattle.sloth_base.specs.declared.refusal.Refusal.{Refusal}
@@ -7,15 +7,13 @@ use Rattle.sloth_base.specs.declared.refusal.BuildError.{BuildError}
 use Rattle.sloth_base.specs.declared.refusal.BuildError.TheVariants as error
 use Rattle.least_fault.specs.Order.{ErrorIs}
 use Rattle.code_rules.specs.WellFormed.{CycleFault, RuleFault}
-use Rattle.asm_lines.specs.Faults.{source_lines}
 use Rattle.asm_parse.specs.AppTexts.{SourceTextFault}
-use Rattle.asm_parse.specs.Apps.{app_of}
 use Rattle.sloth_source.specs.OilText.{OilText, OilErrorIs}
 use Rattle.sloth_source.specs.SourceText.{HasApp, SourceRefusal}
-use Rattle.sloth_source.specs.Texts.{Accepted, FirstRefusal, ErrorIs as TextsErrorIs}
+use Rattle.sloth_source.specs.Texts.{FirstRefusal, ErrorIs as TextsErrorIs}
 use Rattle.sloth_source.specs.Ranked.{HasRanks, EarlySourceRefusal, EarlyRefusal, EarlySourceErrorIs, EarlyErrorIs}
 use Rattle.sloth_source.proofs.Readings.{one_configuration}
-use Rattle.sloth_source.proofs.Unique.{one_app, declared}
+use Rattle.sloth_source.proofs.Unique.{declared, never_ranked}
 use Rattle.sloth_source.proofs.Refusals.{one_refusal}
 
 -- ---- a refusal is the first
@@ -31,22 +29,8 @@ early_first oil src r (inr h) = inr (record { config = h.config; configuration =
 pub one_early : (oil src : List ℕ) (r s : Refusal) → EarlyRefusal oil src r → EarlyRefusal oil src s → r ≡ s
 one_early oil src r s a b = one_refusal oil src r s (early_first oil src r a) (early_first oil src s b)
 
--- ---- what has ranks
+-- ---- what has ranks is not refused
 
-pub accepted_ranks : (oil src : List ℕ) (config : Config) (app : App) → Accepted oil src config app → HasRanks oil src config app
-accepted_ranks oil src config app h = record { configuration = h.configuration; has_app = h.code.has_app; no_cycle = h.code.no_cycle }
-
-pub one_ranked : (oil src : List ℕ) (c d : Config) (a b : App) → HasRanks oil src c a → HasRanks oil src d b → (c ≡ d) × (a ≡ b)
-one_ranked oil src c d a b h i =
-    let one = one_configuration oil c d h.configuration i.configuration in
-    (one, h.has_app.says ∙ ap (λ config. app_of config (source_lines src)) one ∙ sym i.has_app.says)
-
-never_ranked : (text : List ℕ) (config : Config) (app : App) (r : Refusal) → HasApp text config app → ((s : Refusal) → CycleFault app s → ⊥)
-    → EarlySourceRefusal text config r → ⊥
-never_ranked text config app r has none (inl least) = has.no_fault r least.is_fault
-never_ranked text config app r has none (inr h) = none r (subst (λ (a : App). CycleFault a r) (one_app text config h.app app h.has_app has) h.least.is_fault)
-
--- it is not refused
 pub never_both_ranked : (oil src : List ℕ) (config : Config) (app : App) (r : Refusal) → HasRanks oil src config app → EarlyRefusal oil src r → ⊥
 never_both_ranked oil src config app r h (inl refused) = declared oil config r h.configuration refused
 never_both_ranked oil src config app r h (inr refused) =

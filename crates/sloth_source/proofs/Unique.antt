@@ -12,16 +12,24 @@ use Rattle.asm_parse.specs.Apps.{app_of}
 use Rattle.sloth_source.specs.OilText.{OilText, OilRefusal}
 use Rattle.sloth_source.specs.SourceText.{HasApp, SourceText, SourceRefusal}
 use Rattle.sloth_source.specs.Texts.{Accepted, FirstRefusal}
+use Rattle.sloth_source.specs.Ranked.{HasRanks, EarlySourceRefusal}
 use Rattle.sloth_source.proofs.Readings.{one_configuration}
 
 -- a text says one task code
 pub one_app : (text : List ℕ) (config : Config) (app other : App) → HasApp text config app → HasApp text config other → app ≡ other
 one_app text config app other a b = a.says ∙ sym b.says
 
-pub one_meaning : (oil src : List ℕ) (c d : Config) (a b : App) → Accepted oil src c a → Accepted oil src d b → (c ≡ d) × (a ≡ b)
-one_meaning oil src c d a b h i =
+-- what is accepted has ranks
+pub accepted_ranks : (oil src : List ℕ) (config : Config) (app : App) → Accepted oil src config app → HasRanks oil src config app
+accepted_ranks oil src config app h = record { configuration = h.configuration; has_app = h.code.has_app; no_cycle = h.code.no_cycle }
+
+pub one_ranked : (oil src : List ℕ) (c d : Config) (a b : App) → HasRanks oil src c a → HasRanks oil src d b → (c ≡ d) × (a ≡ b)
+one_ranked oil src c d a b h i =
     let one = one_configuration oil c d h.configuration i.configuration in
-    (one, h.code.has_app.says ∙ ap (λ config. app_of config (source_lines src)) one ∙ sym i.code.has_app.says)
+    (one, h.has_app.says ∙ ap (λ config. app_of config (source_lines src)) one ∙ sym i.has_app.says)
+
+pub one_meaning : (oil src : List ℕ) (c d : Config) (a b : App) → Accepted oil src c a → Accepted oil src d b → (c ≡ d) × (a ≡ b)
+one_meaning oil src c d a b h i = one_ranked oil src c d a b (accepted_ranks oil src c a h) (accepted_ranks oil src d b i)
 
 -- what declares a configuration is not refused
 pub declared : (text : List ℕ) (config : Config) (r : Refusal) → OilText text config → OilRefusal text r → ⊥
@@ -32,11 +40,16 @@ declared text config r t (inr (inr least)) =
     let P : OilTree → Type 0 = λ tree. ModelFault tree r in
     t.no_fault r (subst P same least.least.is_fault)
 
--- nor is what says task code
-pub kept : (text : List ℕ) (config : Config) (app : App) (r : Refusal) → SourceText text config app → SourceRefusal text config r → ⊥
-kept text config app r t (inl least) = t.has_app.no_fault r least.is_fault
-kept text config app r t (inr (inl h)) =
-    t.no_cycle r (subst (λ (a : App). CycleFault a r) (one_app text config h.app app h.has_app t.has_app) h.least.is_fault)
+-- what says task code without a cycle of calls is not refused for its lines, names, limits or cycles
+pub never_ranked : (text : List ℕ) (config : Config) (app : App) (r : Refusal) → HasApp text config app → ((s : Refusal) → CycleFault app s → ⊥)
+    → EarlySourceRefusal text config r → ⊥
+never_ranked text config app r has none (inl least) = has.no_fault r least.is_fault
+never_ranked text config app r has none (inr h) = none r (subst (λ (a : App). CycleFault a r) (one_app text config h.app app h.has_app has) h.least.is_fault)
+
+-- nor is what says task code without a fault for its rules
+kept : (text : List ℕ) (config : Config) (app : App) (r : Refusal) → SourceText text config app → SourceRefusal text config r → ⊥
+kept text config app r t (inl least) = never_ranked text config app r t.has_app t.no_cycle (inl least)
+kept text config app r t (inr (inl h)) = never_ranked text config app r t.has_app t.no_cycle (inr h)
 kept text config app r t (inr (inr h)) =
     t.no_fault r (subst (λ (a : App). RuleFault config a r) (one_app text config h.app app h.has_app t.has_app) h.least.is_fault)
 

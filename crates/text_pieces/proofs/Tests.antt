@@ -1,34 +1,12 @@
 -- Tests, and what passes them in a list or in a set.
-use Rattle.std.proofs.Common.{◌≡◌, ◌∙◌, ⊎_elim, ◌⊎◌, inl, inr, Bool, true, false, cond, List, [], ◌∷◌, ◌++◌, map, refl, ap, sym, true≢false}
+use Rattle.std.proofs.Common.{◌≡◌, ◌∙◌, ⊎_elim, ◌⊎◌, Bool, true, false, cond, List, [], ◌∷◌, ◌++◌, map, refl, ap, sym, true≢false}
 use Rattle.std.specs.Prelude.{◌||◌, ◌&&◌, not, All, filter}
 use Rattle.std.specs.List.{list_any}
 use Rattle.std.proofs.lemmas.List.Elements.{All-nil, All-cons, All-map, All-filter, filter_passes}
 use Rattle.std.proofs.lemmas.List.Folds.{list_any-append}
+use Rattle.std.proofs.lemmas.Bool.{and_from, or_right, or_left, or_cases, or_parts}
+use mathlib.Core.Bool.{or-false}
 use Rattle.indexmap.specs.IndexSet.{insert_key}
-
-pub and_true : (a b : Bool) → a ≡ true → b ≡ true → (a && b) ≡ true
-and_true true b e f = f
-and_true false b e f = cc
-
-pub or_right_true : (a b : Bool) → b ≡ true → (a || b) ≡ true
-or_right_true true b e = refl
-or_right_true false b e = e
-
-pub or_left_true : (a b : Bool) → a ≡ true → (a || b) ≡ true
-or_left_true true b e = refl
-or_left_true false b e = cc
-
-pub or_split : (a b : Bool) → (a || b) ≡ true → (a ≡ true) ⊎ (b ≡ true)
-or_split true b e = inl refl
-or_split false b e = inr e
-
-pub or_left : (a b : Bool) → (a || b) ≡ false → a ≡ false
-or_left true b e = cc
-or_left false b e = refl
-
-pub or_right : (a b : Bool) → (a || b) ≡ false → b ≡ false
-or_right true b e = cc
-or_right false b e = e
 
 pub or_absorbs : (a b : Bool) → (b ≡ true → a ≡ true) → (a || b) ≡ a
 or_absorbs true b f = refl
@@ -41,24 +19,12 @@ and_swap true false = refl
 and_swap false true = refl
 and_swap false false = refl
 
-pub and_left : (a b : Bool) → (a && b) ≡ true → a ≡ true
-and_left true b e = refl
-and_left false b e = cc
-
-pub and_right : (a b : Bool) → (a && b) ≡ true → b ≡ true
-and_right true b e = e
-and_right false b e = cc
-
-pub or_nothing : (b : Bool) → (b || false) ≡ b
-or_nothing true = refl
-or_nothing false = refl
-
 module _ {X : Type 0} (p q : X → Bool) where
   -- what one test passes another does
   pub any_implies : ((x : X) → p x ≡ true → q x ≡ true) → (xs : List X) → list_any p xs ≡ true → list_any q xs ≡ true
   any_implies f [] h = cc
   any_implies f (x ∷ xs) h =
-      ⊎_elim (λ e. or_left_true (q x) (list_any q xs) (f x e)) (λ e. or_right_true (q x) (list_any q xs) (any_implies f xs e)) (or_split (p x) (list_any p xs) h)
+      ⊎_elim (λ e. or_left (q x) (list_any q xs) (f x e)) (λ e. or_right (q x) (list_any q xs) (any_implies f xs e)) (or_cases (p x) (list_any p xs) h)
 
   -- one passes, and none that fails the other test
   pub any_but : (xs : List X) → list_any p xs ≡ false → list_any q xs ≡ true → list_any (λ x. not (p x) && q x) xs ≡ true
@@ -70,9 +36,9 @@ module _ {X : Type 0} (p q : X → Bool) where
       by false e again =
           let rest : list_any p xs ≡ false = sym (ap (λ c. c || list_any p xs) e) ∙ n in
           ⊎_elim
-          (λ t. or_left_true (not (p x) && q x) _ (and_true (not (p x)) (q x) (ap not e) t))
-          (λ t. or_right_true (not (p x) && q x) _ (again rest t))
-          (or_split (q x) (list_any q xs) h)
+          (λ t. or_left (not (p x) && q x) _ (and_from (not (p x)) (q x) (ap not e) t))
+          (λ t. or_right (not (p x) && q x) _ (again rest t))
+          (or_cases (q x) (list_any q xs) h)
 
 pub any_none : {X : Type 0} (p : X → Bool) → ((x : X) → p x ≡ false) → (xs : List X) → list_any p xs ≡ false
 any_none p f [] = refl
@@ -80,7 +46,7 @@ any_none p f (x ∷ xs) = ap (λ b. b || list_any p xs) (f x) ∙ any_none p f x
 
 pub none_pass : {X : Type 0} (p : X → Bool) (xs : List X) → list_any p xs ≡ false → All (λ x. p x ≡ false) xs
 none_pass p [] e = All-nil (λ x. p x ≡ false)
-none_pass p (x ∷ xs) e = All-cons (λ x. p x ≡ false) x xs (or_left (p x) (list_any p xs) e) (none_pass p xs (or_right (p x) (list_any p xs) e))
+none_pass p (x ∷ xs) e = All-cons (λ x. p x ≡ false) x xs (or_parts (p x) (list_any p xs) e).0 (none_pass p xs (or_parts (p x) (list_any p xs) e).1)
 
 -- what holds of each that passes holds of all that are kept
 pub All-kept : {X Y : Type 0} (p : X → Bool) (f : X → Y) (P : Y → Type 0) (xs : List X) → All (λ x. p x ≡ true → P (f x)) xs
@@ -89,7 +55,7 @@ All-kept p f P xs h = All-map P f (filter p xs) (λ k d l. All-filter p (λ x. p
 
 module _ {X : Type 0} (p : X → Bool) where
   pub any_push : (xs : List X) (x : X) → list_any p (xs ++ x ∷ []) ≡ (list_any p xs || p x)
-  any_push xs x = list_any-append p xs (x ∷ []) ∙ ap (λ b. list_any p xs || b) (or_nothing (p x))
+  any_push xs x = list_any-append p xs (x ∷ []) ∙ ap (λ b. list_any p xs || b) (or-false (p x))
 
   -- a test that an inserted key and its equals pass alike
   pub any_insert : (eq : X → X → Bool) (x : X) → ((y : X) → eq x y ≡ true → p y ≡ p x) → (xs : List X) → list_any p (insert_key eq xs x) ≡ (list_any p xs || p x)

@@ -9,7 +9,7 @@ use Rattle.image_file.specs.ImageText.{ImageText}
 use Rattle.image_file.specs.Faults.{Faulty}
 use Rattle.image_file.specs.declared.fault.ImageFault.{ImageFault}
 use Rattle.image_file.proofs.Faulted.{fault_is_one, none_is_both}
-use Rattle.image_file.proofs.Unique.{image-unique}
+use Rattle.image_file.proofs.Images.{image-unique}
 use Rattle.trace_text.specs.ArrivalsText.{ArrivalsFault, arrivals_in}
 use Rattle.sloth_source.proofs.Least.{one_least}
 use Rattle.sloth_runner.specs.Sight.{IsSight}
@@ -39,7 +39,7 @@ at-view img arr k answer.NoHolds h = absurd h
 one-shown : (img arr : List ℕ) (k : ℕ) (a b : ToolAnswer) → IsShown img arr k a → IsShown img arr k b → a ≡ b
 one-shown img arr k a b h i =
     let image : h.image ≡ i.image = image-unique h.image i.image img h.is_image i.is_image in
-    let arrivals : h.arrivals ≡ i.arrivals = h.arrivals_are ∙ ap (λ (x : Image). arrivals_in x.tasks arr) image ∙ sym i.arrivals_are in
+    let arrivals : h.arrivals ≡ i.arrivals = h.arrivals_are ∙ ap (λ (x : Image). arrivals_in x.tasks x.counters arr) image ∙ sym i.arrivals_are in
     let S : Image → Type 0 = λ x. IsSight x h.arrivals k h.sight in
     let T : List Arrival → Type 0 = λ xs. IsSight i.image xs k h.sight in
     let sight : h.sight ≡ i.sight = one_sight i.image i.arrivals k h.sight i.sight (subst T arrivals (subst S image h.seen)) i.seen in
@@ -48,13 +48,13 @@ one-shown img arr k a b h i =
 pub one-refused : (img arr : List ℕ) (r s : Refusal) → IsRefused img arr r → IsRefused img arr s → r ≡ s
 one-refused img arr r s h i =
     let image : h.0 ≡ i.0 = image-unique h.0 i.0 img h.1 i.1 in
-    let L : Image → Type 0 = λ x. IsLeast (ArrivalsFault x.tasks arr) r in
-    one_least Arr (ArrivalsFault i.0.tasks arr) (of-arrivals i.0.tasks arr) r s (subst L image h.2) i.2
+    let L : Image → Type 0 = λ x. IsLeast (ArrivalsFault x.tasks x.counters arr) r in
+    one_least Arr (ArrivalsFault i.0.tasks i.0.counters arr) (of-arrivals i.0.tasks i.0.counters arr) r s (subst L image h.2) i.2
 
 shown-not-refused : (img arr : List ℕ) (k : ℕ) (a : ToolAnswer) (r : Refusal) → IsShown img arr k a → IsRefused img arr r → ⊥
 shown-not-refused img arr k a r h i =
     let image : h.image ≡ i.0 = image-unique h.image i.0 img h.is_image i.1 in
-    let N : Image → Type 0 = λ x. NoFault (ArrivalsFault x.tasks arr) in
+    let N : Image → Type 0 = λ x. NoFault (ArrivalsFault x.tasks x.counters arr) in
     subst N image h.no_fault r i.2.is_fault
 
 pub at-one : (img arr : List ℕ) (k : ℕ) (a b : ToolAnswer) → IsAtAnswer img arr k a → IsAtAnswer img arr k b → a ≡ b
@@ -83,7 +83,7 @@ at-image img arr k a h = by (at-view img arr k a h)
 
 -- what a run shows of its tasks is the answer
 pub sight_is_answer : (img arr : List ℕ) (k : ℕ) (image : Image) (arrivals : List Arrival) (s : Sight) (a : ToolAnswer) → ImageText img image
-    → NoFault (ArrivalsFault image.tasks arr) → arrivals ≡ arrivals_in image.tasks arr → IsSight image arrivals k s → a ≡ sight_answer image s → IsAtAnswer img arr k a
+    → NoFault (ArrivalsFault image.tasks image.counters arr) → arrivals ≡ arrivals_in image.tasks image.counters arr → IsSight image arrivals k s → a ≡ sight_answer image s → IsAtAnswer img arr k a
 sight_is_answer img arr k image arrivals s a is none are seen at = subst (λ x. IsAtAnswer img arr k x) (sym at) (by s seen)
   where
     by : (x : Sight) → IsSight image arrivals k x → IsAtAnswer img arr k (sight_answer image x)

@@ -4,4 +4,6 @@ pub mod CheckAnswers
 pub mod ElfAnswers
 pub mod InferAnswers
 pub mod OneAnswer
+pub mod PictureAnswers
+pub mod RunAnswers
 pub mod WaveAnswers

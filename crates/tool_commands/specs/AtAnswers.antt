@@ -27,14 +27,14 @@ pub record IsShown (img arr : List ℕ) (k : ℕ) (shown : ToolAnswer) : Type 0 
   pub arrivals : List Arrival
   pub sight : Sight
   pub is_image : ImageText img image
-  pub no_fault : NoFault (ArrivalsFault image.tasks arr)
-  pub arrivals_are : arrivals ≡ arrivals_in image.tasks arr
+  pub no_fault : NoFault (ArrivalsFault image.tasks image.counters arr)
+  pub arrivals_are : arrivals ≡ arrivals_in image.tasks image.counters arr
   pub seen : IsSight image arrivals k sight
   pub answer_is : shown ≡ sight_answer image sight
 
 -- the first file is that of an image, and this is the least fault of the arrivals
 abbrev pub IsRefused : (img arr : List ℕ) → Refusal → Type 0
-IsRefused img arr refusal = (image : Image) × ImageText img image × IsLeast (ArrivalsFault image.tasks arr) refusal
+IsRefused img arr refusal = (image : Image) × ImageText img image × IsLeast (ArrivalsFault image.tasks image.counters arr) refusal
 
 -- `at`: what the run shows of the tasks, or where and why it stops; or the first fault of the image file, or the least of the arrivals
 abbrev pub IsAtAnswer : (img arr : List ℕ) (k : ℕ) → ToolAnswer → Type 0

@@ -5,4 +5,6 @@ pub mod CheckAnswers
 pub mod ElfAnswers
 pub mod InferAnswers
 pub mod Lines
+pub mod PictureAnswers
+pub mod RunAnswers
 pub mod WaveAnswers

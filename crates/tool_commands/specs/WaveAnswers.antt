@@ -1,48 +1,9 @@
 -- The answers of `wave`.
-use Rattle.std.specs.Prelude.{ℕ, ◌≡◌, List, length}
-use Rattle.sloth_base.specs.declared.event.Arrival.{Arrival}
-use Rattle.sloth_base.specs.declared.image.Image.{Image}
-use Rattle.least_fault.specs.Order.{NoFault}
-use Rattle.image_file.specs.ImageText.{ImageText}
-use Rattle.image_file.specs.Faults.{Faulty}
-use Rattle.rv32_instr.specs.declared.stop.Stop.{Stop}
-use Rattle.trace_text.specs.ArrivalsText.{ArrivalsFault, arrivals_in}
-use Rattle.sloth_runner.specs.Runner.{run_end}
-use Rattle.sloth_runner.specs.declared.runner.RunEnd.TheVariants as ends
+use Rattle.std.specs.Prelude.{ℕ, List}
 use Rattle.wave_text.specs.Waves.{AreWavesOf}
-use Rattle.tool_commands.specs.AtAnswers.{IsRefused}
-use Rattle.tool_commands.specs.Lines.{written_line}
-use Rattle.tool_commands.specs.declared.answer.Outcome.{Outcome}
+use Rattle.tool_commands.specs.RunAnswers.{IsRunAnswer}
 use Rattle.tool_commands.specs.declared.answer.ToolAnswer.{ToolAnswer}
-use Rattle.tool_commands.specs.declared.answer.ToolAnswer.TheVariants as answer
 
--- the first file is that of an image, and the second has arrivals by the image's names of tasks
-pub record AreRunInputs (img arr : List ℕ) (image : Image) (arrivals : List Arrival) : Type 0 where
-  pub is_image : ImageText img image
-  pub no_fault : NoFault (ArrivalsFault image.tasks arr)
-  pub arrivals_are : arrivals ≡ arrivals_in image.tasks arr
-
--- the file that was written holds the waves of the run of n instructions
-pub record IsDrawn (img arr : List ℕ) (n : ℕ) (outcome : Outcome) : Type 0 where
-  pub image : Image
-  pub arrivals : List Arrival
-  pub inputs : AreRunInputs img arr image arrivals
-  pub waves : AreWavesOf image arrivals n outcome.file
-  pub text : outcome.text ≡ written_line (length outcome.file)
-
--- the run of n instructions stops, there and so
-pub record IsHalted (img arr : List ℕ) (n pc : ℕ) (stop : Stop) : Type 0 where
-  pub image : Image
-  pub arrivals : List Arrival
-  pub inputs : AreRunInputs img arr image arrivals
-  pub stops : run_end image arrivals n ≡ ends.Stopped pc stop
-
--- `wave`: the waves of the run, or where and why it stops; or the first fault of the image file, or the least of the arrivals
+-- the waves of the run of n instructions, or where and why it stops; or what is wrong with the files
 abbrev pub IsWaveAnswer : (img arr : List ℕ) (n : ℕ) → ToolAnswer → Type 0
-IsWaveAnswer img arr n (answer.Done outcome) = IsDrawn img arr n outcome
-IsWaveAnswer img arr n (answer.Stopped pc stop) = IsHalted img arr n pc stop
-IsWaveAnswer img arr n (answer.NotAnImage fault) = Faulty fault img
-IsWaveAnswer img arr n (answer.Refused refusal) = IsRefused img arr refusal
-IsWaveAnswer img arr n (answer.NotAnElf fault) = ⊥
-IsWaveAnswer img arr n (answer.BadTrace fault) = ⊥
-IsWaveAnswer img arr n answer.NoHolds = ⊥
+IsWaveAnswer img arr n answer = IsRunAnswer (λ image arrivals file. AreWavesOf image arrivals n file) img arr n answer

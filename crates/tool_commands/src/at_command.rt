@@ -64,7 +64,7 @@ pub fn at(alloc: Global, img: &[u8], arr: &[u8], k: u32) -> Result<ToolAnswer, N
         Err(ImageError::Fault(fault)) => return Ok(ToolAnswer::NotAnImage(fault)),
         Err(ImageError::Memory) => return Err(NoMemory),
     };
-    let arrivals = match read_arrivals(alloc, arr, image.tasks.items()) {
+    let arrivals = match read_arrivals(alloc, arr, image.tasks.items(), image.counters.items()) {
         Ok(arrivals) => arrivals,
         Err(BuildError::Refused(refusal)) => return Ok(ToolAnswer::Refused(refusal)),
         Err(BuildError::Memory) => return Err(NoMemory),

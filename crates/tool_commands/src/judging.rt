@@ -1,6 +1,6 @@
 //! The answer of a tool.
 ghost use Rattle.std.specs.Prelude.{◌≡◌, ◌≤◌, IfOk, All, length};
-ghost use Rattle.command_line.specs.Tools.{input_count, number_limit, IsNumber};
+ghost use Rattle.command_line.specs.Tools.{input_count, counts_limit, AreCounts};
 ghost use Rattle.tool_commands.specs.Answers.{IsAnswer};
 
 use crate::answer::ToolAnswer;
@@ -9,23 +9,25 @@ use crate::bounds_command::bounds;
 use crate::check_command::check;
 use crate::elf_commands::{elf, unelf};
 use crate::infer_command::infer;
+use crate::picture_command::picture;
 use crate::wave_command::wave;
+use command_line::counts::{Counts, number_of, window_of};
 use command_line::tool::Tool;
 use sloth_base::list::List;
 use sloth_base::memory::NoMemory;
 use std::alloc::Global;
 
-/// The answer of a tool with this number, if it takes one, to files of these bytes.
+/// The answer of a tool with these counts, if it takes any, to files of these bytes.
 pub fn judge(
     alloc: Global,
     tool: Tool,
-    number: Option<u32>,
+    counts: Option<Counts>,
     inputs: &[List<u8>],
 ) -> Result<ToolAnswer, NoMemory>
     requires counted { length inputs.now ≡ input_count tool }
-    requires number { IsNumber (number_limit tool) number }
+    requires counts { AreCounts (counts_limit tool) counts }
     requires short { All (λ input. length input ≤ 4194304) inputs.now }
-    ensures { IfOk result (λ answer. IsAnswer tool number inputs.now answer) }
+    ensures { IfOk result (λ answer. IsAnswer tool counts inputs.now answer) }
 {
     match tool {
         Tool::Elf => elf(alloc, inputs[0].items()),
@@ -35,13 +37,19 @@ pub fn judge(
             alloc,
             inputs[0].items(),
             inputs[1].items(),
-            number.unwrap_or(0),
+            number_of(counts),
         ),
         Tool::Wave => wave(
             alloc,
             inputs[0].items(),
             inputs[1].items(),
-            number.unwrap_or(0),
+            number_of(counts),
+        ),
+        Tool::Picture => picture(
+            alloc,
+            inputs[0].items(),
+            inputs[1].items(),
+            window_of(counts),
         ),
         Tool::Check => check(
             alloc,
@@ -49,7 +57,7 @@ pub fn judge(
             inputs[1].items(),
             inputs[2].items(),
             inputs[3].items(),
-            number.unwrap_or(0),
+            number_of(counts),
         ),
         Tool::Bounds => bounds(alloc, inputs[0].items(), inputs[1].items()),
     }

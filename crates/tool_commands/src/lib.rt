@@ -10,6 +10,7 @@ mod infer_command;
 pub mod judging;
 pub mod laws;
 pub mod lines;
+mod picture_command;
 mod wave_command;
 
 pub use answer::{Outcome, ToolAnswer, TraceFault};

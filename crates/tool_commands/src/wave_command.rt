@@ -23,7 +23,7 @@ pub fn wave(alloc: Global, img: &[u8], arr: &[u8], n: u32) -> Result<ToolAnswer,
         Err(ImageError::Fault(fault)) => return Ok(ToolAnswer::NotAnImage(fault)),
         Err(ImageError::Memory) => return Err(NoMemory),
     };
-    let arrivals = match read_arrivals(alloc, arr, image.tasks.items()) {
+    let arrivals = match read_arrivals(alloc, arr, image.tasks.items(), image.counters.items()) {
         Ok(arrivals) => arrivals,
         Err(BuildError::Refused(refusal)) => return Ok(ToolAnswer::Refused(refusal)),
         Err(BuildError::Memory) => return Err(NoMemory),

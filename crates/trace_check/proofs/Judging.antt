@@ -1,51 +1,59 @@
 -- What the pass over a text has found: with one line more, and at its end.
-use Rattle.std.proofs.Common.{◌≡◌, ◌∙◌, ℕ, ◌+◌, ◌<◌, ◌≤◌, List, [], ◌∷◌, ◌++◌, Bool, true, false, Option, Some, None, length, get_or, refl, sym, ap, subst, arith}
-use Rattle.std.specs.Prelude.{◌==◌, ◌≢◌, if◌then◌else◌, nat_lt, All}
-use Rattle.std.proofs.lemmas.Bool.{eqb-true, ltb-true}
+use Rattle.std.proofs.Common.{◌≡◌, ◌∙◌, ℕ, ◌+◌, ◌<◌, ◌≤◌, ◌⊎◌, inl, inr, List, [], ◌∷◌, ◌++◌, Bool, true, false, Option, Some, None, length, get_or, refl, sym, ap, subst, arith}
+use Rattle.std.specs.Prelude.{◌==◌, All}
+use Rattle.std.proofs.lemmas.Bool.{eqb-true}
 use Rattle.std.specs.Bool.{Decides}
+use Rattle.std.proofs.lemmas.List.{length-map}
 use Rattle.sloth_base.specs.Arrivals.{AreArrivals, NeverFalls}
 use Rattle.sloth_base.specs.declared.app.App.{App}
 use Rattle.sloth_base.specs.declared.config.Config.{Config}
+use Rattle.sloth_base.specs.declared.config.CounterDecl.{CounterDecl}
 use Rattle.sloth_base.specs.declared.event.Arrival.{Arrival}
 use Rattle.sloth_base.specs.declared.event.Event.{Event}
 use Rattle.sloth_base.specs.declared.event.Event.TheVariants as event
 use Rattle.sloth_base.specs.declared.event.Stamped.{Stamped}
 use Rattle.sloth_base.specs.Events.{admitted_line}
-use Rattle.sloth_base.specs.Owners.{IsOwned, line_kind, owners_in}
-use Rattle.sloth_base.specs.declared.lines.LineKind.TheVariants as line_of
+use Rattle.sloth_base.specs.ConfigRange.{InRange}
+use Rattle.sloth_base.specs.Owners.{IsOwned, owners_in}
+use Rattle.sloth_base.proofs.Owners.{IsCounterLine, owned_cases}
 use Rattle.osek_scheduler.specs.InTime.{InTime}
 use Rattle.trace_text.specs.EventLines.{HasNumbers}
 use Rattle.trace_time.specs.Counts.{AreSmall, IsSmall}
 use Rattle.trace_check.specs.TraceText.{HasLine, HasRead, Shows}
+use Rattle.trace_check.specs.Verdicts.{counter_names}
 use Rattle.trace_check.specs.Walk.{StraysAt, Walked, Walking, Walk}
 use Rattle.trace_check.proofs.TraceText.{reads_all}
 
--- the admits of events that have lines are of numbers of 32 bits
-line_small : (tasks functions : ℕ) (e : Event) → HasNumbers tasks functions e → IsSmall (admitted_line e)
-line_small tasks functions event.Boot h = tt
-line_small tasks functions (event.Admit t) h = h.word
-line_small tasks functions (event.Enter t) h = tt
-line_small tasks functions (event.Run t f item result) h = tt
-line_small tasks functions (event.Call t called status) h = tt
-line_small tasks functions (event.Left t called) h = tt
-line_small tasks functions (event.Back t) h = tt
-line_small tasks functions event.Idle h = tt
-line_small tasks functions event.Stray h = tt
+-- the admissions of events that have lines are of numbers of 32 bits
+line_small : (tasks functions counters : ℕ) → counters ≤ 2 → (e : Event) → HasNumbers tasks functions counters e → IsSmall (admitted_line e)
+line_small tasks functions counters few (event.Admit t) h = h.word
+line_small tasks functions counters few (event.Due c) h = let inside = h.inside in omega (arith, inside, few)
+line_small tasks functions counters few e h = tt
 
-pub lines_small : (tasks functions : List (List ℕ)) (events : List Stamped) → All (HasLine tasks functions) events → AreSmall events
-lines_small tasks functions events h k d l = line_small (length tasks) (length functions) (get_or events k d).event (h k d l).numbers
+pub lines_small : (tasks functions counters : List (List ℕ)) → length counters ≤ 2 → (events : List Stamped) → All (HasLine tasks functions counters) events
+    → AreSmall events
+lines_small tasks functions counters few events h k d l =
+    line_small (length tasks) (length functions) (length counters) few (get_or events k d).event (h k d l).numbers
+
+-- the names of the counters are few
+pub few_names : (config : Config) → length config.counters ≤ 2 → length (counter_names config) ≤ 2
+few_names config few = let long = length-map config.counters (λ (c : CounterDecl). c.name) in omega (arith, long, few)
 
 -- the lines of arrivals are numbers of 32 bits
-line_word : (config : Config) → length config.tasks ≤ 30 → (line : ℕ) → IsOwned (owners_in config) line → line < 4294967296
-line_word config few line owned = by (nat_lt line (length config.tasks)) refl owned
+line_word : (config : Config) → InRange config → (line : ℕ) → IsOwned (owners_in config) line → line < 4294967296
+line_word config range line owned = by (owned_cases (owners_in config) line owned)
   where
-    by : (b : Bool) → nat_lt line (length config.tasks) ≡ b → ((if b then line_of.Task line else line_of.Unused) ≢ line_of.Unused) → line < 4294967296
-    by true e h = let below = ltb-true line (length config.tasks) e in omega (arith, below, few)
-    by false e h = absurd (h refl)
+    by : (line < length config.tasks) ⊎ ((c : ℕ) × IsCounterLine (owners_in config) line c) → line < 4294967296
+    by (inl below) = let few = range.few_tasks in omega (arith, below, few)
+    by (inr counter) =
+        let few = range.few_counters in
+        let declared = counter.1.declared in
+        let is = counter.1.is in
+        omega (arith, declared, is, few)
 
-pub line_words : (config : Config) (arrivals : List Arrival) → length config.tasks ≤ 30 → AreArrivals (owners_in config) arrivals
+pub line_words : (config : Config) (arrivals : List Arrival) → InRange config → AreArrivals (owners_in config) arrivals
     → All (λ a. a.line < 4294967296) arrivals
-line_words config arrivals few are k d l = line_word config few (get_or arrivals k d).line (are.lines_owned k d l)
+line_words config arrivals range are k d l = line_word config range (get_or arrivals k d).line (are.lines_owned k d l)
 
 module _ (config : Config) (app : App) (events : List Stamped) (stray : Option ℕ) (walk : Walk) (h : Walking config app events stray walk) where
   pub stray_at : (k : ℕ) → stray ≡ Some k → StraysAt config app events k
@@ -59,10 +67,10 @@ empty [] h = refl
 empty (x ∷ text) h = absurd (omega (arith, h))
 
 -- all of the text was read
-pub shows_all : (tasks functions : List (List ℕ)) (text rest : List ℕ) (events : List Stamped) → HasRead tasks functions text events rest
-    → (length rest == 0) ≡ true → Shows tasks functions events text
-shows_all tasks functions text rest events reads none =
-    reads_all tasks functions text events rest reads (empty rest (eqb-true (length rest) 0 none))
+pub shows_all : (tasks functions counters : List (List ℕ)) (text rest : List ℕ) (events : List Stamped) → HasRead tasks functions counters text events rest
+    → (length rest == 0) ≡ true → Shows tasks functions counters events text
+shows_all tasks functions counters text rest events reads none =
+    reads_all tasks functions counters text events rest reads (empty rest (eqb-true (length rest) 0 none))
 
 -- whether the events are in time, by equal numbers of instructions and arrivals
 pub in_time_at : (b : Bool) (set config : Config) (m n : ℕ) (given arrivals : List Arrival) (events : List Stamped) → set ≡ config → m ≡ n → given ≡ arrivals

@@ -216,6 +216,8 @@ module _ (config : Config) (app : App) where
     stays_ready (event.Back t) f u r n = f.moves.stays.ready u (λ same. not_both (task s t).state (subst (IsReady s) same r) f.was) r
     stays_ready event.Idle f u r n = f.ready u r
     stays_ready event.Stray f u r n = absurd f
+    stays_ready (event.Due c) f u r n = f.ready u r
+    stays_ready (event.Tick c) f u r n = f.ready u r
 
   module _ (past : List Stamped) (s : System) (moments : List ℕ) (keeps : KeepsMoments config app past s moments) (few : length config.tasks ≤ 30) where
     ordered : Ordered config s
@@ -314,6 +316,8 @@ module _ (config : Config) (app : App) where
       told (event.Back t) step = plain (event.Back t) step (λ u h. cc) (λ u h. cc)
       told event.Idle step = plain event.Idle step (λ u h. cc) (λ u h. cc)
       told event.Stray step = absurd step
+      told (event.Due c) step = plain (event.Due c) step (λ u h. cc) (λ u h. cc)
+      told (event.Tick c) step = plain (event.Tick c) step (λ u h. cc) (λ u h. cc)
 
       kept_count : (what : Event) → length (noted what stamp.at s moments) ≡ length moments
       kept_count event.Boot = refl
@@ -331,6 +335,8 @@ module _ (config : Config) (app : App) where
       kept_count (event.Back t) = refl
       kept_count event.Idle = refl
       kept_count event.Stray = refl
+      kept_count (event.Due c) = refl
+      kept_count (event.Tick c) = refl
 
       -- the moments behind one event more
       pub moments_more : (what : Event) → OsekStep config app what s next → KeepsMoments config app (past ++ it what ∷ []) next (noted what stamp.at s moments)

@@ -1,8 +1,8 @@
 -- A walk goes on exactly where the events are a run.
 use Rattle.std.proofs.Common.{◌≡◌, ◌∙◌, ℕ, zero, suc, replicate, ◌+◌, ◌<◌, ◌≤◌, ◌⊎◌, inl, inr, List, [], ◌∷◌, ◌++◌, Bool, true, false, cond, length, get_or, take, drop, refl, sym, ap, subst, arith, append_assoc, length-append, Option, Some, None}
-use Rattle.std.specs.Prelude.{◌-◌, ◌==◌, ◌&&◌, ◌||◌, is_some, not, ltb}
+use Rattle.std.specs.Prelude.{◌-◌, ◌==◌, ◌&&◌, ◌||◌, is_some, not, leb, ltb}
 use Rattle.std.specs.Bool.{Decides}
-use Rattle.std.proofs.lemmas.Bool.{and_from, lt-ltb, true≢false}
+use Rattle.std.proofs.lemmas.Bool.{and_from, and_parts, lt-ltb, ltb-true, true≢false}
 use Rattle.std.specs.Int.{bit_at}
 use Rattle.osek_machine.specs.Steps.{Machine}
 use Rattle.std.proofs.lemmas.Bool.Decides.{Decides-and, Decides-or, Decides-not, Decides-ltb, Decides-like, Decides-below_and}
@@ -15,14 +15,15 @@ use Rattle.sloth_base.specs.declared.event.Event.{Event}
 use Rattle.sloth_base.specs.declared.event.Event.TheVariants as event
 use Rattle.sloth_base.specs.declared.event.Stamped.{Stamped}
 use Rattle.osek_scheduler.specs.declared.state.TaskState.TheVariants as mode
-use Rattle.osek_scheduler.specs.State.{System, task, opening}
-use Rattle.osek_scheduler.specs.Priority.{rank, is_active}
+use Rattle.osek_scheduler.specs.State.{System, task, counter, opening}
+use Rattle.osek_scheduler.specs.Priority.{rank, is_active, NoTicks}
 use Rattle.osek_scheduler.specs.Steps.{OsekStep}
 use Rattle.osek_scheduler.specs.Next.{is_ready, all_below}
 use Rattle.osek_scheduler.specs.Runs.{Leads, Follows, ReadySince, OsekRun, PassesOver, PassesOverArrivals}
 use Rattle.osek_scheduler.proofs.Tests.{Decides-is_ready, Decides-is_active}
 use Rattle.osek_scheduler.proofs.Leading.{follows_leads, one_end, one_step}
-use Rattle.osek_plans.specs.Above.{is_above}
+use Rattle.sloth_base.specs.Owners.{is_counter_line, owners_in}
+use Rattle.osek_plans.specs.Above.{is_above, is_due_line, is_line_above}
 use Rattle.trace_check.specs.Moments.{KeepsMoments, all_later, noted}
 use Rattle.trace_check.specs.Walk.{Walk, Walks, Walking, StraysAt, Stops, Walked, task_passes, event_passes}
 use Rattle.trace_check.proofs.Moments.{moments_more, no_moments}
@@ -40,38 +41,56 @@ module _ (config : Config) (app : App) (past : List Stamped) (s : System) (momen
   Decides-above t u =
       Decides-and _ _ (Decides-ltb u (length config.tasks)) (Decides-and _ _ (Decides-is_ready (task s u).state) (Decides-ltb (rank config s t) (rank config s u)))
 
-  abbrev Later : ℕ → ℕ → ℕ → Type 0
-  Later t k u = (¬ (IsAbove t u)) ⊎ (k < get_or moments u 0)
+  -- a task, or a due counter
+  abbrev IsLineAbove : ℕ → ℕ → Type 0
+  IsLineAbove t u = IsAbove t u ⊎ (is_due_line config s u ≡ true)
 
-  Decides-all_later : (t k : ℕ) → Decides (all_later (is_above config s t) moments k) ((u : ℕ) → u < 32 → Later t k u)
+  Decides-line : (t u : ℕ) → Decides (is_line_above config s t u) (IsLineAbove t u)
+  Decides-line t u = Decides-or _ _ (Decides-above t u) (λ e. e, λ e. e)
+
+  abbrev Later : ℕ → ℕ → ℕ → Type 0
+  Later t k u = (¬ (IsLineAbove t u)) ⊎ (k < get_or moments u 0)
+
+  Decides-all_later : (t k : ℕ) → Decides (all_later (is_line_above config s t) moments k) ((u : ℕ) → u < 32 → Later t k u)
   unfolding all_later
   Decides-all_later t k =
-      Decides-below_and (λ u. not (is_above config s t u) || ltb k (get_or moments u 0)) (Later t k)
-      (λ n. all_below n (λ u. not (is_above config s t u) || ltb k (get_or moments u 0)))
-      (λ u. Decides-or _ _ (Decides-not _ (Decides-above t u)) (Decides-ltb k (get_or moments u 0))) refl (λ _. refl) 32
+      Decides-below_and (λ u. not (is_line_above config s t u) || ltb k (get_or moments u 0)) (Later t k)
+      (λ n. all_below n (λ u. not (is_line_above config s t u) || ltb k (get_or moments u 0)))
+      (λ u. Decides-or _ _ (Decides-not _ (Decides-line t u)) (Decides-ltb k (get_or moments u 0))) refl (λ _. refl) 32
 
-  pub passes_of : (t k : ℕ) → all_later (is_above config s t) moments k ≡ true → PassesOver config app past s t k
+  pub passes_of : (t k : ℕ) → all_later (is_line_above config s t) moments k ≡ true → PassesOver config app past s t k
   passes_of t k h u lt ready above = by ((Decides-all_later t k).0 h u (omega (arith, lt, few)))
     where
       by : Later t k u → ReadySince config app past u k
-      by (inl n) = absurd (n (lt, (ready, above)))
+      by (inl n) = absurd (n (inl (lt, (ready, above))))
       by (inr less) = (keeps.tells u k).0 less
 
-  pub passes_is : (t k : ℕ) → PassesOver config app past s t k → all_later (is_above config s t) moments k ≡ true
-  passes_is t k h = (Decides-all_later t k).1 (λ u _. by u (is_above config s t u) refl)
+  -- where a task runs, no counter is due
+  no_due_line : NoTicks config s → (u : ℕ) → is_due_line config s u ≡ true → ⊥
+  no_due_line quiet u e =
+      let due = and_parts (is_counter_line (owners_in config) u) (counter s (u - 30)).due e in
+      let line = and_parts (leb 30 u) (ltb (u - 30) (length config.counters)) due.0 in
+      true≢false (sym due.1 ∙ quiet (u - 30) (ltb-true (u - 30) (length config.counters) line.1))
+
+  pub passes_is : (t k : ℕ) → NoTicks config s → PassesOver config app past s t k → all_later (is_line_above config s t) moments k ≡ true
+  passes_is t k quiet h = (Decides-all_later t k).1 (λ u _. by u (is_line_above config s t u) refl)
     where
-      by : (u : ℕ) (b : Bool) → is_above config s t u ≡ b → Later t k u
-      by u true e = let a = (Decides-above t u).0 e in inr ((keeps.tells u k).1 (h u a.0 a.1.0 a.1.1))
-      by u false e = inl (λ a. true≢false (sym ((Decides-above t u).1 a) ∙ e))
+      later : (u : ℕ) → IsLineAbove t u → k < get_or moments u 0
+      later u (inl a) = (keeps.tells u k).1 (h u a.0 a.1.0 a.1.1)
+      later u (inr due) = absurd (no_due_line quiet u due)
+
+      by : (u : ℕ) (b : Bool) → is_line_above config s t u ≡ b → Later t k u
+      by u true e = inr (later u ((Decides-line t u).0 e))
+      by u false e = inl (λ a. true≢false (sym ((Decides-line t u).1 a) ∙ e))
 
   runs : (t : ℕ) → t < length config.tasks → (task s t).state ≡ mode.Active → (ltb t (length config.tasks) && is_active (task s t).state) ≡ true
   runs t lt active = and_from (ltb t (length config.tasks)) (is_active (task s t).state) (lt-ltb t (length config.tasks) lt) ((Decides-is_active (task s t).state).1 active)
 
   task_of : (t k : ℕ) → t < length config.tasks → (task s t).state ≡ mode.Active → task_passes config s moments t k ≡ true → PassesOver config app past s t k
-  task_of t k lt active h = passes_of t k (sym (ap (λ b. cond b (all_later (is_above config s t) moments k) true) (runs t lt active)) ∙ h)
+  task_of t k lt active h = passes_of t k (sym (ap (λ b. cond b (all_later (is_line_above config s t) moments k) true) (runs t lt active)) ∙ h)
 
-  task_is : (t k : ℕ) → t < length config.tasks → (task s t).state ≡ mode.Active → PassesOver config app past s t k → task_passes config s moments t k ≡ true
-  task_is t k lt active h = ap (λ b. cond b (all_later (is_above config s t) moments k) true) (runs t lt active) ∙ passes_is t k h
+  task_is : (t k : ℕ) → t < length config.tasks → (task s t).state ≡ mode.Active → NoTicks config s → PassesOver config app past s t k → task_passes config s moments t k ≡ true
+  task_is t k lt active quiet h = ap (λ b. cond b (all_later (is_line_above config s t) moments k) true) (runs t lt active) ∙ passes_is t k quiet h
 
   -- the test decides, where the event is a step
   pub event_of : (e : Event) (k : ℕ) (next : System) → OsekStep config app e s next → event_passes config s moments e k ≡ true → PassesOverArrivals config app past s k e
@@ -84,17 +103,21 @@ module _ (config : Config) (app : App) (past : List Stamped) (s : System) (momen
   event_of (event.Back t) k next step h = tt
   event_of event.Idle k next step h = tt
   event_of event.Stray k next step h = tt
+  event_of (event.Due c) k next step h = tt
+  event_of (event.Tick c) k next step h = tt
 
   pub event_is : (e : Event) (k : ℕ) (next : System) → OsekStep config app e s next → PassesOverArrivals config app past s k e → event_passes config s moments e k ≡ true
   event_is event.Boot k next step h = refl
   event_is (event.Admit t) k next step h = refl
   event_is (event.Enter t) k next step h = refl
   event_is (event.Run t func item result) k next step h = refl
-  event_is (event.Call t served status) k next step h = task_is t k step.1.1.top.declared step.1.1.at.active h
-  event_is (event.Left t served) k next step h = task_is t k step.1.1.top.declared step.1.1.at.active h
+  event_is (event.Call t served status) k next step h = task_is t k step.1.1.top.declared step.1.1.at.active step.1.1.top.no_ticks h
+  event_is (event.Left t served) k next step h = task_is t k step.1.1.top.declared step.1.1.at.active step.1.1.top.no_ticks h
   event_is (event.Back t) k next step h = refl
   event_is event.Idle k next step h = refl
   event_is event.Stray k next step h = refl
+  event_is (event.Due c) k next step h = refl
+  event_is (event.Tick c) k next step h = refl
 
 -- ---- runs, one event more
 

@@ -4,43 +4,43 @@ use Rattle.sloth_base.specs.declared.event.Stamped.{Stamped}
 use Rattle.asm_lines.specs.Operands.{behind}
 use Rattle.trace_text.specs.EventLines.{IsLineOf, counted_line}
 use Rattle.trace_text.specs.Texts.{lines_with}
-use Rattle.trace_text.specs.declared.print.Form.TheVariants as form
+use Rattle.trace_text.specs.declared.printing.Form.TheVariants as form
 
 -- the text of events in the counted form
-abbrev pub text_of : List (List ℕ) → List (List ℕ) → List Stamped → List ℕ
-text_of tasks functions events = lines_with tasks functions form.Counted events
+abbrev pub text_of : (tasks functions counters : List (List ℕ)) → List Stamped → List ℕ
+text_of tasks functions counters events = lines_with tasks functions counters form.Counted events
 
--- an event has a line: its numbers are of 32 bits, and name tasks and functions, or no task
-abbrev pub HasLine : List (List ℕ) → List (List ℕ) → Stamped → Type 0
-HasLine tasks functions e = IsLineOf tasks functions e (counted_line tasks functions e)
+-- an event has a line: its numbers are of 32 bits, and name tasks, functions and counters, or no task or counter
+abbrev pub HasLine : (tasks functions counters : List (List ℕ)) → Stamped → Type 0
+HasLine tasks functions counters e = IsLineOf tasks functions counters e (counted_line tasks functions counters e)
 
 -- the text is that of these events
-pub record Shows (tasks functions : List (List ℕ)) (events : List Stamped) (text : List ℕ) : Type 0 where
-  pub lines : All (HasLine tasks functions) events
-  pub is : text ≡ text_of tasks functions events
+pub record Shows (tasks functions counters : List (List ℕ)) (events : List Stamped) (text : List ℕ) : Type 0 where
+  pub lines : All (HasLine tasks functions counters) events
+  pub is : text ≡ text_of tasks functions counters events
 
 -- the first line is no event's, or no LF ends it
-abbrev pub BeginsWithNone : List (List ℕ) → List (List ℕ) → List ℕ → Type 0
-BeginsWithNone tasks functions text =
-    (e : Stamped) (after : List ℕ) → HasLine tasks functions e → text ≡ counted_line tasks functions e ++ 10 ∷ after → ⊥
+abbrev pub BeginsWithNone : (tasks functions counters : List (List ℕ)) → List ℕ → Type 0
+BeginsWithNone tasks functions counters text =
+    (e : Stamped) (after : List ℕ) → HasLine tasks functions counters e → text ≡ counted_line tasks functions counters e ++ 10 ∷ after → ⊥
 
 -- line k is the first that is no event's, or not ended by LF
-pub record IsFirstBad (tasks functions : List (List ℕ)) (text : List ℕ) (k : ℕ) : Type 0 where
+pub record IsFirstBad (tasks functions counters : List (List ℕ)) (text : List ℕ) (k : ℕ) : Type 0 where
   pub front : List Stamped
   pub rest : List ℕ
-  pub lines : All (HasLine tasks functions) front
-  pub is : text ≡ text_of tasks functions front ++ rest
+  pub lines : All (HasLine tasks functions counters) front
+  pub is : text ≡ text_of tasks functions counters front ++ rest
   pub line : k ≡ length front + 1
   pub more : rest ≢ []
-  pub bad : BeginsWithNone tasks functions rest
+  pub bad : BeginsWithNone tasks functions counters rest
 
 -- the first line of the text is this event's, and an LF ends it
-pub record Begins (tasks functions : List (List ℕ)) (text : List ℕ) (e : Stamped) : Type 0 where
-  pub line : HasLine tasks functions e
-  pub is : text ≡ counted_line tasks functions e ++ 10 ∷ behind 10 text
+pub record Begins (tasks functions counters : List (List ℕ)) (text : List ℕ) (e : Stamped) : Type 0 where
+  pub line : HasLine tasks functions counters e
+  pub is : text ≡ counted_line tasks functions counters e ++ 10 ∷ behind 10 text
 
 -- these events were read, and this is left of the text
-pub record HasRead (tasks functions : List (List ℕ)) (text : List ℕ) (events : List Stamped) (rest : List ℕ) : Type 0 where
-  pub lines : All (HasLine tasks functions) events
-  pub is : text ≡ text_of tasks functions events ++ rest
+pub record HasRead (tasks functions counters : List (List ℕ)) (text : List ℕ) (events : List Stamped) (rest : List ℕ) : Type 0 where
+  pub lines : All (HasLine tasks functions counters) events
+  pub is : text ≡ text_of tasks functions counters events ++ rest
   pub few : length events + length rest ≤ length text

@@ -12,25 +12,28 @@ use Rattle.trace_check.specs.Walk.{StraysAt}
 abbrev pub task_names : Config → List (List ℕ)
 task_names config = map (λ t. t.name) config.tasks
 
+abbrev pub counter_names : Config → List (List ℕ)
+counter_names config = map (λ c. c.name) config.counters
+
 abbrev pub func_names : App → List (List ℕ)
 func_names app = map (λ f. f.name) app.funcs
 
 -- the text is that of a run of n instructions with these arrivals
 pub record Checked (config : Config) (app : App) (arrivals : List Arrival) (text : List ℕ) (n : ℕ) : Type 0 where
   pub events : List Stamped
-  pub shows : Shows (task_names config) (func_names app) events text
+  pub shows : Shows (task_names config) (func_names app) (counter_names config) events text
   pub run : OsekRun config app events
   pub in_time : InTime config n arrivals events
 
 -- all lines are events', and line k is the first with which the events are no run
 pub record IsFirstStray (config : Config) (app : App) (text : List ℕ) (k : ℕ) : Type 0 where
   pub events : List Stamped
-  pub shows : Shows (task_names config) (func_names app) events text
+  pub shows : Shows (task_names config) (func_names app) (counter_names config) events text
   pub strays : StraysAt config app events k
 
 -- the events are a run, and not in time
 pub record IsLate (config : Config) (app : App) (arrivals : List Arrival) (text : List ℕ) (n : ℕ) : Type 0 where
   pub events : List Stamped
-  pub shows : Shows (task_names config) (func_names app) events text
+  pub shows : Shows (task_names config) (func_names app) (counter_names config) events text
   pub run : OsekRun config app events
   pub late : InTime config n arrivals events → ⊥

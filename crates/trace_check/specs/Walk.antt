@@ -9,7 +9,7 @@ use Rattle.osek_scheduler.specs.State.{System, task, opening}
 use Rattle.osek_scheduler.specs.Priority.{is_active}
 use Rattle.osek_scheduler.specs.Steps.{OsekStep}
 use Rattle.osek_scheduler.specs.Runs.{OsekRun, Follows}
-use Rattle.osek_plans.specs.Above.{is_above}
+use Rattle.osek_plans.specs.Above.{is_line_above}
 use Rattle.osek_machine.specs.Steps.{Machine}
 use Rattle.trace_check.specs.Moments.{KeepsMoments, all_later, noted}
 
@@ -18,9 +18,9 @@ pub record Walk : Type 0 where
   pub machine : Machine
   pub moments : List ℕ
 
--- the tasks that task t passes over, if it runs, were admitted behind moment k
+-- what stands above task t, if it runs, came behind moment k: the Ready tasks; no counter that is due has a moment
 abbrev pub task_passes : Config → System → List ℕ → ℕ → ℕ → Bool
-task_passes config s moments t k = cond (ltb t (length config.tasks) && is_active (task s t).state) (all_later (is_above config s t) moments k) true
+task_passes config s moments t k = cond (ltb t (length config.tasks) && is_active (task s t).state) (all_later (is_line_above config s t) moments k) true
 
 -- those that this task passes over, if there is one
 abbrev pub served_passes : Config → System → List ℕ → Option ℕ → ℕ → Bool

@@ -3,7 +3,7 @@ ghost use Rattle.std.specs.Prelude.{◌≡◌, ◌<◌, ◌↔◌, IfOk, length}
 ghost use Rattle.sloth_base.specs.Arrivals.{AreArrivals};
 ghost use Rattle.sloth_base.specs.Owners.{owners_in};
 ghost use Rattle.code_rules.specs.WellFormed.{WellFormed};
-ghost use Rattle.trace_check.specs.Verdicts.{Checked, func_names, task_names};
+ghost use Rattle.trace_check.specs.Verdicts.{Checked, counter_names, func_names, task_names};
 ghost use Rattle.trace_check.specs.Answer.{IsVerdict};
 
 use crate::lines::first_event;
@@ -42,6 +42,17 @@ pub fn task_names(alloc: Global, config: &Config) -> Result<Vec<Name>, NoMemory>
     Ok(names)
 }
 
+/// The names of the counters.
+pub fn counter_names(alloc: Global, config: &Config) -> Result<Vec<Name>, NoMemory>
+    ensures { IfOk result (λ names. names.items ≡ counter_names config.now) }
+{
+    let mut names = Vec::new(alloc);
+    for counter in config.counters.items() {
+        push(&mut names, Name::new(alloc, counter.name.bytes())?)?;
+    }
+    Ok(names)
+}
+
 // The names of the functions.
 fn func_names(alloc: Global, app: &App) -> Result<Vec<Name>, NoMemory>
     ensures { IfOk result (λ names. names.items ≡ func_names app.now) }
@@ -69,6 +80,7 @@ fn judge(
 {
     let tasks = task_names(alloc, config)?;
     let funcs = func_names(alloc, app)?;
+    let counters = counter_names(alloc, config)?;
     let mut walk = Walk::new(alloc, config, app)?;
     let mut timing = Timing::new(alloc, config, n, arrivals);
     let mut stray = None;
@@ -76,7 +88,12 @@ fn judge(
     let mut rest = text;
     while !rest.is_empty() {
         line += 1;
-        let Some(event) = first_event(rest, tasks.as_slice(), funcs.as_slice()) else {
+        let Some(event) = first_event(
+            rest,
+            tasks.as_slice(),
+            funcs.as_slice(),
+            counters.as_slice(),
+        ) else {
             return Ok(Verdict::Line(line));
         };
         stray = walk.follow(stray, &event, line);

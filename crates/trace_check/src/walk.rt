@@ -124,7 +124,9 @@ impl Walk {
             | Event::Run { .. }
             | Event::Back(_)
             | Event::Idle
-            | Event::Stray => true,
+            | Event::Stray
+            | Event::Due(_)
+            | Event::Tick(_) => true,
         }
     }
 
@@ -148,7 +150,9 @@ impl Walk {
             | Event::Left { .. }
             | Event::Back(_)
             | Event::Idle
-            | Event::Stray => None,
+            | Event::Stray
+            | Event::Due(_)
+            | Event::Tick(_) => None,
         }
     }
 

@@ -7,7 +7,7 @@ use Rattle.code_rules.specs.WellFormed.{WellFormed}
 use Rattle.sloth_source.specs.Texts.{Accepted}
 use Rattle.trace_check.specs.Answer.{IsVerdict}
 use Rattle.trace_check.specs.declared.verdict.Verdict.{Verdict}
-use Rattle.trace_command.specs.Inputs.{AreRead, IsRefusal, names_of}
+use Rattle.trace_command.specs.Inputs.{AreRead, IsRefusal, counter_names, names_of}
 use Rattle.trace_command.specs.declared.answer.TraceAnswer.{TraceAnswer}
 use Rattle.trace_command.specs.declared.answer.TraceAnswer.TheVariants as answer
 
@@ -18,7 +18,7 @@ pub record IsJudged (oil src arr trace : List ℕ) (n : ℕ) (verdict : Verdict)
   pub accepted : Accepted oil src config app
   pub well_formed : WellFormed config app
   pub arrivals : List Arrival
-  pub read : AreRead (names_of config) arr arrivals
+  pub read : AreRead (names_of config) (counter_names config) arr arrivals
   pub is : IsVerdict config app arrivals trace n verdict
 
 -- the inputs are refused so, or the text has this verdict

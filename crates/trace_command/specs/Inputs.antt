@@ -10,22 +10,23 @@ use Rattle.sloth_base.specs.declared.refusal.Refusal.{Refusal}
 use Rattle.least_fault.specs.Order.{IsLeast, NoFault}
 use Rattle.sloth_source.specs.Texts.{Accepted, FirstRefusal}
 use Rattle.trace_text.specs.ArrivalsText.{ArrivalsFault, arrivals_in}
+pub use Rattle.trace_check.specs.Verdicts.{counter_names}
 
 -- the names of the tasks of a configuration
 abbrev pub names_of : Config → List (List ℕ)
 names_of config = map (λ (t : TaskDecl). t.name) config.tasks
 
--- with these names of tasks the arrivals are read without a fault, and these are they
-pub record AreRead (names : List (List ℕ)) (arr : List ℕ) (arrivals : List Arrival) : Type 0 where
-  pub no_fault : NoFault (ArrivalsFault names arr)
-  pub arrivals_are : arrivals ≡ arrivals_in names arr
+-- with these names of tasks and of counters the arrivals are read without a fault, and these are they
+pub record AreRead (names counters : List (List ℕ)) (arr : List ℕ) (arrivals : List Arrival) : Type 0 where
+  pub no_fault : NoFault (ArrivalsFault names counters arr)
+  pub arrivals_are : arrivals ≡ arrivals_in names counters arr
 
 -- the configuration and the task code are accepted, and this is the least fault of the arrivals
 pub record IsArrivalsRefusal (oil src arr : List ℕ) (refusal : Refusal) : Type 0 where
   pub config : Config
   pub app : App
   pub accepted : Accepted oil src config app
-  pub least : IsLeast (ArrivalsFault (names_of config) arr) refusal
+  pub least : IsLeast (ArrivalsFault (names_of config) (counter_names config) arr) refusal
 
 -- The texts are refused so: the configuration or the task code, or else the arrivals.
 abbrev pub IsRefusal : List ℕ → List ℕ → List ℕ → Refusal → Type 0

@@ -4,7 +4,7 @@ ghost use Rattle.sloth_base.specs.Arrivals.{AreArrivals};
 ghost use Rattle.sloth_base.specs.Owners.{owners_in};
 ghost use Rattle.code_rules.specs.WellFormed.{WellFormed};
 ghost use Rattle.sloth_source.specs.Texts.{Accepted};
-ghost use Rattle.trace_command.specs.Inputs.{AreRead, InputsErrorIs, names_of};
+ghost use Rattle.trace_command.specs.Inputs.{AreRead, InputsErrorIs, counter_names, names_of};
 
 use sloth_base::app::App;
 use sloth_base::config::Config;
@@ -12,10 +12,10 @@ use sloth_base::event::Arrival;
 use sloth_base::refusal::BuildError;
 use sloth_source::{Source, read};
 use std::alloc::Global;
-use trace_check::verdict::task_names;
+use trace_check::verdict::{counter_names, task_names};
 use trace_text::read_arrivals;
 
-/// A configuration, its task code and arrivals of its tasks.
+/// A configuration, its task code and arrivals of its tasks and counters.
 #[derive(Drop)]
 pub struct Inputs {
     pub config: Config,
@@ -30,13 +30,14 @@ pub fn read_inputs(alloc: Global, oil: &[u8], src: &[u8], arr: &[u8]) -> Result<
     requires arr { length arr.now < 4294967295 }
     ensures accepted { IfOk result (λ inputs. Accepted oil.now src.now inputs.config inputs.app) }
     ensures well_formed { IfOk result (λ inputs. WellFormed inputs.config inputs.app) }
-    ensures read { IfOk result (λ inputs. AreRead (names_of inputs.config) arr.now inputs.arrivals.items) }
+    ensures read { IfOk result (λ inputs. AreRead (names_of inputs.config) (counter_names inputs.config) arr.now inputs.arrivals.items) }
     ensures in_range { IfOk result (λ inputs. AreArrivals (owners_in inputs.config) inputs.arrivals.items) }
     ensures refused { IfErr result (InputsErrorIs oil.now src.now arr.now) }
 {
     let Source { config, app, .. } = read(alloc, oil, src)?;
     let names = task_names(alloc, &config)?;
-    let arrivals = read_arrivals(alloc, arr, names.as_slice())?;
+    let counters = counter_names(alloc, &config)?;
+    let arrivals = read_arrivals(alloc, arr, names.as_slice(), counters.as_slice())?;
     Ok(Inputs {
         config,
         app,

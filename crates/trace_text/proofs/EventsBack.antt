@@ -1,11 +1,11 @@
 -- The event of a counted line is found.
-use Rattle.std.proofs.Common.{◌≡◌, ◌∙◌, ℕ, ◌<◌, ◌≤◌, ⊎_elim, Bool, true, false, List, [], ◌∷◌, ◌++◌, Option, Some, None, length, get_or, cond, arith, refl, sym, ap, subst, true≢false}
-use Rattle.std.specs.Prelude.{◌&&◌, decimal, codes, bytes_eq, position, unwrap_or}
+use Rattle.std.proofs.Common.{◌≡◌, ◌≢◌, ◌∙◌, ℕ, zero, suc, ◌<◌, ◌≤◌, ⊎_elim, Bool, true, false, List, [], ◌∷◌, ◌++◌, Option, Some, None, length, get_or, cond, arith, refl, sym, ap, subst, true≢false}
+use Rattle.std.specs.Prelude.{◌&&◌, if◌then◌else◌, decimal, codes, bytes_eq, position, unwrap_or}
 use Rattle.std.proofs.lemmas.Bool.{le-ltb, cases_lt}
 use Rattle.std.proofs.lemmas.List.Sums.{list_all-from_AllPass}
 use Rattle.std.proofs.lemmas.Option.{none-some, same_Some, slice_get-get_or, slice_get_past}
 use Rattle.std.proofs.lemmas.Slice.Eq.{bytes_eq-Decides}
-use Rattle.sloth_base.specs.ImageRange.{AreNames, IsName, IsWord, begins_word, continues_word}
+use Rattle.sloth_base.specs.ImageRange.{AreApart, AreNames, IsName, IsWord, begins_word, continues_word}
 use Rattle.sloth_base.specs.declared.event.Event.{Event}
 use Rattle.sloth_base.specs.declared.event.Event.TheVariants as event
 use Rattle.sloth_base.specs.declared.event.Stamped.{Stamped}
@@ -14,10 +14,10 @@ use Rattle.sloth_base.proofs.Services.{of_name}
 use Rattle.sloth_base.specs.declared.service.Service.{Service}
 use Rattle.sloth_base.specs.declared.service.Service.TheVariants as service
 use Rattle.text_pieces.specs.Bytes.{is_byte_of}
-use Rattle.text_pieces.proofs.Places.{position_at}
+use Rattle.text_pieces.proofs.Places.{further, position-cons, position_at}
 use Rattle.asm_lines.proofs.Cuts.{lacks, has_in, before_is, behind_is}
-use Rattle.trace_text.specs.EventLines.{IsPlace, IsTaskNumber, HasNumbers, IsLineOf, Has32Bits, counted_line}
-use Rattle.trace_text.specs.EventsRead.{◌>>=◌, first_word, other_words, number, place, task_number, service_named, run_in, call_in, left_in, more_in, is_single, single_in, of_task, event_in, stamped_in, word_of}
+use Rattle.trace_text.specs.EventLines.{IsPlace, IsNumberOrNone, HasNumbers, IsLineOf, Has32Bits, counted_line}
+use Rattle.trace_text.specs.EventsRead.{◌>>=◌, first_word, other_words, number, place, place_or_none, service_named, run_in, call_in, left_in, more_in, is_single, single_in, of_task, admitted, admit_in, tick_in, named_in, event_in, stamped_in, word_of}
 use Rattle.trace_text.specs.Lines.{name_of, event_text}
 use Rattle.trace_text.proofs.Digits.{decimal_lacks, number_back}
 
@@ -83,24 +83,24 @@ module _ (names : List (List ℕ)) (named : AreNames names) where
   place_lacks : (i : ℕ) → IsPlace (length names) i → is_byte_of 32 (name_of names i) ≡ false
   place_lacks i h = name_lacks (name_of names i) (is_name i h.inside)
 
-  dash_back : (t : ℕ) → length names ≤ t → IsTaskNumber (length names) t → task_number names (name_of names t) ≡ Some t
-  unfolding task_number
+  dash_back : (t : ℕ) → length names ≤ t → IsNumberOrNone (length names) t → place_or_none names (name_of names t) ≡ Some t
+  unfolding place_or_none
   dash_back t ge h =
       let e : t ≡ 4294967295 = ⊎_elim (λ lt. absurd (omega (arith, lt, ge))) (λ e. e) h.names in
-      ap (task_number names) (past t ge) ∙ ap Some (sym e)
+      ap (place_or_none names) (past t ge) ∙ ap Some (sym e)
 
-  number_in_place : (t : ℕ) → t < length names → IsTaskNumber (length names) t → task_number names (name_of names t) ≡ Some t
-  unfolding task_number
+  number_in_place : (t : ℕ) → t < length names → IsNumberOrNone (length names) t → place_or_none names (name_of names t) ≡ Some t
+  unfolding place_or_none
   number_in_place t lt h =
       ap (λ b. cond b (Some 4294967295) (place names (name_of names t))) (is_not_dash (name_of names t) (is_name t lt))
       ∙ place_back t (record { word = h.word; inside = lt })
 
-  task_back : (t : ℕ) → IsTaskNumber (length names) t → task_number names (name_of names t) ≡ Some t
-  task_back t h = ⊎_elim (λ lt. number_in_place t lt h) (λ ge. dash_back t ge h) (cases_lt t (length names))
+  number_or_none_back : (t : ℕ) → IsNumberOrNone (length names) t → place_or_none names (name_of names t) ≡ Some t
+  number_or_none_back t h = ⊎_elim (λ lt. number_in_place t lt h) (λ ge. dash_back t ge h) (cases_lt t (length names))
 
-  task_lacks : (t : ℕ) → is_byte_of 32 (name_of names t) ≡ false
+  number_lacks : (t : ℕ) → is_byte_of 32 (name_of names t) ≡ false
   unfolding is_byte_of
-  task_lacks t = ⊎_elim (λ lt. name_lacks (name_of names t) (is_name t lt)) (λ ge. ap (is_byte_of 32) (past t ge)) (cases_lt t (length names))
+  number_lacks t = ⊎_elim (λ lt. name_lacks (name_of names t) (is_name t lt)) (λ ge. ap (is_byte_of 32) (past t ge)) (cases_lt t (length names))
 
   -- a name or `-` is short
   pub short_names : (k : ℕ) → length (name_of names k) ≤ 64
@@ -112,33 +112,44 @@ unfolding is_byte_of
 service_lacks service.ActivateTask = refl
 service_lacks s = refl
 
+-- no name of these is found that differs from each
+not_among : (names : List (List ℕ)) (w : List ℕ) → ((i : ℕ) (d : List ℕ) → i < length names → get_or names i d ≢ w) → position (bytes_eq w) names ≡ None
+not_among [] w h = refl
+not_among (x ∷ names) w h = position-cons (bytes_eq w) x names ∙ by (bytes_eq w x) refl (not_among names w (λ i d lt. h (suc i) d (omega (arith, lt))))
+  where
+    by : (b : Bool) → bytes_eq w x ≡ b → position (bytes_eq w) names ≡ None → (if b then Some 0 else further (position (bytes_eq w) names)) ≡ None
+    by true e none = absurd (h zero [] (omega arith) (sym ((bytes_eq-Decides w x).0 e)))
+    by false e none = ap further none
+
 -- ---- events
 
 one_after : {A B : Type 0} (o : Option A) (go : A → Option B) (a : A) → o ≡ Some a → (o >>= go) ≡ go a
 one_after o go a e = ap (λ x. x >>= go) e
 
-module _ (tasks functions : List (List ℕ)) (named : AreNames tasks) (known : AreNames functions) where
+module _ (tasks functions counters : List (List ℕ)) (named : AreNames tasks) (known : AreNames functions) (counted : AreNames counters)
+    (apart : AreApart counters tasks) where
   cut_there : (kind rest : List ℕ) → is_byte_of 32 kind ≡ false
-      → of_task tasks functions (first_word (kind ++ 32 ∷ rest)) (other_words (kind ++ 32 ∷ rest)) ≡ of_task tasks functions kind rest
+      → named_in tasks functions counters (first_word (kind ++ 32 ∷ rest)) (other_words (kind ++ 32 ∷ rest)) ≡ named_in tasks functions counters kind rest
   cut_there kind rest h =
-      ap (λ (k : List ℕ). of_task tasks functions k (other_words (kind ++ 32 ∷ rest))) (first_is kind rest h) ∙ ap (of_task tasks functions kind) (others_are kind rest h)
+      ap (λ (k : List ℕ). named_in tasks functions counters k (other_words (kind ++ 32 ∷ rest))) (first_is kind rest h)
+      ∙ ap (named_in tasks functions counters kind) (others_are kind rest h)
 
-  alone : (kind : List ℕ) (t : ℕ) → IsTaskNumber (length tasks) t → is_single kind ≡ true → of_task tasks functions kind (name_of tasks t) ≡ single_in kind t
+  alone : (kind : List ℕ) (t : ℕ) → IsNumberOrNone (length tasks) t → is_single kind ≡ true → of_task tasks functions kind (name_of tasks t) ≡ single_in kind t
   unfolding of_task
   alone kind t h e =
       let w = name_of tasks t in
-      ap (λ b. cond b (task_number tasks w >>= (λ task. single_in kind task)) (task_number tasks (first_word w) >>= (λ task. more_in kind task functions (other_words w)))) e
-      ∙ one_after (task_number tasks w) (λ task. single_in kind task) t (task_back tasks named t h)
+      ap (λ b. cond b (place_or_none tasks w >>= (λ task. single_in kind task)) (place_or_none tasks (first_word w) >>= (λ task. more_in kind task functions (other_words w)))) e
+      ∙ one_after (place_or_none tasks w) (λ task. single_in kind task) t (number_or_none_back tasks named t h)
 
-  with_more : (kind : List ℕ) (t : ℕ) (rest : List ℕ) → IsTaskNumber (length tasks) t → is_single kind ≡ false
+  with_more : (kind : List ℕ) (t : ℕ) (rest : List ℕ) → IsNumberOrNone (length tasks) t → is_single kind ≡ false
       → of_task tasks functions kind (name_of tasks t ++ 32 ∷ rest) ≡ more_in kind t functions rest
   unfolding of_task
   with_more kind t rest h e =
       let w = name_of tasks t ++ 32 ∷ rest in
-      let lacks = task_lacks tasks named t in
-      ap (λ b. cond b (task_number tasks w >>= (λ task. single_in kind task)) (task_number tasks (first_word w) >>= (λ task. more_in kind task functions (other_words w)))) e
-      ∙ (one_after (task_number tasks (first_word w)) (λ task. more_in kind task functions (other_words w)) t
-      (ap (task_number tasks) (first_is (name_of tasks t) rest lacks) ∙ task_back tasks named t h)
+      let lacks = number_lacks tasks named t in
+      ap (λ b. cond b (place_or_none tasks w >>= (λ task. single_in kind task)) (place_or_none tasks (first_word w) >>= (λ task. more_in kind task functions (other_words w)))) e
+      ∙ (one_after (place_or_none tasks (first_word w)) (λ task. more_in kind task functions (other_words w)) t
+      (ap (place_or_none tasks) (first_is (name_of tasks t) rest lacks) ∙ number_or_none_back tasks named t h)
       ∙ ap (more_in kind t functions) (others_are (name_of tasks t) rest lacks))
 
   run_back : (t f i r : ℕ) → IsPlace (length functions) f → i < 0x1_0000_0000 → r < 0x1_0000_0000
@@ -172,10 +183,38 @@ module _ (tasks functions : List (List ℕ)) (named : AreNames tasks) (known : A
   unfolding left_in
   left_back t s = one_after (service_named (service_name s)) (λ s. Some (event.Left t s)) s (of_name s)
 
-  event_back : (e : Event) → HasNumbers (length tasks) (length functions) e → event_in tasks functions (event_text tasks functions e) ≡ Some e
-  unfolding event_in is_single single_in more_in is_byte_of
+  -- a name that no task has is not read as a task's number
+  no_task : (c : ℕ) → IsPlace (length counters) c → place_or_none tasks (name_of counters c) ≡ None
+  unfolding place_or_none place
+  no_task c h =
+      let w = name_of counters c in
+      let own : w ≡ get_or counters c [] = inside counters counted c h.inside in
+      let other : (i : ℕ) (d : List ℕ) → i < length tasks → get_or tasks i d ≢ w =
+      λ i d lt same. apart c [] h.inside i d lt (same ∙ own) in
+      ap (λ b. cond b (Some 4294967295) (place tasks w)) (is_not_dash w (is_name counters counted c h.inside))
+      ∙ ap (λ o. o >>= word_of) (not_among tasks w other)
+
+  due_back : (c : ℕ) → IsPlace (length counters) c → admit_in tasks counters (name_of counters c) ≡ Some (event.Due c)
+  unfolding admit_in
+  due_back c h =
+      ap (λ o. admitted o (place counters (name_of counters c))) (no_task c h)
+      ∙ one_after (place counters (name_of counters c)) (λ k. Some (event.Due k)) c (place_back counters counted c h)
+
+  admit_back : (t : ℕ) → IsNumberOrNone (length tasks) t → admit_in tasks counters (name_of tasks t) ≡ Some (event.Admit t)
+  unfolding admit_in
+  admit_back t h = ap (λ o. admitted o (place counters (name_of tasks t))) (number_or_none_back tasks named t h)
+
+  tick_back : (c : ℕ) → IsNumberOrNone (length counters) c → tick_in counters (name_of counters c) ≡ Some (event.Tick c)
+  unfolding tick_in
+  tick_back c h = one_after (place_or_none counters (name_of counters c)) (λ k. Some (event.Tick k)) c (number_or_none_back counters counted c h)
+
+  event_back : (e : Event) → HasNumbers (length tasks) (length functions) (length counters) e
+      → event_in tasks functions counters (event_text tasks functions counters e) ≡ Some e
+  unfolding event_in named_in is_single single_in more_in is_byte_of
   event_back event.Boot h = refl
-  event_back (event.Admit t) h = cut_there (codes "admit") (name_of tasks t) refl ∙ alone (codes "admit") t h refl
+  event_back (event.Admit t) h = cut_there (codes "admit") (name_of tasks t) refl ∙ admit_back t h
+  event_back (event.Due c) h = cut_there (codes "admit") (name_of counters c) refl ∙ due_back c h
+  event_back (event.Tick c) h = cut_there (codes "tick") (name_of counters c) refl ∙ tick_back c h
   event_back (event.Enter t) h = cut_there (codes "enter") (name_of tasks t) refl ∙ alone (codes "enter") t h refl
   event_back (event.Run t f i r) h =
       let a = name_of tasks t in
@@ -197,12 +236,12 @@ module _ (tasks functions : List (List ℕ)) (named : AreNames tasks) (known : A
   event_back event.Idle h = refl
   event_back event.Stray h = refl
 
-  pub stamped_back : (e : Stamped) (text : List ℕ) → IsLineOf tasks functions e text → stamped_in tasks functions text ≡ Some e
+  pub stamped_back : (e : Stamped) (text : List ℕ) → IsLineOf tasks functions counters e text → stamped_in tasks functions counters text ≡ Some e
   unfolding stamped_in
   stamped_back e text h =
       let a = decimal e.stamp.from in
       let b = decimal e.stamp.at in
-      let c = event_text tasks functions e.event in
+      let c = event_text tasks functions counters e.event in
       let spaced = a ++ 32 ∷ (b ++ 32 ∷ c) in
       let is : text ≡ spaced = h.prints ∙ three a b c in
       let p = h.from in
@@ -211,40 +250,40 @@ module _ (tasks functions : List (List ℕ)) (named : AreNames tasks) (known : A
       let next = decimal_lacks e.stamp.at (omega (arith, q)) in
       let behind_from = ap other_words is ∙ others_are a (b ++ 32 ∷ c) front in
       one_after (number (first_word text))
-      (λ from. number (first_word (other_words text)) >>= (λ at. event_in tasks functions (other_words (other_words text)) >>= (λ event. Some (record { stamp = record { from = from; at = at }; event = event })))) e.stamp.from
+      (λ from. number (first_word (other_words text)) >>= (λ at. event_in tasks functions counters (other_words (other_words text)) >>= (λ event. Some (record { stamp = record { from = from; at = at }; event = event })))) e.stamp.from
       (ap (λ (w : List ℕ). number (first_word w)) is ∙ (ap number (first_is a (b ++ 32 ∷ c) front) ∙ number_back e.stamp.from p))
       ∙ (one_after (number (first_word (other_words text)))
-      (λ at. event_in tasks functions (other_words (other_words text)) >>= (λ event. Some (record { stamp = record { from = e.stamp.from; at = at }; event = event }))) e.stamp.at
+      (λ at. event_in tasks functions counters (other_words (other_words text)) >>= (λ event. Some (record { stamp = record { from = e.stamp.from; at = at }; event = event }))) e.stamp.at
       (ap (λ (w : List ℕ). number (first_word w)) behind_from ∙ (ap number (first_is b c next) ∙ number_back e.stamp.at q))
-      ∙ one_after (event_in tasks functions (other_words (other_words text))) (λ event. Some (record { stamp = e.stamp; event = event })) e.event
-      (ap (λ (w : List ℕ). event_in tasks functions (other_words w)) behind_from ∙ (ap (event_in tasks functions) (others_are b c next) ∙ event_back e.event h.numbers)))
+      ∙ one_after (event_in tasks functions counters (other_words (other_words text))) (λ event. Some (record { stamp = e.stamp; event = event })) e.event
+      (ap (λ (w : List ℕ). event_in tasks functions counters (other_words w)) behind_from ∙ (ap (event_in tasks functions counters) (others_are b c next) ∙ event_back e.event h.numbers)))
 
   -- ---- the text is compared with the line of the event that is found
 
   -- the event is the one whose line the text is
   abbrev pub IsReading : List ℕ → Option Stamped → Type 0
-  IsReading text read = (e : Stamped) → (read ≡ Some e → IsLineOf tasks functions e text) × (IsLineOf tasks functions e text → read ≡ Some e)
+  IsReading text read = (e : Stamped) → (read ≡ Some e → IsLineOf tasks functions counters e text) × (IsLineOf tasks functions counters e text → read ≡ Some e)
 
-  pub unread : (text : List ℕ) → None ≡ stamped_in tasks functions text → IsReading text None
+  pub unread : (text : List ℕ) → None ≡ stamped_in tasks functions counters text → IsReading text None
   unread text n e = (λ h. absurd (none-some e h), λ is. n ∙ stamped_back e text is)
 
-  pub misread : (text line : List ℕ) (found : Stamped) → Some found ≡ stamped_in tasks functions text → line ≡ counted_line tasks functions found
+  pub misread : (text line : List ℕ) (found : Stamped) → Some found ≡ stamped_in tasks functions counters text → line ≡ counted_line tasks functions counters found
       → bytes_eq line text ≡ false → IsReading text None
   misread text line found s l f e = (
     λ h. absurd (none-some e h),
     λ is.
         let same : found ≡ e = same_Some found e (s ∙ stamped_back e text is) in
-        let printed : line ≡ text = l ∙ (ap (counted_line tasks functions) same ∙ sym is.prints) in
+        let printed : line ≡ text = l ∙ (ap (counted_line tasks functions counters) same ∙ sym is.prints) in
         absurd (true≢false (sym ((bytes_eq-Decides line text).1 printed) ∙ f)),
   )
 
-  pub reread : (text line : List ℕ) (found : Stamped) → Some found ≡ stamped_in tasks functions text → line ≡ counted_line tasks functions found
-      → bytes_eq line text ≡ true → Has32Bits found.stamp.from → Has32Bits found.stamp.at → HasNumbers (length tasks) (length functions) found.event
+  pub reread : (text line : List ℕ) (found : Stamped) → Some found ≡ stamped_in tasks functions counters text → line ≡ counted_line tasks functions counters found
+      → bytes_eq line text ≡ true → Has32Bits found.stamp.from → Has32Bits found.stamp.at → HasNumbers (length tasks) (length functions) (length counters) found.event
       → IsReading text (Some found)
   reread text line found s l t p q n e = (
     λ h.
-        let is : IsLineOf tasks functions found text = record { from = p; at = q; numbers = n; prints = sym ((bytes_eq-Decides line text).0 t) ∙ l } in
-        let P : Stamped → Type 0 = λ x. IsLineOf tasks functions x text in
+        let is : IsLineOf tasks functions counters found text = record { from = p; at = q; numbers = n; prints = sym ((bytes_eq-Decides line text).0 t) ∙ l } in
+        let P : Stamped → Type 0 = λ x. IsLineOf tasks functions counters x text in
         subst P (same_Some found e h) is,
     λ is. s ∙ stamped_back e text is,
   )

@@ -1,8 +1,9 @@
 -- What is read is in range.
-use Rattle.std.proofs.Common.{◌≡◌, ◌∙◌, inl, inr, ℕ, zero, suc, ◌+◌, ◌-◌, ◌<◌, ◌≤◌, Bool, true, false, not, List, [], ◌∷◌, ◌++◌, Option, Some, None, take, length, length-append, arith, refl, sym, ap}
+use Rattle.std.proofs.Common.{◌≡◌, ◌∙◌, inl, inr, ℕ, zero, suc, ◌+◌, ◌-◌, ◌<◌, ◌≤◌, Bool, true, false, not, List, [], ◌∷◌, ◌++◌, Option, Some, None, take, length, length-append, arith, cond, refl, sym, ap, subst}
 use Rattle.std.specs.Prelude.{◌==◌, ◌&&◌, ◌||◌, nat_le, nat_lt, is_some, unwrap_or, bytes_eq, slice_index_or, IfSome}
 use Rattle.std.specs.List.{All}
-use Rattle.std.proofs.lemmas.Bool.{ltb-false, leb-false, or_parts}
+use Rattle.std.proofs.lemmas.Bool.{and_from, le-leb, leb-false, lt-ltb, ltb-false, or_parts}
+use Rattle.std.proofs.lemmas.Option.{none-some, same_Some}
 use Rattle.std.proofs.lemmas.List.{length-take}
 use Rattle.std.proofs.lemmas.List.Elements.{All-nil, All-cons, All-append, All-head, All-tail}
 use Rattle.std.proofs.lemmas.List.Quantifiers.{position-Some}
@@ -11,11 +12,13 @@ use Rattle.sloth_base.specs.Arrivals.{AreArrivals, NeverFalls}
 use Rattle.sloth_base.specs.declared.event.Arrival.{Arrival}
 use Rattle.sloth_base.specs.declared.refusal.Part.TheVariants.{Arr}
 use Rattle.sloth_base.specs.declared.refusal.Code.TheVariants.{T2, T3, T4}
-use Rattle.sloth_base.specs.Owners.{IsOwned}
+use Rattle.sloth_base.specs.Owners.{IsOwned, counter_line, first_counter_line, is_counter_line}
+use Rattle.sloth_base.specs.declared.lines.LineKind.TheVariants as line_of
+use Rattle.sloth_base.specs.declared.lines.Owners.{Owners}
 use Rattle.sloth_base.proofs.Owners.{task_owned}
 use Rattle.least_fault.specs.Order.{NoFault}
 use Rattle.least_fault.proofs.Nowhere.{case_false}
-use Rattle.trace_text.specs.ArrivalsText.{is_arrival, moment_of, named_task, task_text, arrival_of, last_moment, is_outside, is_t2, is_t3, is_t4, LineFault, owners_read}
+use Rattle.trace_text.specs.ArrivalsText.{is_arrival, moment_of, line_of_either, named_among, named_line, name_text, arrival_of, last_moment, is_outside, is_t2, is_t3, is_t4, LineFault, owners_read}
 
 last-at : (none : ℕ) (xs : List Arrival) (k : ℕ) (d : Arrival) → length xs ≡ suc k → (slice_index_or xs k d).at ≡ last_moment none xs
 last-at none [] k d h = absurd (omega (arith, h))
@@ -33,14 +36,39 @@ pub last-fits : (none : ℕ) (xs : List Arrival) → none ≤ 1000000 → All (�
 last-fits none [] h all = h
 last-fits none (x ∷ xs) h all = last-fits x.at xs (All-head (λ a. a.at ≤ 1000000) x xs all) (All-tail (λ a. a.at ≤ 1000000) x xs all)
 
--- a place that is found is one of the first 256
-pub found-below : (o : Option ℕ) (tasks : List (List ℕ)) (line : List ℕ) → o ≡ named_task tasks line → (i : ℕ) → o ≡ Some i → (i < 256) × (i < length tasks)
-found-below o tasks line q i e =
-    let h = (position-Some (bytes_eq (task_text line)) (take 256 tasks) i [] (sym q ∙ e)).0 in
-    let l = length-take 256 tasks in
-    let a = min-le_left 256 (length tasks) in
-    let b = min-le_right 256 (length tasks) in
+-- a place that is found is one of the first
+pub found-below : (o : Option ℕ) (most : ℕ) (names : List (List ℕ)) (line : List ℕ) → o ≡ named_among most names line → (i : ℕ) → o ≡ Some i → (i < most) × (i < length names)
+found-below o most names line q i e =
+    let h = (position-Some (bytes_eq (name_text line)) (take most names) i [] (sym q ∙ e)).0 in
+    let l = length-take most names in
+    let a = min-le_left most (length names) in
+    let b = min-le_right most (length names) in
     (omega (arith, h, l, a), omega (arith, h, l, b))
+
+-- the line of a counter has an owner, also where it is a task's
+counter-owned : (owners : Owners) (c : ℕ) → c < owners.counters → IsOwned owners (counter_line c)
+counter-owned owners c h = by (nat_lt (counter_line c) owners.tasks)
+  where
+    tested : is_counter_line owners (counter_line c) ≡ true
+    tested = and_from _ _ (le-leb first_counter_line (counter_line c) (omega arith)) (lt-ltb (counter_line c - first_counter_line) owners.counters (omega (arith, h)))
+
+    counted : (b : Bool) → b ≡ true → cond b (line_of.Counter (counter_line c - first_counter_line)) line_of.Unused ≡ line_of.Unused → ⊥
+    counted true is e = cc
+    counted false is e = cc
+
+    by : (b : Bool) → cond b (line_of.Task (counter_line c)) (cond (is_counter_line owners (counter_line c)) (line_of.Counter (counter_line c - first_counter_line)) line_of.Unused) ≡ line_of.Unused → ⊥
+    by true e = cc
+    by false e = counted (is_counter_line owners (counter_line c)) tested e
+
+-- the line that a name has, where it has one, has an owner
+line-owned : (tasks counters : List (List ℕ)) (line : List ℕ) (t c : Option ℕ) → t ≡ named_among 256 tasks line → c ≡ named_among 226 counters line
+    → (k : ℕ) → line_of_either t c ≡ Some k → IsOwned (owners_read tasks counters) k
+line-owned tasks counters line (Some t) c p q k e =
+    subst (IsOwned (owners_read tasks counters)) (same_Some t k e) (task_owned (owners_read tasks counters) t (found-below (Some t) 256 tasks line p t refl).1)
+line-owned tasks counters line None (Some c) p q k e =
+    subst (IsOwned (owners_read tasks counters)) (same_Some (counter_line c) k e)
+    (counter-owned (owners_read tasks counters) c (found-below (Some c) 226 counters line q c refl).1)
+line-owned tasks counters line None None p q k e = absurd (none-some k e)
 
 pub some-is : (o : Option ℕ) (P : ℕ → Type 0) → ((i : ℕ) → o ≡ Some i → P i) → IfSome o P
 some-is None P f = tt
@@ -62,7 +90,7 @@ some-of : (o : Option ℕ) → not (is_some o) ≡ false → (i : ℕ) × (o ≡
 some-of None h = cc
 some-of (Some i) h = (i, refl)
 
-module _ (tasks : List (List ℕ)) (before : List Arrival) (n : ℕ) (line : List ℕ) (none : NoFault (LineFault tasks before n line)) (is : is_arrival line ≡ true) where
+module _ (tasks counters : List (List ℕ)) (before : List Arrival) (n : ℕ) (line : List ℕ) (none : NoFault (LineFault tasks counters before n line)) (is : is_arrival line ≡ true) where
   is-in : (nat_le 100000 (length before) ≡ false) × (nat_lt (moment_of line) 1 ≡ false) × (nat_lt 1000000 (moment_of line) ≡ false)
   is-in =
       let t4 = case_false Arr (is_t4 before line) n T4 (λ r f. none r (inr (inr (inr f)))) in
@@ -73,12 +101,13 @@ module _ (tasks : List (List ℕ)) (before : List Arrival) (n : ℕ) (line : Lis
   pub moment-fits : moment_of line ≤ 1000000
   moment-fits = ltb-false 1000000 (moment_of line) is-in.2
 
-  names-task : unwrap_or (named_task tasks line) 0 < length tasks
-  names-task =
-      let t2 = case_false Arr (is_t2 tasks line) n T2 (λ r f. none r (inr (inl f))) in
-      let some = some-of (named_task tasks line) (without (is_arrival line) (not (is_some (named_task tasks line))) is t2) in
-      let e : unwrap_or (named_task tasks line) 0 ≡ some.0 = ap (λ o. unwrap_or o 0) some.1 in
-      let h = (found-below (named_task tasks line) tasks line refl some.0 some.1).1 in omega (arith, e, h)
+  names-owner : IsOwned (owners_read tasks counters) (unwrap_or (named_line tasks counters line) 0)
+  names-owner =
+      let t2 = case_false Arr (is_t2 tasks counters line) n T2 (λ r f. none r (inr (inl f))) in
+      let some = some-of (named_line tasks counters line) (without (is_arrival line) (not (is_some (named_line tasks counters line))) is t2) in
+      let e : unwrap_or (named_line tasks counters line) 0 ≡ some.0 = ap (λ o. unwrap_or o 0) some.1 in
+      subst (IsOwned (owners_read tasks counters)) (sym e)
+      (line-owned tasks counters line (named_among 256 tasks line) (named_among 226 counters line) refl refl some.0 some.1)
 
   rises : last_moment 0 before ≤ moment_of line
   rises =
@@ -86,9 +115,9 @@ module _ (tasks : List (List ℕ)) (before : List Arrival) (n : ℕ) (line : Lis
       ltb-false (moment_of line) (last_moment 0 before) (without (is_arrival line) (nat_lt (moment_of line) (last_moment 0 before)) is t3)
 
   -- one arrival more
-  pub one-more : AreArrivals (owners_read tasks) before → AreArrivals (owners_read tasks) (before ++ arrival_of tasks line ∷ [])
+  pub one-more : AreArrivals (owners_read tasks counters) before → AreArrivals (owners_read tasks counters) (before ++ arrival_of tasks counters line ∷ [])
   one-more h =
-      let a = arrival_of tasks line in
+      let a = arrival_of tasks counters line in
       let single : (P : Arrival → Type 0) → P a → All P (a ∷ []) = λ P p. All-cons P a [] p (All-nil P) in
       let few = leb-false 100000 (length before) is-in.0 in
       let l : length (before ++ a ∷ []) ≡ length before + 1 = length-append before (a ∷ []) in
@@ -96,5 +125,5 @@ module _ (tasks : List (List ℕ)) (before : List Arrival) (n : ℕ) (line : Lis
         few = omega (arith, few, l);
         moments_in_range = All-append (λ a. a.at ≤ 1000000) before (a ∷ []) h.moments_in_range (single (λ a. a.at ≤ 1000000) moment-fits);
         ordered = falls 1 before a h.ordered (last-by before (moment_of line) rises (ltb-false (moment_of line) 1 is-in.1));
-        lines_owned = All-append (λ a. IsOwned (owners_read tasks) a.line) before (a ∷ []) h.lines_owned (single (λ a. IsOwned (owners_read tasks) a.line) (task_owned (owners_read tasks) a.line names-task));
+        lines_owned = All-append (λ a. IsOwned (owners_read tasks counters) a.line) before (a ∷ []) h.lines_owned (single (λ a. IsOwned (owners_read tasks counters) a.line) names-owner);
       }

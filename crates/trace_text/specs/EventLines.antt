@@ -5,7 +5,7 @@ use Rattle.sloth_base.specs.declared.event.Event.TheVariants as event
 use Rattle.sloth_base.specs.declared.event.Stamped.{Stamped}
 use Rattle.sloth_base.specs.Events.{named_task}
 use Rattle.trace_text.specs.Lines.{line_with}
-use Rattle.trace_text.specs.declared.print.Form.TheVariants as form
+use Rattle.trace_text.specs.declared.printing.Form.TheVariants as form
 
 -- a number of 32 bits
 abbrev pub Has32Bits : ℕ → Type 0
@@ -16,25 +16,27 @@ pub record IsPlace (count n : ℕ) : Type 0 where
   pub word : Has32Bits n
   pub inside : n < count
 
--- the number of one of so many tasks, or 4,294,967,295, which is that of no task
-pub record IsTaskNumber (count n : ℕ) : Type 0 where
+-- the number of one of so many tasks or counters, or 4,294,967,295, which is that of none
+pub record IsNumberOrNone (count n : ℕ) : Type 0 where
   pub word : Has32Bits n
   pub names : (n < count) ⊎ (n ≡ 4294967295)
 
--- the numbers in an event, with so many tasks and functions
-abbrev pub HasNumbers : (tasks functions : ℕ) → Event → Type 0
-HasNumbers tasks functions (event.Run t function item result) =
-    IsTaskNumber tasks t × IsPlace functions function × Has32Bits item × Has32Bits result
-HasNumbers tasks functions (event.Call t called status) = IsTaskNumber tasks t × Has32Bits status
-HasNumbers tasks functions e = IfSome (named_task e) (λ t. IsTaskNumber tasks t)
+-- the numbers in an event, with so many tasks, functions and counters
+abbrev pub HasNumbers : (tasks functions counters : ℕ) → Event → Type 0
+HasNumbers tasks functions counters (event.Run t function item result) =
+    IsNumberOrNone tasks t × IsPlace functions function × Has32Bits item × Has32Bits result
+HasNumbers tasks functions counters (event.Call t called status) = IsNumberOrNone tasks t × Has32Bits status
+HasNumbers tasks functions counters (event.Due c) = IsPlace counters c
+HasNumbers tasks functions counters (event.Tick c) = IsNumberOrNone counters c
+HasNumbers tasks functions counters e = IfSome (named_task e) (λ t. IsNumberOrNone tasks t)
 
--- the counted line of an event without its LF, with the names of tasks and functions
-abbrev pub counted_line : List (List ℕ) → List (List ℕ) → Stamped → List ℕ
-counted_line tasks functions e = line_with tasks functions form.Counted e
+-- the counted line of an event without its LF, with the names of tasks, functions and counters
+abbrev pub counted_line : (tasks functions counters : List (List ℕ)) → Stamped → List ℕ
+counted_line tasks functions counters e = line_with tasks functions counters form.Counted e
 
--- the text is the counted line of an event whose numbers name tasks and functions, or no task
-pub record IsLineOf (tasks functions : List (List ℕ)) (e : Stamped) (text : List ℕ) : Type 0 where
+-- the text is the counted line of an event whose numbers name tasks, functions and counters, or no task or counter
+pub record IsLineOf (tasks functions counters : List (List ℕ)) (e : Stamped) (text : List ℕ) : Type 0 where
   pub from : Has32Bits e.stamp.from
   pub at : Has32Bits e.stamp.at
-  pub numbers : HasNumbers (length tasks) (length functions) e.event
-  pub prints : text ≡ counted_line tasks functions e
+  pub numbers : HasNumbers (length tasks) (length functions) (length counters) e.event
+  pub prints : text ≡ counted_line tasks functions counters e

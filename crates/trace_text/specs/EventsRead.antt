@@ -35,9 +35,9 @@ place names word = do
   n ← position (bytes_eq word) names
   word_of n
 
--- the number of a task; that of no task for `-`
-unfoldable pub task_number : List (List ℕ) → List ℕ → Option ℕ
-task_number tasks word = if bytes_eq word (codes "-") then Some 4294967295 else place tasks word
+-- the number of a task or a counter; that of none for `-`
+unfoldable pub place_or_none : List (List ℕ) → List ℕ → Option ℕ
+place_or_none names word = if bytes_eq word (codes "-") then Some 4294967295 else place names word
 
 -- a run of an item by a task, of which these words tell
 unfoldable pub run_in : ℕ → List (List ℕ) → List ℕ → Option Event
@@ -71,33 +71,52 @@ more_in kind task functions text =
 -- an event of a task alone, by its first word
 unfoldable pub single_in : List ℕ → ℕ → Option Event
 single_in kind task =
-    if bytes_eq kind (codes "admit") then Some (event.Admit task)
-    else if bytes_eq kind (codes "enter") then Some (event.Enter task)
+    if bytes_eq kind (codes "enter") then Some (event.Enter task)
     else if bytes_eq kind (codes "back") then Some (event.Back task)
     else None
 
 -- the words tell of no more than a task
 unfoldable pub is_single : List ℕ → Bool
-is_single kind = bytes_eq kind (codes "admit") || (bytes_eq kind (codes "enter") || bytes_eq kind (codes "back"))
+is_single kind = bytes_eq kind (codes "enter") || bytes_eq kind (codes "back")
 
 -- an event of a task, by its first word and the others
-unfoldable pub of_task : List (List ℕ) → List (List ℕ) → List ℕ → List ℕ → Option Event
+unfoldable pub of_task : (tasks functions : List (List ℕ)) → List ℕ → List ℕ → Option Event
 of_task tasks functions kind text =
-    if is_single kind then task_number tasks text >>= (λ task. single_in kind task)
-    else task_number tasks (first_word text) >>= (λ task. more_in kind task functions (other_words text))
+    if is_single kind then place_or_none tasks text >>= (λ task. single_in kind task)
+    else place_or_none tasks (first_word text) >>= (λ task. more_in kind task functions (other_words text))
+
+-- the admission of a task, if there is one, or else of a counter
+abbrev pub admitted : Option ℕ → Option ℕ → Option Event
+admitted (Some task) counter = Some (event.Admit task)
+admitted None counter = counter >>= (λ c. Some (event.Due c))
+
+-- the admission of the task or counter of a name
+unfoldable pub admit_in : (tasks counters : List (List ℕ)) → List ℕ → Option Event
+admit_in tasks counters text = admitted (place_or_none tasks text) (place counters text)
+
+-- a tick of a counter
+unfoldable pub tick_in : List (List ℕ) → List ℕ → Option Event
+tick_in counters text = place_or_none counters text >>= (λ c. Some (event.Tick c))
+
+-- an event of a task or a counter, by its first word and the others
+unfoldable pub named_in : (tasks functions counters : List (List ℕ)) → List ℕ → List ℕ → Option Event
+named_in tasks functions counters kind text =
+    if bytes_eq kind (codes "admit") then admit_in tasks counters text
+    else if bytes_eq kind (codes "tick") then tick_in counters text
+    else of_task tasks functions kind text
 
 -- an event
-unfoldable pub event_in : List (List ℕ) → List (List ℕ) → List ℕ → Option Event
-event_in tasks functions text =
+unfoldable pub event_in : (tasks functions counters : List (List ℕ)) → List ℕ → Option Event
+event_in tasks functions counters text =
     if bytes_eq text (codes "boot") then Some event.Boot
     else if bytes_eq text (codes "idle") then Some event.Idle
     else if bytes_eq text (codes "stray") then Some event.Stray
-    else of_task tasks functions (first_word text) (other_words text)
+    else named_in tasks functions counters (first_word text) (other_words text)
 
 -- an event behind its counts
-unfoldable pub stamped_in : List (List ℕ) → List (List ℕ) → List ℕ → Option Stamped
-stamped_in tasks functions text = do
+unfoldable pub stamped_in : (tasks functions counters : List (List ℕ)) → List ℕ → Option Stamped
+stamped_in tasks functions counters text = do
   from ← number (first_word text)
   at ← number (first_word (other_words text))
-  event ← event_in tasks functions (other_words (other_words text))
+  event ← event_in tasks functions counters (other_words (other_words text))
   Some (record { stamp = record { from = from; at = at }; event = event })

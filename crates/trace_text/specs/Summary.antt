@@ -4,10 +4,11 @@ use Rattle.sloth_base.specs.declared.event.Event.{Event}
 use Rattle.sloth_base.specs.declared.event.Event.TheVariants as event
 use Rattle.sloth_base.specs.declared.event.Stamped.{Stamped}
 
--- the number of an event's kind, in the order of the summary
+-- the number of an event's kind, in the order of the summary; a counter that becomes due is admitted as a task is
 abbrev pub kind_of : Event → ℕ
 kind_of event.Boot = 0
 kind_of (event.Admit task) = 1
+kind_of (event.Due counter) = 1
 kind_of (event.Enter task) = 2
 kind_of (event.Run task function item result) = 3
 kind_of (event.Call task service status) = 4
@@ -15,6 +16,7 @@ kind_of (event.Left task service) = 5
 kind_of (event.Back task) = 6
 kind_of event.Idle = 7
 kind_of event.Stray = 8
+kind_of (event.Tick counter) = 9
 
 -- how many of these events are of a kind
 abbrev pub count_of_kind : List Stamped → ℕ → ℕ
@@ -22,7 +24,7 @@ count_of_kind events kind = count_by (λ e. kind_of e.event == kind) events
 
 -- the same for each kind
 abbrev pub counts_of : List Stamped → List ℕ
-counts_of events = map (count_of_kind events) (0 ∷ 1 ∷ 2 ∷ 3 ∷ 4 ∷ 5 ∷ 6 ∷ 7 ∷ 8 ∷ [])
+counts_of events = map (count_of_kind events) (0 ∷ 1 ∷ 2 ∷ 3 ∷ 4 ∷ 5 ∷ 6 ∷ 7 ∷ 8 ∷ 9 ∷ [])
 
 -- the word of a kind
 unfoldable pub kind_word : ℕ → List ℕ
@@ -35,7 +37,8 @@ kind_word kind =
     else (if kind == 5 then codes "left"
     else (if kind == 6 then codes "back"
     else (if kind == 7 then codes "idle"
-    else codes "stray")))))))
+    else (if kind == 8 then codes "stray"
+    else codes "tick"))))))))
 
 -- the line of a kind: its word, one space, its number
 unfoldable pub kind_line : List ℕ → ℕ → List ℕ
@@ -46,6 +49,6 @@ unfoldable pub first_kinds : List ℕ → ℕ → List ℕ
 first_kinds counts zero = []
 first_kinds counts (suc k) = first_kinds counts k ++ kind_line counts k
 
--- the text of these numbers, nine lines
+-- the text of these numbers, ten lines
 abbrev pub summary_text : List ℕ → List ℕ
-summary_text counts = first_kinds counts 9
+summary_text counts = first_kinds counts 10

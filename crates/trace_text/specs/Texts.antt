@@ -6,8 +6,8 @@ use Rattle.sloth_base.specs.declared.event.Event.TheVariants as event
 use Rattle.sloth_base.specs.declared.event.Stamped.{Stamped}
 use Rattle.sloth_base.specs.declared.image.Image.{Image}
 use Rattle.trace_text.specs.Lines.{line_with}
-use Rattle.trace_text.specs.declared.print.Form.{Form}
-use Rattle.trace_text.specs.declared.print.Form.TheVariants as form
+use Rattle.trace_text.specs.declared.printing.Form.{Form}
+use Rattle.trace_text.specs.declared.printing.Form.TheVariants as form
 
 -- an event is that of the idle loop
 abbrev pub is_idle : Event → Bool
@@ -25,13 +25,13 @@ abbrev pub ends_idle : Bool → List Stamped → Bool
 ends_idle after_idle [] = after_idle
 ends_idle after_idle (e ∷ rest) = ends_idle (is_idle e.event) rest
 
--- the lines of events, each with its LF, with the names of tasks and functions
-abbrev pub lines_with : List (List ℕ) → List (List ℕ) → Form → List Stamped → List ℕ
-lines_with tasks functions form events = flat_map (λ e. line_with tasks functions form e ++ 10 ∷ []) events
+-- the lines of events, each with its LF, with the names of tasks, functions and counters
+abbrev pub lines_with : (tasks functions counters : List (List ℕ)) → Form → List Stamped → List ℕ
+lines_with tasks functions counters form events = flat_map (λ e. line_with tasks functions counters form e ++ 10 ∷ []) events
 
 -- with those of an image
 abbrev pub lines_of : Image → Form → List Stamped → List ℕ
-lines_of image form events = lines_with image.tasks image.funcs form events
+lines_of image form events = lines_with image.tasks image.funcs image.counters form events
 
 -- those that are printed: in the bare form no idle directly follows an idle
 abbrev pub printed_events : Form → Bool → List Stamped → List Stamped

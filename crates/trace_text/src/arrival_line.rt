@@ -4,11 +4,12 @@ ghost use Rattle.std.specs.List.{list_all};
 ghost use Rattle.std.specs.Char.{is_ascii_digit};
 ghost use Rattle.least_fault.specs.Search.{Finds};
 ghost use Rattle.text_pieces.specs.Digits.{capped_value};
-ghost use Rattle.trace_text.specs.ArrivalsText.{is_comment, are_digits, is_arrival, moment_of, named_task, arrival_of};
+ghost use Rattle.trace_text.specs.ArrivalsText.{is_comment, are_digits, is_arrival, moment_of, named_among, named_line, arrival_of};
 ghost use Rattle.trace_text.specs.ArrivalsText.{last_moment, is_outside, is_t1, is_t2, is_t3, is_t4, LineFault};
 
 use least_fault::{merge, when};
 use sloth_base::event::Arrival;
+use sloth_base::lines::COUNTER_LINE;
 use sloth_base::name::Name;
 use sloth_base::numbers::Line;
 use sloth_base::refusal::{Code, Part, Refusal};
@@ -23,6 +24,9 @@ const LAST_MOMENT: u64 = 1_000_000;
 
 /// How many numbers a controller's line may have.
 const LINES: usize = 256;
+
+/// How many of them may be counters'.
+const COUNTER_LINES: usize = 226;
 
 // Empty, or a comment.
 fn is_comment(line: &[u8]) -> bool
@@ -66,30 +70,43 @@ pub fn position(names: &[Name], name: &[u8]) -> Option<usize>
     names.iter().position(|other| same(name, other.bytes()))
 }
 
-fn first_names(tasks: &[Name], count: usize) -> &[Name]
-    ensures { result.now ≡ take count tasks.now }
+fn first_names(names: &[Name], count: usize) -> &[Name]
+    ensures { result.now ≡ take count names.now }
 {
-    if count < tasks.len() {
-        return &tasks[..count];
+    if count < names.len() {
+        return &names[..count];
     }
-    tasks
+    names
 }
 
-// The number of the task that the line names.
-fn task_of(tasks: &[Name], line: &[u8]) -> Option<usize>
-    ensures task { result ≡ named_task tasks.now line.now }
-    ensures small { IfSome result (λ number. number < 256) }
+// The place of the line's name among the first of these names.
+fn named_among(most: usize, names: &[Name], line: &[u8]) -> Option<usize>
+    ensures place { result ≡ named_among most names.now line.now }
+    ensures small { IfSome result (λ place. place < most) }
 {
-    position(first_names(tasks, LINES), behind(line, b' '))
+    position(first_names(names, most), behind(line, b' '))
+}
+
+// The line of the task or the counter that a line of the text names.
+fn named_line(tasks: &[Name], counters: &[Name], line: &[u8]) -> Option<u8>
+    ensures { result ≡ named_line tasks.now counters.now line.now }
+{
+    if let Some(task) = named_among(LINES, tasks, line) {
+        return Some(task as u8);
+    }
+    match named_among(COUNTER_LINES, counters, line) {
+        Some(counter) => Some(COUNTER_LINE + counter as u8),
+        None => None,
+    }
 }
 
 /// The arrival of a line, whose moment is at most 1,000,000.
-pub fn arrival_of(tasks: &[Name], line: &[u8]) -> Arrival
+pub fn arrival_of(tasks: &[Name], counters: &[Name], line: &[u8]) -> Arrival
     requires { moment_of line.now ≤ 1000000 }
-    ensures { result ≡ arrival_of tasks.now line.now }
+    ensures { result ≡ arrival_of tasks.now counters.now line.now }
 {
     let at = moment(line) as u32;
-    let number = task_of(tasks, line).unwrap_or(0) as u8;
+    let number = named_line(tasks, counters, line).unwrap_or(0);
     Arrival {
         at,
         line: Line(number),
@@ -113,11 +130,11 @@ fn is_t1(line: &[u8]) -> bool
     !is_comment(line) && !is_arrival(line)
 }
 
-// A name that is no task's.
-fn is_t2(tasks: &[Name], line: &[u8]) -> bool
-    ensures { result ≡ is_t2 tasks.now line.now }
+// A name that is no task's and no counter's.
+fn is_t2(tasks: &[Name], counters: &[Name], line: &[u8]) -> bool
+    ensures { result ≡ is_t2 tasks.now counters.now line.now }
 {
-    is_arrival(line) && task_of(tasks, line).is_none()
+    is_arrival(line) && named_line(tasks, counters, line).is_none()
 }
 
 // A moment less than that of the arrival before, which is at most 1,000,000.
@@ -144,12 +161,18 @@ fn is_outside(line: &[u8]) -> bool
 }
 
 /// The least fault of a line that these arrivals stand before, each at a moment of at most 1,000,000.
-pub fn line_fault(tasks: &[Name], before: &[Arrival], number: u32, line: &[u8]) -> Option<Refusal>
+pub fn line_fault(
+    tasks: &[Name],
+    counters: &[Name],
+    before: &[Arrival],
+    number: u32,
+    line: &[u8],
+) -> Option<Refusal>
     requires { last_moment 0 before.now ≤ 1000000 }
-    ensures { Finds (LineFault tasks.now before.now number line.now) result }
+    ensures { Finds (LineFault tasks.now counters.now before.now number line.now) result }
 {
     let t1 = when(is_t1(line), Part::Arr, number, Code::T1);
-    let t2 = when(is_t2(tasks, line), Part::Arr, number, Code::T2);
+    let t2 = when(is_t2(tasks, counters, line), Part::Arr, number, Code::T2);
     let t3 = when(is_t3(before, line), Part::Arr, number, Code::T3);
     let t4 = when(is_t4(before, line), Part::Arr, number, Code::T4);
     merge(t1, merge(t2, merge(t3, t4)))

@@ -40,49 +40,60 @@ fn lines<'a>(alloc: Global, text: &'a [u8]) -> Result<Vec<&'a [u8]>, NoMemory>
 fn read_line(
     read: &mut Vec<Arrival>,
     tasks: &[Name],
+    counters: &[Name],
     number: u32,
     line: &[u8],
 ) -> Result<(), BuildError>
-    requires { AreArrivals (owners_read tasks.now) read.old.items }
-    ensures read { OnOk result (read.new.items ≡ read.old.items ++ arrivals_of tasks.now (line.now ∷ [])) }
-    ensures in_range { OnOk result (AreArrivals (owners_read tasks.now) read.new.items) }
-    ensures none { OnOk result (NoFault (LineFault tasks.now read.old.items number line.now)) }
-    ensures refused { IfErr result (λ error. ErrorIs (LineFault tasks.now read.old.items number line.now) error) }
+    requires { AreArrivals (owners_read tasks.now counters.now) read.old.items }
+    ensures read { OnOk result (read.new.items ≡ read.old.items ++ arrivals_of tasks.now counters.now (line.now ∷ [])) }
+    ensures in_range { OnOk result (AreArrivals (owners_read tasks.now counters.now) read.new.items) }
+    ensures none { OnOk result (NoFault (LineFault tasks.now counters.now read.old.items number line.now)) }
+    ensures refused { IfErr result (λ error. ErrorIs (LineFault tasks.now counters.now read.old.items number line.now) error) }
 {
-    if let Some(fault) = line_fault(tasks, read.as_slice(), number, line) {
+    if let Some(fault) = line_fault(tasks, counters, read.as_slice(), number, line) {
         return Err(BuildError::Refused(fault));
     }
     if is_arrival(line) {
-        push(read, arrival_of(tasks, line))?;
+        push(read, arrival_of(tasks, counters, line))?;
     }
     Ok(())
 }
 
 // Reads lines, up to the first that has a fault.
-fn read_lines(alloc: Global, lines: &[&[u8]], tasks: &[Name]) -> Result<Vec<Arrival>, BuildError>
+fn read_lines(
+    alloc: Global,
+    lines: &[&[u8]],
+    tasks: &[Name],
+    counters: &[Name],
+) -> Result<Vec<Arrival>, BuildError>
     requires { length lines.now < 2 ^ 32 }
-    ensures arrivals { IfOk result (λ read. read.items ≡ arrivals_of tasks.now (map now lines.now)) }
-    ensures in_range { IfOk result (λ read. AreArrivals (owners_read tasks.now) read.items) }
-    ensures none { OnOk result (NoFault (LinesFault tasks.now (map now lines.now))) }
-    ensures refused { IfErr result (λ error. ErrorIs (LinesFault tasks.now (map now lines.now)) error) }
+    ensures arrivals { IfOk result (λ read. read.items ≡ arrivals_of tasks.now counters.now (map now lines.now)) }
+    ensures in_range { IfOk result (λ read. AreArrivals (owners_read tasks.now counters.now) read.items) }
+    ensures none { OnOk result (NoFault (LinesFault tasks.now counters.now (map now lines.now))) }
+    ensures refused { IfErr result (λ error. ErrorIs (LinesFault tasks.now counters.now (map now lines.now)) error) }
 {
     let mut read = Vec::new(alloc);
     for (n, line) in lines.iter().enumerate() {
-        read_line(&mut read, tasks, n as u32 + 1, *line)?;
+        read_line(&mut read, tasks, counters, n as u32 + 1, *line)?;
     }
     Ok(read)
 }
 
-/// The arrivals of a text of at most 4,294,967,294 bytes, with the names of the tasks; or its least fault: T1 for a line of another
-/// shape, T2 for a name that is no task's, T3 for a moment less than the one before, T4 for the 100,001st arrival or a moment outside 1
-/// to 1,000,000.
-pub fn read_arrivals(alloc: Global, text: &[u8], tasks: &[Name]) -> Result<Vec<Arrival>, BuildError>
+/// The arrivals of a text of at most 4,294,967,294 bytes, with the names of the tasks and of the counters; or its least fault: T1 for a
+/// line of another shape, T2 for a name that is no task's and no counter's, T3 for a moment less than the one before, T4 for the 100,001st
+/// arrival or a moment outside 1 to 1,000,000.
+pub fn read_arrivals(
+    alloc: Global,
+    text: &[u8],
+    tasks: &[Name],
+    counters: &[Name],
+) -> Result<Vec<Arrival>, BuildError>
     requires { length text.now < 4294967295 }
-    ensures arrivals { IfOk result (λ read. read.items ≡ arrivals_in tasks.now text.now) }
-    ensures in_range { IfOk result (λ read. AreArrivals (owners_read tasks.now) read.items) }
-    ensures none { OnOk result (NoFault (ArrivalsFault tasks.now text.now)) }
-    ensures refused { IfErr result (λ error. ErrorIs (ArrivalsFault tasks.now text.now) error) }
+    ensures arrivals { IfOk result (λ read. read.items ≡ arrivals_in tasks.now counters.now text.now) }
+    ensures in_range { IfOk result (λ read. AreArrivals (owners_read tasks.now counters.now) read.items) }
+    ensures none { OnOk result (NoFault (ArrivalsFault tasks.now counters.now text.now)) }
+    ensures refused { IfErr result (λ error. ErrorIs (ArrivalsFault tasks.now counters.now text.now) error) }
 {
     let lines = lines(alloc, text)?;
-    read_lines(alloc, lines.as_slice(), tasks)
+    read_lines(alloc, lines.as_slice(), tasks, counters)
 }

@@ -1,22 +1,22 @@
 //! Reading event lines.
 ghost use Rattle.std.specs.Prelude.{◌≡◌, ℕ, ◌↔◌, Some, IfSome, length};
-ghost use Rattle.sloth_base.specs.ImageRange.{AreNames};
+ghost use Rattle.sloth_base.specs.ImageRange.{AreNames, AreApart};
 ghost use Rattle.sloth_base.specs.declared.event.Stamped.{Stamped as AnyEvent};
-ghost use Rattle.trace_text.specs.EventLines.{HasNumbers, IsLineOf, IsPlace, IsTaskNumber, Has32Bits, counted_line};
-ghost use Rattle.trace_text.specs.EventsRead.{call_in, event_in, is_single, left_in, more_in, number, of_task, place};
-ghost use Rattle.trace_text.specs.EventsRead.{run_in, single_in, stamped_in, task_number};
+ghost use Rattle.trace_text.specs.EventLines.{HasNumbers, IsLineOf, IsPlace, IsNumberOrNone, Has32Bits, counted_line};
+ghost use Rattle.trace_text.specs.EventsRead.{admit_in, call_in, event_in, is_single, left_in, more_in, named_in, number, of_task, place};
+ghost use Rattle.trace_text.specs.EventsRead.{place_or_none, run_in, single_in, stamped_in, tick_in};
 
 use crate::arrival_line::position;
 use crate::line_text::LineText;
-use crate::print::{push_counts, push_event};
+use crate::printing::{push_counts, push_event};
 use sloth_base::event::{Event, Stamp, Stamped};
 use sloth_base::name::Name;
 use sloth_base::service::service_named;
 use text_pieces::bytes::{before, behind, same};
 use text_pieces::numerals::value;
 
-/// The number of no task.
-const NO_TASK: u32 = 4_294_967_295;
+/// The number of no task and of no counter.
+const NONE: u32 = 4_294_967_295;
 
 /// The greatest number of 32 bits.
 const GREATEST: u64 = 4_294_967_295;
@@ -47,23 +47,23 @@ fn place(names: &[Name], word: &[u8]) -> Option<u32>
     Some(n as u32)
 }
 
-// The number of a task; that of no task for `-`.
-#[tactic(auto, unfolding(crate::specs::EventsRead::task_number))]
-fn task_number(tasks: &[Name], word: &[u8]) -> Option<u32>
-    ensures number { result ≡ task_number tasks.now word.now }
-    ensures names { IfSome result (λ n. IsTaskNumber (length tasks.now) n) }
+// The number of a task or a counter; that of none for `-`.
+#[tactic(auto, unfolding(crate::specs::EventsRead::place_or_none))]
+fn place_or_none(names: &[Name], word: &[u8]) -> Option<u32>
+    ensures number { result ≡ place_or_none names.now word.now }
+    ensures names { IfSome result (λ n. IsNumberOrNone (length names.now) n) }
 {
     if same(word, b"-") {
-        return Some(NO_TASK);
+        return Some(NONE);
     }
-    place(tasks, word)
+    place(names, word)
 }
 
 // A run of an item by a task.
 #[tactic(auto, unfolding(crate::specs::EventsRead::run_in))]
 fn run_in(task: u32, functions: &[Name], text: &[u8]) -> Option<Event>
     ensures event { result ≡ run_in task functions.now text.now }
-    ensures numbers { (tasks : ℕ) → IsTaskNumber tasks task → IfSome result (λ event. HasNumbers tasks (length functions.now) event) }
+    ensures numbers { (tasks counters : ℕ) → IsNumberOrNone tasks task → IfSome result (λ event. HasNumbers tasks (length functions.now) counters event) }
 {
     let func = place(functions, before(text, b' '))?;
     let others = behind(text, b' ');
@@ -81,7 +81,7 @@ fn run_in(task: u32, functions: &[Name], text: &[u8]) -> Option<Event>
 #[tactic(auto, unfolding(crate::specs::EventsRead::call_in))]
 fn call_in(task: u32, text: &[u8]) -> Option<Event>
     ensures event { result ≡ call_in task text.now }
-    ensures numbers { (tasks functions : ℕ) → IsTaskNumber tasks task → IfSome result (λ event. HasNumbers tasks functions event) }
+    ensures numbers { (tasks functions counters : ℕ) → IsNumberOrNone tasks task → IfSome result (λ event. HasNumbers tasks functions counters event) }
 {
     let service = service_named(before(text, b' '))?;
     let status = number(behind(text, b' '))?;
@@ -96,7 +96,7 @@ fn call_in(task: u32, text: &[u8]) -> Option<Event>
 #[tactic(auto, unfolding(crate::specs::EventsRead::left_in))]
 fn left_in(task: u32, text: &[u8]) -> Option<Event>
     ensures event { result ≡ left_in task text.now }
-    ensures numbers { (tasks functions : ℕ) → IsTaskNumber tasks task → IfSome result (λ event. HasNumbers tasks functions event) }
+    ensures numbers { (tasks functions counters : ℕ) → IsNumberOrNone tasks task → IfSome result (λ event. HasNumbers tasks functions counters event) }
 {
     let service = service_named(text)?;
     Some(Event::Left { task, service })
@@ -106,7 +106,7 @@ fn left_in(task: u32, text: &[u8]) -> Option<Event>
 #[tactic(auto, unfolding(crate::specs::EventsRead::more_in))]
 fn more_in(kind: &[u8], task: u32, functions: &[Name], text: &[u8]) -> Option<Event>
     ensures event { result ≡ more_in kind.now task functions.now text.now }
-    ensures numbers { (tasks : ℕ) → IsTaskNumber tasks task → IfSome result (λ event. HasNumbers tasks (length functions.now) event) }
+    ensures numbers { (tasks counters : ℕ) → IsNumberOrNone tasks task → IfSome result (λ event. HasNumbers tasks (length functions.now) counters event) }
 {
     if same(kind, b"run") {
         return run_in(task, functions, text);
@@ -124,11 +124,8 @@ fn more_in(kind: &[u8], task: u32, functions: &[Name], text: &[u8]) -> Option<Ev
 #[tactic(auto, unfolding(crate::specs::EventsRead::single_in))]
 fn single_in(kind: &[u8], task: u32) -> Option<Event>
     ensures event { result ≡ single_in kind.now task }
-    ensures numbers { (tasks functions : ℕ) → IsTaskNumber tasks task → IfSome result (λ event. HasNumbers tasks functions event) }
+    ensures numbers { (tasks functions counters : ℕ) → IsNumberOrNone tasks task → IfSome result (λ event. HasNumbers tasks functions counters event) }
 {
-    if same(kind, b"admit") {
-        return Some(Event::Admit(task));
-    }
     if same(kind, b"enter") {
         return Some(Event::Enter(task));
     }
@@ -143,28 +140,72 @@ fn single_in(kind: &[u8], task: u32) -> Option<Event>
 fn is_single(kind: &[u8]) -> bool
     ensures { result ≡ is_single kind.now }
 {
-    same(kind, b"admit") || same(kind, b"enter") || same(kind, b"back")
+    same(kind, b"enter") || same(kind, b"back")
 }
 
 // An event of a task, by its first word and the others.
 #[tactic(auto, unfolding(crate::specs::EventsRead::of_task))]
 fn of_task(tasks: &[Name], functions: &[Name], kind: &[u8], text: &[u8]) -> Option<Event>
     ensures event { result ≡ of_task tasks.now functions.now kind.now text.now }
-    ensures numbers { IfSome result (λ event. HasNumbers (length tasks.now) (length functions.now) event) }
+    ensures numbers { (counters : ℕ) → IfSome result (λ event. HasNumbers (length tasks.now) (length functions.now) counters event) }
 {
     if is_single(kind) {
-        let task = task_number(tasks, text)?;
+        let task = place_or_none(tasks, text)?;
         return single_in(kind, task);
     }
-    let task = task_number(tasks, before(text, b' '))?;
+    let task = place_or_none(tasks, before(text, b' '))?;
     more_in(kind, task, functions, behind(text, b' '))
+}
+
+// The admission of the task or the counter of a name.
+#[tactic(auto, unfolding(crate::specs::EventsRead::admit_in))]
+fn admit_in(tasks: &[Name], counters: &[Name], text: &[u8]) -> Option<Event>
+    ensures event { result ≡ admit_in tasks.now counters.now text.now }
+    ensures numbers { (functions : ℕ) → IfSome result (λ event. HasNumbers (length tasks.now) functions (length counters.now) event) }
+{
+    if let Some(task) = place_or_none(tasks, text) {
+        return Some(Event::Admit(task));
+    }
+    let counter = place(counters, text)?;
+    Some(Event::Due(counter))
+}
+
+// A tick of a counter.
+#[tactic(auto, unfolding(crate::specs::EventsRead::tick_in))]
+fn tick_in(counters: &[Name], text: &[u8]) -> Option<Event>
+    ensures event { result ≡ tick_in counters.now text.now }
+    ensures numbers { (tasks functions : ℕ) → IfSome result (λ event. HasNumbers tasks functions (length counters.now) event) }
+{
+    let counter = place_or_none(counters, text)?;
+    Some(Event::Tick(counter))
+}
+
+// An event of a task or a counter, by its first word and the others.
+#[tactic(auto, unfolding(crate::specs::EventsRead::named_in))]
+fn named_in(
+    tasks: &[Name],
+    functions: &[Name],
+    counters: &[Name],
+    kind: &[u8],
+    text: &[u8],
+) -> Option<Event>
+    ensures event { result ≡ named_in tasks.now functions.now counters.now kind.now text.now }
+    ensures numbers { IfSome result (λ event. HasNumbers (length tasks.now) (length functions.now) (length counters.now) event) }
+{
+    if same(kind, b"admit") {
+        return admit_in(tasks, counters, text);
+    }
+    if same(kind, b"tick") {
+        return tick_in(counters, text);
+    }
+    of_task(tasks, functions, kind, text)
 }
 
 // The one event that these words may show.
 #[tactic(auto, unfolding(crate::specs::EventsRead::event_in))]
-fn event_in(tasks: &[Name], functions: &[Name], text: &[u8]) -> Option<Event>
-    ensures event { result ≡ event_in tasks.now functions.now text.now }
-    ensures numbers { IfSome result (λ event. HasNumbers (length tasks.now) (length functions.now) event) }
+fn event_in(tasks: &[Name], functions: &[Name], counters: &[Name], text: &[u8]) -> Option<Event>
+    ensures event { result ≡ event_in tasks.now functions.now counters.now text.now }
+    ensures numbers { IfSome result (λ event. HasNumbers (length tasks.now) (length functions.now) (length counters.now) event) }
 {
     if same(text, b"boot") {
         return Some(Event::Boot);
@@ -175,21 +216,27 @@ fn event_in(tasks: &[Name], functions: &[Name], text: &[u8]) -> Option<Event>
     if same(text, b"stray") {
         return Some(Event::Stray);
     }
-    of_task(tasks, functions, before(text, b' '), behind(text, b' '))
+    named_in(
+        tasks,
+        functions,
+        counters,
+        before(text, b' '),
+        behind(text, b' '),
+    )
 }
 
 // The one event that a counted line may show.
 #[tactic(auto, unfolding(crate::specs::EventsRead::stamped_in))]
-fn stamped_in(tasks: &[Name], functions: &[Name], text: &[u8]) -> Option<Stamped>
-    ensures event { result ≡ stamped_in tasks.now functions.now text.now }
+fn stamped_in(tasks: &[Name], functions: &[Name], counters: &[Name], text: &[u8]) -> Option<Stamped>
+    ensures event { result ≡ stamped_in tasks.now functions.now counters.now text.now }
     ensures from { IfSome result (λ e. Has32Bits e.stamp.from) }
     ensures at { IfSome result (λ e. Has32Bits e.stamp.at) }
-    ensures numbers { IfSome result (λ e. HasNumbers (length tasks.now) (length functions.now) e.event) }
+    ensures numbers { IfSome result (λ e. HasNumbers (length tasks.now) (length functions.now) (length counters.now) e.event) }
 {
     let from = number(before(text, b' '))?;
     let others = behind(text, b' ');
     let at = number(before(others, b' '))?;
-    let event = event_in(tasks, functions, behind(others, b' '))?;
+    let event = event_in(tasks, functions, counters, behind(others, b' '))?;
     Some(Stamped {
         stamp: Stamp { from, at },
         event,
@@ -197,28 +244,31 @@ fn stamped_in(tasks: &[Name], functions: &[Name], text: &[u8]) -> Option<Stamped
 }
 
 // The counted line of an event.
-fn counted_line(tasks: &[Name], functions: &[Name], event: &Stamped) -> LineText
+fn counted_line(tasks: &[Name], functions: &[Name], counters: &[Name], event: &Stamped) -> LineText
     requires tasks { AreNames tasks.now }
     requires functions { AreNames functions.now }
-    ensures { result ≡ counted_line tasks.now functions.now event.now }
+    requires counters { AreNames counters.now }
+    ensures { result ≡ counted_line tasks.now functions.now counters.now event.now }
 {
     let mut line = LineText::new();
     push_counts(&mut line, event);
-    push_event(&mut line, &event.event, tasks, functions);
+    push_event(&mut line, &event.event, tasks, functions, counters);
     line
 }
 
-/// The event whose counted line this text is, without its LF: exactly where there is one. `-` is read as the task of number
-/// 4,294,967,295. Takes no memory.
-pub fn read_line(text: &[u8], tasks: &[Name], funcs: &[Name]) -> Option<Stamped>
+/// The event whose counted line this text is, without its LF: exactly where there is one. `-` is read as the task or the counter of
+/// number 4,294,967,295. Takes no memory.
+pub fn read_line(text: &[u8], tasks: &[Name], funcs: &[Name], counters: &[Name]) -> Option<Stamped>
     requires tasks { AreNames tasks.now }
     requires funcs { AreNames funcs.now }
-    ensures { (event : AnyEvent) → (result ≡ Some event) ↔ IsLineOf tasks.now funcs.now event text.now }
+    requires counters { AreNames counters.now }
+    requires apart { AreApart counters.now tasks.now }
+    ensures { (event : AnyEvent) → (result ≡ Some event) ↔ IsLineOf tasks.now funcs.now counters.now event text.now }
 {
-    let Some(event) = stamped_in(tasks, funcs, text) else {
+    let Some(event) = stamped_in(tasks, funcs, counters, text) else {
         return None;
     };
-    let line = counted_line(tasks, funcs, &event);
+    let line = counted_line(tasks, funcs, counters, &event);
     if !same(line.bytes(), text) {
         return None;
     }

@@ -7,9 +7,10 @@ pub mod event_line;
 pub mod laws;
 pub mod line_text;
 pub mod listing;
-pub mod print;
+pub mod printing;
 pub mod summary;
 
 pub use arrivals::read_arrivals;
 pub use event_line::read_line;
 pub use listing::listing_line;
+pub use printing::print;

@@ -7,7 +7,7 @@ ghost use Rattle.trace_text.specs.Listing.{called_text, line_at, mark_on, mark_t
 ghost use Rattle.sloth_base.specs.ServiceCodes.{service_of};
 
 use crate::line_text::LineText;
-use crate::print::push_name;
+use crate::printing::push_name;
 use sloth_base::image::{Image, Mark, MarkKind};
 use sloth_base::memory_map::MEMORY_BASE;
 use sloth_base::name::Name;

@@ -6,16 +6,16 @@ use crate::line_text::LineText;
 use sloth_base::event::Event;
 
 /// How many kinds of events there are.
-pub const KINDS: usize = 9;
+pub const KINDS: usize = 10;
 
 /// The number of an event's kind, in the order of the summary.
 pub fn kind_of(event: &Event) -> usize
     ensures is { result ≡ kind_of event.now }
-    ensures below { result < 9 }
+    ensures below { result < 10 }
 {
     match *event {
         Event::Boot => 0,
-        Event::Admit(_) => 1,
+        Event::Admit(_) | Event::Due(_) => 1,
         Event::Enter(_) => 2,
         Event::Run { .. } => 3,
         Event::Call { .. } => 4,
@@ -23,6 +23,7 @@ pub fn kind_of(event: &Event) -> usize
         Event::Back(_) => 6,
         Event::Idle => 7,
         Event::Stray => 8,
+        Event::Tick(_) => 9,
     }
 }
 
@@ -41,14 +42,15 @@ fn kind_word(kind: usize) -> &'static [u8]
         5 => b"left",
         6 => b"back",
         7 => b"idle",
-        _ => b"stray",
+        8 => b"stray",
+        _ => b"tick",
     }
 }
 
 /// The line of a kind in the summary of these numbers of events, with its LF.
 #[tactic(auto, unfolding(crate::specs::Summary::kind_line))]
 pub fn kind_line(counts: &[u32; KINDS], kind: usize) -> LineText
-    requires { kind < 9 }
+    requires { kind < 10 }
     ensures { result ≡ kind_line counts.now kind }
 {
     let mut line = LineText::new();

@@ -1,11 +1,16 @@
 -- Events looked at one after the other, and what is kept of them to tell whether they are in time.
-use Rattle.std.specs.Prelude.{ℕ, ◌<◌, ◌≡◌, ◌⊎◌, ◌||◌, List, Bool, true, false, length, ltb, Some, None}
+use Rattle.std.specs.Prelude.{ℕ, ◌<◌, ◌≤◌, ◌≡◌, ◌⊎◌, ◌||◌, List, Bool, true, false, length, ltb, Some, None}
 use Rattle.sloth_base.specs.declared.config.Config.{Config}
 use Rattle.sloth_base.specs.declared.event.Arrival.{Arrival}
 use Rattle.sloth_base.specs.declared.event.Stamped.{Stamped}
 use Rattle.osek_scheduler.specs.InTime.{longest_cut_off}
 use Rattle.trace_time.specs.Scan.{Scan, scan_start, scanned}
 use Rattle.trace_time.specs.Counts.{admit_numbers}
+
+-- the configuration has no more counters and alarms than one in range
+pub record HasFewAlarms (config : Config) : Type 0 where
+  pub counters : length config.counters ≤ 2
+  pub alarms : length config.alarms ≤ 32
 
 -- what is kept: the configuration, the number of instructions and the arrivals, where the pass stands, the numbers of the admits, the longest stretch that
 -- the end may cut off, and whether the pass stopped at an event

@@ -3,6 +3,7 @@
 
 pub mod numbers;
 pub mod pass;
+pub mod stretches;
 pub mod timing;
 
 pub use timing::Timing;

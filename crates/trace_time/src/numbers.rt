@@ -1,5 +1,5 @@
-//! Admits and arrivals counted by one number for each moment and task.
-ghost use Rattle.std.specs.Prelude.{◌≡◌, ◌++◌, [], IfOk, OnOk, map};
+//! Admissions and arrivals counted by one number for each moment and line.
+ghost use Rattle.std.specs.Prelude.{◌≡◌, ◌<◌, ◌+◌, ◌*◌, ◌++◌, [], IfOk, OnOk, map};
 ghost use Rattle.std.specs.Ordering.{nat_cmp};
 ghost use Rattle.std.specs.List.Sorted.{IsPermutation, IsSorted};
 ghost use Rattle.std.specs.Bool.{Decides};
@@ -12,19 +12,21 @@ use sloth_base::memory::NoMemory;
 use std::alloc::Global;
 use text_pieces::growth::push;
 
-// A moment and a task as one number.
-fn number_at(moment: u32, task: u32) -> u64
-    ensures { result ≡ number_at moment task }
+// A moment and a line as one number.
+fn number_at(moment: u32, line: u64) -> u64
+    requires { moment * 4294967296 + line < 18446744073709551616 }
+    ensures { result ≡ number_at moment line }
 {
-    u64::from(moment) * 4_294_967_296 + u64::from(task)
+    u64::from(moment) * 4_294_967_296 + line
 }
 
-/// One more number, where the event is an admit.
+/// One more number, where the event is an admission.
 pub fn push_number(numbers: &mut Vec<u64>, event: &Stamped) -> Result<(), NoMemory>
+    requires { event.now.stamp.at < 4294967295 }
     ensures { OnOk result (numbers.new.items ≡ numbers.old.items ++ with_admit (admitted_line event.now.event) event.now.stamp.at []) }
 {
     match admitted_line(&event.event) {
-        Some(task) => push(numbers, number_at(event.stamp.at, task)),
+        Some(line) => push(numbers, number_at(event.stamp.at, line)),
         None => Ok(()),
     }
 }
@@ -37,7 +39,7 @@ fn arrival_numbers(alloc: Global, arrivals: &[Arrival]) -> Result<Vec<u64>, NoMe
     for arrival in arrivals {
         push(
             &mut numbers,
-            number_at(arrival.at, u32::from(arrival.line.0)),
+            number_at(arrival.at, u64::from(arrival.line.0)),
         )?;
     }
     Ok(numbers)
@@ -59,7 +61,7 @@ fn are_same(ones: &[u64], others: &[u64]) -> bool
     ones == others
 }
 
-/// Whether the admits of these numbers are those of the arrivals, moment for moment and task for task. Sorts the numbers.
+/// Whether the admissions of these numbers are those of the arrivals, moment for moment and line for line. Sorts the numbers.
 pub fn are_admits_of(
     alloc: Global,
     arrivals: &[Arrival],

@@ -1,10 +1,13 @@
 //! One pass over events with the arrivals: their stamps, where admits stand, and the order of admits with no other event between them.
-ghost use Rattle.std.specs.Prelude.{◌≡◌, ◌<◌, cond, option_copied, Some, None};
+ghost use Rattle.std.specs.Prelude.{◌≡◌, ◌<◌, cond, option_copied, true, Some, None, IfSome};
 ghost use Rattle.sloth_base.specs.Events.{admitted_line, is_single};
 ghost use Rattle.trace_time.specs.Scan.{after_admit, after_other, behind_first, from_moment, is_stamped, looked, scan_start};
 
 use sloth_base::event::{Arrival, Event, Stamped};
 use std::marker::Model;
+
+/// The line of the first counter; the others follow it.
+const FIRST_COUNTER_LINE: u64 = 30;
 
 /// Where a pass stands.
 #[derive(Drop)]
@@ -29,13 +32,13 @@ impl<'a> Model for Pass<'a> {
     ghost view = { λ pass. record { ends = pass.ends; begins = pass.begins; latest = pass.latest; base = pass.base.now; rest = pass.rest.now } };
 }
 
-// What stands behind the first arrival of a task at a moment.
-fn behind_first<'a>(arrivals: &'a [Arrival], moment: u32, task: u32) -> Option<&'a [Arrival]>
-    ensures { option_copied result ≡ behind_first moment task arrivals.now }
+// What stands behind the first arrival of a line at a moment.
+fn behind_first<'a>(arrivals: &'a [Arrival], moment: u32, line: u64) -> Option<&'a [Arrival]>
+    ensures { option_copied result ≡ behind_first moment line arrivals.now }
 {
     for i in 0..arrivals.len() {
         let arrival = &arrivals[i];
-        if u32::from(arrival.line.0) == task && arrival.at == moment {
+        if u64::from(arrival.line.0) == line && arrival.at == moment {
             return Some(&arrivals[i + 1..]);
         }
     }
@@ -55,11 +58,13 @@ fn from_moment<'a>(arrivals: &'a [Arrival], moment: u32) -> &'a [Arrival]
 }
 
 /// The line whose arrival an event admits.
-pub fn admitted_line(event: &Event) -> Option<u32>
-    ensures { result ≡ admitted_line event.now }
+pub fn admitted_line(event: &Event) -> Option<u64>
+    ensures line { result ≡ admitted_line event.now }
+    ensures small { IfSome result (λ line. line < 4294967326) }
 {
     match *event {
-        Event::Admit(task) => Some(task),
+        Event::Admit(task) => Some(u64::from(task)),
+        Event::Due(counter) => Some(FIRST_COUNTER_LINE + u64::from(counter)),
         Event::Boot
         | Event::Enter(_)
         | Event::Run { .. }
@@ -67,7 +72,8 @@ pub fn admitted_line(event: &Event) -> Option<u32>
         | Event::Left { .. }
         | Event::Back(_)
         | Event::Idle
-        | Event::Stray => None,
+        | Event::Stray
+        | Event::Tick(_) => None,
     }
 }
 
@@ -76,13 +82,14 @@ fn is_single(event: &Event) -> bool
     ensures { result ≡ is_single event.now }
 {
     match *event {
-        Event::Idle | Event::Run { .. } | Event::Admit(_) => true,
+        Event::Idle | Event::Run { .. } | Event::Admit(_) | Event::Due(_) => true,
         Event::Boot
         | Event::Enter(_)
         | Event::Call { .. }
         | Event::Left { .. }
         | Event::Back(_)
-        | Event::Stray => false,
+        | Event::Stray
+        | Event::Tick(_) => false,
     }
 }
 
@@ -119,14 +126,14 @@ impl<'a> Pass<'a> {
         self.ends
     }
 
-    // Takes an admit.
-    fn admit(&mut self, task: u32, moment: u32) -> bool
-        ensures { cond result (Some self.new) None ≡ after_admit self.old task moment }
+    // Takes an admission.
+    fn admit(&mut self, line: u64, moment: u32) -> bool
+        ensures { cond result (Some self.new) None ≡ after_admit self.old line moment }
     {
         if self.begins > moment {
             return false;
         }
-        let Some(rest) = behind_first(self.rest, moment, task) else {
+        let Some(rest) = behind_first(self.rest, moment, line) else {
             return false;
         };
         self.latest = self.latest.max(moment);
@@ -152,13 +159,14 @@ impl<'a> Pass<'a> {
 
     /// Takes an event, if it may stand there in a run of n instructions.
     pub fn look(&mut self, n: u32, event: &Stamped) -> bool
-        ensures { cond result (Some self.new) None ≡ looked n self.old event.now }
+        ensures looked { cond result (Some self.new) None ≡ looked n self.old event.now }
+        ensures inside { result ≡ true → event.now.stamp.at < 4294967295 }
     {
         if !is_stamped(n, event) {
             return false;
         }
         match admitted_line(&event.event) {
-            Some(task) => self.admit(task, event.stamp.at),
+            Some(line) => self.admit(line, event.stamp.at),
             None => self.pass(event.stamp.from, event.stamp.at),
         }
     }

@@ -4,13 +4,14 @@ ghost use Rattle.std.specs.Bool.{Decides};
 ghost use Rattle.sloth_base.specs.Arrivals.{NeverFalls};
 ghost use Rattle.sloth_base.specs.declared.event.Stamped.{Stamped as AnyEvent};
 ghost use Rattle.sloth_base.specs.Events.{is_boot};
-ghost use Rattle.sloth_base.specs.Stretches.{Boots, longest_stretch, stretch_limit};
+ghost use Rattle.sloth_base.specs.Stretches.{longest_stretch};
 ghost use Rattle.osek_scheduler.specs.InTime.{InTime};
 ghost use Rattle.trace_time.specs.Counts.{AreSmall};
-ghost use Rattle.trace_time.specs.Timed.{TimedBy, is_late};
+ghost use Rattle.trace_time.specs.Timed.{HasFewAlarms, TimedBy, is_late};
 
 use crate::numbers::{are_admits_of, last_moment, may_leave, push_number};
 use crate::pass::Pass;
+use crate::stretches::{boot_limit, longest_stretch};
 use sloth_base::config::Config;
 use sloth_base::event::{Arrival, Event, Stamped};
 use sloth_base::memory::NoMemory;
@@ -33,7 +34,7 @@ pub struct Timing<'a> {
 }
 
 impl<'a> Model for Timing<'a> {
-    ghost use Rattle.trace_time.specs.Timed.{Kept};
+    ghost use Rattle.trace_time.specs.Timed.{HasFewAlarms, Kept};
 
     ghost Value = { Kept };
 
@@ -46,24 +47,13 @@ impl<'a> Model for Timing<'a> {
       most = t.most;
       stopped = t.stopped;
     } };
-}
 
-// The most instructions of boot.
-fn boot_limit(_config: &Config) -> u32
-    ensures { result ≡ stretch_limit _config.now Boots }
-{
-    400
-}
-
-// The most instructions of any stretch behind boot.
-fn longest_stretch(_config: &Config) -> u32
-    ensures { result ≡ longest_stretch _config.now }
-{
-    160
+    ghost invariant = { λ t. HasFewAlarms t.config.now };
 }
 
 // How long a stretch is that the end may cut off, behind one event more.
 fn most_behind(config: &Config, event: &Event, most: u32) -> u32
+    requires { HasFewAlarms config.now }
     ensures { result ≡ cond (is_boot event.now) (longest_stretch config.now) most }
 {
     match *event {
@@ -75,13 +65,16 @@ fn most_behind(config: &Config, event: &Event, most: u32) -> u32
         | Event::Left { .. }
         | Event::Back(_)
         | Event::Idle
-        | Event::Stray => most,
+        | Event::Stray
+        | Event::Due(_)
+        | Event::Tick(_) => most,
     }
 }
 
 impl<'a> Timing<'a> {
     /// Before the first event of a run of n instructions.
     pub fn new(alloc: Global, config: &'a Config, n: u32, arrivals: &'a [Arrival]) -> Timing<'a>
+        requires { HasFewAlarms config.now }
         ensures timed { TimedBy [] result }
         ensures config { result.config ≡ config.now }
         ensures n { result.n ≡ n }

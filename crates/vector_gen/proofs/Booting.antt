@@ -1,5 +1,5 @@
 -- The code of boot has its effect.
-use Rattle.std.proofs.Common.{◌≡◌, ℕ, zero, suc, ◌+◌, ◌*◌, ◌%◌, ◌<◌, ◌≤◌, List, [], ◌∷◌, ◌++◌, length, get_or, refl, ◌⊎◌, sym, ap, ◌∙◌, subst, arith, inl, inr, ⊎_elim, append_assoc, length-append, ◌^◌}
+use Rattle.std.proofs.Common.{◌≡◌, ℕ, cond, zero, suc, ◌+◌, ◌*◌, ◌%◌, ◌<◌, ◌≤◌, List, [], ◌∷◌, ◌++◌, length, get_or, refl, ◌⊎◌, sym, ap, ◌∙◌, subst, arith, inl, inr, ⊎_elim, append_assoc, length-append, ◌^◌}
 use Rattle.std.specs.Prelude.{Bool, false, true, set, pos}
 use Rattle.std.proofs.lemmas.Bool.{cases_eq}
 use Rattle.std.proofs.lemmas.List.{length-set, get_or-set_same, get_or-set_other}
@@ -16,6 +16,8 @@ use Rattle.masked_code.specs.Owes.{◌▸◌, writes, raises, sets_enabled, sets
 use Rattle.masked_code.proofs.Parts.{hi_lo}
 use Rattle.masked_code.proofs.Spread.{spread, spread_is, spread_from, others}
 use Rattle.masked_code.proofs.Routines.{handles}
+use Rattle.code_lengths.specs.CodeLengths.{lines_length}
+use Rattle.code_lengths.proofs.Short.{short_lines}
 use Rattle.vector_gen.specs.Boot.{register_code, line_code, starts_one, lines_code, finishing_code, MayBoot, Booted, Boots}
 
 -- the lines' bytes after the tasks from this line on
@@ -168,17 +170,17 @@ pending_kept (task ∷ tasks) line bytes (suc j) d h auto =
     ∙ raised_other task.autostart line bytes (suc line + j) (λ e. absurd (omega arith))
     ∙ ap (λ k. get_or bytes k 0) (sym e)
 
-length-starts : (tasks : List TaskDecl) (line : ℕ) (levels : List ℕ) → length (lines_code line tasks levels) ≤ 4 * length tasks
-length-starts [] line levels = omega arith
+length-starts : (tasks : List TaskDecl) (line : ℕ) (levels : List ℕ) → length (lines_code line tasks levels) ≡ lines_length tasks
+length-starts [] line levels = refl
 length-starts (task ∷ tasks) line levels =
     let one = length-one task.autostart line in
     let ih = length-starts tasks (suc line) levels in
     let e = length-append (starts_one line (get_or levels line 0) task.autostart) (lines_code (suc line) tasks levels) in
-    omega arith
+    omega (arith, one, ih, e)
   where
-    length-one : (auto : Bool) (line : ℕ) → length (line_code line auto) ≤ 1
-    length-one true line = omega arith
-    length-one false line = omega arith
+    length-one : (auto : Bool) (line : ℕ) → length (line_code line auto) ≡ cond auto 1 0
+    length-one true line = refl
+    length-one false line = refl
 
 abbrev pub boot_code : List TaskDecl → List ℕ → ℕ → List InstrKind
 boot_code tasks levels idle = register_code ++ (lines_code 0 tasks levels ++ finishing_code idle)
@@ -232,7 +234,8 @@ module _ (tasks : List TaskDecl) (levels : List ℕ) (idle : ℕ) (few : length 
   runs_it =
       let can = h.can_run in
       let to = offset + 4 * length (boot_code tasks levels idle) in
-      let bound = length-starts tasks 0 levels in
+      let long = length-starts tasks 0 levels in
+      let bound = short_lines tasks in
       let all = length-append (lines_code 0 tasks levels) (finishing_code idle) in
       handles offset 130 (boot_code tasks levels idle) c (Booted tasks levels idle) (at offset c)
       (record { masked = h.masked; there = can.controller; lines = can.lines; aligned = can.aligned; fits = can.inside; placed = can.placed })
@@ -241,6 +244,6 @@ module _ (tasks : List TaskDecl) (levels : List ℕ) (idle : ℕ) (few : length 
 
 pub boots : (tasks : List TaskDecl) (levels : List ℕ) (idle : ℕ) → length tasks ≤ 30 → ((k : ℕ) → get_or levels k 0 < 256) → idle < 2 ^ 32 → Boots tasks levels idle (boot_code tasks levels idle)
 boots tasks levels idle few small fits =
-    let bound = length-starts tasks 0 levels in
+    let long = length-starts tasks 0 levels in
     let all = length-append (lines_code 0 tasks levels) (finishing_code idle) in
     record { size = omega arith; runs = λ offset c aligned h. runs_it tasks levels idle few small fits aligned offset c h }

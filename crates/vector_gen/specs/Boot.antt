@@ -2,6 +2,7 @@
 use Rattle.std.specs.Prelude.{ℕ, suc, ◌+◌, ◌*◌, ◌%◌, ◌≡◌, ◌<◌, ◌≤◌, Bool, true, false, pos, List, [], ◌∷◌, ◌++◌, length, slice_index, slice_index_or}
 use Rattle.sloth_base.specs.declared.config.TaskDecl.{TaskDecl}
 use Rattle.sloth_base.specs.Machine.{Core, State}
+use Rattle.code_lengths.specs.CodeLengths.{boot_length}
 use Rattle.sloth_region.specs.Layout.{idle_context, context_bytes, words_high, controller_high, pending_byte, enabled_byte, level_byte}
 use Rattle.rv32_instr.specs.declared.csr.TheConstants.{MSTATUS, MEPC, MPIE}
 use Rattle.rv32_instr.specs.declared.InstrKind.{InstrKind}
@@ -72,7 +73,7 @@ pub record Booted (tasks : List TaskDecl) (levels : List ℕ) (idle : ℕ) (touc
 
 -- Code of boot: at most 130 instructions lead to its effect, whatever lines arrive.
 pub record Boots (tasks : List TaskDecl) (levels : List ℕ) (idle : ℕ) (code : List InstrKind) : Type 0 where
-  pub size : length code ≤ 10 + 4 * length tasks
+  pub size : length code ≡ boot_length tasks
   pub runs :
       (offset : ℕ) (core : Core) → idle % 4 ≡ 0 → MayBoot offset code core
       → Masked 130 (at offset core) (WithArrivals (Booted tasks levels idle) (at offset core))

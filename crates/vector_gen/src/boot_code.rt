@@ -2,6 +2,7 @@
 ghost use Rattle.std.specs.Prelude.{ℕ, ◌^◌, slice_index, ◌≡◌, ◌++◌, [], ◌<◌, ◌≤◌, IfOk, OnOk, length};
 ghost use Rattle.sloth_base.specs.MemoryMap.{boot_base};
 ghost use Rattle.sloth_base.specs.ConfigRange.{InRange};
+ghost use Rattle.code_lengths.specs.CodeLengths.{boot_length};
 ghost use Rattle.vector_gen.specs.Boot.{register_code, starts_one, lines_code, finishing_code, Boots};
 
 use masked_code::emit::emit;
@@ -26,7 +27,7 @@ pub fn boot(alloc: Global, config: &Config, levels: &Levels, map: &Map) -> Resul
     requires { InRange config.now }
     ensures at { IfOk result (λ block. block.at ≡ boot_base) }
     ensures marks { IfOk result (λ block. block.marks ≡ []) }
-    ensures size { IfOk result (λ block. length block.code ≤ 256) }
+    ensures size { IfOk result (λ block. length block.code ≡ boot_length config.now.tasks) }
     ensures effect { IfOk result (λ block. Boots config.now.tasks levels.now.task map.now.idle block.code) }
 {
     let mut code = Vec::new(alloc);

@@ -3,6 +3,7 @@ use Rattle.std.proofs.Common.{◌≡◌, ◌≤◌, ◌<◌, ◌+◌, ◌∙◌,
 use Rattle.std.specs.Prelude.{Bool, true, false, ◌==◌, nat_le, if◌then◌else◌, slice_get}
 use Rattle.std.proofs.lemmas.Bool.{cases_lt, false≢true}
 use Rattle.std.proofs.lemmas.Bool.Decides.{eqb_tells, leb_tells}
+use Rattle.sloth_base.specs.declared.lines.Owners.{Owners}
 use Rattle.run_samples.specs.declared.sampling.Sample.{Sample}
 use Rattle.wave_text.specs.declared.signals.Scope.{Scope}
 use Rattle.wave_text.specs.declared.signals.Scope.TheVariants as scope
@@ -10,7 +11,7 @@ use Rattle.wave_text.specs.declared.signals.Width.{Width}
 use Rattle.wave_text.specs.declared.signals.Width.TheVariants as width
 use Rattle.wave_text.specs.Changes.{Entry, same_value, changed, changes, scope_changes, with_moment, entries, entries_from}
 use Rattle.wave_text.specs.Reading.{value_behind, value_at, ReadsBack}
-use Rattle.wave_text.specs.Signals.{first_code, level_code, masked_code, width_of, value_of, level_value, masked_value}
+use Rattle.wave_text.specs.Signals.{first_code, level_code, masked_code, signal_count, width_of, value_of, level_value, masked_value}
 
 -- ---- tests
 
@@ -96,23 +97,25 @@ own-scope s old new (suc n) task at rest below =
 -- ---- all signals
 
 -- a signal whose value this is: the changes from one sample to the next bring it from the one value to the other
-pub record IsFollowed (tasks code : ℕ) (val : Option Sample → Option ℕ) : Type 0 where
-  pub follows : (at : ℕ) (old new : Option Sample) (rest : List Entry) → value_behind code at (val old) (changes tasks old new ++ rest) ≡ value_behind code at (val new) rest
+pub record IsFollowed (owners : Owners) (code : ℕ) (val : Option Sample → Option ℕ) : Type 0 where
+  pub follows : (at : ℕ) (old new : Option Sample) (rest : List Entry) → value_behind code at (val old) (changes owners old new ++ rest) ≡ value_behind code at (val new) rest
   pub unknown : val None ≡ None
 
-parts : (a b c d e rest : List Entry) → (a ++ b ++ c ++ d ++ e) ++ rest ≡ a ++ (b ++ (c ++ (d ++ (e ++ rest))))
-parts a b c d e rest =
-    append_assoc (a ++ b ++ c ++ d) e rest ∙ append_assoc (a ++ b ++ c) d (e ++ rest) ∙ append_assoc (a ++ b) c (d ++ (e ++ rest)) ∙ append_assoc a b (c ++ (d ++ (e ++ rest)))
+parts : (a b c f d e rest : List Entry) → (a ++ b ++ c ++ f ++ d ++ e) ++ rest ≡ a ++ (b ++ (c ++ (f ++ (d ++ (e ++ rest)))))
+parts a b c f d e rest = simp append_assoc
 
-module _ (tasks : ℕ) (few : tasks ≤ 30) (at : ℕ) (old new : Option Sample) (rest : List Entry) where
+module _ (owners : Owners) (few : owners.tasks ≤ 30) (at : ℕ) (old new : Option Sample) (rest : List Entry) where
   abbrev A : List Entry
-  A = scope_changes scope.State old new tasks
+  A = scope_changes scope.State old new owners.tasks
 
   abbrev B : List Entry
-  B = scope_changes scope.Runs old new tasks
+  B = scope_changes scope.Runs old new owners.tasks
 
   abbrev C : List Entry
-  C = scope_changes scope.Pending old new tasks
+  C = scope_changes scope.Pending old new owners.tasks
+
+  abbrev F : List Entry
+  F = scope_changes scope.Counters old new owners.counters
 
   abbrev D : List Entry
   D = changed level_code width.Eight (level_value old) (level_value new)
@@ -120,65 +123,83 @@ module _ (tasks : ℕ) (few : tasks ≤ 30) (at : ℕ) (old new : Option Sample)
   abbrev E : List Entry
   E = changed masked_code width.One (masked_value old) (masked_value new)
 
-  -- the last two, for a task's signal
-  behind-tasks : (code : ℕ) (v : Option ℕ) → code < 123 → value_behind code at v (D ++ (E ++ rest)) ≡ value_behind code at v rest
+  -- the last ones, for a task's signal
+  behind-tasks : (code : ℕ) (v : Option ℕ) → code < 123 → value_behind code at v (F ++ (D ++ (E ++ rest))) ≡ value_behind code at v rest
   behind-tasks code v below =
-      other-change code at level_code width.Eight (level_value old) (level_value new) v (E ++ rest) (λ (e : 123 ≡ code). omega arith)
+      other-scope code at scope.Counters old new owners.counters v (D ++ (E ++ rest)) (λ t b (e : 125 + t ≡ code). omega arith)
+      ∙ other-change code at level_code width.Eight (level_value old) (level_value new) v (E ++ rest) (λ (e : 123 ≡ code). omega arith)
       ∙ other-change code at masked_code width.One (masked_value old) (masked_value new) v rest (λ (e : 124 ≡ code). omega arith)
 
-  of-state : (task : ℕ) → task < tasks
-      → value_behind (33 + task) at (value_of scope.State old task) (changes tasks old new ++ rest) ≡ value_behind (33 + task) at (value_of scope.State new task) rest
+  of-state : (task : ℕ) → task < owners.tasks
+      → value_behind (33 + task) at (value_of scope.State old task) (changes owners old new ++ rest) ≡ value_behind (33 + task) at (value_of scope.State new task) rest
   of-state task l =
       let v : Option ℕ = value_of scope.State new task in
-      ap (value_behind (33 + task) at (value_of scope.State old task)) (parts A B C D E rest)
-      ∙ own-scope scope.State old new tasks task at (B ++ (C ++ (D ++ (E ++ rest)))) l
-      ∙ other-scope (33 + task) at scope.Runs old new tasks v (C ++ (D ++ (E ++ rest))) (λ t b (e : 63 + t ≡ 33 + task). omega arith)
-      ∙ other-scope (33 + task) at scope.Pending old new tasks v (D ++ (E ++ rest)) (λ t b (e : 93 + t ≡ 33 + task). omega arith)
+      ap (value_behind (33 + task) at (value_of scope.State old task)) (parts A B C F D E rest)
+      ∙ own-scope scope.State old new owners.tasks task at (B ++ (C ++ (F ++ (D ++ (E ++ rest))))) l
+      ∙ other-scope (33 + task) at scope.Runs old new owners.tasks v (C ++ (F ++ (D ++ (E ++ rest)))) (λ t b (e : 63 + t ≡ 33 + task). omega arith)
+      ∙ other-scope (33 + task) at scope.Pending old new owners.tasks v (F ++ (D ++ (E ++ rest))) (λ t b (e : 93 + t ≡ 33 + task). omega arith)
       ∙ behind-tasks (33 + task) v (omega arith)
 
-  of-runs : (task : ℕ) → task < tasks
-      → value_behind (63 + task) at (value_of scope.Runs old task) (changes tasks old new ++ rest) ≡ value_behind (63 + task) at (value_of scope.Runs new task) rest
+  of-runs : (task : ℕ) → task < owners.tasks
+      → value_behind (63 + task) at (value_of scope.Runs old task) (changes owners old new ++ rest) ≡ value_behind (63 + task) at (value_of scope.Runs new task) rest
   of-runs task l =
       let v : Option ℕ = value_of scope.Runs new task in
-      ap (value_behind (63 + task) at (value_of scope.Runs old task)) (parts A B C D E rest)
-      ∙ other-scope (63 + task) at scope.State old new tasks (value_of scope.Runs old task) (B ++ (C ++ (D ++ (E ++ rest)))) (λ t b (e : 33 + t ≡ 63 + task). omega arith)
-      ∙ own-scope scope.Runs old new tasks task at (C ++ (D ++ (E ++ rest))) l
-      ∙ other-scope (63 + task) at scope.Pending old new tasks v (D ++ (E ++ rest)) (λ t b (e : 93 + t ≡ 63 + task). omega arith)
+      ap (value_behind (63 + task) at (value_of scope.Runs old task)) (parts A B C F D E rest)
+      ∙ other-scope (63 + task) at scope.State old new owners.tasks (value_of scope.Runs old task) (B ++ (C ++ (F ++ (D ++ (E ++ rest))))) (λ t b (e : 33 + t ≡ 63 + task). omega arith)
+      ∙ own-scope scope.Runs old new owners.tasks task at (C ++ (F ++ (D ++ (E ++ rest)))) l
+      ∙ other-scope (63 + task) at scope.Pending old new owners.tasks v (F ++ (D ++ (E ++ rest))) (λ t b (e : 93 + t ≡ 63 + task). omega arith)
       ∙ behind-tasks (63 + task) v (omega arith)
 
-  of-pending : (task : ℕ) → task < tasks
-      → value_behind (93 + task) at (value_of scope.Pending old task) (changes tasks old new ++ rest) ≡ value_behind (93 + task) at (value_of scope.Pending new task) rest
+  of-pending : (task : ℕ) → task < owners.tasks
+      → value_behind (93 + task) at (value_of scope.Pending old task) (changes owners old new ++ rest) ≡ value_behind (93 + task) at (value_of scope.Pending new task) rest
   of-pending task l =
       let v : Option ℕ = value_of scope.Pending old task in
-      ap (value_behind (93 + task) at v) (parts A B C D E rest)
-      ∙ other-scope (93 + task) at scope.State old new tasks v (B ++ (C ++ (D ++ (E ++ rest)))) (λ t b (e : 33 + t ≡ 93 + task). omega arith)
-      ∙ other-scope (93 + task) at scope.Runs old new tasks v (C ++ (D ++ (E ++ rest))) (λ t b (e : 63 + t ≡ 93 + task). omega arith)
-      ∙ own-scope scope.Pending old new tasks task at (D ++ (E ++ rest)) l
+      ap (value_behind (93 + task) at v) (parts A B C F D E rest)
+      ∙ other-scope (93 + task) at scope.State old new owners.tasks v (B ++ (C ++ (F ++ (D ++ (E ++ rest))))) (λ t b (e : 33 + t ≡ 93 + task). omega arith)
+      ∙ other-scope (93 + task) at scope.Runs old new owners.tasks v (C ++ (F ++ (D ++ (E ++ rest)))) (λ t b (e : 63 + t ≡ 93 + task). omega arith)
+      ∙ own-scope scope.Pending old new owners.tasks task at (F ++ (D ++ (E ++ rest))) l
       ∙ behind-tasks (93 + task) (value_of scope.Pending new task) (omega arith)
 
-  -- all scopes, for a signal of the kernel
+  -- the tasks' scopes, for another signal
   behind-scopes : (code : ℕ) (v : Option ℕ) (more : List Entry) → 123 ≤ code → value_behind code at v (A ++ (B ++ (C ++ more))) ≡ value_behind code at v more
   behind-scopes code v more above =
-      other-scope code at scope.State old new tasks v (B ++ (C ++ more)) (λ t b (e : 33 + t ≡ code). omega arith)
-      ∙ other-scope code at scope.Runs old new tasks v (C ++ more) (λ t b (e : 63 + t ≡ code). omega arith)
-      ∙ other-scope code at scope.Pending old new tasks v more (λ t b (e : 93 + t ≡ code). omega arith)
+      other-scope code at scope.State old new owners.tasks v (B ++ (C ++ more)) (λ t b (e : 33 + t ≡ code). omega arith)
+      ∙ other-scope code at scope.Runs old new owners.tasks v (C ++ more) (λ t b (e : 63 + t ≡ code). omega arith)
+      ∙ other-scope code at scope.Pending old new owners.tasks v more (λ t b (e : 93 + t ≡ code). omega arith)
 
-  of-level : value_behind level_code at (level_value old) (changes tasks old new ++ rest) ≡ value_behind level_code at (level_value new) rest
+  of-counter : (counter : ℕ) → counter < owners.counters
+      → value_behind (125 + counter) at (value_of scope.Counters old counter) (changes owners old new ++ rest) ≡ value_behind (125 + counter) at (value_of scope.Counters new counter) rest
+  of-counter counter l =
+      let v : Option ℕ = value_of scope.Counters new counter in
+      ap (value_behind (125 + counter) at (value_of scope.Counters old counter)) (parts A B C F D E rest)
+      ∙ behind-scopes (125 + counter) (value_of scope.Counters old counter) (F ++ (D ++ (E ++ rest))) (omega arith)
+      ∙ own-scope scope.Counters old new owners.counters counter at (D ++ (E ++ rest)) l
+      ∙ other-change (125 + counter) at level_code width.Eight (level_value old) (level_value new) v (E ++ rest) (λ (e : 123 ≡ 125 + counter). omega arith)
+      ∙ other-change (125 + counter) at masked_code width.One (masked_value old) (masked_value new) v rest (λ (e : 124 ≡ 125 + counter). omega arith)
+
+  -- the counters' lines, for a signal of the kernel
+  behind-counters : (code : ℕ) (v : Option ℕ) (more : List Entry) → 123 ≤ code → code < 125 → value_behind code at v (A ++ (B ++ (C ++ (F ++ more)))) ≡ value_behind code at v more
+  behind-counters code v more above below =
+      behind-scopes code v (F ++ more) above ∙ other-scope code at scope.Counters old new owners.counters v more (λ t b (e : 125 + t ≡ code). omega arith)
+
+  of-level : value_behind level_code at (level_value old) (changes owners old new ++ rest) ≡ value_behind level_code at (level_value new) rest
   of-level =
-      ap (value_behind level_code at (level_value old)) (parts A B C D E rest) ∙ behind-scopes level_code (level_value old) (D ++ (E ++ rest)) (omega arith)
+      ap (value_behind level_code at (level_value old)) (parts A B C F D E rest) ∙ behind-counters level_code (level_value old) (D ++ (E ++ rest)) (omega arith) (omega arith)
       ∙ own-change level_code at width.Eight (level_value old) (level_value new) (E ++ rest)
       ∙ other-change level_code at masked_code width.One (masked_value old) (masked_value new) (level_value new) rest (λ (e : 124 ≡ 123). omega arith)
 
-  of-masked : value_behind masked_code at (masked_value old) (changes tasks old new ++ rest) ≡ value_behind masked_code at (masked_value new) rest
+  of-masked : value_behind masked_code at (masked_value old) (changes owners old new ++ rest) ≡ value_behind masked_code at (masked_value new) rest
   of-masked =
-      ap (value_behind masked_code at (masked_value old)) (parts A B C D E rest) ∙ behind-scopes masked_code (masked_value old) (D ++ (E ++ rest)) (omega arith)
+      ap (value_behind masked_code at (masked_value old)) (parts A B C F D E rest) ∙ behind-counters masked_code (masked_value old) (D ++ (E ++ rest)) (omega arith) (omega arith)
       ∙ other-change masked_code at level_code width.Eight (level_value old) (level_value new) (masked_value old) (E ++ rest) (λ (e : 123 ≡ 124). omega arith)
       ∙ own-change masked_code at width.One (masked_value old) (masked_value new) rest
 
-task-followed : (tasks : ℕ) → tasks ≤ 30 → (s : Scope) (task : ℕ) → task < tasks → IsFollowed tasks (first_code s + task) (λ sample. value_of s sample task)
-task-followed tasks few scope.State task l = record { follows = λ at old new rest. of-state tasks few at old new rest task l; unknown = refl }
-task-followed tasks few scope.Runs task l = record { follows = λ at old new rest. of-runs tasks few at old new rest task l; unknown = refl }
-task-followed tasks few scope.Pending task l = record { follows = λ at old new rest. of-pending tasks few at old new rest task l; unknown = refl }
+scope-followed : (owners : Owners) → owners.tasks ≤ 30 → (s : Scope) (place : ℕ) → place < signal_count owners s
+    → IsFollowed owners (first_code s + place) (λ sample. value_of s sample place)
+scope-followed owners few scope.State task l = record { follows = λ at old new rest. of-state owners few at old new rest task l; unknown = refl }
+scope-followed owners few scope.Runs task l = record { follows = λ at old new rest. of-runs owners few at old new rest task l; unknown = refl }
+scope-followed owners few scope.Pending task l = record { follows = λ at old new rest. of-pending owners few at old new rest task l; unknown = refl }
+scope-followed owners few scope.Counters counter l = record { follows = λ at old new rest. of-counter owners few at old new rest counter l; unknown = refl }
 
 -- ---- moments
 
@@ -197,48 +218,48 @@ module _ (code at : ℕ) where
   last n = Entry.moment n ∷ []
 
   -- all samples of later counts
-  all-beyond : (tasks n count : ℕ) (v : Option ℕ) (old : Option Sample) (xs : List Sample) → at < count → at < n → value_behind code at v (entries_from tasks count old xs ++ last n) ≡ v
-  all-beyond tasks n count v old [] lt ends = ap (λ b. if b then v else v) (is-beyond n at ends)
-  all-beyond tasks n count v old (x ∷ xs) lt ends =
-      let es : List Entry = changes tasks old (Some x) in
-      let rest : List Entry = entries_from tasks (count + 1) (Some x) xs in
+  all-beyond : (owners : Owners) (n count : ℕ) (v : Option ℕ) (old : Option Sample) (xs : List Sample) → at < count → at < n → value_behind code at v (entries_from owners count old xs ++ last n) ≡ v
+  all-beyond owners n count v old [] lt ends = ap (λ b. if b then v else v) (is-beyond n at ends)
+  all-beyond owners n count v old (x ∷ xs) lt ends =
+      let es : List Entry = changes owners old (Some x) in
+      let rest : List Entry = entries_from owners (count + 1) (Some x) xs in
       ap (value_behind code at v) (append_assoc (with_moment count false es) rest (last n))
-      ∙ moment-beyond count v es (rest ++ last n) lt (all-beyond tasks n (count + 1) v (Some x) xs (omega arith) ends)
+      ∙ moment-beyond count v es (rest ++ last n) lt (all-beyond owners n (count + 1) v (Some x) xs (omega arith) ends)
 
 -- the value of a signal that is followed, at a count
-pub value-at : (tasks n code : ℕ) (val : Option Sample → Option ℕ) → IsFollowed tasks code val → (xs : List Sample) (count k : ℕ) (old : Option Sample) → k < length xs → count + k < n
-    → value_behind code (count + k) (val old) (entries_from tasks count old xs ++ Entry.moment n ∷ []) ≡ val (slice_get xs k)
-value-at tasks n code val follow [] count k old below ends = absurd (omega arith)
-value-at tasks n code val follow (x ∷ xs) count zero old below ends =
-    let es : List Entry = changes tasks old (Some x) in
-    let rest : List Entry = entries_from tasks (count + 1) (Some x) xs in
+pub value-at : (owners : Owners) (n code : ℕ) (val : Option Sample → Option ℕ) → IsFollowed owners code val → (xs : List Sample) (count k : ℕ) (old : Option Sample) → k < length xs → count + k < n
+    → value_behind code (count + k) (val old) (entries_from owners count old xs ++ Entry.moment n ∷ []) ≡ val (slice_get xs k)
+value-at owners n code val follow [] count k old below ends = absurd (omega arith)
+value-at owners n code val follow (x ∷ xs) count zero old below ends =
+    let es : List Entry = changes owners old (Some x) in
+    let rest : List Entry = entries_from owners (count + 1) (Some x) xs in
     let at : ℕ = count + 0 in
     ap (value_behind code at (val old)) (append_assoc (with_moment count false es) rest (last code at n))
     ∙ moment-passed code at count (val old) es (rest ++ last code at n) (omega arith)
     ∙ follow.follows at old (Some x) (rest ++ last code at n)
-    ∙ all-beyond code at tasks n (count + 1) (val (Some x)) (Some x) xs (omega arith) ends
-value-at tasks n code val follow (x ∷ xs) count (suc k) old below ends =
-    let es : List Entry = changes tasks old (Some x) in
-    let rest : List Entry = entries_from tasks (count + 1) (Some x) xs in
+    ∙ all-beyond code at owners n (count + 1) (val (Some x)) (Some x) xs (omega arith) ends
+value-at owners n code val follow (x ∷ xs) count (suc k) old below ends =
+    let es : List Entry = changes owners old (Some x) in
+    let rest : List Entry = entries_from owners (count + 1) (Some x) xs in
     let at : ℕ = count + suc k in
     let P : ℕ → Type 0 = λ m. value_behind code m (val (Some x)) (rest ++ Entry.moment n ∷ []) ≡ val (slice_get xs k) in
     let same : count + 1 + k ≡ count + suc k = omega arith in
     ap (value_behind code at (val old)) (append_assoc (with_moment count false es) rest (last code at n))
     ∙ moment-passed code at count (val old) es (rest ++ last code at n) (omega arith)
     ∙ follow.follows at old (Some x) (rest ++ last code at n)
-    ∙ subst P same (value-at tasks n code val follow xs (count + 1) k (Some x) (omega arith) (omega arith))
+    ∙ subst P same (value-at owners n code val follow xs (count + 1) k (Some x) (omega arith) (omega arith))
 
-signal-reads : (tasks code : ℕ) (val : Option Sample → Option ℕ) → IsFollowed tasks code val → (xs : List Sample) (k : ℕ) → k < length xs
-    → value_at code k (entries tasks xs) ≡ val (slice_get xs k)
-signal-reads tasks code val follow xs k below =
-    let es : List Entry = entries_from tasks 0 None xs ++ Entry.moment (length xs) ∷ [] in
+signal-reads : (owners : Owners) (code : ℕ) (val : Option Sample → Option ℕ) → IsFollowed owners code val → (xs : List Sample) (k : ℕ) → k < length xs
+    → value_at code k (entries owners xs) ≡ val (slice_get xs k)
+signal-reads owners code val follow xs k below =
+    let es : List Entry = entries_from owners 0 None xs ++ Entry.moment (length xs) ∷ [] in
     let P : ℕ → Type 0 = λ m. value_behind code m (val None) es ≡ val (slice_get xs k) in
     let same : 0 + k ≡ k = omega arith in
-    ap (λ v. value_behind code k v es) (sym follow.unknown) ∙ subst P same (value-at tasks (length xs) code val follow xs 0 k None below (omega (arith, below)))
+    ap (λ v. value_behind code k v es) (sym follow.unknown) ∙ subst P same (value-at owners (length xs) code val follow xs 0 k None below (omega (arith, below)))
 
-pub reads-back : (tasks : ℕ) (samples : List Sample) (k : ℕ) → tasks ≤ 30 → k < length samples → ReadsBack tasks samples k
-reads-back tasks samples k few below = record {
-  of_task = λ s task l. signal-reads tasks (first_code s + task) (λ sample. value_of s sample task) (task-followed tasks few s task l) samples k below;
-  of_level = signal-reads tasks level_code level_value (record { follows = λ at old new rest. of-level tasks few at old new rest; unknown = refl }) samples k below;
-  of_masked = signal-reads tasks masked_code masked_value (record { follows = λ at old new rest. of-masked tasks few at old new rest; unknown = refl }) samples k below;
+pub reads-back : (owners : Owners) (samples : List Sample) (k : ℕ) → owners.tasks ≤ 30 → owners.counters ≤ 2 → k < length samples → ReadsBack owners samples k
+reads-back owners samples k few counters below = record {
+  of_scope = λ s place l. signal-reads owners (first_code s + place) (λ sample. value_of s sample place) (scope-followed owners few s place l) samples k below;
+  of_level = signal-reads owners level_code level_value (record { follows = λ at old new rest. of-level owners few at old new rest; unknown = refl }) samples k below;
+  of_masked = signal-reads owners masked_code masked_value (record { follows = λ at old new rest. of-masked owners few at old new rest; unknown = refl }) samples k below;
 }

@@ -4,6 +4,8 @@ use Rattle.std.specs.Prelude.{false}
 use Rattle.std.proofs.lemmas.List.{length-append}
 use Rattle.sloth_base.specs.declared.event.Arrival.{Arrival}
 use Rattle.sloth_base.specs.declared.image.Image.{Image}
+use Rattle.sloth_base.specs.declared.lines.Owners.{Owners}
+use Rattle.sloth_base.specs.Owners.{owners_named}
 use Rattle.rv32_machine.specs.Start.{start}
 use Rattle.rv32_machine.proofs.Runs.{stop_none}
 use Rattle.sloth_runner.specs.Runner.{HasRun, run_end, end_of, sloth_state}
@@ -29,17 +31,17 @@ last-more old [] x = refl
 last-more old (y ∷ ys) x = last-more (Some y) ys x
 
 -- one sample more
-entries-more : (tasks k : ℕ) (old : Option Sample) (xs : List Sample) (x : Sample) → entries_from tasks k old (xs ++ x ∷ [])
-    ≡ entries_from tasks k old xs ++ with_moment (k + length xs) false (changes tasks (last_of old xs) (Some x))
-entries-more tasks k old [] x =
-    append-nil (with_moment k false (changes tasks old (Some x)))
-    ∙ ap (λ n. with_moment n false (changes tasks old (Some x))) (let e : k ≡ k + 0 = omega arith in e)
-entries-more tasks k old (y ∷ ys) x =
-    let front : List Entry = with_moment k false (changes tasks old (Some y)) in
-    let W : ℕ → List Entry = λ n. with_moment n false (changes tasks (last_of (Some y) ys) (Some x)) in
+entries-more : (owners : Owners) (k : ℕ) (old : Option Sample) (xs : List Sample) (x : Sample) → entries_from owners k old (xs ++ x ∷ [])
+    ≡ entries_from owners k old xs ++ with_moment (k + length xs) false (changes owners (last_of old xs) (Some x))
+entries-more owners k old [] x =
+    append-nil (with_moment k false (changes owners old (Some x)))
+    ∙ ap (λ n. with_moment n false (changes owners old (Some x))) (let e : k ≡ k + 0 = omega arith in e)
+entries-more owners k old (y ∷ ys) x =
+    let front : List Entry = with_moment k false (changes owners old (Some y)) in
+    let W : ℕ → List Entry = λ n. with_moment n false (changes owners (last_of (Some y) ys) (Some x)) in
     let n : k + 1 + length ys ≡ k + suc (length ys) = omega arith in
-    ap (λ l. front ++ l) (entries-more tasks (k + 1) (Some y) ys x ∙ ap (λ m. entries_from tasks (k + 1) (Some y) ys ++ W m) n)
-    ∙ sym (append_assoc front (entries_from tasks (k + 1) (Some y) ys) (W (k + suc (length ys))))
+    ap (λ l. front ++ l) (entries-more owners (k + 1) (Some y) ys x ∙ ap (λ m. entries_from owners (k + 1) (Some y) ys ++ W m) n)
+    ∙ sym (append_assoc front (entries_from owners (k + 1) (Some y) ys) (W (k + suc (length ys))))
 
 -- a dump that has the waves of the counts before this one
 pub record IsDumping (image : Image) (arrivals : List Arrival) (k : ℕ) (sampler : Sampler) (dump : Dump) (last : Option Sample) : Type 0 where
@@ -50,7 +52,7 @@ pub record IsDumping (image : Image) (arrivals : List Arrival) (k : ℕ) (sample
   pub samples : List Sample
   pub counted : length samples ≡ k
   pub are_samples : AreSamples image arrivals 0 samples
-  pub text : dump.text.items ≡ header image ++ entry_lines (entries_from (length image.tasks) 0 None samples)
+  pub text : dump.text.items ≡ header image ++ entry_lines (entries_from (owners_named image) 0 None samples)
   pub last_is : last ≡ last_of None samples
 
 pub dumping-none : (image : Image) (A : List Arrival) (s : Sampler) (d : Dump) → IsSampling s → sampled_image s ≡ image → sampled_arrivals s ≡ A → sampled_count s ≡ 0
@@ -70,12 +72,12 @@ dumping-none image A s d sampling i a count text = record {
 pub dumping-more : (image : Image) (A : List Arrival) (k : ℕ) (s t : Sampler) (d e : Dump) (old : Option Sample) (x : Sample) → IsDumping image A k s d old
     → IsSampling t → IsSample (sampled_image s) (sampled_arrivals s) (sampled_count s) x → sampled_image t ≡ sampled_image s → sampled_arrivals t ≡ sampled_arrivals s
     → sampled_count t ≡ sampled_count s + 1
-    → e.text.items ≡ d.text.items ++ entry_lines (with_moment k false (changes (length image.tasks) old (Some x))) → IsDumping image A (k + 1) t e (Some x)
+    → e.text.items ≡ d.text.items ++ entry_lines (with_moment k false (changes (owners_named image) old (Some x))) → IsDumping image A (k + 1) t e (Some x)
 dumping-more image A k s t d e old x h sampling sample i a count text =
     let xs : List Sample = h.samples in
-    let tasks : ℕ = length image.tasks in
-    let front : List ℕ = entry_lines (entries_from tasks 0 None xs) in
-    let W : ℕ → Option Sample → List Entry = λ n o. with_moment n false (changes tasks o (Some x)) in
+    let owners : Owners = owners_named image in
+    let front : List ℕ = entry_lines (entries_from owners 0 None xs) in
+    let W : ℕ → Option Sample → List Entry = λ n o. with_moment n false (changes owners o (Some x)) in
     let S : Image → Type 0 = λ j. IsSample j (sampled_arrivals s) (sampled_count s) x in
     let T : List Arrival → Type 0 = λ B. IsSample image B (sampled_count s) x in
     let U : ℕ → Type 0 = λ n. IsSample image A n x in
@@ -92,7 +94,7 @@ dumping-more image A k s t d e old x h sampling sample i a count text =
       text = text ∙ ap (λ l. l ++ entry_lines (W k old)) h.text ∙ append_assoc (header image) front (entry_lines (W k old))
           ∙ ap (λ l. header image ++ (front ++ l)) (ap (λ o. entry_lines (W k o)) h.last_is ∙ ap (λ n. entry_lines (W n (last_of None xs))) place)
           ∙ ap (λ l. header image ++ l)
-          (sym (ap entry_lines (entries-more tasks 0 None xs x) ∙ lines-append (entries_from tasks 0 None xs) (W (0 + length xs) (last_of None xs))));
+          (sym (ap entry_lines (entries-more owners 0 None xs x) ∙ lines-append (entries_from owners 0 None xs) (W (0 + length xs) (last_of None xs))));
       last_is = sym (last-more None xs x);
     }
 
@@ -101,7 +103,7 @@ pub waves-whole : (image : Image) (A : List Arrival) (n : ℕ) (s : Sampler) (d 
     → e.text.items ≡ d.text.items ++ entry_line (Entry.moment n) → AreWavesOf image A n e.text.items
 waves-whole image A n s d e old h text =
     let xs : List Sample = h.samples in
-    let shown : List Entry = entries_from (length image.tasks) 0 None xs in
+    let shown : List Entry = entries_from (owners_named image) 0 None xs in
     let R : Image → Type 0 = λ i. HasRun s.runner i (sampled_count s) in
     let ran : HasRun s.runner image (sampled_count s) = subst R h.image_is h.sampling.ran in
     let E : ℕ → List Arrival → Type 0 = λ k B. run_end image B k ≡ ends.Whole in

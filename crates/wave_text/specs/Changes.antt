@@ -1,5 +1,6 @@
 -- The changes of signals in time.
 use Rattle.std.specs.Prelude.{ℕ, zero, suc, ◌+◌, ◌==◌, Bool, true, false, cond, if◌then◌else◌, List, [], ◌∷◌, ◌++◌, length, Option, Some, None}
+use Rattle.sloth_base.specs.declared.lines.Owners.{Owners}
 use Rattle.run_samples.specs.declared.sampling.Sample.{Sample}
 use Rattle.wave_text.specs.declared.signals.Scope.{Scope}
 use Rattle.wave_text.specs.declared.signals.Scope.TheVariants as scope
@@ -23,16 +24,17 @@ same_value (Some m) (Some n) = m == n
 abbrev pub changed : (code : ℕ) → Width → (old new : Option ℕ) → List Entry
 changed code width old new = if same_value old new then [] else Entry.change code width new ∷ []
 
--- those of a scope, for the first tasks, so many of them
+-- those of a scope, for its first signals, so many of them
 unfoldable pub scope_changes : Scope → (old new : Option Sample) → ℕ → List Entry
 scope_changes s old new zero = []
 scope_changes s old new (suc task) =
     scope_changes s old new task ++ changed (first_code s + task) (width_of s) (value_of s old task) (value_of s new task)
 
 -- those of all signals, from one sample to the next
-abbrev pub changes : (tasks : ℕ) → (old new : Option Sample) → List Entry
-changes tasks old new =
-    scope_changes scope.State old new tasks ++ scope_changes scope.Runs old new tasks ++ scope_changes scope.Pending old new tasks
+abbrev pub changes : Owners → (old new : Option Sample) → List Entry
+changes owners old new =
+    scope_changes scope.State old new owners.tasks ++ scope_changes scope.Runs old new owners.tasks
+    ++ scope_changes scope.Pending old new owners.tasks ++ scope_changes scope.Counters old new owners.counters
     ++ changed level_code width.Eight (level_value old) (level_value new) ++ changed masked_code width.One (masked_value old) (masked_value new)
 
 -- the entry of a moment, unless it stands already
@@ -50,11 +52,11 @@ stands_behind stands [] = stands
 stands_behind stands (e ∷ entries) = true
 
 -- the entries of samples in turn, the first at a count, behind another sample
-abbrev pub entries_from : (tasks count : ℕ) → Option Sample → List Sample → List Entry
-entries_from tasks count old [] = []
-entries_from tasks count old (new ∷ samples) =
-    with_moment count false (changes tasks old (Some new)) ++ entries_from tasks (count + 1) (Some new) samples
+abbrev pub entries_from : Owners → (count : ℕ) → Option Sample → List Sample → List Entry
+entries_from owners count old [] = []
+entries_from owners count old (new ∷ samples) =
+    with_moment count false (changes owners old (Some new)) ++ entries_from owners (count + 1) (Some new) samples
 
 -- those of all samples of a run: only what changes, and at last the moment of the end
-abbrev pub entries : (tasks : ℕ) → List Sample → List Entry
-entries tasks samples = entries_from tasks 0 None samples ++ Entry.moment (length samples) ∷ []
+abbrev pub entries : Owners → List Sample → List Entry
+entries owners samples = entries_from owners 0 None samples ++ Entry.moment (length samples) ∷ []

@@ -7,11 +7,12 @@ use Rattle.wave_text.specs.declared.signals.Width.{Width}
 use Rattle.wave_text.specs.declared.signals.Width.TheVariants as width
 use Rattle.wave_text.specs.Signals.{first_code, width_of}
 
--- the name of a scope
+-- the name of a scope; the counters' lines stand in that of pending lines
 abbrev pub scope_name : Scope → List ℕ
 scope_name scope.State = codes "state"
 scope_name scope.Runs = codes "runs"
 scope_name scope.Pending = codes "pending"
+scope_name scope.Counters = codes "pending"
 
 -- a width in decimal
 abbrev pub width_digit : Width → List ℕ
@@ -24,7 +25,7 @@ unfoldable pub variable_line : Width → (code : ℕ) (name : List ℕ) → List
 variable_line width code name =
     codes "$var wire " ++ width_digit width ++ codes " " ++ (code ∷ []) ++ codes " " ++ name ++ codes " $end\n"
 
--- those of a scope, for the first tasks of these names, so many of them
+-- those of a scope, for the first of these names, so many of them
 unfoldable pub variable_lines : Scope → List (List ℕ) → ℕ → List ℕ
 variable_lines s names zero = []
 variable_lines s names (suc task) = variable_lines s names task ++ variable_line (width_of s) (first_code s + task) (get_or names task [])
@@ -33,13 +34,14 @@ variable_lines s names (suc task) = variable_lines s names task ++ variable_line
 unfoldable pub scope_line : Scope → List ℕ
 scope_line s = codes "$scope module " ++ scope_name s ++ codes " $end\n"
 
--- a scope that has a signal for each task
-abbrev pub scope_text : Scope → List (List ℕ) → List ℕ
-scope_text s names = scope_line s ++ variable_lines s names (length names) ++ codes "$upscope $end\n"
+-- a scope that has a signal for each of these tasks, and one for the line of each of these counters
+abbrev pub scope_text : Scope → (tasks counters : List (List ℕ)) → List ℕ
+scope_text s tasks counters =
+    scope_line s ++ variable_lines s tasks (length tasks) ++ variable_lines scope.Counters counters (length counters) ++ codes "$upscope $end\n"
 
 -- what a time unit is, and the signals in their scopes, with the names of an image
 unfoldable pub header : Image → List ℕ
 header image =
     codes "$comment One time unit is one instruction. $end\n$timescale 1 ns $end\n"
-    ++ scope_text scope.State image.tasks ++ scope_text scope.Runs image.tasks ++ scope_text scope.Pending image.tasks
+    ++ scope_text scope.State image.tasks [] ++ scope_text scope.Runs image.tasks [] ++ scope_text scope.Pending image.tasks image.counters
     ++ codes "$scope module kernel $end\n$var wire 8 { level $end\n$var wire 1 | masked $end\n$upscope $end\n$enddefinitions $end\n"

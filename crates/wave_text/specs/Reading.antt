@@ -1,9 +1,10 @@
 -- How a dump is read: the value that it gives a signal at a moment.
 use Rattle.std.specs.Prelude.{ℕ, ◌+◌, ◌==◌, ◌≡◌, ◌<◌, nat_le, if◌then◌else◌, List, [], ◌∷◌, slice_get, Option, None}
+use Rattle.sloth_base.specs.declared.lines.Owners.{Owners}
 use Rattle.run_samples.specs.declared.sampling.Sample.{Sample}
 use Rattle.wave_text.specs.declared.signals.Scope.{Scope}
 use Rattle.wave_text.specs.Changes.{Entry, entries}
-use Rattle.wave_text.specs.Signals.{first_code, level_code, masked_code, value_of, level_value, masked_value}
+use Rattle.wave_text.specs.Signals.{first_code, level_code, masked_code, signal_count, value_of, level_value, masked_value}
 
 -- the value of a signal at a moment, where this is its value in front of these entries: that of its last change up to the first later moment
 abbrev pub value_behind : (code at : ℕ) → Option ℕ → List Entry → Option ℕ
@@ -16,7 +17,8 @@ abbrev pub value_at : (code at : ℕ) → List Entry → Option ℕ
 value_at code at entries = value_behind code at None entries
 
 -- at each count the dump of samples gives each signal the value that it has in the sample of the count
-pub record ReadsBack (tasks : ℕ) (samples : List Sample) (k : ℕ) : Type 0 where
-  pub of_task : (s : Scope) (task : ℕ) → task < tasks → value_at (first_code s + task) k (entries tasks samples) ≡ value_of s (slice_get samples k) task
-  pub of_level : value_at level_code k (entries tasks samples) ≡ level_value (slice_get samples k)
-  pub of_masked : value_at masked_code k (entries tasks samples) ≡ masked_value (slice_get samples k)
+pub record ReadsBack (owners : Owners) (samples : List Sample) (k : ℕ) : Type 0 where
+  pub of_scope : (s : Scope) (place : ℕ) → place < signal_count owners s
+      → value_at (first_code s + place) k (entries owners samples) ≡ value_of s (slice_get samples k) place
+  pub of_level : value_at level_code k (entries owners samples) ≡ level_value (slice_get samples k)
+  pub of_masked : value_at masked_code k (entries owners samples) ≡ masked_value (slice_get samples k)

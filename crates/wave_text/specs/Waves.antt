@@ -2,6 +2,7 @@
 use Rattle.std.specs.Prelude.{ℕ, ◌≡◌, List, ◌++◌, length}
 use Rattle.sloth_base.specs.declared.event.Arrival.{Arrival}
 use Rattle.sloth_base.specs.declared.image.Image.{Image}
+use Rattle.sloth_base.specs.Owners.{owners_named}
 use Rattle.run_samples.specs.declared.sampling.Sample.{Sample}
 use Rattle.run_samples.specs.Samples.{AreSamples}
 use Rattle.sloth_runner.specs.Runner.{run_end}
@@ -15,7 +16,7 @@ use Rattle.wave_text.specs.Text.{entry_lines}
 
 -- the waves of samples, with the names of an image
 abbrev pub waves_text : Image → List Sample → List ℕ
-waves_text image samples = header image ++ entry_lines (entries (length image.tasks) samples)
+waves_text image samples = header image ++ entry_lines (entries (owners_named image) samples)
 
 -- a text is the waves of n instructions of a run: the run has them all, and the text is that of its samples
 pub record AreWavesOf (image : Image) (arrivals : List Arrival) (n : ℕ) (text : List ℕ) : Type 0 where

@@ -2,6 +2,7 @@
 ghost use Rattle.std.specs.Prelude.{◌≡◌, ◌<◌, ◌≤◌, ◌+◌, ◌++◌, ◌∷◌, [], true, false, Some, None, OnOk, length};
 ghost use Rattle.wave_text.specs.Changes.{Entry, same_value, changed, changes, scope_changes, due, with_moment};
 ghost use Rattle.wave_text.specs.Text.{digit, entry_line, entry_lines};
+ghost use Rattle.wave_text.specs.Signals.{most_signals};
 ghost use Rattle.wave_text.specs.Waves.{Gets};
 
 use crate::keeping::keeps;
@@ -10,6 +11,7 @@ use crate::signals::{
 };
 use itoa::Buffer;
 use run_samples::Sample;
+use sloth_base::lines::Owners;
 use sloth_base::memory::NoMemory;
 
 // Whether two values are the same.
@@ -149,26 +151,27 @@ impl Dump {
         push_change(&mut self.text, code, width, after)
     }
 
-    // Appends the changes of a scope that has a signal for each task.
+    // Appends the changes of a scope's first signals.
     fn scope(
         &mut self,
         scope: Scope,
-        tasks: usize,
+        count: usize,
         before: &Option<Sample>,
         after: &Option<Sample>,
     ) -> Result<(), NoMemory>
-        requires { tasks ≤ 30 }
-        ensures { OnOk result (Gets self.old self.new (scope_changes scope before.now after.now tasks)) }
+        requires small { count ≤ 30 }
+        requires few { count ≤ most_signals scope }
+        ensures { OnOk result (Gets self.old self.new (scope_changes scope before.now after.now count)) }
     {
-        if keeps(scope, tasks, before, after) {
+        if keeps(scope, count, before, after) {
             return Ok(());
         }
-        for task in 0..tasks {
+        for place in 0..count {
             self.change(
-                first_code(scope) + task as u8,
+                first_code(scope) + place as u8,
                 width_of(scope),
-                value_of(scope, before, task),
-                value_of(scope, after, task),
+                value_of(scope, before, place),
+                value_of(scope, after, place),
             )?;
         }
         Ok(())
@@ -178,19 +181,21 @@ impl Dump {
     pub fn sample(
         &mut self,
         count: u32,
-        tasks: usize,
+        owners: &Owners,
         before: &Option<Sample>,
         after: &Option<Sample>,
     ) -> Result<(), NoMemory>
-        requires { tasks ≤ 30 }
+        requires tasks { owners.now.tasks ≤ 30 }
+        requires counters { owners.now.counters ≤ 2 }
         ensures { OnOk result
-            (self.new.text.items ≡ self.old.text.items ++ entry_lines (with_moment count false (changes tasks before.now after.now))) }
+            (self.new.text.items ≡ self.old.text.items ++ entry_lines (with_moment count false (changes owners.now before.now after.now))) }
     {
         self.count = count;
         self.stamped = false;
-        self.scope(Scope::State, tasks, before, after)?;
-        self.scope(Scope::Runs, tasks, before, after)?;
-        self.scope(Scope::Pending, tasks, before, after)?;
+        self.scope(Scope::State, owners.tasks, before, after)?;
+        self.scope(Scope::Runs, owners.tasks, before, after)?;
+        self.scope(Scope::Pending, owners.tasks, before, after)?;
+        self.scope(Scope::Counters, owners.counters, before, after)?;
         self.change(LEVEL, Width::Eight, level_value(before), level_value(after))?;
         self.change(
             MASKED,

@@ -17,7 +17,7 @@ fn scope_name(scope: Scope) -> &'static [u8]
     match scope {
         Scope::State => b"state",
         Scope::Runs => b"runs",
-        Scope::Pending => b"pending",
+        Scope::Pending | Scope::Counters => b"pending",
     }
 }
 
@@ -61,13 +61,12 @@ fn scope_line(scope: Scope) -> LineText
     line
 }
 
-// Appends the declarations of a scope that has a signal for each task.
-fn push_scope(text: &mut Vec<u8>, scope: Scope, names: &[Name]) -> Result<(), NoMemory>
+// Appends the declarations of signals, one for each name.
+fn push_variables(text: &mut Vec<u8>, scope: Scope, names: &[Name]) -> Result<(), NoMemory>
     requires few { length names.now ≤ 30 }
     requires short { All IsName names.now }
-    ensures { OnOk result (text.new.items ≡ text.old.items ++ scope_text scope names.now) }
+    ensures { OnOk result (text.new.items ≡ text.old.items ++ variable_lines scope names.now (length names.now)) }
 {
-    text.extend_from_slice(scope_line(scope).bytes())?;
     for task in 0..names.len() {
         let line = variable_line(
             width_of(scope),
@@ -76,6 +75,25 @@ fn push_scope(text: &mut Vec<u8>, scope: Scope, names: &[Name]) -> Result<(), No
         );
         text.extend_from_slice(line.bytes())?;
     }
+    Ok(())
+}
+
+// Appends a scope that has a signal for each of these tasks, and one for the line of each of these counters.
+fn push_scope(
+    text: &mut Vec<u8>,
+    scope: Scope,
+    tasks: &[Name],
+    counters: &[Name],
+) -> Result<(), NoMemory>
+    requires few_tasks { length tasks.now ≤ 30 }
+    requires short_tasks { All IsName tasks.now }
+    requires few_counters { length counters.now ≤ 30 }
+    requires short_counters { All IsName counters.now }
+    ensures { OnOk result (text.new.items ≡ text.old.items ++ scope_text scope tasks.now counters.now) }
+{
+    text.extend_from_slice(scope_line(scope).bytes())?;
+    push_variables(text, scope, tasks)?;
+    push_variables(text, Scope::Counters, counters)?;
     text.extend_from_slice(b"$upscope $end\n")?;
     Ok(())
 }
@@ -90,10 +108,11 @@ pub fn header(alloc: Global, image: &Image) -> Result<Vec<u8>, NoMemory>
         alloc,
         b"$comment One time unit is one instruction. $end\n$timescale 1 ns $end\n",
     )?;
-    let names = image.tasks.items();
-    push_scope(&mut text, Scope::State, names)?;
-    push_scope(&mut text, Scope::Runs, names)?;
-    push_scope(&mut text, Scope::Pending, names)?;
+    let tasks = image.tasks.items();
+    let none: &[Name] = &[];
+    push_scope(&mut text, Scope::State, tasks, none)?;
+    push_scope(&mut text, Scope::Runs, tasks, none)?;
+    push_scope(&mut text, Scope::Pending, tasks, image.counters.items())?;
     text.extend_from_slice(
         b"$scope module kernel $end\n$var wire 8 { level $end\n$var wire 1 | masked $end\n$upscope $end\n$enddefinitions $end\n",
     )?;

@@ -1,13 +1,13 @@
 //! Whether signals keep their values: told by one look at the parts of two samples, since most counts change nothing.
 ghost use Rattle.std.specs.Prelude.{ℕ, ◌≡◌, ◌<◌, ◌≤◌, IsTrue, false, get_or};
 ghost use Rattle.osek_scheduler.specs.declared.state.TaskState.TheVariants as mode;
-ghost use Rattle.wave_text.specs.Signals.{KeepValues, state_number, seen_state, seen_running, value_in};
+ghost use Rattle.wave_text.specs.Signals.{KeepValues, most_signals, state_number, seen_state, seen_running, value_in};
 
 use crate::signals::{Scope, state_number};
 use osek_scheduler::state::TaskState;
 use run_samples::Sample;
 use sloth_inspect::TASKS;
-use sloth_runner::sight::Seen;
+use sloth_runner::sight::{COUNTERS, Seen};
 
 // Whether the states of the tasks have the same numbers.
 fn same_states(tasks: usize, one: &[TaskState; TASKS], other: &[TaskState; TASKS]) -> bool
@@ -29,6 +29,19 @@ fn same_pending(tasks: usize, one: &[bool; TASKS], other: &[bool; TASKS]) -> boo
 {
     for task in 0..tasks {
         if one[task] != other[task] {
+            return false;
+        }
+    }
+    true
+}
+
+// Whether the same lines of counters are pending.
+fn same_counters(counters: usize, one: &[bool; COUNTERS], other: &[bool; COUNTERS]) -> bool
+    requires { counters ≤ 2 }
+    ensures { IsTrue result → (t : ℕ) → t < counters → get_or one.now t false ≡ get_or other.now t false }
+{
+    for counter in 0..counters {
+        if one[counter] != other[counter] {
             return false;
         }
     }
@@ -62,30 +75,35 @@ fn keeps_running(before: &Option<Seen>, after: &Option<Seen>) -> bool
     }
 }
 
-// The same of two samples.
-fn keeps_values(scope: Scope, tasks: usize, before: &Sample, after: &Sample) -> bool
-    requires { tasks ≤ 30 }
-    ensures { IsTrue result → (t : ℕ) → t < tasks → value_in scope before.now t ≡ value_in scope after.now t }
+// The same of two samples, for the first signals.
+fn keeps_values(scope: Scope, count: usize, before: &Sample, after: &Sample) -> bool
+    requires { count ≤ most_signals scope }
+    ensures { IsTrue result → (t : ℕ) → t < count → value_in scope before.now t ≡ value_in scope after.now t }
 {
     match scope {
-        Scope::State => keeps_states(tasks, &before.seen, &after.seen),
+        Scope::State => keeps_states(count, &before.seen, &after.seen),
         Scope::Runs => keeps_running(&before.seen, &after.seen),
         Scope::Pending => same_pending(
-            tasks,
+            count,
             &before.interrupts.pending,
             &after.interrupts.pending,
+        ),
+        Scope::Counters => same_counters(
+            count,
+            &before.interrupts.counters_pending,
+            &after.interrupts.counters_pending,
         ),
     }
 }
 
 /// Whether the signals of a scope are known to keep their values from one sample to the next.
-pub fn keeps(scope: Scope, tasks: usize, before: &Option<Sample>, after: &Option<Sample>) -> bool
-    requires { tasks ≤ 30 }
-    ensures { IsTrue result → KeepValues scope tasks before.now after.now }
+pub fn keeps(scope: Scope, count: usize, before: &Option<Sample>, after: &Option<Sample>) -> bool
+    requires { count ≤ most_signals scope }
+    ensures { IsTrue result → KeepValues scope count before.now after.now }
 {
     match before {
         Some(before) => match after {
-            Some(after) => keeps_values(scope, tasks, before, after),
+            Some(after) => keeps_values(scope, count, before, after),
             None => false,
         },
         None => false,

@@ -10,6 +10,7 @@ use crate::header::header;
 use run_samples::Sampler;
 use sloth_base::event::Arrival;
 use sloth_base::image::Image;
+use sloth_base::lines::Owners;
 use sloth_base::memory::NoMemory;
 use sloth_runner::runner::Halt;
 use std::alloc::Global;
@@ -33,7 +34,10 @@ pub fn waves(
     requires few { n ≤ 1000000 }
     ensures { IfOk result (AreWaves image.now arrivals.now n) }
 {
-    let tasks = image.tasks.items().len();
+    let owners = Owners {
+        tasks: image.tasks.items().len(),
+        counters: image.counters.items().len(),
+    };
     let mut dump = Dump {
         text: header(alloc, image)?,
         count: 0,
@@ -45,7 +49,7 @@ pub fn waves(
         match sampler.next() {
             Ok(sample) => {
                 let new = Some(sample);
-                dump.sample(count, tasks, &old, &new)?;
+                dump.sample(count, &owners, &old, &new)?;
                 old = new;
             }
             Err(halt) => return Ok(Recorded::Stopped(halt)),

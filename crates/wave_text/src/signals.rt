@@ -1,6 +1,6 @@
 //! The signals of waves, and their values.
 ghost use Rattle.std.specs.Prelude.{◌≡◌, ◌<◌};
-ghost use Rattle.wave_text.specs.Signals.{first_code, width_of, value_in, value_of, level_value, masked_value, state_number};
+ghost use Rattle.wave_text.specs.Signals.{first_code, width_of, most_signals, value_in, value_of, level_value, masked_value, state_number};
 
 use osek_scheduler::state::TaskState;
 use run_samples::Sample;
@@ -13,12 +13,14 @@ pub enum Width {
     Eight,
 }
 
-/// A scope that has a signal for each task.
+/// Signals of one kind: one for each task, or for each counter.
 #[derive(Clone, Copy)]
 pub enum Scope {
     State,
     Runs,
     Pending,
+    /// The counters' lines, which stand in the scope of pending lines.
+    Counters,
 }
 
 /// The code of the signal `level`.
@@ -27,15 +29,16 @@ pub const LEVEL: u8 = b'{';
 /// The code of the signal `masked`.
 pub const MASKED: u8 = b'|';
 
-/// The code of the first task's signal. Those of the other tasks follow.
+/// The code of the first signal. The others follow.
 pub fn first_code(scope: Scope) -> u8
     ensures is { result ≡ first_code scope }
-    ensures small { result < 94 }
+    ensures small { result < 126 }
 {
     match scope {
         Scope::State => b'!',
         Scope::Runs => b'?',
         Scope::Pending => b']',
+        Scope::Counters => b'}',
     }
 }
 
@@ -47,6 +50,7 @@ pub fn width_of(scope: Scope) -> Width
         Scope::State => Width::Two,
         Scope::Runs => Width::One,
         Scope::Pending => Width::One,
+        Scope::Counters => Width::One,
     }
 }
 
@@ -62,31 +66,32 @@ pub fn state_number(state: TaskState) -> u8
     }
 }
 
-// The value of a task's signal in a sample.
-fn value_in(scope: Scope, sample: &Sample, task: usize) -> Option<u8>
-    requires { task < 30 }
-    ensures { result ≡ value_in scope sample.now task }
+// The value of a signal in a sample, by its place in the scope.
+fn value_in(scope: Scope, sample: &Sample, place: usize) -> Option<u8>
+    requires { place < most_signals scope }
+    ensures { result ≡ value_in scope sample.now place }
 {
     match scope {
         Scope::State => match &sample.seen {
-            Some(seen) => Some(state_number(seen.tasks[task])),
+            Some(seen) => Some(state_number(seen.tasks[place])),
             None => None,
         },
         Scope::Runs => match &sample.seen {
-            Some(seen) => Some(u8::from(seen.running == task as u32 + 1)),
+            Some(seen) => Some(u8::from(seen.running == place as u32 + 1)),
             None => None,
         },
-        Scope::Pending => Some(u8::from(sample.interrupts.pending[task])),
+        Scope::Pending => Some(u8::from(sample.interrupts.pending[place])),
+        Scope::Counters => Some(u8::from(sample.interrupts.counters_pending[place])),
     }
 }
 
-/// The value of a task's signal; before the first sample it has none.
-pub fn value_of(scope: Scope, sample: &Option<Sample>, task: usize) -> Option<u8>
-    requires { task < 30 }
-    ensures { result ≡ value_of scope sample.now task }
+/// The same; before the first sample it has none.
+pub fn value_of(scope: Scope, sample: &Option<Sample>, place: usize) -> Option<u8>
+    requires { place < most_signals scope }
+    ensures { result ≡ value_of scope sample.now place }
 {
     match sample {
-        Some(sample) => value_in(scope, sample, task),
+        Some(sample) => value_in(scope, sample, place),
         None => None,
     }
 }

@@ -1,10 +1,9 @@
-use Rattle.std.proofs.Common.{◌≡◌, ◌≤◌, ◌∙◌, ◌*◌, ◌+◌, List, ℕ, length, ap, sym, subst, arith}
+use Rattle.std.proofs.Common.{◌≤◌, ◌∙◌, List, ℕ, length, ap, sym, subst, arith}
 use Rattle.sloth_base.specs.Arrivals.{AreArrivals}
 use Rattle.sloth_base.specs.declared.event.Arrival.{Arrival}
 use Rattle.std.specs.List.{All}
-use Rattle.app_gen.specs.Oil.{oil_text}
 use Rattle.app_gen.specs.Source.{source_text}
-use Rattle.app_gen.specs.Load.{first_arrivals, owners_of}
+use Rattle.app_gen.specs.Load.{owners_of}
 use Rattle.app_gen.proofs.Moments.{are_arrivals, early_until}
 use Rattle.app_gen.proofs.Short.{short-oil, short-source}
 use Rattle.app_gen.proofs.generate.sample.Goals as goal

@@ -1,4 +1,4 @@
-use Rattle.std.proofs.Common.{◌≡◌, ◌∙◌, ◌+◌, ◌*◌, ◌%◌, ◌++◌, refl, sym, ap, arith}
+use Rattle.std.proofs.Common.{◌≡◌, ◌∙◌, ◌+◌, ◌*◌, ◌%◌, refl, sym, ap, arith}
 use Rattle.app_gen.specs.Draws.{draw, next_draw}
 use Rattle.app_gen.specs.Load.{high_bits, gap, moment_before, line_of, first_arrivals}
 use Rattle.app_gen.proofs.Steps.{draw_next}

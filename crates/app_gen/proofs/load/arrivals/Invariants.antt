@@ -1,4 +1,4 @@
-use Rattle.std.proofs.Common.{◌≡◌, ◌++◌, ◌*◌}
+use Rattle.std.proofs.Common.{◌≡◌, ◌*◌}
 use Rattle.app_gen.specs.Draws.{draw}
 use Rattle.app_gen.specs.Load.{moment_before, first_arrivals}
 use Rattle.app_gen.proofs.load.arrivals.Given as goal

@@ -1,5 +1,5 @@
 use Rattle.app_gen.specs.Oil.{event_object}
-use Rattle.app_gen.proofs.Steps.{put_more}
+use Rattle.text_pieces.proofs.Ranges.{put_more}
 use Rattle.app_gen.proofs.oil.put_events.Goals as goal
 
 pub loop-task-preserved : goal.loop-task-preserved

@@ -1,7 +1,8 @@
 use Rattle.std.proofs.Common.{◌≡◌, ◌∙◌, ◌-◌, ◌++◌, refl, ap, sym, arith}
 use Rattle.app_gen.specs.Draws.{next_draw, draw}
 use Rattle.app_gen.specs.Source.{body, numbered_body}
-use Rattle.app_gen.proofs.Steps.{put_more, draw_behind}
+use Rattle.text_pieces.proofs.Ranges.{put_more}
+use Rattle.app_gen.proofs.Steps.{draw_behind}
 use Rattle.app_gen.proofs.source.put_bodies.Goals as goal
 
 pub loop-task-init : goal.loop-task-init

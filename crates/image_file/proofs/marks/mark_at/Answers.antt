@@ -20,6 +20,6 @@ returns-clause-none c =
     let inside = c.requires.within in
     let m : Mark = record { address = c.u32_at.result; kind = c.in_ok-kind.kind; a = slice_index_or file (at + 5) 0; b = c.u16_at.result; c = c.u32_at-2.result } in
     let stands = mark_stands file at m inside c.u32_at.ensures.stands c.in_ok-kind.ensures.some refl c.u16_at.ensures.stands c.u32_at-2.ensures.stands in
-    rw c.then_some.ensures (none_unless c.is_mark.result m (λ wrong. no_mark file at c.args.funcs c.args.size m (drop (at + 12) file) c.requires.few c.requires.fits
+    rw c.then_some.ensures (none_unless c.is_mark.result m (λ wrong. no_mark file at c.args.services c.args.funcs c.args.size m (drop (at + 12) file) c.requires.few c.requires.fits
     (record { address = c.u32_at.type_inv; b = c.u16_at.type_inv; c = c.u32_at-2.type_inv }) stands
     (λ right. true≢false (sym (c.is_mark.ensures.1 right) ∙ wrong))))

@@ -13,5 +13,5 @@ returns-in_err-ok_or-clause-failed c =
     let more = c.loop-i-test.true in
     let p = err_from_is_err_and c.from_residual.result c.from_residual.ensures.1 in
     let q = missing c.mark_at.result fault.I3 c.in_err-ok_or.field-0.0 c.in_err-ok_or.ensures.value c.mark_at.ensures.none in
-    rw (p.1, p.2, q.1) (no_marks c.args.bytes.now c.args.at c.args.count c.args.funcs c.args.size (c.args.at + c.loop-i.i * 12) c.loop-i.marks.items
+    rw (p.1, p.2, q.1) (no_marks c.args.bytes.now c.args.at c.args.count c.args.services c.args.funcs c.args.size (c.args.at + c.loop-i.i * 12) c.loop-i.marks.items
     c.requires.few c.requires.fits stands (omega arith) (ap (λ n. c.args.at + n * 12) counted) q.0)

@@ -3,4 +3,4 @@ use Rattle.image_file.specs.Reading.{MarksStand}
 use Rattle.image_file.proofs.marks.read_marks.Given as goal
 
 abbrev pub invariant-loop-i : goal.invariant-loop-i
-invariant-loop-i l = MarksStand l.bytes l.at l.funcs l.size l.marks.items × (length l.marks.items ≡ l.i)
+invariant-loop-i l = MarksStand l.bytes l.at l.services l.funcs l.size l.marks.items × (length l.marks.items ≡ l.i)

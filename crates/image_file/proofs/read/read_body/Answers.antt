@@ -1,54 +1,12 @@
-use Rattle.std.proofs.lemmas.Result.{err_from_is_err_and}
-use Rattle.std.proofs.Common.{arith}
-use Rattle.image_file.proofs.Parted.{has_parts, no_funcs, no_room, no_tasks}
-use Rattle.image_file.proofs.Failing.{names_fail}
+use Rattle.std.proofs.Common.{ℕ, subst}
+use Rattle.std.proofs.lemmas.Result.{IfErr-weaker}
+use Rattle.image_file.specs.Reading.{PartsFail}
+use Rattle.image_file.proofs.Failing.{parts_fail}
 use Rattle.image_file.proofs.read.read_body.Goals as goal
 
-pub returns-in_err-tasks-clause-failed : goal.returns-in_err-tasks-clause-failed
-returns-in_err-tasks-clause-failed c =
+pub returns-clause-failed : goal.returns-clause-failed
+returns-clause-failed c =
     let file = c.args.bytes.now in
     let s = c.args.sizes.now in
-    let h = c.requires.sizes in
-    let p = err_from_is_err_and c.from_residual.result c.from_residual.ensures.1 in
-    rw (p.1, p.2) (names_fail c.in_err-tasks.field-0.0 file 24 s.tasks c.requires.magic (no_tasks file s.tasks s.funcs s.memory s.marks h) c.in_err-tasks.ensures.failed)
-
-pub returns-in_err-funcs-clause-failed : goal.returns-in_err-funcs-clause-failed
-returns-in_err-funcs-clause-failed c =
-    let file = c.args.bytes.now in
-    let s = c.args.sizes.now in
-    let h = c.requires.sizes in
-    let first = c.in_ok-tasks.ensures in
-    let tasks = c.in_ok-tasks.tasks in
-    let p = err_from_is_err_and c.from_residual-in_err-funcs.result c.from_residual-in_err-funcs.ensures.1 in
-    rw (p.1, p.2) (names_fail c.in_err-funcs.field-0.0 file tasks.end s.funcs c.requires.magic
-    (no_funcs file s.tasks s.funcs s.memory s.marks h tasks.end tasks.names.items first.read first.counted) c.in_err-funcs.ensures.failed)
-
-pub returns-then-bytes-memory-clause-failed : goal.returns-then-bytes-memory-clause-failed
-returns-then-bytes-memory-clause-failed c =
-    let file = c.args.bytes.now in
-    let s = c.args.sizes.now in
-    let h = c.requires.sizes in
-    let first = c.in_ok-tasks.ensures in
-    let tasks = c.in_ok-tasks.tasks in
-    let second = c.in_ok-funcs.ensures in
-    let funcs = c.in_ok-funcs.funcs in
-    rw c.into.ensures (
-      c.requires.magic,
-      no_room file s.tasks s.funcs s.memory s.marks h tasks.end tasks.names.items first.read first.counted
-          funcs.end funcs.names.items second.read second.counted c.if-bytes-memory.true,
-    )
-
-pub returns-clause-read : goal.returns-clause-read
-returns-clause-read c =
-    let file = c.args.bytes.now in
-    let s = c.args.sizes.now in
-    let h = c.requires.sizes in
-    let first = c.in_ok-tasks.ensures in
-    let tasks = c.in_ok-tasks.tasks in
-    let second = c.in_ok-funcs.ensures in
-    let funcs = c.in_ok-funcs.funcs in
-    let whole = has_parts file s.tasks s.funcs s.memory s.marks h tasks.end tasks.names.items first.read first.counted
-    funcs.end funcs.names.items second.read second.counted c.if-bytes-memory.false in
-    let room = c.if-bytes-memory.false in
-    let within = second.read.within in
-    record { parts = whole; long = omega arith }
+    IfErr-weaker c.read_parts.result _ _ (λ f h.
+    parts_fail f file s c.requires.magic c.requires.sizes (subst (λ (n : ℕ). PartsFail f file n s) c.header.ensures h)) c.read_parts.ensures.failed

@@ -4,6 +4,7 @@ use Rattle.sloth_link.specs.Items.{item_blocks}
 use Rattle.image_gen.specs.Services.{AreServed, AreServices}
 use Rattle.image_gen.proofs.AllCode.{gathered}
 use Rattle.image_gen.proofs.Called.{served}
+use Rattle.image_gen.proofs.Linking.{may_link}
 use Rattle.image_gen.proofs.Starting.{may_start}
 use Rattle.image_gen.proofs.gathering.gather.Goals as goal
 
@@ -11,10 +12,10 @@ pub prologues-requires : goal.prologues-requires
 prologues-requires c = record { may_start = may_start c.args.config.now c.args.app.now c.args.levels.now c.args.map.now c.requires }
 
 pub services-requires : goal.services-requires
-services-requires c = subst AreServed (sym c.wanted_blocks-wanted.ensures) (served c.args.config.now c.args.app.now c.requires.well_formed)
+services-requires c = subst AreServed (sym c.wanted_blocks-wanted.ensures) (served c.args.config.now c.args.app.now c.requires.well_formed c.requires.no_counters)
 
-pub returns : goal.returns
-returns c =
+pub returns-clause-gathered : goal.returns-clause-gathered
+returns-clause-gathered c =
     let first : c.append.new.self.items ≡ c.in_ok-vectors.field-0 ∷ c.in_ok-boot.field-0 ∷ c.in_ok-idle.field-0 ∷ c.in_ok-starts.starts.items = search rules in
     let second = c.in_ok-append-2.ensures.items ∙ ap (λ (bs : List Block). bs ++ c.in_ok-served.served.items) first in
     gathered c.args.config.now c.args.app.now c.args.levels.now c.args.map.now c.requires
@@ -30,3 +31,7 @@ returns c =
       items = refl;
     })
     c.append-2.new.self.items second
+
+pub returns-clause-linkable : goal.returns-clause-linkable
+returns-clause-linkable c =
+    may_link c.args.config.now c.args.app.now c.args.levels.now c.args.map.now c.requires c.append-2.new.self.items (returns-clause-gathered c)

@@ -1,6 +1,6 @@
 use Rattle.std.proofs.Common.{◌∙◌, ◌++◌, ap}
 use Rattle.lane_drawing.specs.Drawing.{axis_line}
-use Rattle.lane_drawing.proofs.Ranges.{put_more}
+use Rattle.text_pieces.proofs.Ranges.{put_more}
 use Rattle.lane_drawing.proofs.frame.push_axis.Goals as goal
 
 pub loop-i-preserved : goal.loop-i-preserved

@@ -1,10 +1,10 @@
-use Rattle.std.proofs.Common.{◌≡◌, ◌≤◌, ◌<◌, ◌∙◌, ℕ, List, length, sym, ap, subst, drop, arith}
+use Rattle.std.proofs.Common.{◌≤◌, ◌<◌, ◌∙◌, ℕ, List, length, sym, ap, subst, drop, arith}
 use Rattle.std.specs.Prelude.{All, map}
 use Rattle.sloth_base.specs.declared.config.TaskDecl.{TaskDecl}
 use Rattle.sloth_region.specs.declared.extent.Extent.{Extent}
 use Rattle.mem_map.specs.Run.{end_of}
-use Rattle.mem_map.specs.Plan.{code_end, items_at, symbol_bytes}
-use Rattle.mem_map.proofs.Planned.{AreEnds, sizes_small, code_short, items_above, counts_few, symbols_few, symbols_short, ends_are}
+use Rattle.mem_map.specs.Plan.{symbol_bytes}
+use Rattle.mem_map.proofs.Planned.{AreEnds, few_starts, starts_small, sizes_small, code_short, services_above, items_above, counts_few, symbols_few, symbols_short, ends_are}
 use Rattle.mem_map.proofs.Mapped.{addressed, zoned}
 use Rattle.mem_map.specs.Run.{room_for}
 use Rattle.mem_map.specs.Stacks.{first_own}
@@ -15,44 +15,47 @@ use Rattle.mem_map.proofs.planning.make_map.Goals as goal
 
 -- ---- what is called
 
-pub plan_code-requires-clause-small : goal.plan_code-requires-clause-small
-plan_code-requires-clause-small c = sizes_small _ _ _ _ _ _ c.requires c.told-wanted
+pub plan_code-requires-clause-boot : goal.plan_code-requires-clause-boot
+plan_code-requires-clause-boot c = c.requires.code.boot.1
 
-pub plan_code-requires-clause-services : goal.plan_code-requires-clause-services
-plan_code-requires-clause-services c =
-    let e = ap (λ (l : List TaskDecl). items_at (length l) c.args.wanted.now) c.items-declared.ensures in
-    let a = items_above _ _ _ _ _ _ c.requires c.told-wanted in
-    let h = code_short _ _ _ _ _ _ c.requires c.told-wanted in
-    omega (arith, e, a, h)
+pub plan_code-requires-clause-few : goal.plan_code-requires-clause-few
+plan_code-requires-clause-few c = few_starts _ _ _ _ _ c.requires
+
+pub plan_code-requires-clause-prologues : goal.plan_code-requires-clause-prologues
+plan_code-requires-clause-prologues c = starts_small _ _ _ _ _ c.requires
 
 pub plan_code-requires-clause-items : goal.plan_code-requires-clause-items
-plan_code-requires-clause-items c =
-    let e = ap (λ (l : List TaskDecl). code_end (length l) c.args.wanted.now c.args.sizes.now) c.items-declared.ensures in
-    let h = code_short _ _ _ _ _ _ c.requires c.told-wanted in
-    omega (arith, e, h)
+plan_code-requires-clause-items c = sizes_small _ _ _ _ _ c.requires
+
+pub plan_code-requires-clause-fits : goal.plan_code-requires-clause-fits
+plan_code-requires-clause-fits c =
+    let a = services_above _ _ _ _ _ c.requires in
+    let b = items_above _ _ _ _ _ c.requires in
+    let h = code_short _ _ _ _ _ c.requires in
+    (omega (arith, a, b, h), omega (arith, b, h), omega (arith, h))
 
 pub plan_first-requires-clause-few : goal.plan_first-requires-clause-few
-plan_first-requires-clause-few c = counts_few _ _ _ _ _ _ c.requires c.told-wanted
+plan_first-requires-clause-few c = counts_few _ _ _ _ _ c.requires
 
 pub plan_symbols-requires-clause-few : goal.plan_symbols-requires-clause-few
-plan_symbols-requires-clause-few c = symbols_few _ _ _ _ _ _ c.requires c.told-wanted
+plan_symbols-requires-clause-few c = symbols_few _ _ _ _ _ c.requires
 
 pub plan_symbols-requires-clause-fits : goal.plan_symbols-requires-clause-fits
 plan_symbols-requires-clause-fits c =
-    let e = c.in_ok-code.ensures.end ∙ ap (λ (l : List TaskDecl). code_end (length l) c.args.wanted.now c.args.sizes.now) c.items-declared.ensures in
+    let e = c.in_ok-code.ensures.end in
     let f = ap (λ (from : ℕ). end_of from (map symbol_bytes c.args.app.now.symbols)) e in
-    let h = code_short _ _ _ _ _ _ c.requires c.told-wanted in
-    let s = symbols_short _ _ _ _ _ _ c.requires c.told-wanted in
+    let h = code_short _ _ _ _ _ c.requires in
+    let s = symbols_short _ _ _ _ _ c.requires in
     omega (arith, f, h, s)
 
 -- ---- where the zones end
 
 ends : (c : In_ok-symbols)
-    → AreEnds c.args.config.now c.args.app.now c.args.sizes.now c.args.wanted.now c.args.bounds.now c.args.offsets.now c.requires c.told-wanted c.in_ok-code.code.end
+    → AreEnds c.args.config.now c.args.app.now c.args.lengths.now c.args.bounds.now c.args.offsets.now c.requires c.in_ok-code.code.end
     c.in_ok-symbols.symbols.end
 ends c =
-    let e = c.in_ok-code.ensures.end ∙ ap (λ (l : List TaskDecl). code_end (length l) c.args.wanted.now c.args.sizes.now) c.items-declared.ensures in
-    ends_are _ _ _ _ _ _ c.requires c.told-wanted _ _ e c.in_ok-symbols.ensures.end
+    let e = c.in_ok-code.ensures.end in
+    ends_are _ _ _ _ _ c.requires _ _ e c.in_ok-symbols.ensures.end
 
 pub overflow_sub-code : goal.overflow_sub-code
 overflow_sub-code c =
@@ -86,18 +89,18 @@ pub plan_zones-requires-clause-few : goal.plan_zones-requires-clause-few
 plan_zones-requires-clause-few c =
     let few = c.requires.in_range.configuration.few_tasks in
     let tasks = ap (λ (l : List TaskDecl). length l) c.items-declared.ensures in
-    let count = c.in_ok-lengths.ensures.count in
+    let count = c.in_ok-stack_lens.ensures.count in
     let least = few_stacks c.items-declared.result.now in
     let same = ap (λ (l : List ℕ). length l) c.deref.ensures.value in
     omega (arith, few, tasks, count, least, same)
 
 are_placed : (c : In_ok-zones)
-    → ArePlaced c.args.config.now c.args.bounds.now c.items-declared.result.now c.in_ok-lengths.lengths.items c.in_ok-zones.zones.extents
+    → ArePlaced c.args.config.now c.args.bounds.now c.items-declared.result.now c.in_ok-stack_lens.stack_lens.items c.in_ok-zones.zones.extents
     c.in_ok-zones.zones.stacks
 are_placed c =
     record {
       declared_is = c.items-declared.ensures;
-      are = c.in_ok-lengths.ensures;
+      are = c.in_ok-stack_lens.ensures;
       words = c.in_ok-zones.zones.words;
       code = c.in_ok-zones.zones.code;
       data_extent = c.in_ok-zones.zones.data;
@@ -109,7 +112,7 @@ are_placed c =
 
 pub task_parts-requires-clause-fit : goal.task_parts-requires-clause-fit
 task_parts-requires-clause-fit c =
-    fit _ _ _ _ c.requires.needs _ c.in_ok-lengths.lengths.items c.in_ok-zones.zones.extents c.in_ok-zones.zones.stacks
+    fit _ _ _ _ c.requires.needs _ c.in_ok-stack_lens.stack_lens.items c.in_ok-zones.zones.extents c.in_ok-zones.zones.stacks
     (are_placed (goal.at.task_parts-requires-clause-fit c).In_ok-zones)
     _ c.items.ensures
 
@@ -118,7 +121,7 @@ plan_zones-requires-clause-some c =
     let h = ends (goal.at.plan_zones-requires-clause-some c).In_ok-symbols in
     let some = h.some in
     let below = h.below in
-    (omega (arith, some), omega (arith, below), subst (All (λ len. 1 ≤ len)) (sym c.deref.ensures.value) c.in_ok-lengths.ensures.some)
+    (omega (arith, some), omega (arith, below), subst (All (λ len. 1 ≤ len)) (sym c.deref.ensures.value) c.in_ok-stack_lens.ensures.some)
 
 pub plan_zones-requires-clause-words : goal.plan_zones-requires-clause-words
 plan_zones-requires-clause-words c = (ends (goal.at.plan_zones-requires-clause-words c).In_ok-symbols).even
@@ -128,7 +131,7 @@ plan_zones-requires-clause-room c =
     let h = (ends (goal.at.plan_zones-requires-clause-room c).In_ok-symbols).room in
     let few = c.requires.in_range.configuration.few_tasks in
     let tasks = ap (λ (l : List TaskDecl). length l) c.items-declared.ensures in
-    let short = c.in_ok-lengths.ensures.room in
+    let short = c.in_ok-stack_lens.ensures.room in
     let same = ap (room_for 16) c.deref.ensures.value in
     omega (arith, h, few, tasks, short, same)
 
@@ -136,18 +139,17 @@ plan_zones-requires-clause-room c =
 
 pub returns-clause-addresses : goal.returns-clause-addresses
 returns-clause-addresses c =
-    let tasks = ap (λ (l : List TaskDecl). length l) c.items-declared.ensures in
-    let e = c.in_ok-code.ensures.end ∙ ap (λ (l : List TaskDecl). code_end (length l) c.args.wanted.now c.args.sizes.now) c.items-declared.ensures in
-    addressed _ _ _ _ _ _ c.requires c.told-wanted _
+    let e = c.in_ok-code.ensures.end in
+    addressed _ _ _ _ _ c.requires _
     c.in_ok-zones.zones.code c.in_ok-zones.zones.data c.in_ok-code.code.end c.in_ok-symbols.symbols.end
     (record { all = c.in_ok-zones.zones.stacks; extents = c.in_ok-zones.ensures.extents; code_is = c.in_ok-zones.ensures.code; data_is = c.in_ok-zones.ensures.data_zone; code_end_is = e; data_end_is = c.in_ok-symbols.ensures.end })
-    _ tasks c.idle_at.ensures c.handlers-handlers.ensures.lines c.handlers-handlers.ensures.prologues c.handlers-handlers.ensures.unused
+    c.in_ok-code.ensures.idle c.in_ok-code.ensures.lines c.in_ok-code.ensures.prologues c.in_ok-code.ensures.unused
     c.in_ok-code.ensures.services c.in_ok-code.ensures.items c.in_ok-first.ensures c.in_ok-symbols.ensures.starts
 
 pub returns-clause-zones : goal.returns-clause-zones
 returns-clause-zones c =
-    let e = c.in_ok-code.ensures.end ∙ ap (λ (l : List TaskDecl). code_end (length l) c.args.wanted.now c.args.sizes.now) c.items-declared.ensures in
-    zoned _ _ _ _ _ _ c.requires c.told-wanted _
+    let e = c.in_ok-code.ensures.end in
+    zoned _ _ _ _ _ c.requires _
     c.in_ok-zones.zones.code c.in_ok-zones.zones.data c.in_ok-code.code.end c.in_ok-symbols.symbols.end
     (record { all = c.in_ok-zones.zones.stacks; extents = c.in_ok-zones.ensures.extents; code_is = c.in_ok-zones.ensures.code; data_is = c.in_ok-zones.ensures.data_zone; code_end_is = e; data_end_is = c.in_ok-symbols.ensures.end })
     (returns-clause-addresses c)
@@ -155,6 +157,6 @@ returns-clause-zones c =
 
 pub returns-clause-stacks : goal.returns-clause-stacks
 returns-clause-stacks c =
-    placed _ _ _ _ c.requires.needs _ c.in_ok-lengths.lengths.items c.in_ok-zones.zones.extents c.in_ok-zones.zones.stacks
+    placed _ _ _ _ c.requires.needs _ c.in_ok-stack_lens.stack_lens.items c.in_ok-zones.zones.extents c.in_ok-zones.zones.stacks
     (are_placed (goal.at.returns-clause-stacks c).In_ok-zones)
     _ c.items.ensures _ c.in_ok-parts.ensures (ap (λ (l : List Extent). drop 3 l) c.in_ok-zones.ensures.extents)

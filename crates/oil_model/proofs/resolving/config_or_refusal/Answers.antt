@@ -1,9 +1,9 @@
-use Rattle.std.proofs.Common.{◌≡◌, ◌≤◌, ◌<◌, List, Option, length, sym, subst}
+use Rattle.std.proofs.Common.{◌≡◌, ◌≤◌, ◌<◌, List, Option, length, refl, sym, subst}
 use Rattle.std.proofs.lemmas.List.Elements.{All-weaker}
 use Rattle.std.specs.Prelude.{All}
 use Rattle.sloth_base.specs.declared.config.EventDecl.{EventDecl}
 use Rattle.sloth_base.specs.declared.refusal.Refusal.{Refusal}
-use Rattle.sloth_base.specs.ConfigRange.{InRange}
+use Rattle.sloth_base.specs.ConfigRange.{InRange, HasNoCounters}
 use Rattle.sloth_base.specs.ImageRange.{IsWord}
 use Rattle.least_fault.specs.Search.{Finds}
 use Rattle.oil_parse.specs.declared.tree.OilObject.{OilObject}
@@ -19,15 +19,16 @@ use Rattle.oil_model.proofs.resolving.config_or_refusal.Goals as goal
 pub config_of-requires-clause-few : goal.config_of-requires-clause-few
 config_of-requires-clause-few c =
     let tree = c.args.tree.now in
-    subst (λ (x : List OilObject). length (resource_names x) ≤ 32) (sym c.items-objects.ensures)
+    subst (λ (x : List OilObject). length (resource_names x) ≤ 32) (sym c.items.ensures)
     (few_names tree (subst (λ (o : Option Refusal). Finds (ModelFault tree) o) c.in_default.is c.in_ok-refusal.ensures))
+
+pub returns-clause-no_counters : goal.returns-clause-no_counters
+returns-clause-no_counters c = subst HasNoCounters (sym c.in_ok-config.ensures) (record { counters = refl; alarms = refl })
 
 pub returns-clause-in_range : goal.returns-clause-in_range
 returns-clause-in_range c =
     let tree = c.args.tree.now in
     let none = subst (λ (o : Option Refusal). Finds (ModelFault tree) o) c.in_default.is c.in_ok-refusal.ensures in
-    let events = c.in_ok-events.ensures in
-    let fit = subst (λ (x : List EventDecl). All (λ (e : EventDecl). e.mask < 4294967296) x) events.events events.fit in
-    let words = All-weaker IsObjectOfWords (λ (o : OilObject). IsWord o.name) (λ (o : OilObject) w. w.name) tree.objects (tree_words c.requires.text tree c.requires.has_tree) in
-    subst InRange (sym (subst (λ (x : List OilObject). c.in_ok-config.config ≡ config_of x) c.items-objects.ensures c.in_ok-config.ensures))
-    (in_range tree none words (subst (λ (x : List OilObject). All (λ (e : EventDecl). e.mask < 4294967296) (events_of x)) c.items-objects.ensures fit))
+    let fit = subst (λ (x : List EventDecl). All (λ (e : EventDecl). e.mask < 4294967296) x) c.requires.events c.requires.fit in
+    let words = All-weaker IsObjectOfWords (λ (o : OilObject). IsWord o.name) (λ (o : OilObject) w. w.name) tree.objects (tree_words c.requires.tree.text tree c.requires.tree.has_tree) in
+    subst InRange (sym (subst (λ (x : List OilObject). c.in_ok-config.config ≡ config_of x) c.items.ensures c.in_ok-config.ensures)) (in_range tree none words fit)

@@ -1,6 +1,6 @@
 use Rattle.std.proofs.Common.{◌∙◌}
 use Rattle.std.proofs.lemmas.Result.{on_ok_weaker, on_err_weaker}
-use Rattle.osek_machine.proofs.Rooms.{reads, admit-room, by_name, enters, runs, serves, leaves, comes_back}
+use Rattle.osek_machine.proofs.Rooms.{clocked, reads, admit-room, by_name, enters, runs, serves, leaves, comes_back}
 use Rattle.osek_machine.proofs.osek.step.Goals as goal
 
 pub entry_plan-plan-requires : goal.entry_plan-plan-requires
@@ -88,3 +88,18 @@ returns-in-Idle-clause-next c = on_ok_weaker c.idle.result (λ h. by_name c.requ
 
 pub returns-in-Idle-clause-none : goal.returns-in-Idle-clause-none
 returns-in-Idle-clause-none c = on_err_weaker c.idle.result (λ h. by_name c.requires c.in-Idle.is ∙ h c.args.app.now) c.idle.ensures.none
+
+pub tick-requires-clause-clocked : goal.tick-requires-clause-clocked
+tick-requires-clause-clocked c = clocked c.requires
+
+pub returns-in-Due-clause-next : goal.returns-in-Due-clause-next
+returns-in-Due-clause-next c = on_ok_weaker c.make_due.result (λ h. by_name c.requires c.in-Due.is ∙ h c.args.app.now) c.make_due.ensures.next
+
+pub returns-in-Due-clause-none : goal.returns-in-Due-clause-none
+returns-in-Due-clause-none c = on_err_weaker c.make_due.result (λ h. by_name c.requires c.in-Due.is ∙ h c.args.app.now) c.make_due.ensures.none
+
+pub returns-in-Tick-clause-next : goal.returns-in-Tick-clause-next
+returns-in-Tick-clause-next c = on_ok_weaker c.tick.result (λ h. by_name c.requires c.in-Tick.is ∙ h c.args.app.now) c.tick.ensures.next
+
+pub returns-in-Tick-clause-none : goal.returns-in-Tick-clause-none
+returns-in-Tick-clause-none c = on_err_weaker c.tick.result (λ h. by_name c.requires c.in-Tick.is ∙ h c.args.app.now) c.tick.ensures.none

@@ -1,19 +1,34 @@
 use Rattle.std.proofs.Common.{◌∙◌, ℕ, ◌+◌, ◌<◌, sym, ap, subst, arith, length}
-use Rattle.osek_plans.specs.Above.{is_above}
-use Rattle.osek_plans.proofs.Row.{Row, row_set, row_kept}
+use Rattle.osek_scheduler.specs.declared.state.Counter.{Counter}
+use Rattle.osek_plans.specs.Above.{is_line_above}
+use Rattle.osek_plans.proofs.Lines.{tasks_row, counter_set, counter_kept, whole_row}
+use Rattle.osek_plans.proofs.Row.{Row}
 use Rattle.osek_plans.proofs.above.lines_above.Goals as goal
-use Rattle.osek_plans.proofs.above.lines_above.Goals.{then-is_above, else-is_above}
+use Rattle.osek_plans.proofs.above.lines_above.Goals.{then-counter, else-counter}
 
-pub loop-other-preserved : goal.loop-other-preserved
-loop-other-preserved c =
-    let test = is_above c.args.config.now c.args.store.now c.args.task in
-    let few = c.requires.few in
-    let u = c.loop-other.other in
-    let inside = c.loop-other-test.true in
-    let long = ap length c.items-other-end.ensures in
-    let small : u < 32 = omega (arith, few, inside, long) in
-    let P : ℕ → Type 0 = λ r. Row test (u + 1) r in
-    elim c.if-is_above.branch [
-      | then-is_above w ↦ subst P (sym (w.row-is ∙ w.with_line-row.ensures)) (row_set test u c.loop-other.row c.loop-other.invariant small (sym c.is_above.ensures ∙ w.if-is_above.true))
-      | else-is_above w ↦ subst P (sym w.row-is) (row_kept test u c.loop-other.row c.loop-other.invariant (sym c.is_above.ensures ∙ w.if-is_above.false))
+pub loop-counter-init : goal.loop-counter-init
+loop-counter-init c =
+    tasks_row c.args.config.now c.args.store.now c.args.task c.requires.few c.tasks_above-row.result c.tasks_above-row.ensures
+
+pub loop-counter-preserved : goal.loop-counter-preserved
+loop-counter-preserved c =
+    let config = c.args.config.now in
+    let s = c.args.store.now in
+    let few = c.requires.few_counters in
+    let inside = c.loop-counter-test.true in
+    let long = ap length c.items-counter-end.ensures in
+    let lt : c.loop-counter.counter < length config.counters = omega (arith, inside, long) in
+    let due = ap (λ (k : Counter). k.due) (sym c.counter.ensures) in
+    let P : ℕ → Type 0 = λ r. Row (is_line_above config s c.args.task) (30 + (c.loop-counter.counter + 1)) r in
+    elim c.if-counter.branch [
+      | then-counter w ↦ subst P (sym (w.row-is ∙ w.with_line-row.ensures))
+          (counter_set config s c.args.task c.requires.few c.loop-counter.counter c.loop-counter.row c.loop-counter.invariant few lt (due ∙ w.if-counter.true))
+      | else-counter w ↦ subst P (sym w.row-is)
+          (counter_kept config s c.args.task c.requires.few c.loop-counter.counter c.loop-counter.row c.loop-counter.invariant lt (due ∙ w.if-counter.false))
     ]
+
+pub returns : goal.returns
+returns c =
+    let past = c.loop-counter-test.false in
+    let long = ap length c.items-counter-end.ensures in
+    whole_row c.args.config.now c.args.store.now c.args.task c.requires.few c.loop-counter.counter c.loop-counter.row c.loop-counter.invariant (omega (arith, past, long))

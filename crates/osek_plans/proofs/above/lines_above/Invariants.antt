@@ -1,6 +1,7 @@
-use Rattle.osek_plans.specs.Above.{is_above}
+use Rattle.std.proofs.Common.{◌+◌}
+use Rattle.osek_plans.specs.Above.{is_line_above}
 use Rattle.osek_plans.proofs.Row.{Row}
 use Rattle.osek_plans.proofs.above.lines_above.Given as goal
 
-abbrev pub invariant-loop-other : goal.invariant-loop-other
-invariant-loop-other l = Row (is_above l.config l.store l.task) l.other l.row
+abbrev pub invariant-loop-counter : goal.invariant-loop-counter
+invariant-loop-counter l = Row (is_line_above l.config l.store l.task) (30 + l.counter) l.row

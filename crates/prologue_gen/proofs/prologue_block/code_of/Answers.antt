@@ -1,13 +1,12 @@
-use Rattle.std.proofs.Common.{◌≡◌, ◌≤◌, ◌-◌, length, sym, ap, subst, arith}
+use Rattle.std.proofs.Common.{◌≡◌, ◌-◌, sym, subst}
 use Rattle.sloth_base.specs.MemoryMap.{memory_base}
 use Rattle.prologue_gen.specs.Places.{DoesEnter}
-use Rattle.prologue_gen.proofs.BothKinds.{code, does_enter, size}
+use Rattle.prologue_gen.proofs.BothKinds.{code, does_enter, length_is}
 use Rattle.prologue_gen.proofs.prologue_block.code_of.Goals.{In_ok-start_anew}
 use Rattle.prologue_gen.proofs.prologue_block.code_of.Goals as goal
 
 made : (c : In_ok-start_anew)
-    → (length c.start_anew.new.code.items ≤ 256)
-    × DoesEnter c.args.extended c.args.task c.args.level c.args.first (c.args.frame - memory_base) c.args.words c.start_anew.new.code.items
+    → DoesEnter c.args.extended c.args.task c.args.level c.args.first (c.args.frame - memory_base) c.args.words c.start_anew.new.code.items
 made c =
     let extended = c.args.extended in
     let task = c.args.task in
@@ -20,12 +19,12 @@ made c =
     rw (c.in_ok-start_anew.ensures, c.in_ok-take_up.ensures, c.in_ok-mark_active.ensures, c.in_ok-save_context.ensures, c.new-code.ensures.items)
     in
     let enters = does_enter extended task level first frame words small.0 small.1 c.ranges.first.fits small.2 c.requires.in_ram in
-    let n = (size extended task level first (frame - memory_base) words (code extended task level frame words first) enters).1 in
-    let same = ap length e in
-    (omega (arith, n, same, small.2), subst (DoesEnter extended task level first (frame - memory_base) words) (sym e) enters)
+    subst (DoesEnter extended task level first (frame - memory_base) words) (sym e) enters
 
 pub returns-clause-size : goal.returns-clause-size
-returns-clause-size c = (made (goal.at.returns-clause-size c).In_ok-start_anew).0
+returns-clause-size c =
+    length_is c.args.extended c.args.task c.args.level c.args.first (c.args.frame - memory_base) c.args.words c.start_anew.new.code.items
+    (made (goal.at.returns-clause-size c).In_ok-start_anew)
 
 pub returns-clause-enters : goal.returns-clause-enters
-returns-clause-enters c = (made (goal.at.returns-clause-enters c).In_ok-start_anew).1
+returns-clause-enters c = made (goal.at.returns-clause-enters c).In_ok-start_anew

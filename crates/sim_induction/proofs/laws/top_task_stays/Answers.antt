@@ -3,6 +3,6 @@ use Rattle.sim_induction.proofs.Passing.{still_top, passes_inner}
 
 pub returns : goal.returns
 returns c = record {
-  stays = λ config s t lines top active fresh. still_top config s t lines top active fresh;
-  passes = λ config app past count t s trace leads booted below top active. passes_inner config app past count t s trace leads booted below top active;
+  stays = λ config s t lines few tasks top active fresh. still_top config s t lines few tasks top active fresh;
+  passes = λ config app past count t s trace few leads booted below top active. passes_inner config app past count t s trace few leads booted below top active;
 }

@@ -1,5 +1,5 @@
 use Rattle.std.proofs.lemmas.Result.{err_from_is_err_and}
-use Rattle.trace_text.specs.declared.print.Form.TheVariants as form
+use Rattle.trace_text.specs.declared.printing.Form.TheVariants as form
 use Rattle.sloth_cli.specs.ImageFiles.{end_line}
 use Rattle.sloth_runner.specs.Runner.{run_text, run_end}
 use Rattle.sloth_cli.proofs.ImageCauses.{took-both, broke-first, broke-second}

@@ -1,4 +1,4 @@
-use Rattle.std.proofs.Common.{◌∙◌, ℕ, List, sym, subst}
+use Rattle.std.proofs.Common.{◌≡◌, ◌∙◌, ℕ, List, length, ap, sym, subst}
 use Rattle.sloth_base.specs.Arrivals.{AreArrivals}
 use Rattle.sloth_source.specs.OilText.{OilText}
 use Rattle.sample_tasks.proofs.Declared.{thirty-tasks}
@@ -20,14 +20,16 @@ returns-clause-image c =
       items = built.items;
       format = built.format;
       names = built.tasks;
+      counters = built.counters;
     }
 
--- the text that is built declares 30 tasks
+-- the text that is built declares 30 tasks and no counters
 pub returns-clause-in_range : goal.returns-clause-in_range
 returns-clause-in_range c =
     let config = c.in_ok-config.field-0.config in
     let configuration = c.in_ok-config.ensures.accepted.configuration in
     let P : List ℕ → Type 0 = λ text. OilText text config in
-    let Q : ℕ → Type 0 = λ tasks. AreArrivals (record { tasks = tasks }) c.in_ok-oil.field-0.arrivals in
+    let Q : ℕ → ℕ → Type 0 = λ tasks counters. AreArrivals (record { tasks = tasks; counters = counters }) c.in_ok-oil.field-0.arrivals in
     let declared = thirty-tasks config (subst P (c.items.ensures ∙ c.in_ok-oil.ensures.oil) configuration) in
-    subst Q (sym declared) c.in_ok-oil.ensures.in_range
+    let none : length config.counters ≡ 0 = ap (λ x. length x) c.in_ok-config.ensures.no_counters.counters in
+    subst (Q (length config.tasks)) (sym none) (subst (λ (n : ℕ). Q n 0) (sym declared) c.in_ok-oil.ensures.in_range)

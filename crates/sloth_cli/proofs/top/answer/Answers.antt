@@ -7,4 +7,5 @@ returns-in-Err g c =
     finished c.in-Err.failure _ (command_of c.in-Some.c) _ _ _ _ c.finish.result c.in-Some.ensures.some c.in-Err.ensures.err c.finish.ensures
 
 pub returns-in-Ok : goal.returns-in-Ok
-returns-in-Ok g c = answered _ (command_of c.in-Some.c) _ _ c.in-Ok.status c.in-Some.ensures.some c.in-Ok.ensures.done
+returns-in-Ok g c =
+    answered _ (command_of c.in-Some.c) _ _ _ _ c.in-Ok.status c.close.result c.in-Some.ensures.some c.in-Ok.ensures.done c.close.ensures

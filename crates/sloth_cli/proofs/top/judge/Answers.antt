@@ -16,4 +16,5 @@ returns-clause-image c =
       items = built.items;
       format = built.format;
       names = built.tasks;
+      counters = built.counters;
     }

@@ -48,7 +48,7 @@ returns c =
     let stands = stand config app map blocks c.requires memory marks linked code moved in
     record {
       items = in_place config app map blocks c.requires
-          (record { tasks = c.in_ok-task_names.field-0; funcs = c.in_ok-function_names.field-0; memory = memory; marks = marks })
+          (record { tasks = c.in_ok-task_names.field-0; funcs = c.in_ok-function_names.field-0; counters = c.in_ok-counter_names.field-0; memory = memory; marks = marks })
           stands c.in_ok-task_names.ensures c.in_ok-function_names.ensures;
       stand = stands;
       range = subst (λ (bs : List Block). All (λ b. All InRange b.code) (blocks ++ bs)) items_are h.range;
@@ -60,4 +60,5 @@ returns c =
       ascending = h.ascending;
       tasks = c.in_ok-task_names.ensures;
       functions = c.in_ok-function_names.ensures;
+      counters = c.in_ok-counter_names.ensures;
     }

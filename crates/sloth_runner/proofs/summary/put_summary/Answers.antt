@@ -16,10 +16,10 @@ pub returns-in_err-put_kind-clause-err : goal.returns-in_err-put_kind-clause-err
 returns-in_err-put_kind-clause-err g c =
     let failed = err_from_is_err_and c.from_residual.result c.from_residual.ensures.1 in
     rw failed.1
-    (broke-in-kind c.args.counts.now (g.S.Sink.seen c.args.out.now) (g.S.Sink.seen c.loop-kind.out) _ 9 c.loop-kind.kind (omega arith)
+    (broke-in-kind c.args.counts.now (g.S.Sink.seen c.args.out.now) (g.S.Sink.seen c.loop-kind.out) _ 10 c.loop-kind.kind (omega arith)
     c.loop-kind.invariant c.in_err-put_kind.ensures.err)
 
 pub returns-clause-ok : goal.returns-clause-ok
 returns-clause-ok g c =
-    let all : c.loop-kind.kind ≡ 9 = omega arith in
+    let all : c.loop-kind.kind ≡ 10 = omega arith in
     c.loop-kind.invariant ∙ ap (λ n. output_with (g.S.Sink.seen c.args.out.now) (first_kinds c.args.counts.now n)) all

@@ -1,4 +1,5 @@
-use Rattle.sloth_source.proofs.RankedTexts.{one_ranked, one_early, never_both_ranked, accepted_ranks, early_first}
+use Rattle.sloth_source.proofs.Unique.{one_ranked, accepted_ranks}
+use Rattle.sloth_source.proofs.RankedTexts.{one_early, never_both_ranked, early_first}
 use Rattle.sloth_source.proofs.laws.one_ranked.Goals as goal
 
 pub returns-clause-meaning : goal.returns-clause-meaning

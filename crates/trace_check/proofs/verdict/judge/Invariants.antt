@@ -9,7 +9,7 @@ use Rattle.trace_check.proofs.verdict.judge.Given as goal
 abbrev pub invariant-loop-rest : goal.invariant-loop-rest
 invariant-loop-rest l = record {
   events : List Stamped;
-  reads : HasRead l.tasks.items l.funcs.items l.text events l.rest;
+  reads : HasRead l.tasks.items l.funcs.items l.counters.items l.text events l.rest;
   line : l.line ≡ length events;
   walks : Walking l.config l.app events l.stray l.walk;
   timed : TimedBy events l.timing;

@@ -17,9 +17,9 @@ read_lines-requires c =
 pub returns-clause-none : goal.returns-clause-none
 returns-clause-none c =
     let same = ap (map now) c.as_slice.ensures.value ∙ c.in_ok-lines.ensures in
-    subst (λ (ls : List (List ℕ)). OnOk c.read_lines.result (NoFault (LinesFault c.args.tasks.now ls))) same c.read_lines.ensures.none
+    subst (λ (ls : List (List ℕ)). OnOk c.read_lines.result (NoFault (LinesFault c.args.tasks.now c.args.counters.now ls))) same c.read_lines.ensures.none
 
 pub returns-clause-refused : goal.returns-clause-refused
 returns-clause-refused c =
     let same = ap (map now) c.as_slice.ensures.value ∙ c.in_ok-lines.ensures in
-    subst (λ (ls : List (List ℕ)). IfErr c.read_lines.result (λ error. ErrorIs (LinesFault c.args.tasks.now ls) error)) same c.read_lines.ensures.refused
+    subst (λ (ls : List (List ℕ)). IfErr c.read_lines.result (λ error. ErrorIs (LinesFault c.args.tasks.now c.args.counters.now ls) error)) same c.read_lines.ensures.refused

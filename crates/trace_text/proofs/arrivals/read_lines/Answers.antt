@@ -13,23 +13,25 @@ returns-in_err-read_line-clause-refused c =
     let parts = c.args.lines.now in
     let i = c.loop-n.n in
     let tasks = c.args.tasks.now in
+    let counters = c.args.counters.now in
     let read = c.loop-n.read.items in
     let none : Bor (List ℕ) = record { ref_ptr = (0, 0); now = [] } in
-    let next = next-of tasks parts i read none c.loop-n-test.true c.loop-n.invariant.read c.loop-n.invariant.none in
-    rw (failed.1, failed.2) (first-error tasks (map now parts) i read (get_or parts i none).now c.in_err-read_line.field-0.0 next c.in_err-read_line.ensures.refused)
+    let next = next-of tasks counters parts i read none c.loop-n-test.true c.loop-n.invariant.read c.loop-n.invariant.none in
+    rw (failed.1, failed.2) (first-error tasks counters (map now parts) i read (get_or parts i none).now c.in_err-read_line.field-0.0 next c.in_err-read_line.ensures.refused)
 
 pub loop-n-preserved : goal.loop-n-preserved
 loop-n-preserved c =
     let parts = c.args.lines.now in
     let i = c.loop-n.n in
     let tasks = c.args.tasks.now in
+    let counters = c.args.counters.now in
     let read = c.loop-n.read.items in
     let none : Bor (List ℕ) = record { ref_ptr = (0, 0); now = [] } in
     let line = (get_or parts i none).now in
-    let next = next-of tasks parts i read none c.loop-n-test.true c.loop-n.invariant.read c.loop-n.invariant.none in
+    let next = next-of tasks counters parts i read none c.loop-n-test.true c.loop-n.invariant.read c.loop-n.invariant.none in
     let of = c.in_ok-read_line.ensures in
     record {
-      read = of.read ∙ (ap (λ (xs : List Arrival). xs ++ arrivals_of tasks (line ∷ [])) next.behind ∙ arrivals-more tasks (map now parts) i line next.inside next.line_is);
+      read = of.read ∙ (ap (λ (xs : List Arrival). xs ++ arrivals_of tasks counters (line ∷ [])) next.behind ∙ arrivals-more tasks counters (map now parts) i line next.inside next.line_is);
       in_range = of.in_range;
-      none = one-sound tasks (map now parts) i read line next of.none;
+      none = one-sound tasks counters (map now parts) i read line next of.none;
     }

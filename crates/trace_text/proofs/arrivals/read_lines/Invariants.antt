@@ -7,7 +7,7 @@ use Rattle.trace_text.proofs.arrivals.read_lines.Given as goal
 
 abbrev pub invariant-loop-n : goal.invariant-loop-n
 invariant-loop-n l = record {
-  read : l.read.items ≡ arrivals_of l.tasks (take l.n (map now l.lines));
-  in_range : AreArrivals (owners_read l.tasks) l.read.items;
-  none : Loop (FaultAt l.tasks) (map now l.lines) l.n None;
+  read : l.read.items ≡ arrivals_of l.tasks l.counters (take l.n (map now l.lines));
+  in_range : AreArrivals (owners_read l.tasks l.counters) l.read.items;
+  none : Loop (FaultAt l.tasks l.counters) (map now l.lines) l.n None;
 }

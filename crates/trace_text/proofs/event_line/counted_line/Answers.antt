@@ -6,3 +6,6 @@ push_event-requires-clause-tasks c = short_names c.args.tasks.now c.requires.tas
 
 pub push_event-requires-clause-functions : goal.push_event-requires-clause-functions
 push_event-requires-clause-functions c = short_names c.args.functions.now c.requires.functions
+
+pub push_event-requires-clause-counters : goal.push_event-requires-clause-counters
+push_event-requires-clause-counters c = short_names c.args.counters.now c.requires.counters

@@ -3,4 +3,4 @@ use Rattle.trace_time.specs.Scan.{behind_first}
 use Rattle.trace_time.proofs.pass.behind_first.Given as goal
 
 abbrev pub invariant-loop-i : goal.invariant-loop-i
-invariant-loop-i l = behind_first l.moment l.task (drop l.i l.arrivals) ≡ behind_first l.moment l.task l.arrivals
+invariant-loop-i l = behind_first l.moment l.line (drop l.i l.arrivals) ≡ behind_first l.moment l.line l.arrivals

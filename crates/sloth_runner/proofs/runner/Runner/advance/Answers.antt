@@ -4,7 +4,7 @@ use Rattle.sloth_base.specs.Take.{entered}
 use Rattle.sloth_base.specs.declared.event.Stamped.{Stamped}
 use Rattle.sloth_base.specs.declared.step.Step.{Step}
 use Rattle.observe.specs.Progress.{Fed, view_of, arrivals_of, expected_of}
-use Rattle.observe.specs.declared.observer.Observer.{Observer}
+use Rattle.observe.specs.declared.observing.Observer.{Observer}
 use Rattle.rv32_machine.specs.Advance.{Goes, Halts}
 use Rattle.sloth_runner.specs.declared.runner.Runner.{Runner}
 use Rattle.sloth_runner.specs.Runner.{HasExecuted, image_of, sloth_state}

@@ -1,6 +1,5 @@
-use Rattle.std.proofs.Common.{◌≡◌, ◌∙◌, ◌++◌, [], ◌∷◌, ap, sym, subst, map, length, arith, List, ℕ}
+use Rattle.std.proofs.Common.{◌≡◌, ◌∙◌, ap, sym, subst, map, length, arith, List, ℕ}
 use Rattle.std.proofs.lemmas.List.{length-map}
-use Rattle.std.specs.Borrow.{Bor}
 use Rattle.text_pieces.specs.Names.{now, AreNumbered}
 use Rattle.text_pieces.proofs.Numbering.{numbered_push, names_push}
 use Rattle.text_pieces.proofs.names.Names.with.Goals as goal

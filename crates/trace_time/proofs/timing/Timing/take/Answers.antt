@@ -17,7 +17,7 @@ returns-then-not-look-clause-timed c events timed =
     let new : Kept = record { config = inside.config.now; n = inside.n; arrivals = inside.arrivals.now; scan = c.look.new.self; admits = inside.admits.items; most = inside.most; stopped = true } in
     stops_here events c.args.self.now timed e (sym c.is_late.ensures ∙ c.if-is_late.false) new
     (ap (λ (k : Kept). k.config) c.self.view_is) (ap (λ (k : Kept). k.n) c.self.view_is) (ap (λ (k : Kept). k.arrivals) c.self.view_is)
-    (sym (ap (λ b. cond b (Some c.look.new.self) None) c.if-not-look.true) ∙ (c.look.ensures ∙ ap (λ (k : Kept). looked k.n k.scan e) c.self.view_is))
+    (sym (ap (λ b. cond b (Some c.look.new.self) None) c.if-not-look.true) ∙ (c.look.ensures.looked ∙ ap (λ (k : Kept). looked k.n k.scan e) c.self.view_is))
     refl
 
 pub returns-clause-timed : goal.returns-clause-timed
@@ -27,7 +27,7 @@ returns-clause-timed c events timed =
     let new : Kept = record { config = inside.config.now; n = inside.n; arrivals = inside.arrivals.now; scan = c.look.new.self; admits = c.push_number.new.numbers.items; most = c.most_behind-self-inside.result; stopped = inside.stopped } in
     goes_on events c.args.self.now timed e (sym c.is_late.ensures ∙ c.if-is_late.false) new
     (ap (λ (k : Kept). k.config) c.self.view_is) (ap (λ (k : Kept). k.n) c.self.view_is) (ap (λ (k : Kept). k.arrivals) c.self.view_is)
-    (sym (ap (λ b. cond b (Some c.look.new.self) None) c.if-not-look.false) ∙ (c.look.ensures ∙ ap (λ (k : Kept). looked k.n k.scan e) c.self.view_is))
+    (sym (ap (λ b. cond b (Some c.look.new.self) None) c.if-not-look.false) ∙ (c.look.ensures.looked ∙ ap (λ (k : Kept). looked k.n k.scan e) c.self.view_is))
     (c.in_ok-push_number.ensures ∙ ap (λ (k : Kept). k.admits ++ with_admit (admitted_line e.event) e.stamp.at []) c.self.view_is)
     (c.most_behind-self-inside.ensures ∙ ap (λ (k : Kept). cond (is_boot e.event) (longest_stretch k.config) k.most) c.self.view_is)
     (ap (λ (k : Kept). k.stopped) c.self.view_is)

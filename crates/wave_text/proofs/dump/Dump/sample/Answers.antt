@@ -17,18 +17,22 @@ returns c =
     let one : Dump = c.scope.new.self in
     let two : Dump = c.scope-2.new.self in
     let three : Dump = c.scope-3.new.self in
+    let lined : Dump = c.scope-4.new.self in
     let four : Dump = c.change.new.self in
     let five : Dump = c.change-2.new.self in
-    let A : List Entry = scope_changes scope.State before after c.args.tasks in
-    let B : List Entry = scope_changes scope.Runs before after c.args.tasks in
-    let C : List Entry = scope_changes scope.Pending before after c.args.tasks in
+    let A : List Entry = scope_changes scope.State before after c.args.owners.now.tasks in
+    let B : List Entry = scope_changes scope.Runs before after c.args.owners.now.tasks in
+    let C : List Entry = scope_changes scope.Pending before after c.args.owners.now.tasks in
+    let F : List Entry = scope_changes scope.Counters before after c.args.owners.now.counters in
     let D : List Entry = changed level_code width.Eight (level_value before) (level_value after) in
     let E : List Entry = changed masked_code width.One (masked_value before) (masked_value after) in
     let first : Gets start one A = c.in_ok-scope.ensures in
     let second : Gets one two B = c.in_ok-scope-2.ensures in
     let third : Gets two three C = c.in_ok-scope-3.ensures in
-    let fourth : Gets three four D = gets-values three four level_code width.Eight c.level_value.result c.level_value-2.result (level_value before) (level_value after)
+    let counters : Gets three lined F = c.in_ok-scope-4.ensures in
+    let fourth : Gets lined four D = gets-values lined four level_code width.Eight c.level_value.result c.level_value-2.result (level_value before) (level_value after)
     c.level_value.ensures c.level_value-2.ensures c.in_ok-change.ensures in
     let fifth : Gets four five E = gets-values four five masked_code width.One c.masked_value.result c.masked_value-2.result (masked_value before) (masked_value after)
     c.masked_value.ensures c.masked_value-2.ensures c.in_ok-change-2.ensures in
-    (gets-both start four five (A ++ B ++ C ++ D) E (gets-both start three four (A ++ B ++ C) D (gets-both start two three (A ++ B) C (gets-both start one two A B first second) third) fourth) fifth).text
+    (gets-both start four five (A ++ B ++ C ++ F ++ D) E (gets-both start lined four (A ++ B ++ C ++ F) D
+    (gets-both start three lined (A ++ B ++ C) F (gets-both start two three (A ++ B) C (gets-both start one two A B first second) third) counters) fourth) fifth).text

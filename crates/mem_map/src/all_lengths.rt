@@ -1,0 +1,79 @@
+//! How long the code of an image is.
+ghost use Rattle.std.specs.Prelude.{ℕ, ◌≡◌, ◌<◌, IfOk, All, cond, length, get_or};
+ghost use Rattle.code_lengths.specs.CodeLengths.{block_length, IsPrologueLength};
+ghost use Rattle.code_rules.specs.WellFormed.{WellFormed};
+ghost use Rattle.sloth_base.specs.Blocks.{block_count};
+ghost use Rattle.mem_map.specs.Lengths.{AreLengths, wanted_length};
+
+use crate::wanted::wanted_blocks;
+use code_lengths::{block_length, boot_length, start_length};
+use rv32_expand::sizes;
+use sloth_base::app::App;
+use sloth_base::config::Config;
+use sloth_base::list::List;
+use sloth_base::memory::NoMemory;
+use sloth_base::numbers::TaskId;
+use sloth_base::places::BLOCK_COUNT;
+use std::alloc::{AllocError, Global};
+
+/// How many instructions each piece of the code of an image has.
+#[derive(Drop)]
+pub struct CodeLengths {
+    pub boot: u32,
+    /// The prologue of each task, in the order of the tasks.
+    pub prologues: List<u32>,
+    /// The code of each service with its object, at its place in the table of blocks; 0 where no item calls it.
+    pub services: [u32; BLOCK_COUNT],
+    /// Each item, over all bodies in order.
+    pub items: List<u32>,
+}
+
+// The lengths of the services that items call, and 0 for the others.
+fn service_lengths(app: &App) -> [u32; BLOCK_COUNT]
+    ensures all { length result ≡ block_count }
+    ensures each { (number : ℕ) → number < block_count → get_or result number 0 ≡ wanted_length app.now number }
+{
+    let wanted = wanted_blocks(app);
+    let mut lengths = [0; BLOCK_COUNT];
+    for number in 0..BLOCK_COUNT {
+        lengths[number] = length_if(wanted[number], number);
+    }
+    lengths
+}
+
+// The length of the code at a place in the table of blocks, where it is wanted.
+fn length_if(wanted: bool, number: usize) -> u32
+    requires { number < block_count }
+    ensures { result ≡ cond wanted (block_length number) 0 }
+{
+    if wanted { block_length(number) } else { 0 }
+}
+
+// The lengths of the prologues.
+fn prologue_lengths(alloc: Global, config: &Config, app: &App) -> Result<Vec<u32>, AllocError>
+    requires { WellFormed config.now app.now }
+    ensures count { IfOk result (λ lengths. length lengths.items ≡ length config.now.tasks) }
+    ensures each { IfOk result (λ lengths. (t : ℕ) → t < length config.now.tasks → IsPrologueLength t config.now app.now (get_or lengths.items t 0)) }
+{
+    let mut lengths = Vec::new(alloc);
+    let count = config.tasks.items().len() as u32;
+    for task in 0..count {
+        lengths.push(start_length(TaskId(task), config, app))?;
+    }
+    Ok(lengths)
+}
+
+/// How many instructions each piece of the code of well-formed task code has.
+pub fn all_lengths(alloc: Global, config: &Config, app: &App) -> Result<CodeLengths, NoMemory>
+    requires { WellFormed config.now app.now }
+    ensures { IfOk result (AreLengths config.now app.now) }
+{
+    let items = sizes(alloc, app)?;
+    let prologues = prologue_lengths(alloc, config, app)?;
+    Ok(CodeLengths {
+        boot: boot_length(config.tasks.items()),
+        prologues: List::from_vec(prologues),
+        services: service_lengths(app),
+        items: List::from_vec(items),
+    })
+}

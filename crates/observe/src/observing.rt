@@ -1,0 +1,299 @@
+//! An observer that is fed one step at a time.
+ghost use Rattle.std.specs.Prelude.{◌≡◌, ◌<◌, ◌≤◌, ◌+◌, ◌++◌, ◌∷◌, [], true, List, length, take_while, nat_le, IfSome, IfNone, OnSome, IsOk, IfOk, IsNone, ◌↔◌};
+ghost use Rattle.observe.specs.Pieces.{begins};
+ghost use Rattle.observe.specs.Observe.{admission, observe, view_of_image};
+ghost use Rattle.sloth_base.specs.ImageRange.{AreAscending};
+
+use crate::image_view::ImageView;
+use crate::touched::{Touches, skip_early, skip_late};
+use sloth_base::event::{Arrival, Stamp, Stamped};
+use sloth_base::image::Image;
+use sloth_base::lines::Owners;
+use sloth_base::memory::NoMemory;
+use sloth_base::step::Step;
+use std::alloc::Global;
+
+/// The events of the steps that it was fed. It keeps the image's marks and the arrivals lent, and one open stretch.
+#[derive(Drop)]
+pub struct Observer<'a> {
+    view: ImageView<'a>,
+    arrivals: &'a [Arrival],
+    expected: u64,
+    // The arrivals of the expected moment and of later ones.
+    coming: &'a [Arrival],
+    // The first step of the open stretch.
+    first: Option<Step>,
+    // The arrivals from the first masked moment of that stretch on.
+    inside: &'a [Arrival],
+    // For each line the count after the last step of that stretch that touched it, or 0.
+    touched: Touches,
+    // What is to be handed out: found with MIE 1, early, the event, late.
+    found: &'a [Arrival],
+    before: &'a [Arrival],
+    event: Option<Stamped>,
+    after: &'a [Arrival],
+}
+
+impl<'a> Observer<'a> {
+    ghost use Rattle.sloth_base.specs.declared.step.Step.{Step as AnyStep};
+    ghost use Rattle.sloth_base.specs.declared.event.Stamped.{Stamped as AnyStamped};
+    ghost use Rattle.sloth_base.specs.Arrivals.{NeverFalls};
+    ghost use Rattle.observe.specs.Touched.{HasPlace};
+    ghost use Rattle.observe.specs.Progress.{Fed, progress_of, view_of, arrivals_of, expected_of, remaining, left_over, here, passed_progress, joined_progress, behind_stretch, advanced_progress, one_or_none, settled_progress, noted_progress};
+
+    /// An observer of a run of the image with these arrivals, which has seen no step. It needs no memory of its own.
+    pub fn new(
+        _alloc: Global,
+        image: &'a Image,
+        arrivals: &'a [Arrival],
+    ) -> Result<Observer<'a>, NoMemory>
+        requires ascending { AreAscending image.now.marks }
+        requires ordered { NeverFalls 0 arrivals.now }
+        ensures answers { IsOk result }
+        ensures fed { IfOk result (λ o. Fed o [] []) }
+        ensures view { IfOk result (λ o. view_of o ≡ view_of_image image.now) }
+        ensures arrivals { IfOk result (λ o. arrivals_of o ≡ arrivals.now) }
+        ensures expected { IfOk result (λ o. expected_of o ≡ 0) }
+        ensures drained { IfOk result (λ o. remaining o ≡ []) }
+    {
+        let none: &[Arrival] = &[];
+        let marks = image.marks.items();
+        let owners = Owners {
+            tasks: image.tasks.items().len(),
+            counters: image.counters.items().len(),
+        };
+        Ok(Observer {
+            view: ImageView { marks, owners },
+            arrivals,
+            expected: 0,
+            coming: arrivals,
+            first: None,
+            inside: none,
+            touched: Touches::new(),
+            found: none,
+            before: none,
+            event: None,
+            after: none,
+        })
+    }
+
+    // Counts the step, and gives the arrivals of its moment.
+    #[inline(always)]
+    fn pass(&mut self, step: &Step) -> &'a [Arrival]
+        requires expected { step.now.count ≡ expected_of self.old }
+        ensures passed { progress_of self.new ≡ passed_progress (progress_of self.old) step.now }
+        ensures here { result.now ≡ here step.now.count self.old.coming.now }
+        ensures view { view_of self.new ≡ view_of self.old }
+        ensures arrivals { arrivals_of self.new ≡ arrivals_of self.old }
+    {
+        let none: &[Arrival] = &[];
+        let (here, behind) = self.coming.split_at(passing(self.coming, step.count));
+        self.expected = u64::from(step.count) + 1;
+        self.coming = behind;
+        self.found = none;
+        self.before = none;
+        self.event = None;
+        self.after = none;
+        here
+    }
+
+    // The open stretch goes on with this step, or ends with it.
+    #[inline(always)]
+    fn join(&mut self, step: &Step)
+        ensures place { HasPlace step.now }
+        ensures joined { IfSome self.old.first (λ first. progress_of self.new ≡ joined_progress (view_of self.old) (progress_of self.old) first step.now) }
+        ensures view { view_of self.new ≡ view_of self.old }
+        ensures arrivals { arrivals_of self.new ≡ arrivals_of self.old }
+    {
+        self.note(step);
+        if step.enabled_after {
+            if let Some(first) = self.first {
+                self.close(&first, step);
+            }
+        }
+    }
+
+    // The stretch of the first step ends with this one.
+    #[inline(never)]
+    fn close(&mut self, first: &Step, last: &Step)
+        ensures closed { progress_of self.new ≡ behind_stretch (view_of self.old) (progress_of self.old) first.now last.now }
+        ensures view { view_of self.new ≡ view_of self.old }
+        ensures arrivals { arrivals_of self.new ≡ arrivals_of self.old }
+    {
+        let (within, _) = self
+            .inside
+            .split_at(self.inside.len().saturating_sub(self.coming.len()));
+        self.first = None;
+        self.before = within;
+        self.event = Some(Stamped {
+            stamp: Stamp {
+                from: first.count,
+                at: last.count,
+            },
+            event: self.view.stretch_event(first, last),
+        });
+        self.after = within;
+    }
+
+    // Notes the line that the step touches.
+    fn note(&mut self, step: &Step)
+        ensures place { HasPlace step.now }
+        ensures noted { progress_of self.new ≡ noted_progress (progress_of self.old) step.now }
+        ensures view { view_of self.new ≡ view_of self.old }
+        ensures arrivals { arrivals_of self.new ≡ arrivals_of self.old }
+    {
+        if let Some(line) = &step.touched {
+            self.touched.note(line, step.count);
+        }
+    }
+
+    // One step more.
+    #[inline(always)]
+    fn advance(&mut self, step: &Step)
+        requires expected { step.now.count ≡ expected_of self.old }
+        ensures joins { IfSome self.old.first (λ first. HasPlace step.now) }
+        ensures opens { begins step.now ≡ true → HasPlace step.now }
+        ensures advanced { progress_of self.new ≡ advanced_progress (view_of self.old) (progress_of self.old) step.now }
+        ensures view { view_of self.new ≡ view_of self.old }
+        ensures arrivals { arrivals_of self.new ≡ arrivals_of self.old }
+    {
+        let coming = self.coming;
+        let here = self.pass(step);
+        if self.first.is_some() {
+            self.join(step);
+            return;
+        }
+        if !begins(step) {
+            self.found = here;
+            self.event = self.view.outside_event(step);
+            return;
+        }
+        self.touched.clear();
+        if step.enabled_before {
+            self.inside = self.coming;
+            self.found = here;
+        } else {
+            self.inside = coming;
+        }
+        self.first = Some(*step);
+        self.join(step);
+    }
+
+    /// Feeds the step of the expected count; all finished events are handed out.
+    #[inline(always)]
+    pub fn feed(&mut self, step: &Step)
+        requires expected { step.now.count ≡ expected_of self.old }
+        requires drained { remaining self.old ≡ [] }
+        ensures fed { (steps : List AnyStep) (events : List AnyStamped) → Fed self.old steps events → Fed self.new (steps ++ step.now ∷ []) events }
+        ensures view { view_of self.new ≡ view_of self.old }
+        ensures arrivals { arrivals_of self.new ≡ arrivals_of self.old }
+        ensures expected { expected_of self.new ≡ expected_of self.old + 1 }
+    {
+        self.advance(step)
+    }
+
+    // Nothing is to be handed out, as after most steps.
+    #[tactic(auto, using(crate::proofs::Feeding::nothing_left))]
+    fn is_drained(&self) -> bool
+        ensures { result ≡ true → remaining self.now ≡ [] }
+    {
+        self.found.is_empty()
+            && self.before.is_empty()
+            && self.event.is_none()
+            && self.after.is_empty()
+    }
+
+    // Takes the next finished event off.
+    #[inline(always)]
+    fn pop(&mut self) -> Option<Stamped>
+        ensures pops { remaining self.old ≡ one_or_none result ++ remaining self.new }
+        ensures none { IfNone result (remaining self.new ≡ []) }
+        ensures same { settled_progress (progress_of self.new) ≡ settled_progress (progress_of self.old) }
+        ensures view { view_of self.new ≡ view_of self.old }
+        ensures arrivals { arrivals_of self.new ≡ arrivals_of self.old }
+    {
+        if self.is_drained() {
+            return None;
+        }
+        self.pop_first()
+    }
+
+    // The same, where something may be left.
+    #[inline(never)]
+    fn pop_first(&mut self) -> Option<Stamped>
+        ensures pops { remaining self.old ≡ one_or_none result ++ remaining self.new }
+        ensures none { IfNone result (remaining self.new ≡ []) }
+        ensures same { settled_progress (progress_of self.new) ≡ settled_progress (progress_of self.old) }
+        ensures view { view_of self.new ≡ view_of self.old }
+        ensures arrivals { arrivals_of self.new ≡ arrivals_of self.old }
+    {
+        if let Some((arrival, rest)) = self.found.split_first() {
+            self.found = rest;
+            return Some(admit(&self.view, arrival));
+        }
+        let before = skip_late(self.before, &self.touched);
+        self.before = before;
+        if let Some((arrival, rest)) = before.split_first() {
+            self.before = rest;
+            return Some(admit(&self.view, arrival));
+        }
+        if let Some(event) = self.event {
+            self.event = None;
+            return Some(event);
+        }
+        let after = skip_early(self.after, &self.touched);
+        self.after = after;
+        let (arrival, rest) = after.split_first()?;
+        self.after = rest;
+        Some(admit(&self.view, arrival))
+    }
+
+    /// Hands out the next finished event.
+    #[inline(always)]
+    pub fn next(&mut self) -> Option<Stamped>
+        ensures some { IfSome result (λ event. (steps : List AnyStep) (events : List AnyStamped) → Fed self.old steps events
+            → Fed self.new steps (events ++ event ∷ [])) }
+        ensures none { IfNone result ((steps : List AnyStep) (events : List AnyStamped) → Fed self.old steps events
+            → Fed self.new steps events × (events ≡ observe (view_of self.old) (arrivals_of self.old) steps)) }
+        ensures exact { (steps : List AnyStep) (events : List AnyStamped) → Fed self.old steps events
+            → (IsNone result ↔ (events ≡ observe (view_of self.old) (arrivals_of self.old) steps)) }
+        ensures head { IfSome result (λ event. remaining self.old ≡ event ∷ remaining self.new) }
+        ensures empty { IfNone result (remaining self.old ≡ []) }
+        ensures drained { IfNone result (remaining self.new ≡ []) }
+        ensures shorter { OnSome result (length (remaining self.new) < length (remaining self.old)) }
+        ensures view { view_of self.new ≡ view_of self.old }
+        ensures arrivals { arrivals_of self.new ≡ arrivals_of self.old }
+        ensures expected { expected_of self.new ≡ expected_of self.old }
+    {
+        self.pop()
+    }
+}
+
+// How many arrivals at the front are of this moment or an earlier one.
+fn passing(coming: &[Arrival], count: u32) -> usize
+    ensures { result ≡ length (take_while (λ arrival. nat_le arrival.at count) coming.now) }
+{
+    coming
+        .iter()
+        .take_while(|arrival| arrival.at <= count)
+        .count()
+}
+
+// A stretch begins with the step, where none is open.
+fn begins(step: &Step) -> bool
+    ensures { result ≡ begins step.now }
+{
+    step.count == 0 || step.entered.is_some() || (step.enabled_before && !step.enabled_after)
+}
+
+fn admit(view: &ImageView, arrival: &Arrival) -> Stamped
+    ensures { result ≡ admission view.now arrival.now }
+{
+    Stamped {
+        stamp: Stamp {
+            from: arrival.at,
+            at: arrival.at,
+        },
+        event: view.arrival_event(arrival.line),
+    }
+}

@@ -1,0 +1,112 @@
+//! Ticks of counters.
+ghost use Rattle.std.specs.Prelude.{◌≡◌, ◌<◌, ◌≤◌, ◌-◌, ℕ, length};
+ghost use Rattle.sloth_base.specs.Named.{alarm_declaration};
+ghost use Rattle.osek_scheduler.specs.State.{counter};
+ghost use Rattle.osek_scheduler.specs.Services.{counted_on, next_value, ticked_state};
+ghost use Rattle.osek_scheduler.specs.Steps.{made_due};
+ghost use Rattle.osek_plans.specs.Clocked.{IsClocked, NamesTask};
+ghost use Rattle.osek_machine.specs.Ticks.{acted_by, alarm_ticked_by, alarms_ticked_by, ticked_by};
+
+use osek_plans::store::{Store, is_suspended};
+use osek_scheduler::change::TaskChange;
+use osek_scheduler::state::{Alarm, Counter};
+use sloth_base::config::{Action, Config};
+
+// The value behind one.
+fn next_value(max: u32, value: u32) -> u32
+    requires { value ≤ max }
+    ensures { result ≡ next_value max value }
+{
+    if value == max { 0 } else { value + 1 }
+}
+
+// A counter counts on.
+fn count_on(store: &mut Store, c: usize, max: u32)
+    requires declared { c < length store.old.clock.counters }
+    requires value { (counter store.old c).value ≤ max }
+    ensures { store.new ≡ counted_on c max store.old }
+{
+    let value = next_value(max, store.counter(c).value);
+    store.set_counter(c, Counter { value, due: false });
+}
+
+// What an alarm does as it expires.
+fn act(store: &mut Store, does: Action)
+    requires { NamesTask (length store.old.tasks) does }
+    ensures { store.new ≡ acted_by does store.old }
+{
+    match does {
+        Action::Activate(task) => {
+            if is_suspended(store.task(task.0 as usize).state()) {
+                store.change(task.0 as usize, &TaskChange::Activate);
+            }
+        }
+        Action::Set(task, mask) => {
+            if !is_suspended(store.task(task.0 as usize).state()) {
+                store.change(task.0 as usize, &TaskChange::AddEvents(mask));
+            }
+        }
+    }
+}
+
+// An alarm counts a tick.
+fn tick_alarm(store: &mut Store, does: Action, a: usize)
+    requires declared { a < length store.old.clock.alarms }
+    requires names { NamesTask (length store.old.tasks) does }
+    ensures { store.new ≡ alarm_ticked_by does a store.old }
+{
+    let alarm = store.alarm(a);
+    let cycle = alarm.cycle;
+    if alarm.left == 1 {
+        store.set_alarm(a, Alarm { left: cycle, cycle });
+        act(store, does);
+    } else {
+        let left = alarm.left.saturating_sub(1);
+        store.set_alarm(a, Alarm { left, cycle });
+    }
+}
+
+// The alarms of a counter count a tick, in the order of their numbers.
+fn tick_alarms(store: &mut Store, config: &Config, c: u32)
+    requires tasks { length store.old.tasks ≡ length config.now.tasks }
+    requires alarms { length store.old.clock.alarms ≡ length config.now.alarms }
+    requires actions { (a : ℕ) → a < length config.now.alarms → NamesTask (length config.now.tasks) (alarm_declaration config.now a).action }
+    ensures { store.new ≡ alarms_ticked_by c 0 config.now.alarms store.old }
+{
+    for a in 0..config.alarms.items().len() {
+        let alarm = &config.alarms.items()[a];
+        if alarm.counter == c {
+            tick_alarm(store, alarm.action, a);
+        }
+    }
+}
+
+// A counter counts on, and then its alarms.
+fn count_tick(store: &mut Store, config: &Config, c: u32)
+    requires declared { c < length config.now.counters }
+    requires tasks { length store.old.tasks ≡ length config.now.tasks }
+    requires clocked { IsClocked config.now store.old }
+    ensures { store.new ≡ ticked_by config.now c store.old }
+{
+    count_on(store, c as usize, config.counters.items()[c as usize].max);
+    tick_alarms(store, config, c);
+}
+
+/// A counter counts on, and its alarms with it.
+pub fn tick(store: &mut Store, config: &Config, c: u32)
+    requires declared { c < length config.now.counters }
+    requires tasks { length store.old.tasks ≡ length config.now.tasks }
+    requires clocked { IsClocked config.now store.old }
+    ensures { store.new ≡ ticked_state config.now c store.old }
+{
+    count_tick(store, config, c);
+}
+
+/// A counter's line arrived.
+pub fn make_due(store: &mut Store, c: u32)
+    requires { c < length store.old.clock.counters }
+    ensures { store.new ≡ made_due c store.old }
+{
+    let value = store.counter(c as usize).value;
+    store.set_counter(c as usize, Counter { value, due: true });
+}

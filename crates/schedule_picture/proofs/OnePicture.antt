@@ -1,0 +1,67 @@
+-- A run has one picture from one count to below another.
+use Rattle.std.proofs.Common.{◌≡◌, ◌≤◌, ◌<◌, ◌+◌, ◌∙◌, ◌++◌, zero, suc, ℕ, List, [], Some, length, get_or, refl, sym, ap, subst, arith}
+use Rattle.sloth_base.specs.declared.event.Arrival.{Arrival}
+use Rattle.sloth_base.specs.declared.image.Image.{Image}
+use Rattle.sloth_base.specs.Machine.{State}
+use Rattle.sloth_runner.specs.Sight.{task_levels}
+use Rattle.run_samples.specs.declared.sampling.Sample.{Sample}
+use Rattle.run_samples.specs.Samples.{AreLevels}
+use Rattle.run_samples.proofs.OneSample.{one-samples}
+use Rattle.lane_drawing.specs.declared.bars.Bar.{Bar}
+use Rattle.lane_drawing.specs.declared.scale.Scale.{Scale}
+use Rattle.lane_drawing.specs.Bars.{AreBars}
+use Rattle.std.specs.Prelude.{codes}
+use Rattle.std.specs.List.{flat_map}
+use Rattle.lane_drawing.specs.Drawing.{head_line, style_lines, axis_lines, lane_line, bar_line, lane_text, row_middle, shown_arrivals, legend_lines}
+use Rattle.lane_drawing.proofs.Growing.{one_bars}
+use Rattle.schedule_picture.specs.Looks.{look_at}
+use Rattle.schedule_picture.specs.Picture.{Drawing, IsPictureOf, scale_of, tasks_above, task_lane, task_lanes, picture_text}
+
+-- the levels of a count
+one_levels : (image : Image) (A : List Arrival) (k : ℕ) (xs ys : List ℕ) → AreLevels image A k xs → AreLevels image A k ys → xs ≡ ys
+one_levels image A k xs ys h i =
+    let found : Some h.state ≡ Some i.state = sym h.after ∙ i.after in
+    let state : h.state ≡ i.state = cc in
+    h.are ∙ ap (λ (s : State). task_levels image s) state ∙ sym i.are
+
+module _ (image : Image) (A : List Arrival) (levels : List ℕ) (scale : Scale) where
+  -- the drawing with these bars in its lanes
+  abbrev drawing : ((lane : ℕ) → List Bar) → Drawing
+  drawing bars = record { image = image; arrivals = A; levels = levels; scale = scale; bars = bars }
+
+  -- a lane of a task is told by its own bars
+  same_task : (b c : (lane : ℕ) → List Bar) (task : ℕ) → b task ≡ c task → task_lane (drawing b) task ≡ task_lane (drawing c) task
+  unfolding task_lane
+  same_task b c task e =
+      ap (λ bars. lane_text scale (get_or image.tasks task []) (row_middle (tasks_above levels task (length image.tasks))) bars (shown_arrivals scale A task)) e
+
+  same_lanes : (b c : (lane : ℕ) → List Bar) (k : ℕ) → ((lane : ℕ) → lane < k → b lane ≡ c lane) → task_lanes (drawing b) k ≡ task_lanes (drawing c) k
+  unfolding task_lanes
+  same_lanes b c zero same = refl
+  same_lanes b c (suc k) same =
+      ap (λ l. l ++ task_lane (drawing b) k) (same_lanes b c k (λ lane below. same lane (omega (arith, below))))
+      ∙ ap (λ t. task_lanes (drawing c) k ++ t) (same_task b c k (same k (omega arith)))
+
+  -- a drawing is told by the bars of its lanes
+  same_text : (b c : (lane : ℕ) → List Bar) → ((lane : ℕ) → lane ≤ length image.tasks → b lane ≡ c lane) → picture_text (drawing b) ≡ picture_text (drawing c)
+  same_text b c same =
+      let n = length image.tasks in
+      let lanes : task_lanes (drawing b) n ≡ task_lanes (drawing c) n = same_lanes b c n (λ lane below. same lane (omega (arith, below))) in
+      let T : List ℕ → List Bar → List ℕ = λ tasks bars.
+      (head_line scale (n + 1) ++ style_lines) ++ axis_lines scale (n + 1) ++ tasks
+      ++ (lane_line scale (codes "kernel") (row_middle n) ++ flat_map (bar_line scale (codes "kernel") (row_middle n)) bars)
+      ++ legend_lines scale (n + 1) ++ codes "</svg>\n" in
+      ap (λ l. T l (b n)) lanes ∙ ap (T (task_lanes (drawing c) n)) (same n (omega arith))
+
+pub one_picture : (image : Image) (A : List Arrival) (from to : ℕ) (text other : List ℕ) → IsPictureOf image A from to text → IsPictureOf image A from to other
+    → text ≡ other
+one_picture image A from to text other h i =
+    let scale = scale_of image from to in
+    let n = length image.tasks in
+    let samples : h.samples ≡ i.samples = one-samples image A 0 h.samples i.samples h.are_samples i.are_samples (h.counted ∙ sym i.counted) in
+    let levels : h.levels ≡ i.levels = one_levels image A to h.levels i.levels h.are_levels i.are_levels in
+    let same : (lane : ℕ) → lane ≤ n → h.bars lane ≡ i.bars lane =
+    λ lane few.
+    let B : List Sample → Type 0 = λ xs. AreBars (look_at n xs lane) from to (h.bars lane) in
+    one_bars (look_at n i.samples lane) from to (h.bars lane) (i.bars lane) (subst B samples (h.are_bars lane few)) (i.are_bars lane few) in
+    h.is ∙ ap (λ l. picture_text (drawing image A l scale h.bars)) levels ∙ same_text image A i.levels scale h.bars i.bars same ∙ sym i.is

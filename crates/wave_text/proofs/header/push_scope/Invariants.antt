@@ -1,6 +1,0 @@
-use Rattle.std.proofs.Common.{◌≡◌, ◌++◌}
-use Rattle.wave_text.specs.Header.{scope_line, variable_lines}
-use Rattle.wave_text.proofs.header.push_scope.Given as goal
-
-abbrev pub invariant-loop-task : goal.invariant-loop-task
-invariant-loop-task l = l.text.items ≡ (l.fn.text.items ++ scope_line l.fn.scope) ++ variable_lines l.fn.scope l.names l.task
