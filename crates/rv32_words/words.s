@@ -1,16 +1,17 @@
 # The generated code of the kernel of `src/kernel.rt`, written out by hand.
-# The RISC-V unprivileged manual has the instructions; MEPC is the standard's, ILEVEL and PLEVEL are this machine's own.
+# The RISC-V unprivileged manual has the instructions; MEPC is the standard's, PLEVEL is this machine's own.
 
         .option norvc
         .option norelax
         .equ    MEPC, 0x341
-        .equ    ILEVEL, 0x7c0           # the level that runs
         .equ    PLEVEL, 0x7c1           # the level that MRET goes back to
         .equ    BELOW, 628              # service word: the context of what was preempted
         .equ    SAVED, 752              # service words: the level before each resource was taken
         .equ    RESUME, 628             # service words, by `cur`: a task's own context
         .equ    IDLE_END, 1012          # the end of the idle loop's context
         .equ    IDLE, 0x80000548
+
+# x3 holds 0x10000000 and x4 holds 0x80000000 outside of boot.
 
 # Puts the hexadecimal digits of hi(value) and lo(value): value = (hi << 12) + lo, with lo signed.
         .macro  constant rd, value
@@ -24,94 +25,83 @@
         .endr
         .endm
 
-# A context lies below x2; its words 0 to 3 are the address, the level, the task and the context below it.
-        .macro  save
-        addi    x1, x2, -128
-        each_register sw
-        .endm
-
-        .macro  restore
-        addi    x2, x1, 128
-        each_register lw
-        .endm
-
+# A context lies below x2; its words 0 to 3 are the address, the level, the task and the context below it. Behind them stand the registers,
+# where a task was running.
         .macro  open
         csrrci  x0, mstatus, 8
-        lui     x4, 0x80000
         .endm
 
-        .macro  back_at
-        csrrw   x0, PLEVEL, x3
+        .macro  back
         csrrw   x0, MEPC, x31
         mret
         .endm
 
-        .macro  back
-        csrrs   x3, ILEVEL, x0
-        back_at
+        .macro  back_at_x1
+        csrrw   x0, PLEVEL, x1
+        back
         .endm
 
         .macro  leave
         lw      x1, BELOW(x4)
-        lw      x3, 0(x1)
-        csrrw   x0, MEPC, x3
-        lw      x3, 4(x1)
-        csrrw   x0, PLEVEL, x3
-        lw      x3, 8(x1)
-        sw      x3, 0(x4)
-        lw      x3, 12(x1)
-        sw      x3, BELOW(x4)
-        restore
-        mret
+        lw      x2, 0(x1)
+        csrrw   x0, MEPC, x2
+        lw      x2, 4(x1)
+        csrrw   x0, PLEVEL, x2
+        lw      x5, 8(x1)
+        sw      x5, 0(x4)
+        lw      x2, 12(x1)
+        sw      x2, BELOW(x4)
+        addi    x2, x1, 128
+        beq     x5, x0, idle\@
+        each_register lw
+idle\@: mret
         .endm
 
-        .macro  busy task, rd, tmp
-        lui     \tmp, 0x10000
-        lbu     \rd, 32+\task(\tmp)
-        xori    \rd, \rd, 1
-        lbu     \tmp, \task(\tmp)
-        or      \rd, \rd, \tmp
-        lw      \tmp, 4+12*\task(x4)
-        or      \rd, \rd, \tmp
+# x1 becomes 1 where the task is Suspended, else 0.
+        .macro  look_at task
+        lbu     x1, 32+\task(x3)
+        lbu     x10, \task(x3)
+        sltu    x1, x10, x1
+        lw      x10, 4+12*\task(x4)
+        sltu    x1, x10, x1
         .endm
 
         .macro  end_task
-        lw      x3, 0(x4)
-        lui     x1, 0x10000
-        add     x1, x1, x3
-        sb      x0, -1(x1)
-        slli    x1, x3, 3
-        slli    x3, x3, 2
-        add     x3, x3, x1
-        add     x3, x3, x4
-        sw      x0, -8(x3)
-        sw      x0, -4(x3)
+        lw      x1, 0(x4)
+        add     x5, x1, x3
+        sb      x0, -1(x5)
+        slli    x5, x1, 3
+        slli    x1, x1, 2
+        add     x1, x1, x5
+        add     x1, x1, x4
+        sw      x0, -8(x1)
+        sw      x0, -4(x1)
         .endm
 
         .macro  raise task
-        lui     x1, 0x10000
-        addi    x3, x0, 1
-        sb      x3, \task(x1)
+        addi    x1, x0, 1
+        sb      x1, \task(x3)
         .endm
 
         .macro  start_line line, level, autostart
-        addi    x3, x0, \level
-        sb      x3, 64+\line(x1)
-        sb      x4, 32+\line(x1)
+        addi    x1, x0, \level
+        sb      x1, 64+\line(x3)
+        sb      x4, 32+\line(x3)
         .if     \autostart
-        sb      x4, \line(x1)
+        sb      x4, \line(x3)
         .endif
         .endm
 
         .macro  boot level, autostart
-        lui     x1, 0x10000
+        lui     x3, 0x10000
         addi    x4, x0, 1
         start_line 0, \level, \autostart
-        constant x2, 0x80000000 + IDLE_END
-        addi    x3, x0, 128
-        csrrw   x0, mstatus, x3
-        constant x3, IDLE
-        csrrw   x0, MEPC, x3
+        lui     x4, 0x80000
+        addi    x2, x4, IDLE_END
+        addi    x1, x0, 128
+        csrrw   x0, mstatus, x1
+        constant x1, IDLE
+        csrrw   x0, MEPC, x1
         mret
         .endm
 
@@ -120,37 +110,38 @@
         lw      x1, RESUME+4+4*\task(x4)
         beq     x1, x0, anew\@
         sw      x0, RESUME+4+4*\task(x4)
-        lw      x3, 0(x1)
-        csrrw   x0, MEPC, x3
-        restore
+        lw      x2, 0(x1)
+        csrrw   x0, MEPC, x2
+        addi    x2, x1, 128
+        each_register lw
         addi    x10, x0, 0
         mret
 anew\@:
         .endm
 
         .macro  prologue task, level, frame, words, first, extended=0
-        save
-        lui     x4, 0x80000
-        csrrs   x3, MEPC, x0
-        sw      x3, 0(x1)
-        csrrs   x3, PLEVEL, x0
-        sw      x3, 4(x1)
-        lw      x3, 0(x4)
-        sw      x3, 8(x1)
-        lw      x3, BELOW(x4)
-        sw      x3, 12(x1)
+        addi    x1, x2, -128
+        lw      x2, 0(x4)
+        beq     x2, x0, idle\@
+        each_register sw
+idle\@: csrrs   x5, MEPC, x0
+        sw      x5, 0(x1)
+        csrrwi  x5, PLEVEL, \level
+        sw      x5, 4(x1)
+        sw      x2, 8(x1)
+        lw      x2, BELOW(x4)
+        sw      x2, 12(x1)
         sw      x1, BELOW(x4)
-        addi    x3, x0, \task+1
-        sw      x3, 0(x4)
-        addi    x3, x0, 1
-        sw      x3, 4+12*\task(x4)
-        csrrwi  x0, PLEVEL, \level
+        addi    x2, x0, \task+1
+        sw      x2, 0(x4)
+        addi    x2, x0, 1
+        sw      x2, 4+12*\task(x4)
         .if     \extended
         go_on_behind_wait \task
         .endif
         constant x2, \frame
-        constant x3, \first
-        csrrw   x0, MEPC, x3
+        constant x1, \first
+        csrrw   x0, MEPC, x1
         .set    k, 0
         .rept   \words
         sw      x0, 4*k(x2)
@@ -164,7 +155,8 @@ anew\@:
 
         .macro  activate_task task
         open
-        busy    \task, x10, x1
+        look_at \task
+        xori    x10, x1, 1
         slli    x10, x10, 2
         raise   \task
         back
@@ -172,11 +164,11 @@ anew\@:
 
         .macro  chain_task task
         open
-        lw      x3, 0(x4)
-        addi    x1, x0, \task+1
-        beq     x3, x1, go\@
-        busy    \task, x3, x1
-        beq     x3, x0, go\@
+        lw      x1, 0(x4)
+        addi    x10, x0, \task+1
+        beq     x1, x10, go\@
+        look_at \task
+        bne     x1, x0, go\@
         addi    x10, x0, 4
         back
 go\@:   end_task
@@ -184,134 +176,130 @@ go\@:   end_task
         leave
         .endm
 
-# The lower level, with the way back as the address to go on at, and behind it the way back.
+# The lower level, with the way back as the address to go on at, which the jump passes.
         .macro  schedule
         open
-        csrrs   x30, ILEVEL, x0
-        lw      x3, 0(x4)
-        lui     x1, 0x10000
+        lw      x1, 0(x4)
         add     x1, x1, x3
-        lbu     x3, 63(x1)
-        csrrw   x0, PLEVEL, x3
-here\@: auipc   x3, 0
-        addi    x3, x3, 20
-        csrrw   x0, MEPC, x3
-        addi    x10, x0, 0
-        mret
-        .if     . - here\@ - 20
-        .error  "the way back is elsewhere"
-        .endif
+        lbu     x1, 63(x1)
+        csrrw   x30, PLEVEL, x1
+        jal     x1, lowered\@
         csrrci  x0, mstatus, 8
         csrrw   x0, PLEVEL, x30
         csrrw   x0, MEPC, x31
+        mret
+lowered\@:
+        csrrw   x0, MEPC, x1
+        addi    x10, x0, 0
         mret
         .endm
 
         .macro  get_task_state task
         open
         addi    x10, x0, 0
-        lw      x3, 4+12*\task(x4)
-        beq     x3, x0, rests\@
-        lw      x3, 0(x4)
-        addi    x3, x3, -\task-1
-        sltu    x11, x0, x3
+        lw      x1, 4+12*\task(x4)
+        beq     x1, x0, rests\@
+        lw      x1, 0(x4)
+        addi    x1, x1, -\task-1
+        sltu    x11, x0, x1
         slli    x11, x11, 1
         back
 rests\@:
-        lui     x1, 0x10000
-        lbu     x3, 32+\task(x1)
+        lbu     x1, 32+\task(x3)
         addi    x11, x0, 1
-        beq     x3, x0, told\@
-        lbu     x3, \task(x1)
-        addi    x11, x0, 3
-        sub     x11, x11, x3
+        beq     x1, x0, told\@
+        lbu     x1, \task(x3)
+        xori    x11, x1, 3
 told\@: back
         .endm
 
+# The level that ran goes to a0; where it is above the ceiling, it stays.
         .macro  get_resource resource, ceiling
         open
-        csrrs   x3, ILEVEL, x0
-        sw      x3, SAVED+4*\resource(x4)
         addi    x1, x0, \ceiling
-        bgeu    x3, x1, kept\@
-        addi    x3, x1, 0
+        csrrw   x10, PLEVEL, x1
+        sw      x10, SAVED+4*\resource(x4)
+        bgeu    x1, x10, kept\@
+        csrrw   x0, PLEVEL, x10
 kept\@: addi    x10, x0, 0
-        back_at
+        back
         .endm
 
         .macro  release_resource resource
         open
-        lw      x3, SAVED+4*\resource(x4)
+        lw      x1, SAVED+4*\resource(x4)
         addi    x10, x0, 0
-        back_at
+        back_at_x1
         .endm
 
         .macro  set_event task
         open
-        busy    \task, x3, x1
+        look_at \task
         addi    x10, x0, 7
-        beq     x3, x0, out\@
+        bne     x1, x0, out\@
+        lw      x1, 8+12*\task(x4)
+        or      x1, x1, x30
+        sw      x1, 8+12*\task(x4)
+        lw      x10, 12+12*\task(x4)
+        and     x1, x1, x10
         addi    x10, x0, 0
-        lw      x3, 8+12*\task(x4)
-        or      x3, x3, x30
-        sw      x3, 8+12*\task(x4)
-        lw      x1, 12+12*\task(x4)
-        and     x3, x3, x1
-        beq     x3, x0, out\@
+        beq     x1, x0, out\@
         raise   \task
-        sb      x3, 32+\task(x1)
+        sb      x1, 32+\task(x3)
 out\@:  back
         .endm
 
         .macro  get_event task
         open
-        busy    \task, x3, x1
+        look_at \task
         addi    x10, x0, 7
-        beq     x3, x0, out\@
+        bne     x1, x0, out\@
         addi    x10, x0, 0
         lw      x11, 8+12*\task(x4)
 out\@:  back
         .endm
 
-# x3 becomes 0x80000000 + 12 * cur.
-        .macro  find_own
-        lw      x3, 0(x4)
-        slli    x1, x3, 3
-        slli    x3, x3, 2
-        add     x3, x3, x1
-        add     x3, x3, x4
+# x1 becomes 0x80000000 + 12 * cur.
+        .macro  find_own other
+        lw      x1, 0(x4)
+        slli    \other, x1, 3
+        slli    x1, x1, 2
+        add     x1, x1, \other
+        add     x1, x1, x4
         .endm
 
         .macro  clear_event
         open
-        find_own
-        xori    x1, x30, -1
-        lw      x10, -4(x3)
-        and     x10, x10, x1
-        sw      x10, -4(x3)
+        find_own x10
+        lw      x10, -4(x1)
+        or      x10, x10, x30
+        xor     x10, x10, x30
+        sw      x10, -4(x1)
         addi    x10, x0, 0
         back
         .endm
 
         .macro  wait_event
         open
-        find_own
-        lw      x1, -4(x3)
-        and     x1, x1, x30
-        beq     x1, x0, rest\@
+        find_own x3
+        lw      x3, -4(x1)
+        and     x3, x3, x30
+        beq     x3, x0, rest\@
+        lui     x3, 0x10000
         addi    x10, x0, 0
         back
-rest\@: sw      x0, -8(x3)
-        sw      x30, 0(x3)
-        save
+rest\@: sw      x0, -8(x1)
+        sw      x30, 0(x1)
+        addi    x1, x2, -128
+        each_register sw
         sw      x31, 0(x1)
-        lw      x3, 0(x4)
-        slli    x30, x3, 2
+        lw      x5, 0(x4)
+        slli    x30, x5, 2
         add     x30, x30, x4
         sw      x1, RESUME(x30)
-        lui     x30, 0x10000
-        add     x30, x30, x3
-        sb      x0, 31(x30)
+        lui     x3, 0x10000
+        add     x5, x5, x3
+        sb      x0, 31(x5)
         leave
         .endm
 
@@ -390,7 +378,7 @@ rest\@: sw      x0, -8(x3)
         chain_task 29
 #: service 80001000
 #: mark 80001000 Opening 3 0 0
-#: mark 80001034 Back 0 0 0
+#: mark 80001018 Back 0 0 0
         .section .b23, "ax"
         schedule
 #: service 80001000
@@ -449,3 +437,180 @@ rest\@: sw      x0, -8(x3)
 #: mark 80001000 Opening 11 0 0
         .section .b22, "ax"
         wait_event
+
+# Adds bit `task` of x3, 1 where the task is not Suspended. Uses x1 and x4.
+        .macro  tick_look task
+        lui     x4, 0x10000
+        lbu     x1, 32+\task(x4)
+        xori    x1, x1, 1
+        lbu     x4, \task(x4)
+        or      x1, x1, x4
+        lui     x4, 0x80000
+        lw      x4, 4+12*\task(x4)
+        or      x1, x1, x4
+        slli    x1, x1, \task
+        or      x3, x3, x1
+        .endm
+
+# An alarm in use loses a tick; where it expires it begins its cycle and acts.
+        .macro  alarm_begin alarm
+        lw      x1, 372+8*\alarm(x4)
+        beq     x1, x0, alarm_end_\alarm
+        addi    x1, x1, -1
+        sw      x1, 372+8*\alarm(x4)
+        bne     x1, x0, alarm_end_\alarm
+        lw      x1, 376+8*\alarm(x4)
+        sw      x1, 372+8*\alarm(x4)
+        .endm
+
+        .macro  alarm_activates alarm, task
+        alarm_begin \alarm
+        lui     x4, 0x10000
+        addi    x1, x0, 1
+        sb      x1, \task(x4)
+        lui     x4, 0x80000
+        slli    x1, x1, \task
+        or      x3, x3, x1
+alarm_end_\alarm:
+        .endm
+
+        .macro  alarm_sets alarm, task, mask
+        alarm_begin \alarm
+        srli    x1, x3, \task
+        andi    x1, x1, 1
+        beq     x1, x0, alarm_end_\alarm
+        lw      x1, 8+12*\task(x4)
+        constant x4, \mask
+        or      x1, x1, x4
+        lui     x4, 0x80000
+        sw      x1, 8+12*\task(x4)
+        lw      x4, 12+12*\task(x4)
+        and     x1, x1, x4
+        beq     x1, x0, asleep_\alarm
+        lui     x4, 0x10000
+        addi    x1, x0, 1
+        sb      x1, \task(x4)
+        sb      x1, 32+\task(x4)
+asleep_\alarm:
+        lui     x4, 0x80000
+alarm_end_\alarm:
+        .endm
+
+# The cycle is 0, or from the least to the greatest value, which stays in x1; else on to the refusal of a value.
+        .macro  ask_cycle least, max, value
+        beq     x11, x0, .+16
+        constant x1, \least
+        bltu    x11, x1, \value
+        constant x1, \max
+        bltu    x1, x11, \value
+        .endm
+
+        .macro  set_rel_alarm alarm, least, max
+        open
+        lw      x1, 372+8*\alarm(x4)
+        bne     x1, x0, rel_state_\alarm
+        ask_cycle \least, \max, rel_value_\alarm
+        beq     x10, x0, rel_value_\alarm
+        bltu    x1, x10, rel_value_\alarm
+        sw      x10, 372+8*\alarm(x4)
+        sw      x11, 376+8*\alarm(x4)
+        addi    x10, x0, 0
+        back
+rel_value_\alarm:
+        addi    x10, x0, 8
+        back
+rel_state_\alarm:
+        addi    x10, x0, 7
+        back
+        .endm
+
+        .macro  set_abs_alarm alarm, counter, least, max
+        open
+        lw      x1, 372+8*\alarm(x4)
+        bne     x1, x0, abs_state_\alarm
+        ask_cycle \least, \max, abs_value_\alarm
+        bltu    x1, x10, abs_value_\alarm
+        lw      x3, 364+4*\counter(x4)
+        bltu    x3, x10, abs_ahead_\alarm
+        sub     x3, x3, x1
+        addi    x3, x3, -1
+abs_ahead_\alarm:
+        sub     x10, x10, x3
+        lui     x3, 0x10000
+        sw      x10, 372+8*\alarm(x4)
+        sw      x11, 376+8*\alarm(x4)
+        addi    x10, x0, 0
+        back
+abs_value_\alarm:
+        addi    x10, x0, 8
+        back
+abs_state_\alarm:
+        addi    x10, x0, 7
+        back
+        .endm
+
+#: boot 80000480
+        .section .c01, "ax"
+        lui     x3, 0x10000
+        addi    x4, x0, 1
+        start_line 0, 5, 0
+        start_line 30, 31, 0
+        lui     x4, 0x80000
+        addi    x2, x4, IDLE_END
+        addi    x1, x0, 128
+        csrrw   x0, mstatus, x1
+        constant x1, IDLE
+        csrrw   x0, MEPC, x1
+        mret
+#: tick 80000548
+        .section .c02, "ax"
+        lw      x1, 364(x4)
+        constant x3, 1000000
+        bne     x1, x3, counts
+        addi    x1, x0, -1
+counts: addi    x1, x1, 1
+        sw      x1, 364(x4)
+        addi    x3, x0, 0
+        tick_look 0
+        lui     x4, 0x80000
+        alarm_activates 0, 0
+        alarm_sets 1, 0, 1
+        alarm_sets 2, 0, 1
+        lui     x3, 0x10000
+        mret
+#: service 80001000
+#: mark 80001000 Opening 12 0 0
+        .section .c03, "ax"
+        set_rel_alarm 0, 6144, 1000000
+#: service 80001000
+#: mark 80001000 Opening 12 0 0
+        .section .c04, "ax"
+        set_rel_alarm 2, 6144, 1000000
+#: service 80001000
+#: mark 80001000 Opening 13 0 0
+        .section .c05, "ax"
+        set_abs_alarm 0, 0, 6144, 1000000
+#: service 80001000
+#: mark 80001000 Opening 13 0 0
+        .section .c06, "ax"
+        set_abs_alarm 2, 0, 6144, 1000000
+#: service 80001000
+#: mark 80001000 Opening 14 0 0
+        .section .c07, "ax"
+        open
+        lw      x1, 388(x4)
+        addi    x10, x0, 5
+        beq     x1, x0, .+12
+        sw      x0, 388(x4)
+        addi    x10, x0, 0
+        back
+#: service 80001000
+#: mark 80001000 Opening 15 0 0
+        .section .c08, "ax"
+        open
+        lw      x1, 388(x4)
+        addi    x10, x0, 5
+        beq     x1, x0, .+12
+        lw      x11, 388(x4)
+        addi    x10, x0, 0
+        back

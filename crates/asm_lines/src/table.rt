@@ -1,6 +1,6 @@
 //! The statements of task source: their words, and the forms of their operands.
 ghost use Rattle.std.specs.Prelude.{◌≡◌};
-ghost use Rattle.asm_lines.specs.Table.{alu_of, imm_of, shift_of, load_of, store_of, branch_of, stated_service, plain_of, mnemonic_of, object_operands, service_takes, is_operand_count, place_form, form_of, is_outer, is_body_start, is_body_end};
+ghost use Rattle.asm_lines.specs.Table.{alu_of, imm_of, shift_of, load_of, store_of, branch_of, plain_of, mnemonic_of, object_operands, service_takes, is_operand_count, place_form, form_of, is_outer, is_body_start, is_body_end};
 
 use sloth_base::app::{AluKind, BranchKind, ImmKind, Width};
 use sloth_base::service::{ObjectKind, Service, service_named};
@@ -196,19 +196,6 @@ fn plain_of(word: &[u8]) -> Option<Mnemonic>
     }
 }
 
-// The service of a statement. Those on alarms have none.
-#[tactic(auto, unfolding(crate::specs::Table::stated_service))]
-fn stated_service(word: &[u8]) -> Option<Service>
-    ensures { result ≡ stated_service word.now }
-{
-    if let Some(service) = service_named(word) {
-        if service.code() < 12 {
-            return Some(service);
-        }
-    }
-    None
-}
-
 /// The statement that a word begins.
 #[tactic(auto, unfolding(crate::specs::Table::mnemonic_of))]
 pub fn mnemonic_of(word: &[u8]) -> Option<Mnemonic>
@@ -232,7 +219,7 @@ pub fn mnemonic_of(word: &[u8]) -> Option<Mnemonic>
     if let Some(kind) = branch_of(word) {
         return Some(Mnemonic::Branch(kind));
     }
-    if let Some(kind) = stated_service(word) {
+    if let Some(kind) = service_named(word) {
         return Some(Mnemonic::Serve(kind));
     }
     plain_of(word)

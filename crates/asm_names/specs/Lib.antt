@@ -1,4 +1,1 @@
-pub mod Said
-pub mod Scopes
-pub mod Bodies
 pub mod NameFaults

@@ -10,10 +10,10 @@ use Rattle.least_fault.specs.Search.{Somewhere}
 use Rattle.asm_lines.specs.declared.source_line.SourceLine.{SourceLine}
 use Rattle.asm_lines.specs.declared.source_line.SourceLine.TheVariants.{Statement}
 use Rattle.asm_lines.specs.Faults.{Case}
-use Rattle.asm_names.specs.declared.scope.Scope.{Scope}
-use Rattle.asm_names.specs.Said.{is_data, is_task, is_label, is_item, name_of, number_of, written_name, symbol_names, label_names}
-use Rattle.asm_names.specs.Bodies.{BodyText, bodies_of, function_names, task_body_names}
-use Rattle.asm_names.specs.Scopes.{scope_of, has_unknown}
+use Rattle.asm_scopes.specs.declared.scope.Scope.{Scope}
+use Rattle.asm_scopes.specs.Said.{is_data, is_task, is_label, is_item, name_of, number_of, written_name, symbol_names, label_names}
+use Rattle.asm_scopes.specs.Bodies.{BodyText, bodies_of, function_names, task_body_names}
+use Rattle.asm_scopes.specs.Scopes.{scope_of, has_unknown}
 
 -- more than 64 bytes
 abbrev pub is_long : List ℕ → Bool

@@ -1,15 +1,13 @@
 //! A5 to A7 of bodies.
 ghost use Rattle.std.specs.Prelude.{◌≡◌, ◌+◌, ◌<◌, ◌^◌, take, length, ◌⊎◌, All, IfOk};
 ghost use Rattle.least_fault.specs.Search.{Finds, Somewhere};
-ghost use Rattle.asm_names.specs.Said.{label_names};
-ghost use Rattle.asm_names.specs.Bodies.{function_names};
+ghost use Rattle.asm_scopes.specs.Said.{label_names};
+ghost use Rattle.asm_scopes.specs.Bodies.{function_names};
 ghost use Rattle.asm_names.specs.NameFaults.{is_too_great, is_strange, is_misnamed, is_beyond, HeaderFault, InnerFault, LineFault, BodyFault};
 
-use crate::body::Body;
 use crate::limits::{count_item, count_items, count_label, has_long};
-use crate::said::{is_item, is_label, is_task, label_names, name_of, number_of};
-use crate::scope::Scope;
 use asm_lines::SourceLine;
+use asm_scopes::{Body, Scope, is_item, is_label, is_task, label_names, name_of, number_of};
 use least_fault::{merge, when};
 use sloth_base::memory::NoMemory;
 use sloth_base::refusal::{Code, Part, Refusal};

@@ -1,12 +1,12 @@
 //! A5 and A6 of symbols.
 ghost use Rattle.std.specs.Prelude.{◌≡◌, ◌<◌, ◌^◌, take, length};
 ghost use Rattle.least_fault.specs.Search.{Finds, Somewhere};
-ghost use Rattle.asm_names.specs.Said.{symbol_names};
+ghost use Rattle.asm_scopes.specs.Said.{symbol_names};
 ghost use Rattle.asm_names.specs.NameFaults.{is_taken, is_too_much, SymbolFault, DataFault};
 
 use crate::limits::{bytes_of, count_data, has_long};
-use crate::said::{is_data, name_of, number_of};
 use asm_lines::SourceLine;
+use asm_scopes::{is_data, name_of, number_of};
 use least_fault::{merge, when};
 use sloth_base::refusal::{Code, Part, Refusal};
 use text_pieces::bytes::same;

@@ -3,16 +3,14 @@ ghost use Rattle.std.specs.Prelude.{◌≡◌, ◌<◌, ◌^◌, not, length, If
 ghost use Rattle.std.specs.List.{list_any};
 ghost use Rattle.sloth_base.specs.declared.config.TaskDecl.{TaskDecl};
 ghost use Rattle.least_fault.specs.Search.{Finds};
-ghost use Rattle.asm_names.specs.Bodies.{bodies_of};
-ghost use Rattle.asm_names.specs.Scopes.{scope_of};
+ghost use Rattle.asm_scopes.specs.Bodies.{bodies_of};
+ghost use Rattle.asm_scopes.specs.Scopes.{scope_of};
 ghost use Rattle.asm_names.specs.NameFaults.{lacks_body, NameFault};
 
-use crate::body::Body;
 use crate::body_faults::body_faults;
 use crate::data_faults::data_faults;
-use crate::scope::Scope;
-use crate::tables::task_body_names;
 use asm_lines::SourceLine;
+use asm_scopes::{Body, Scope, task_body_names};
 use least_fault::{merge, when};
 use sloth_base::config::{Config, TaskDecl};
 use sloth_base::memory::NoMemory;

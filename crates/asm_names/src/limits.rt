@@ -1,11 +1,11 @@
 //! Long names, and what counts against a limit.
 ghost use Rattle.std.specs.Prelude.{◌≡◌, ◌≤◌, if◌then◌else◌, count_by, length};
 ghost use Rattle.std.specs.List.{list_any};
-ghost use Rattle.asm_names.specs.Said.{is_data, is_label, is_item, written_name};
+ghost use Rattle.asm_scopes.specs.Said.{is_data, is_label, is_item, written_name};
 ghost use Rattle.asm_names.specs.NameFaults.{writes_long, has_long, bytes_of};
 
-use crate::said::{is_data, is_item, is_label, number_of, written};
 use asm_lines::{Operand, SourceLine};
+use asm_scopes::{is_data, is_item, is_label, number_of, written};
 
 /// The bytes that a name may have.
 const NAME_BYTES: usize = 64;

@@ -16,9 +16,9 @@ use Rattle.asm_lines.specs.declared.table.Mnemonic.TheVariants as m
 use Rattle.asm_lines.specs.Faults.{is_long}
 use Rattle.asm_lines.specs.Numbers.{is_within}
 use Rattle.asm_lines.specs.Table.{is_operand_count, form_of, is_body_start}
-use Rattle.asm_names.specs.Said.{is_data, opens_body, name_of, first_name, second_number, written_name}
+use Rattle.asm_scopes.specs.Said.{is_data, opens_body, name_of, first_name, second_number, written_name}
 use Rattle.asm_names.specs.NameFaults.{writes_long, has_long}
-use Rattle.asm_parse.specs.Apps.{third_bytes, bytes_with}
+use Rattle.asm_items.specs.Apps.{third_bytes, bytes_with}
 use Rattle.asm_parse.proofs.Fit.{FitsBytes, Fits, AllFit}
 use Rattle.asm_parse.proofs.Operands.{name_case, number_case, some_of, two_of, three_of}
 use Rattle.asm_parse.proofs.OpsRange.{at_most}

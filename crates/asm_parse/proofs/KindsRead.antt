@@ -5,7 +5,8 @@ use Rattle.std.specs.List.{AllByRecursion}
 use Rattle.std.specs.Str.{bytes_eq}
 use Rattle.asm_lines.specs.declared.table.Mnemonic.{Mnemonic}
 use Rattle.asm_lines.specs.declared.table.Mnemonic.TheVariants as m
-use Rattle.asm_lines.specs.Table.{kind_named, alu_of, imm_words, imm_of, shift_words, shift_of, load_of, store_words, store_of, branch_of, stated_service, plain_words, plain_of, or_else, mnemonic_of}
+use Rattle.sloth_base.specs.ServiceCodes.{service_named}
+use Rattle.asm_lines.specs.Table.{kind_named, alu_of, imm_words, imm_of, shift_words, shift_of, load_of, store_words, store_of, branch_of, plain_words, plain_of, or_else, mnemonic_of}
 use Rattle.asm_parse.proofs.MnemonicKinds.{HasKind}
 
 -- what is there is of a kind of this group
@@ -61,4 +62,4 @@ has_kind word =
     (or_else_kind m.Load (load_of word) _ (any_kind m.Load (load_of word) (λ k. tt))
     (or_else_kind m.Store (store_of word) _ (store_kind word)
     (or_else_kind m.Branch (branch_of word) _ (any_kind m.Branch (branch_of word) (λ k. tt))
-    (or_else_kind m.Serve (stated_service word) (plain_of word) (any_kind m.Serve (stated_service word) (λ k. tt)) (plain_kind word)))))))
+    (or_else_kind m.Serve (service_named word) (plain_of word) (any_kind m.Serve (service_named word) (λ k. tt)) (plain_kind word)))))))

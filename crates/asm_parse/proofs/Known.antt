@@ -3,11 +3,11 @@ use Rattle.std.specs.Prelude.{◌≡◌, ◌<◌, ℕ, true, List, length, get_o
 use Rattle.sloth_base.specs.declared.app.App.{App}
 use Rattle.sloth_base.specs.declared.app.Func.{Func}
 use Rattle.sloth_base.specs.declared.config.Config.{Config}
-use Rattle.asm_names.specs.declared.scope.Kind.TheVariants as kind
-use Rattle.asm_names.specs.declared.scope.Scope.{Scope}
-use Rattle.asm_names.specs.Scopes.{is_named}
-use Rattle.asm_parse.specs.Operations.{number_of, resource_number, mask_by}
-use Rattle.code_rules.specs.AppRange.{IsSymbol, IsLabel, IsCallable, IsDeclared, IsResource, no_event}
+use Rattle.asm_scopes.specs.declared.scope.Kind.TheVariants as kind
+use Rattle.asm_scopes.specs.declared.scope.Scope.{Scope}
+use Rattle.asm_scopes.specs.Scopes.{is_named}
+use Rattle.asm_items.specs.Operations.{number_of, resource_number, mask_by}
+use Rattle.code_rules.specs.AppRange.{IsSymbol, IsLabel, IsCallable, IsDeclared, IsResource, IsDeclaredAlarm, no_event}
 
 -- the event of a name
 pub record IsEvent (config : Config) (scope : Scope) (name : List ℕ) : Type 0 where
@@ -22,4 +22,5 @@ pub record IsKnown (config : Config) (app : App) (f : Func) (scope : Scope) (lab
   pub function : (name : List ℕ) → is_named scope labels kind.Function name ≡ true → IsCallable app (number_of scope.functions name)
   pub task : (name : List ℕ) → is_named scope labels kind.Task name ≡ true → IsDeclared config (number_of scope.tasks name)
   pub resource : (name : List ℕ) → is_named scope labels kind.Resource name ≡ true → IsResource config (resource_number scope name)
+  pub alarm : (name : List ℕ) → is_named scope labels kind.Alarm name ≡ true → IsDeclaredAlarm config (number_of scope.alarms name)
   pub event : (name : List ℕ) → is_named scope labels kind.Event name ≡ true → IsEvent config scope name

@@ -1,4 +1,3 @@
-pub mod Numbering
 pub mod Stages
 pub mod Fit
 pub mod MnemonicKinds

@@ -7,11 +7,11 @@ use Rattle.std.proofs.lemmas.Nat.Bits.{bit_at_or, same_from_bits}
 use Rattle.std.proofs.lemmas.List.Elements.{All-nil, All-cons}
 use Rattle.sloth_base.specs.declared.config.Config.{Config}
 use Rattle.asm_lines.specs.declared.operands.Operand.{Operand}
-use Rattle.asm_names.specs.declared.scope.Kind.TheVariants as kind
-use Rattle.asm_names.specs.declared.scope.Scope.{Scope}
-use Rattle.asm_names.specs.Scopes.{is_named}
-use Rattle.asm_parse.specs.Operations.{mask_named}
-use Rattle.asm_parse.specs.Operations.{mask_of as mask_read}
+use Rattle.asm_scopes.specs.declared.scope.Kind.TheVariants as kind
+use Rattle.asm_scopes.specs.declared.scope.Scope.{Scope}
+use Rattle.asm_scopes.specs.Scopes.{is_named}
+use Rattle.asm_items.specs.Operations.{mask_named}
+use Rattle.asm_items.specs.Operations.{mask_of as mask_read}
 use Rattle.code_rules.specs.AppRange.{IsMask, mask_of, no_event}
 use Rattle.asm_parse.proofs.Known.{IsEvent}
 use Rattle.asm_parse.proofs.Operands.{Names}

@@ -9,10 +9,10 @@ use Rattle.asm_lines.specs.declared.table.Form.TheVariants as form
 use Rattle.asm_lines.specs.declared.table.Mnemonic.{Mnemonic}
 use Rattle.asm_lines.specs.Numbers.{is_within}
 use Rattle.asm_lines.specs.Table.{form_of}
-use Rattle.asm_names.specs.declared.scope.Kind.{Kind}
-use Rattle.asm_names.specs.declared.scope.Scope.{Scope}
-use Rattle.asm_names.specs.Said.{written_name}
-use Rattle.asm_names.specs.Scopes.{is_named, is_lacking, any_unknown, kind_of}
+use Rattle.asm_scopes.specs.declared.scope.Kind.{Kind}
+use Rattle.asm_scopes.specs.declared.scope.Scope.{Scope}
+use Rattle.asm_scopes.specs.Said.{written_name}
+use Rattle.asm_scopes.specs.Scopes.{is_named, is_lacking, any_unknown, kind_of}
 use Rattle.code_rules.specs.AppRange.{IsRegister}
 use Rattle.sloth_base.specs.ImageRange.{IsWord}
 use Rattle.asm_parse.proofs.Fit.{Fits, FitsRegister, FitsName, AllFit}

@@ -22,13 +22,13 @@ use Rattle.asm_lines.specs.declared.table.Mnemonic.{Mnemonic}
 use Rattle.asm_lines.specs.declared.table.Mnemonic.TheVariants as m
 use Rattle.asm_lines.specs.Numbers.{is_within}
 use Rattle.asm_lines.specs.Table.{is_operand_count}
-use Rattle.asm_names.specs.declared.scope.Kind.TheVariants as kind
-use Rattle.asm_names.specs.declared.scope.Scope.{Scope}
-use Rattle.asm_names.specs.Said.{is_action}
-use Rattle.asm_names.specs.Scopes.{is_named, any_unknown}
-use Rattle.asm_parse.specs.declared.operations.Access.{Access}
-use Rattle.asm_parse.specs.declared.operations.Access.TheVariants.{Load, Store}
-use Rattle.asm_parse.specs.Operations.{as_word, as_short, number_of, frame_op, symbol_op, element_op, access_op, op_by}
+use Rattle.asm_scopes.specs.declared.scope.Kind.TheVariants as kind
+use Rattle.asm_scopes.specs.declared.scope.Scope.{Scope}
+use Rattle.asm_scopes.specs.Said.{is_action}
+use Rattle.asm_scopes.specs.Scopes.{is_named, any_unknown}
+use Rattle.asm_items.specs.declared.operations.Access.{Access}
+use Rattle.asm_items.specs.declared.operations.Access.TheVariants.{Load, Store}
+use Rattle.asm_items.specs.Operations.{as_word, as_short, number_of, frame_op, symbol_op, element_op, access_op, op_by}
 use Rattle.code_rules.specs.AppRange.{IsRegister, IsShort, IsAmount, IsStored, IsSymbol, IsOp}
 use Rattle.asm_parse.proofs.Fit.{FitsPlace, FitsWord, AllFit}
 use Rattle.asm_parse.proofs.MnemonicKinds.{HasKind}
@@ -264,26 +264,25 @@ module _ (config : Config) (app : App) (f : Func) (scope : Scope) (labels : List
       some_of (Ranges (m.Serve service.WaitEvent))
       (λ a os h u. (_, refl, (refl, is_mask config scope labels known.event a os (all_names scope labels kind.Event (m.Serve service.WaitEvent) 0 (a ∷ os) (λ j l. (refl, refl)) h u))))
       os (leb-true 1 (length os) t) h u
-  -- no alarm has a name
   serve_range service.SetRelAlarm os t h u =
       one_of (Ranges (m.Serve service.SetRelAlarm))
       (λ a h. name_case (λ a. any_unknown scope labels (m.Serve service.SetRelAlarm) 0 (a ∷ []) ≡ false → Ranged (m.Serve service.SetRelAlarm) (a ∷ []))
-      (λ n w v. absurd (true≢false v)) a h.0)
+      (λ n w v. (_, refl, (known.alarm n (does_exist (is_named scope labels kind.Alarm n) false v), refl))) a h.0)
       os (eqb-true (length os) 1 t) h u
   serve_range service.SetAbsAlarm os t h u =
       one_of (Ranges (m.Serve service.SetAbsAlarm))
       (λ a h. name_case (λ a. any_unknown scope labels (m.Serve service.SetAbsAlarm) 0 (a ∷ []) ≡ false → Ranged (m.Serve service.SetAbsAlarm) (a ∷ []))
-      (λ n w v. absurd (true≢false v)) a h.0)
+      (λ n w v. (_, refl, (known.alarm n (does_exist (is_named scope labels kind.Alarm n) false v), refl))) a h.0)
       os (eqb-true (length os) 1 t) h u
   serve_range service.CancelAlarm os t h u =
       one_of (Ranges (m.Serve service.CancelAlarm))
       (λ a h. name_case (λ a. any_unknown scope labels (m.Serve service.CancelAlarm) 0 (a ∷ []) ≡ false → Ranged (m.Serve service.CancelAlarm) (a ∷ []))
-      (λ n w v. absurd (true≢false v)) a h.0)
+      (λ n w v. (_, refl, (known.alarm n (does_exist (is_named scope labels kind.Alarm n) false v), refl))) a h.0)
       os (eqb-true (length os) 1 t) h u
   serve_range service.GetAlarm os t h u =
       one_of (Ranges (m.Serve service.GetAlarm))
       (λ a h. name_case (λ a. any_unknown scope labels (m.Serve service.GetAlarm) 0 (a ∷ []) ≡ false → Ranged (m.Serve service.GetAlarm) (a ∷ []))
-      (λ n w v. absurd (true≢false v)) a h.0)
+      (λ n w v. (_, refl, (known.alarm n (does_exist (is_named scope labels kind.Alarm n) false v), refl))) a h.0)
       os (eqb-true (length os) 1 t) h u
 
   -- ---- all

@@ -22,6 +22,7 @@ use Rattle.sloth_base.specs.declared.app.Symbol.{Symbol}
 use Rattle.sloth_base.specs.declared.config.Config.{Config}
 use Rattle.sloth_base.specs.declared.config.EventDecl.{EventDecl}
 use Rattle.sloth_base.specs.declared.config.TaskDecl.{TaskDecl}
+use Rattle.sloth_base.specs.declared.config.AlarmDecl.{AlarmDecl}
 use Rattle.sloth_base.specs.declared.refusal.Code.TheVariants.{A7}
 use Rattle.sloth_base.specs.declared.refusal.Part.TheVariants.{Src}
 use Rattle.least_fault.specs.Order.{NoFault}
@@ -29,13 +30,13 @@ use Rattle.least_fault.proofs.Nowhere.{nowhere, case_false}
 use Rattle.asm_lines.specs.declared.source_line.SourceLine.{SourceLine}
 use Rattle.asm_lines.specs.declared.source_line.SourceLine.TheVariants.{Empty}
 use Rattle.asm_lines.specs.Faults.{source_lines, TextFault}
-use Rattle.asm_names.specs.declared.scope.Scope.{Scope}
-use Rattle.asm_names.specs.Said.{is_data, is_label, is_task, name_of, label_names, symbol_names}
-use Rattle.asm_names.specs.Bodies.{BodyText, bodies_of, body_name, is_task_body, is_called_body, function_names, called_names, task_body_names}
-use Rattle.asm_names.specs.Scopes.{scope_of, task_names, event_names, is_scheduler}
+use Rattle.asm_scopes.specs.declared.scope.Scope.{Scope}
+use Rattle.asm_scopes.specs.Said.{is_data, is_label, is_task, name_of, label_names, symbol_names}
+use Rattle.asm_scopes.specs.Bodies.{BodyText, bodies_of, body_name, is_task_body, is_called_body, function_names, called_names, task_body_names}
+use Rattle.asm_scopes.specs.Scopes.{scope_of, task_names, event_names, alarm_names, is_scheduler}
 use Rattle.asm_names.specs.NameFaults.{has_long, items_in, lacks_body, BodyFault, NameFault}
-use Rattle.asm_parse.specs.Operations.{number_of as number_in, resource_number, mask_given, mask_at}
-use Rattle.asm_parse.specs.Apps.{func_of, symbol_of, body_task, app_of, labels_from}
+use Rattle.asm_items.specs.Operations.{number_of as number_in, resource_number, mask_given, mask_at}
+use Rattle.asm_items.specs.Apps.{func_of, symbol_of, body_task, app_of, labels_from}
 use Rattle.asm_parse.specs.AppTexts.{AppText, SourceTextFault}
 use Rattle.code_rules.specs.AppRange.{IsResource, IsCallable, IsPlaced, IsBody, HasBodies, IsWithinLimits, AppInRange, no_event}
 use Rattle.asm_parse.proofs.BodiesRead.{IsReadBody, bodies_read, no_body, body_at, line_at, names_apart, few_bodies, few_words, short_name, known_at, short_at, labels_apart, few_items}
@@ -114,6 +115,9 @@ module _ (config : Config) (ls : List SourceLine) (range : InRange config) (read
 
   length_tasks : length (task_names config) ≡ length config.tasks
   length_tasks = length-map config.tasks (λ (t : TaskDecl). t.name)
+
+  length_alarms : length (alarm_names config) ≡ length config.alarms
+  length_alarms = length-map config.alarms (λ (a : AlarmDecl). a.name)
 
   -- the task of a body has its name
   task_some : (b : BodyText) (t : ℕ) → body_task scope b ≡ Some t → (t < length config.tasks) × (get_or (task_names config) t [] ≡ body_name b)
@@ -205,6 +209,7 @@ module _ (config : Config) (ls : List SourceLine) (range : InRange config) (read
         function = callable;
         task = λ name e. let n = number_below scope.tasks name e in let l = length_tasks in omega (arith, n, l);
         resource = λ name e. resource_range config scope name refl refl e;
+        alarm = λ name e. let n = number_below scope.alarms name e in let l = length_alarms in omega (arith, n, l);
         event = λ name e. event_range config scope name refl e;
       }
 

@@ -6,7 +6,7 @@ use Rattle.sloth_base.specs.declared.refusal.Refusal.{Refusal}
 use Rattle.least_fault.specs.Order.{NoFault}
 use Rattle.asm_lines.specs.Faults.{source_lines, TextFault}
 use Rattle.asm_names.specs.NameFaults.{NameFault}
-use Rattle.asm_parse.specs.Apps.{app_of}
+use Rattle.asm_items.specs.Apps.{app_of}
 
 -- the text says this task code
 abbrev pub AppText : List ℕ → Config → App → Type 0

@@ -1,4 +1,1 @@
-pub mod Operations
-pub mod Numbered
-pub mod Apps
 pub mod AppTexts

@@ -1,21 +1,3 @@
-mod Diving
-mod Lengths
-mod Ordering
-mod Spreading
-mod Ranking
-mod Leading
-mod Reaching
-mod Measured
-mod Counting
-mod Summed
-mod Summaries
-mod Decomposed
-mod Built
-mod Unlimited
-mod Limited
 mod Told
 pub mod OneTold
-mod Bodily
-mod Small
-mod Growing
-mod Filling
+pub mod KeptTold

@@ -19,15 +19,15 @@ use Rattle.raised_sections.specs.Walks.{Position}
 use Rattle.raised_sections.specs.Sections.{size_of_section, IsLower, IsSectionFor, NoneIsLarger, IsGreatestSize, IsBound, lowest, above, HasNoBound, ExceedsBound, greatest_told}
 use Rattle.block_bounds.specs.declared.bound.Bound.{Bound}
 use Rattle.block_bounds.specs.declared.bound.Bound.TheVariants as bound
-use Rattle.block_bounds.specs.declared.sizes.Summary.{Summary}
-use Rattle.block_bounds.specs.Trails.{MOST}
-use Rattle.block_bounds.specs.Parts.{called_level, Within}
-use Rattle.block_bounds.specs.Computed.{summary_of}
-use Rattle.block_bounds.specs.Known.{IsExact, IsEndless, IsSummary, AreSummaries}
+use Rattle.section_sizes.specs.declared.sizes.Summary.{Summary}
+use Rattle.section_sizes.specs.Trails.{MOST}
+use Rattle.section_sizes.specs.Parts.{called_level, Within}
+use Rattle.section_sizes.specs.Computed.{summary_of}
+use Rattle.section_sizes.specs.Known.{IsExact, IsEndless, IsSummary, AreSummaries}
 use Rattle.block_bounds.specs.Bounds.{IsTold, is_below, task_summary, some_endless, greatest_section, greatest_sections, told}
-use Rattle.block_bounds.proofs.Counting.{any_is, none_is}
-use Rattle.block_bounds.proofs.Decomposed.{L, section_part}
-use Rattle.block_bounds.proofs.Built.{section_within}
+use Rattle.section_sizes.proofs.Counting.{any_is, none_is}
+use Rattle.section_sizes.proofs.Decomposed.{L, section_part}
+use Rattle.section_sizes.proofs.Built.{section_within}
 
 -- one of the tasks is no higher than the highest
 at_most_highest : (tasks : List TaskDecl) (h : ℕ) (d : TaskDecl) → h < length tasks → (get_or tasks h d).priority ≤ greatest (map (λ d. d.priority) tasks)

@@ -10,8 +10,8 @@ use Rattle.stack_bounds.specs.Tables.{max_below}
 use Rattle.raised_sections.specs.Sections.{IsBound, HasNoBound, ExceedsBound, greatest_told}
 use Rattle.block_bounds.specs.declared.bound.Bound.{Bound}
 use Rattle.block_bounds.specs.declared.bound.Bound.TheVariants as bound
-use Rattle.block_bounds.specs.declared.sizes.Summary.{Summary}
-use Rattle.block_bounds.specs.Computed.{summary_of}
+use Rattle.section_sizes.specs.declared.sizes.Summary.{Summary}
+use Rattle.section_sizes.specs.Computed.{summary_of}
 
 -- what is told of task h is so: its bound, up to 1,000,000; or that it is above that; or that sections have no greatest size
 abbrev pub IsTold : Config → App → (h : ℕ) → Bound → Type 0

@@ -7,16 +7,17 @@ ghost use Rattle.osek_valid.specs.Apart.{static_priority};
 ghost use Rattle.call_graph.specs.Ranks.{RanksOf};
 ghost use Rattle.call_graph.specs.Reached.{any_below};
 ghost use Rattle.stack_bounds.specs.Tables.{HasBody};
-ghost use Rattle.block_bounds.specs.CallOrder.{IsCallOrder};
-ghost use Rattle.block_bounds.specs.Known.{AreKnownBodies, AreSummaries};
-ghost use Rattle.block_bounds.specs.Computed.{summary_of};
+ghost use Rattle.section_sizes.specs.CallOrder.{IsCallOrder};
+ghost use Rattle.section_sizes.specs.Known.{AreKnownBodies, AreSummaries};
+ghost use Rattle.section_sizes.specs.Computed.{summary_of};
+ghost use Rattle.block_bounds.specs.Kept.{RunsKeepTold};
 ghost use Rattle.block_bounds.specs.Bounds.{IsTold, AreBounds, task_at, is_below, task_summary, some_endless, greatest_section, greatest_sections, told};
 
-use crate::bodies::{Body, bodies};
-use crate::levels::{own_summaries, whole_summaries};
-use crate::order::callees_first;
-use crate::sizes::Summary;
 use call_graph::ranking::Ranks;
+use section_sizes::bodies::{Body, bodies};
+use section_sizes::levels::{own_summaries, whole_summaries};
+use section_sizes::order::callees_first;
+use section_sizes::sizes::Summary;
 use sloth_base::app::{App, Func};
 use sloth_base::config::{Config, TaskDecl};
 use sloth_base::list::List;
@@ -259,7 +260,8 @@ fn bounds_of(
 /// The blocking bound of each task, 0 to 1,000,000 items, or that it is above that, or that there is none.
 pub fn bounds(alloc: Global, verified: &Verified, ranks: &Ranks) -> Result<List<Bound>, NoMemory>
     requires { RanksOf verified.now.app ranks.now }
-    ensures { IfOk result (AreBounds verified.now.config verified.now.app) }
+    ensures exact { IfOk result (AreBounds verified.now.config verified.now.app) }
+    ensures kept { IfOk result (RunsKeepTold verified.now.config verified.now.app) }
 {
     let bounds = bounds_of(alloc, verified.config(), verified.app(), ranks)?;
     Ok(List::from_vec(bounds))

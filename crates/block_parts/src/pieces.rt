@@ -1,17 +1,15 @@
-//! Pieces of code that several services have.
+//! Pieces of code that several services have. x3 and x4 hold the addresses of the controller and of memory.
 ghost use Rattle.std.specs.Prelude.{◌≡◌, ◌<◌, ◌++◌, OnOk};
-ghost use Rattle.block_parts.specs.Pieces.{opening_code, ending_code, busy, raising_code, back_at, back, goes_on_at};
+ghost use Rattle.block_parts.specs.Pieces.{opening_code, ending_code, looking_code, raising_code, back_at, back, goes_on_at};
 
-use masked_code::emit::emit;
+use masked_code::emit::{X5, emit};
 use rv32_instr::Instr;
 use rv32_instr::asm::{
-    A0, X1, X3, X4, X31, ZERO, add, addi, csrrci, csrrs, csrrw, lbu, lui, lw, mret, or, sb, slli,
-    sw, xori,
+    A0, X1, X3, X4, X31, ZERO, add, addi, csrrci, csrrw, lbu, lw, mret, sb, slli, sltu, sw,
 };
-use rv32_instr::csr::{ILEVEL, MEPC, MIE, MSTATUS, PLEVEL};
-use sloth_base::numbers::Reg;
+use rv32_instr::csr::{MEPC, MIE, MSTATUS, PLEVEL};
 use sloth_base::service::E_OK;
-use sloth_region::layout::{CONTROLLER_HIGH, CUR, WORDS_HIGH, active, enabled_byte, pending_byte};
+use sloth_region::layout::{CUR, active, enabled_byte, pending_byte};
 use std::alloc::AllocError;
 
 /// The running task's pending byte, from `cur` behind the controller's address, as `cur` is its number and 1 more.
@@ -24,50 +22,47 @@ pub const OWN_ACTIVE: i32 = -8;
 pub const OWN_EVENTS: i32 = -4;
 
 /// How many instructions `look_at` adds.
-pub const LOOK: u32 = 7;
+pub const LOOK: u32 = 5;
 
 /// How many instructions `go_back` adds.
-pub const BACK: u32 = 4;
+pub const BACK: u32 = 2;
 
-/// Masks interrupts, and loads the address of the service words into x4.
+/// Masks interrupts.
 pub fn open(code: &mut Vec<Instr>) -> Result<(), AllocError>
     ensures { OnOk result (code.new.items ≡ code.old.items ++ opening_code) }
 {
-    emit(code, &[csrrci(ZERO, MSTATUS, MIE), lui(X4, WORDS_HIGH)])
+    emit(code, &[csrrci(ZERO, MSTATUS, MIE)])
 }
 
-/// Ends the running task: its pending byte, its Active word and its events become 0. x4 holds the base of memory.
+/// Ends the running task: its pending byte, its Active word and its events become 0.
 pub fn end(code: &mut Vec<Instr>) -> Result<(), AllocError>
     ensures { OnOk result (code.new.items ≡ code.old.items ++ ending_code) }
 {
     let ended = [
-        lw(X3, X4, CUR),
-        lui(X1, CONTROLLER_HIGH),
-        add(X1, X1, X3),
-        sb(ZERO, X1, OWN_PENDING),
-        slli(X1, X3, 3),
-        slli(X3, X3, 2),
-        add(X3, X3, X1),
-        add(X3, X3, X4),
-        sw(ZERO, X3, OWN_ACTIVE),
-        sw(ZERO, X3, OWN_EVENTS),
+        lw(X1, X4, CUR),
+        add(X5, X1, X3),
+        sb(ZERO, X5, OWN_PENDING),
+        slli(X5, X1, 3),
+        slli(X1, X1, 2),
+        add(X1, X1, X5),
+        add(X1, X1, X4),
+        sw(ZERO, X1, OWN_ACTIVE),
+        sw(ZERO, X1, OWN_EVENTS),
     ];
     emit(code, &ended)
 }
 
-/// `rd` := 1 where the task isn't Suspended, else 0, by another register. x4 holds the base of memory.
-pub fn look_at(code: &mut Vec<Instr>, task: u8, rd: Reg, other: Reg) -> Result<(), AllocError>
-    requires { (task < 30) × (rd < 32) × (other < 32) }
-    ensures { OnOk result (code.new.items ≡ code.old.items ++ busy task rd other) }
+/// x1 := 1 where the task is Suspended, else 0. Uses a0.
+pub fn look_at(code: &mut Vec<Instr>, task: u8) -> Result<(), AllocError>
+    requires { task < 30 }
+    ensures { OnOk result (code.new.items ≡ code.old.items ++ looking_code task) }
 {
     let looked_at = [
-        lui(other, CONTROLLER_HIGH),
-        lbu(rd, other, enabled_byte(task)),
-        xori(rd, rd, 1),
-        lbu(other, other, pending_byte(task)),
-        or(rd, rd, other),
-        lw(other, X4, active(task)),
-        or(rd, rd, other),
+        lbu(X1, X3, enabled_byte(task)),
+        lbu(A0, X3, pending_byte(task)),
+        sltu(X1, A0, X1),
+        lw(A0, X4, active(task)),
+        sltu(X1, A0, X1),
     ];
     emit(code, &looked_at)
 }
@@ -77,31 +72,25 @@ pub fn raise(code: &mut Vec<Instr>, task: u8) -> Result<(), AllocError>
     requires { task < 30 }
     ensures { OnOk result (code.new.items ≡ code.old.items ++ raising_code task) }
 {
-    let raised = [
-        lui(X1, CONTROLLER_HIGH),
-        addi(X3, ZERO, 1),
-        sb(X3, X1, pending_byte(task)),
-    ];
-    emit(code, &raised)
+    emit(code, &[addi(X1, ZERO, 1), sb(X1, X3, pending_byte(task))])
 }
 
-/// Back to the caller, whose address is in x31, at the level in x3.
-fn go_back_at(code: &mut Vec<Instr>) -> Result<(), AllocError>
-    ensures { OnOk result (code.new.items ≡ code.old.items ++ back_at) }
-{
-    let gone_back = [csrrw(ZERO, PLEVEL, X3), csrrw(ZERO, MEPC, X31), mret()];
-    emit(code, &gone_back)
-}
-
-/// Back to the caller, at the level that runs.
+/// Back to the caller, whose address is in x31, at the level in plevel, which is the one that runs.
 pub fn go_back(code: &mut Vec<Instr>) -> Result<(), AllocError>
     ensures { OnOk result (code.new.items ≡ code.old.items ++ back) }
 {
-    emit(code, &[csrrs(X3, ILEVEL, ZERO)])?;
-    go_back_at(code)
+    emit(code, &[csrrw(ZERO, MEPC, X31), mret()])
 }
 
-/// Back to the caller, at the level in x3, with the status E_OK.
+/// At the level in x1.
+fn go_back_at(code: &mut Vec<Instr>) -> Result<(), AllocError>
+    ensures { OnOk result (code.new.items ≡ code.old.items ++ back_at) }
+{
+    emit(code, &[csrrw(ZERO, PLEVEL, X1)])?;
+    go_back(code)
+}
+
+/// Back to the caller, at the level in x1, with the status E_OK.
 pub fn go_on(code: &mut Vec<Instr>) -> Result<(), AllocError>
     ensures { OnOk result (code.new.items ≡ code.old.items ++ goes_on_at) }
 {

@@ -1,3 +1,5 @@
 mod Lines
 pub mod Meaning
 pub mod OneText
+mod Keeping
+pub mod OneLatency

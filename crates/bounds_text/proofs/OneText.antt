@@ -1,13 +1,11 @@
 -- Texts have one list of lines at most.
-use Rattle.std.proofs.Common.{◌≡◌, ◌∙◌, ◌<◌, ℕ, List, get_or, length, sym, ap, subst}
+use Rattle.std.proofs.Common.{◌∙◌, get_or, length, sym, ap, subst}
 use Rattle.sloth_base.specs.declared.config.Config.{Config}
-use Rattle.sloth_base.specs.declared.app.App.{App}
 use Rattle.sloth_source.proofs.Unique.{one_meaning}
-use Rattle.block_bounds.specs.declared.bound.Bound.{Bound}
 use Rattle.block_bounds.specs.declared.bound.Bound.TheVariants as bound
-use Rattle.block_bounds.specs.Bounds.{IsTold, AreBounds}
+use Rattle.block_bounds.specs.Bounds.{AreBounds}
 use Rattle.block_bounds.proofs.OneTold.{one_told}
-use Rattle.bounds_text.specs.BoundsText.{bound_lines, IsBoundsText, OneText}
+use Rattle.bounds_text.specs.BoundsText.{bound_lines, OneText}
 use Rattle.bounds_text.proofs.Lines.{same-lines}
 
 pub one_text : OneText

@@ -8,6 +8,7 @@ use Rattle.sloth_source.specs.Texts.{Accepted}
 use Rattle.block_bounds.specs.declared.bound.Bound.{Bound}
 use Rattle.block_bounds.specs.declared.bound.Bound.TheVariants as bound
 use Rattle.block_bounds.specs.Bounds.{AreBounds}
+use Rattle.bounds_text.specs.KeptRuns.{RunsKeepAll}
 
 -- a bound in items is small enough to be told
 abbrev pub IsTellable : Bound → Type 0
@@ -33,11 +34,12 @@ unfoldable pub bound_lines : List TaskDecl → List Bound → ℕ → List ℕ
 bound_lines tasks bounds zero = []
 bound_lines tasks bounds (suc k) = bound_lines tasks bounds k ++ bound_line tasks bounds k
 
--- these are the lines of the bounds of all tasks
+-- these are the lines of the bounds of all tasks, and runs keep them
 pub record HasLines (config : Config) (app : App) (text : List ℕ) : Type 0 where
   pub bounds : List Bound
   pub are_bounds : AreBounds config app bounds
   pub lines : text ≡ bound_lines config.tasks bounds (length config.tasks)
+  pub kept : RunsKeepAll config app bounds
 
 -- the texts are accepted, and these are the lines of what they mean
 pub record IsBoundsText (oil src text : List ℕ) : Type 0 where

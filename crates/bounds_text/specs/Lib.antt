@@ -1,1 +1,3 @@
 pub mod BoundsText
+pub mod KeptRuns
+pub mod Latency

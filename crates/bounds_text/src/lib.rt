@@ -6,6 +6,7 @@ ghost use Rattle.call_graph.specs.Ranks.{RanksOf};
 ghost use Rattle.sloth_source.specs.Texts.{Accepted, ErrorIs};
 ghost use Rattle.bounds_text.specs.BoundsText.{IsTellable, AreTellable, HasLines, bound_text, bound_line, bound_lines, IsBoundsText};
 
+pub mod latency;
 pub mod laws;
 
 use block_bounds::bound::{Bound, bounds};
@@ -95,6 +96,7 @@ fn read_checked(alloc: Global, oil: &[u8], src: &[u8]) -> Result<Checked, BuildE
 }
 
 // The lines of task code.
+#[tactic(auto, using(crate::proofs::Keeping::has_lines))]
 fn checked_text(alloc: Global, verified: &Verified, ranks: &Ranks) -> Result<Vec<u8>, NoMemory>
     requires { RanksOf verified.now.app ranks.now }
     ensures { IfOk result (λ text. HasLines verified.now.config verified.now.app text.items) }

@@ -1,10 +1,13 @@
 -- How many instructions each piece of generated code has. The contracts of the generators say so of their code, and the map gives each
 -- piece this room.
-use Rattle.std.specs.Prelude.{ℕ, ◌+◌, ◌≡◌, Bool, cond, if◌then◌else◌, Option, Some, None, List, [], ◌∷◌}
-use Rattle.std.specs.List.{slice_get}
+use Rattle.std.specs.Prelude.{ℕ, ◌+◌, ◌*◌, ◌≡◌, ◌==◌, ◌&&◌, Bool, false, cond, if◌then◌else◌, Option, Some, None, List, [], ◌∷◌}
+use Rattle.std.specs.List.{slice_get, list_any}
 use Rattle.sloth_base.specs.Blocks.{block_service}
 use Rattle.sloth_base.specs.declared.app.App.{App}
 use Rattle.sloth_base.specs.declared.app.Func.{Func}
+use Rattle.sloth_base.specs.declared.config.Action.{Action}
+use Rattle.sloth_base.specs.declared.config.Action.TheVariants as action
+use Rattle.sloth_base.specs.declared.config.AlarmDecl.{AlarmDecl}
 use Rattle.sloth_base.specs.declared.config.Config.{Config}
 use Rattle.sloth_base.specs.declared.config.TaskDecl.{TaskDecl}
 use Rattle.sloth_base.specs.declared.service.Service.{Service}
@@ -17,15 +20,15 @@ abbrev pub lines_length : List TaskDecl → ℕ
 lines_length [] = 0
 lines_length (task ∷ tasks) = 3 + cond task.autostart 1 0 + lines_length tasks
 
--- boot of these tasks
-abbrev pub boot_length : List TaskDecl → ℕ
-boot_length tasks = 10 + lines_length tasks
+-- boot of these tasks and of so many counters
+abbrev pub boot_length : List TaskDecl → ℕ → ℕ
+boot_length tasks counters = 10 + lines_length tasks + 3 * counters
 
 -- ---- prologues
 
 -- the prologue of an extended task or of a basic one, whose body has so many frame words
 abbrev pub prologue_length : Bool → ℕ → ℕ
-prologue_length extended words = if extended then 109 + words else 74 + words
+prologue_length extended words = if extended then 108 + words else 73 + words
 
 -- so many has the prologue of a task
 pub record IsPrologueLength (task : ℕ) (config : Config) (app : App) (size : ℕ) : Type 0 where
@@ -37,27 +40,51 @@ pub record IsPrologueLength (task : ℕ) (config : Config) (app : App) (size : �
   pub is_body : func.task ≡ Some task
   pub is : size ≡ prologue_length decl.extended func.frame_words
 
+-- ---- ticks
+
+-- an action sets events of this task
+abbrev pub sets_events_of : ℕ → Action → Bool
+sets_events_of task (action.Activate other) = false
+sets_events_of task (action.Set other mask) = other == task
+
+-- one of these alarms is the counter's and sets events of the task
+abbrev pub is_looked_at : (counter task : ℕ) → List AlarmDecl → Bool
+is_looked_at counter task alarms = list_any (λ alarm. (alarm.counter == counter) && sets_events_of task alarm.action) alarms
+
+-- An alarm of a counter, with the look at the task whose events it sets: only the last of such alarms has that look.
+abbrev pub action_length : (counter : ℕ) → Action → (later : List AlarmDecl) → ℕ
+action_length counter (action.Activate task) later = 13
+action_length counter (action.Set task mask) later = 24 + cond (is_looked_at counter task later) 0 10
+
+-- those of these alarms that are the counter's
+abbrev pub alarms_length : (counter : ℕ) → List AlarmDecl → ℕ
+alarms_length counter [] = 0
+alarms_length counter (alarm ∷ later) = cond (alarm.counter == counter) (action_length counter alarm.action later) 0 + alarms_length counter later
+
+-- the tick of a counter among these alarms
+abbrev pub tick_length : (counter : ℕ) → List AlarmDecl → ℕ
+tick_length counter alarms = 11 + alarms_length counter alarms
+
 -- ---- services
 
 -- the code of a service, whatever its object
 abbrev pub service_length : Service → ℕ
-service_length service.ActivateTask = 17
-service_length service.TerminateTask = 50
-service_length service.ChainTask = 69
-service_length service.Schedule = 17
-service_length service.GetTaskID = 9
-service_length service.GetTaskState = 24
-service_length service.GetResource = 11
-service_length service.ReleaseResource = 7
-service_length service.SetEvent = 26
-service_length service.ClearEvent = 16
-service_length service.GetEvent = 17
-service_length service.WaitEvent = 91
--- those on alarms have no code yet
-service_length service.SetRelAlarm = 0
-service_length service.SetAbsAlarm = 0
-service_length service.CancelAlarm = 0
-service_length service.GetAlarm = 0
+service_length service.ActivateTask = 12
+service_length service.TerminateTask = 49
+service_length service.ChainTask = 63
+service_length service.Schedule = 13
+service_length service.GetTaskID = 6
+service_length service.GetTaskState = 17
+service_length service.GetResource = 9
+service_length service.ReleaseResource = 6
+service_length service.SetEvent = 20
+service_length service.ClearEvent = 13
+service_length service.GetEvent = 12
+service_length service.WaitEvent = 90
+service_length service.SetRelAlarm = 23
+service_length service.SetAbsAlarm = 28
+service_length service.CancelAlarm = 8
+service_length service.GetAlarm = 8
 
 -- nothing where there is no service
 abbrev pub option_length : Option Service → ℕ

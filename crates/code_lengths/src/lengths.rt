@@ -14,14 +14,14 @@ use sloth_base::service::Service;
 /// The instructions of boot without a task.
 const BOOT_ALONE: u32 = 10;
 
-/// Those that start a task that is not autostarted.
+/// Those that start a counter, or a task that is not autostarted.
 const LINE: u32 = 3;
 
 /// The instructions of a basic task's prologue, but for the words of its frame.
-const BASIC: u32 = 74;
+const BASIC: u32 = 73;
 
 /// Those of an extended task's prologue.
-const EXTENDED: u32 = 109;
+const EXTENDED: u32 = 108;
 
 /// How many instructions of boot start these tasks.
 fn lines_length(tasks: &[TaskDecl]) -> u32
@@ -36,13 +36,13 @@ fn lines_length(tasks: &[TaskDecl]) -> u32
     total
 }
 
-/// How many instructions boot of these tasks has.
-pub fn boot_length(tasks: &[TaskDecl]) -> u32
-    requires { length tasks.now ≤ 30 }
-    ensures is { result ≡ boot_length tasks.now }
-    ensures short { result ≤ 130 }
+/// How many instructions boot of these tasks and of so many counters has.
+pub fn boot_length(tasks: &[TaskDecl], counters: u32) -> u32
+    requires { (length tasks.now ≤ 30) × (counters ≤ 2) }
+    ensures is { result ≡ boot_length tasks.now counters }
+    ensures short { result ≤ 136 }
 {
-    BOOT_ALONE + lines_length(tasks)
+    BOOT_ALONE + lines_length(tasks) + LINE * counters
 }
 
 /// How many instructions a prologue has, of an extended task or of a basic one, whose body has so many frame words.
@@ -74,20 +74,21 @@ pub fn service_length(service: Service) -> u32
     ensures { result ≡ service_length service }
 {
     match service {
-        Service::ActivateTask => 17,
-        Service::TerminateTask => 50,
-        Service::ChainTask => 69,
-        Service::Schedule => 17,
-        Service::GetTaskID => 9,
-        Service::GetTaskState => 24,
-        Service::GetResource => 11,
-        Service::ReleaseResource => 7,
-        Service::SetEvent => 26,
-        Service::ClearEvent => 16,
-        Service::GetEvent => 17,
-        Service::WaitEvent => 91,
-        // Those on alarms have no code yet.
-        Service::SetRelAlarm | Service::SetAbsAlarm | Service::CancelAlarm | Service::GetAlarm => 0,
+        Service::ActivateTask => 12,
+        Service::TerminateTask => 49,
+        Service::ChainTask => 63,
+        Service::Schedule => 13,
+        Service::GetTaskID => 6,
+        Service::GetTaskState => 17,
+        Service::GetResource => 9,
+        Service::ReleaseResource => 6,
+        Service::SetEvent => 20,
+        Service::ClearEvent => 13,
+        Service::GetEvent => 12,
+        Service::WaitEvent => 90,
+        Service::SetRelAlarm => 23,
+        Service::SetAbsAlarm => 28,
+        Service::CancelAlarm | Service::GetAlarm => 8,
     }
 }
 

@@ -1,9 +1,10 @@
 -- The words of a tool are those of one use.
-use Rattle.std.proofs.Common.{Global, ◌≡◌, ◌≤◌, ◌+◌, ◌∙◌, ℕ, List, [], ◌∷◌, ◌++◌, Option, None, Some, refl, sym, ap, subst, get_or, arith, length, take, drop}
-use Rattle.std.specs.Prelude.{decimal, Bool, true, false, if◌then◌else◌, IfNone, slice_get, string_bytes, String}
+use Rattle.std.proofs.Common.{Global, zero, suc, ◌≡◌, ◌≤◌, ◌+◌, ◌-◌, ◌∙◌, ℕ, List, [], ◌∷◌, ◌++◌, Option, None, Some, refl, sym, ap, subst, get_or, arith, length, take, drop}
+use Rattle.std.specs.Prelude.{decimal, Bool, true, false, ◌&&◌, ◌==◌, if◌then◌else◌, IfNone, slice_get, string_bytes, String, option_to_list, cond}
 use Rattle.std.specs.Str.{bytes_eq}
 use Rattle.std.proofs.Math.Seq.{take-append_seam, drop-append_seam}
-use Rattle.std.proofs.lemmas.List.{length-append, drop-map}
+use Rattle.std.proofs.lemmas.List.{length-append, length-map, drop-map}
+use Rattle.std.proofs.Math.Numerals.{add-one}
 use Rattle.std.proofs.lemmas.Fmt.{decimal_injective}
 use Rattle.command_line.specs.declared.counts.Counts.{Counts}
 use Rattle.command_line.specs.declared.counts.Counts.TheVariants as counts
@@ -12,19 +13,19 @@ use Rattle.command_line.specs.declared.counts.Limit.TheVariants as limit
 use Rattle.command_line.specs.declared.counts.Window.{Window}
 use Rattle.command_line.specs.declared.tool.Tool.{Tool}
 use Rattle.command_line.specs.declared.tool.Tool.TheVariants as tool
-use Rattle.command_line.specs.Command.{NoTool, words_of}
-use Rattle.command_line.specs.Tools.{ToolUse, tool_word, tool_words, input_count, counts_limit, writes_file, counts_words, output_words, AreCounts, IsOutput, IsToolUse, IsWindow}
+use Rattle.command_line.specs.Command.{IsCommand, NoTool, Uses, words_of}
+use Rattle.command_line.specs.Tools.{ToolUse, tool_word, tool_words, input_count, further_word, word_count, counts_limit, writes_file, counts_words, output_words, AreCounts, IsOutput, IsToolUse, IsWindow}
 
 -- the tools
 abbrev all_tools : List Tool
-all_tools = tool.Elf ∷ tool.Unelf ∷ tool.Infer ∷ tool.At ∷ tool.Wave ∷ tool.Picture ∷ tool.Check ∷ tool.Bounds ∷ []
+all_tools = tool.Elf ∷ tool.Unelf ∷ tool.Infer ∷ tool.At ∷ tool.Wave ∷ tool.Picture ∷ tool.Check ∷ tool.Bounds ∷ tool.Latency ∷ tool.Map ∷ []
 
--- the first of these that has a word
-abbrev first_with : List ℕ → List Tool → Option Tool
-first_with word [] = None
-first_with word (t ∷ rest) = if bytes_eq (tool_word t) word then Some t else first_with word rest
+-- the first of these that has a word and so many words
+abbrev first_with : List ℕ → ℕ → List Tool → Option Tool
+first_with word count [] = None
+first_with word count (t ∷ rest) = if bytes_eq (tool_word t) word && (word_count t == count) then Some t else first_with word count rest
 
-found : (t : Tool) → first_with (tool_word t) all_tools ≡ Some t
+found : (t : Tool) → first_with (tool_word t) (word_count t) all_tools ≡ Some t
 found tool.Elf = refl
 found tool.Unelf = refl
 found tool.Infer = refl
@@ -33,9 +34,13 @@ found tool.Wave = refl
 found tool.Picture = refl
 found tool.Check = refl
 found tool.Bounds = refl
+found tool.Latency = refl
+found tool.Map = refl
 
-pub same-tool : (t u : Tool) → tool_word t ≡ tool_word u → t ≡ u
-same-tool t u e = let both : Some t ≡ Some u = sym (found t) ∙ (ap (λ w. first_with w all_tools) e ∙ found u) in cc
+pub same-tool : (t u : Tool) → tool_word t ≡ tool_word u → word_count t ≡ word_count u → t ≡ u
+same-tool t u e n =
+    let both : Some t ≡ Some u =
+    sym (found t) ∙ (ap (λ w. first_with w (word_count t) all_tools) e ∙ (ap (λ k. first_with (tool_word u) k all_tools) n ∙ found u)) in cc
 
 -- the limits of counts are words of 32 bits
 abbrev IsWordLimit : Option Limit → Type 0
@@ -52,6 +57,8 @@ word-limit tool.Wave = omega arith
 word-limit tool.Picture = omega arith
 word-limit tool.Check = omega arith
 word-limit tool.Bounds = tt
+word-limit tool.Latency = tt
+word-limit tool.Map = tt
 
 -- two lists of one length in front of others
 fronts : (xs ys : List (List ℕ)) (r s : List (List ℕ)) → length xs ≡ length ys → xs ++ r ≡ ys ++ s → (xs ≡ ys) × (r ≡ s)
@@ -118,21 +125,83 @@ same-parts u w a b c d =
     ∙ ap (λ x. record { tool = w.tool; inputs = w.inputs; counts = x; output = u.output }) c
     ∙ ap (λ x. record { tool = w.tool; inputs = w.inputs; counts = w.counts; output = x }) d
 
+-- ---- how many words it has
+
+-- how many numbers stand where there is a limit
+abbrev number_count : Option Limit → ℕ
+number_count None = 0
+number_count (Some (limit.One most)) = 1
+number_count (Some (limit.Window most apart)) = 2
+
+counts-counted : (limit : Option Limit) (c : Option Counts) → AreCounts limit c → length (counts_words c) ≡ number_count limit
+counts-counted None None h = refl
+counts-counted None (Some c) h = absurd h
+counts-counted (Some l) None h = absurd h
+counts-counted (Some (limit.One most)) (Some (counts.One n)) h = refl
+counts-counted (Some (limit.One most)) (Some (counts.Window w)) h = absurd h
+counts-counted (Some (limit.Window most apart)) (Some (counts.One n)) h = absurd h
+counts-counted (Some (limit.Window most apart)) (Some (counts.Window w)) h = refl
+
+output-counted : (writes : Bool) (o : Option (List ℕ)) → IsOutput writes o → length (output_words o) ≡ cond writes 1 0
+output-counted false None h = refl
+output-counted false (Some name) h = absurd h
+output-counted true None h = absurd h
+output-counted true (Some name) h = refl
+
+-- the count of its words is that of its parts
+counted : (t : Tool) → word_count t ≡ 1 + (input_count t + (length (option_to_list (further_word t)) + (number_count (counts_limit t) + cond (writes_file t) 1 0)))
+counted tool.Elf = refl
+counted tool.Unelf = refl
+counted tool.Infer = refl
+counted tool.At = refl
+counted tool.Wave = refl
+counted tool.Picture = refl
+counted tool.Check = refl
+counted tool.Bounds = refl
+counted tool.Latency = refl
+counted tool.Map = refl
+
+pub words-counted : (u : ToolUse) → IsToolUse u → length (tool_words u) ≡ word_count u.tool
+words-counted u is =
+    let further = option_to_list (further_word u.tool) in
+    let inputs : length (u.inputs ++ (further ++ (counts_words u.counts ++ output_words u.output)))
+    ≡ length u.inputs + length (further ++ (counts_words u.counts ++ output_words u.output)) = length-append u.inputs _ in
+    let behind : length (further ++ (counts_words u.counts ++ output_words u.output))
+    ≡ length further + length (counts_words u.counts ++ output_words u.output) = length-append further _ in
+    let last : length (counts_words u.counts ++ output_words u.output) ≡ length (counts_words u.counts) + length (output_words u.output) =
+    length-append (counts_words u.counts) _ in
+    let number = counts-counted (counts_limit u.tool) u.counts is.counts in
+    let output = output-counted (writes_file u.tool) u.output is.output in
+    let all = counted u.tool in
+    let given = is.counted in
+    omega (arith, inputs, behind, last, number, output, all, given)
+
+-- ---- one use
+
 -- behind the same word
-pub same-rest : (t : Tool) (xs ys : List (List ℕ)) (c d : Option Counts) (o p : Option (List ℕ)) → length xs ≡ input_count t → length ys ≡ input_count t
-    → AreCounts (counts_limit t) c → AreCounts (counts_limit t) d → IsOutput (writes_file t) o → IsOutput (writes_file t) p
-    → xs ++ (counts_words c ++ output_words o) ≡ ys ++ (counts_words d ++ output_words p) → (xs ≡ ys) × (c ≡ d) × (o ≡ p)
-same-rest t xs ys c d o p a b h i j k e =
+pub same-rest : (t : Tool) (xs ys : List (List ℕ)) (n m : Option Counts) (o p : Option (List ℕ)) → length xs ≡ input_count t → length ys ≡ input_count t
+    → AreCounts (counts_limit t) n → AreCounts (counts_limit t) m → IsOutput (writes_file t) o → IsOutput (writes_file t) p
+    → xs ++ (option_to_list (further_word t) ++ (counts_words n ++ output_words o)) ≡ ys ++ (option_to_list (further_word t) ++ (counts_words m ++ output_words p))
+    → (xs ≡ ys) × (n ≡ m) × (o ≡ p)
+same-rest t xs ys n m o p a b h i j k e =
+    let further : List (List ℕ) = option_to_list (further_word t) in
     let inputs = fronts xs ys _ _ (a ∙ sym b) e in
-    let numbers = same-behind (counts_limit t) c d _ _ (word-limit t) h i inputs.1 in
+    let behind = fronts further further (counts_words n ++ output_words o) (counts_words m ++ output_words p) refl inputs.1 in
+    let numbers = same-behind (counts_limit t) n m _ _ (word-limit t) h i behind.1 in
     (inputs.0, numbers.0, same-output (writes_file t) o p j k numbers.1)
+
+-- what stands behind the word of a use
+abbrev rest_words : Tool → ToolUse → List (List ℕ)
+rest_words t u = u.inputs ++ (option_to_list (further_word t) ++ (counts_words u.counts ++ output_words u.output))
 
 pub same-use : (u w : ToolUse) → tool_words u ≡ tool_words w → IsToolUse u → IsToolUse w → u ≡ w
 same-use u w e l m =
-    let words : tool_word u.tool ∷ u.inputs ++ (counts_words u.counts ++ output_words u.output) ≡ tool_word w.tool ∷ w.inputs ++ (counts_words w.counts ++ output_words w.output) = e in
+    let words : tool_word u.tool ∷ rest_words u.tool u ≡ tool_word w.tool ∷ rest_words w.tool w = e in
     let first : tool_word u.tool ≡ tool_word w.tool = cc in
-    let rest : u.inputs ++ (counts_words u.counts ++ output_words u.output) ≡ w.inputs ++ (counts_words w.counts ++ output_words w.output) = cc in
-    let t : u.tool ≡ w.tool = same-tool u.tool w.tool first in
+    let behind : rest_words u.tool u ≡ rest_words w.tool w = cc in
+    let many : word_count u.tool ≡ word_count w.tool = sym (words-counted u l) ∙ ap (λ (x : List (List ℕ)). length x) e ∙ words-counted w m in
+    let t : u.tool ≡ w.tool = same-tool u.tool w.tool first many in
+    let rest : rest_words u.tool u ≡ rest_words u.tool w = behind ∙ ap (λ x. rest_words x w) (sym t) in
     let counted : length w.inputs ≡ input_count u.tool = m.counted ∙ ap input_count (sym t) in
     let counts = subst (λ x. AreCounts (counts_limit x) w.counts) (sym t) m.counts in
     let output = subst (λ x. IsOutput (writes_file x) w.output) (sym t) m.output in
@@ -143,12 +212,22 @@ same-use u w e l m =
 pub record Behind (words : List (List ℕ)) (t : Tool) (u : ToolUse) : Type 0 where
   pub tool_is : u.tool ≡ t
   pub long : input_count t + 1 ≤ length words
-  pub rest : drop (input_count t + 1) words ≡ counts_words u.counts ++ output_words u.output
+  pub rest : drop (input_count t + 1) words ≡ option_to_list (further_word t) ++ (counts_words u.counts ++ output_words u.output)
 
-pub behind-inputs : (words : List (List ℕ)) (t : Tool) (u : ToolUse) → get_or words 0 [] ≡ tool_word t → words ≡ tool_words u → IsToolUse u → Behind words t u
-behind-inputs words t u first e is =
-    let same : u.tool ≡ t = same-tool u.tool t (ap (λ w. get_or w 0 []) (sym e) ∙ first) in
-    let rest : List (List ℕ) = counts_words u.counts ++ output_words u.output in
+-- the words are so many as tool t has, and the first one is its
+pub record Begins (words : List (List ℕ)) (t : Tool) : Type 0 where
+  pub first : get_or words 0 [] ≡ tool_word t
+  pub many : length words ≡ word_count t
+
+pub begins-as : (words : List (List ℕ)) (t : Tool) (u : ToolUse) → Begins words t → words ≡ tool_words u → IsToolUse u → u.tool ≡ t
+begins-as words t u b e is =
+    same-tool u.tool t (ap (λ w. get_or w 0 []) (sym e) ∙ b.first)
+    (sym (words-counted u is) ∙ ap (λ (w : List (List ℕ)). length w) (sym e) ∙ b.many)
+
+pub behind-inputs : (words : List (List ℕ)) (t : Tool) (u : ToolUse) → Begins words t → words ≡ tool_words u → IsToolUse u → Behind words t u
+behind-inputs words t u b e is =
+    let same : u.tool ≡ t = begins-as words t u b e is in
+    let rest : List (List ℕ) = option_to_list (further_word u.tool) ++ (counts_words u.counts ++ output_words u.output) in
     let counted : length u.inputs ≡ input_count t = is.counted ∙ ap input_count same in
     let n : input_count t + 1 ≡ length (tool_word u.tool ∷ u.inputs) = omega (arith, counted) in
     let long : length words ≡ length (tool_word u.tool ∷ u.inputs) + length rest =
@@ -157,25 +236,38 @@ behind-inputs words t u first e is =
       tool_is = same;
       long = omega (arith, n, long);
       rest = ap (λ w. drop (input_count t + 1) w) e ∙ ap (λ k. drop k ((tool_word u.tool ∷ u.inputs) ++ rest)) n
-          ∙ drop-append_seam (tool_word u.tool ∷ u.inputs) rest;
+          ∙ drop-append_seam (tool_word u.tool ∷ u.inputs) rest
+          ∙ ap (λ x. option_to_list (further_word x) ++ (counts_words u.counts ++ output_words u.output)) same;
     }
 
--- words behind which no counts stand that the tool takes are no tool's
-pub without-counts : (words : List (List ℕ)) (t : Tool) → get_or words 0 [] ≡ tool_word t
-    → ((n : Option Counts) (rest : List (List ℕ)) → AreCounts (counts_limit t) n → drop (input_count t + 1) words ≡ counts_words n ++ rest → ⊥) → NoTool words
-without-counts words t first none used h =
+-- words behind which the further word of the tool does not stand are no tool's
+pub without-further : (words : List (List ℕ)) (t : Tool) → Begins words t
+    → ((rest : List (List ℕ)) → drop (input_count t + 1) words ≡ option_to_list (further_word t) ++ rest → ⊥) → NoTool words
+without-further words t first none used h =
+    let b = behind-inputs words t used first h.0 h.1 in none (counts_words used.counts ++ output_words used.output) b.rest
+
+-- nor are those behind which no counts stand that the tool takes
+pub without-counts : (words : List (List ℕ)) (t : Tool) (behind : List (List ℕ)) → Begins words t
+    → drop (input_count t + 1) words ≡ option_to_list (further_word t) ++ behind
+    → ((n : Option Counts) (rest : List (List ℕ)) → AreCounts (counts_limit t) n → behind ≡ counts_words n ++ rest → ⊥) → NoTool words
+without-counts words t behind first e none used h =
     let b = behind-inputs words t used first h.0 h.1 in
     let N : Tool → Type 0 = λ x. AreCounts (counts_limit x) used.counts in
-    none used.counts (output_words used.output) (subst N b.tool_is h.1.counts) b.rest
+    let further : List (List ℕ) = option_to_list (further_word t) in
+    let same = fronts further further behind (counts_words used.counts ++ output_words used.output) refl (sym e ∙ b.rest) in
+    none used.counts (output_words used.output) (subst N b.tool_is h.1.counts) same.1
 
 -- nor are those behind which no file stands that it writes
-pub without-output : (words : List (List ℕ)) (t : Tool) (n : Option Counts) (behind : List (List ℕ)) → get_or words 0 [] ≡ tool_word t → AreCounts (counts_limit t) n
-    → drop (input_count t + 1) words ≡ counts_words n ++ behind → ((o : Option (List ℕ)) → IsOutput (writes_file t) o → behind ≡ output_words o → ⊥) → NoTool words
-without-output words t n behind first number e none used h =
+pub without-output : (words : List (List ℕ)) (t : Tool) (n : Option Counts) (behind rest : List (List ℕ)) → Begins words t → AreCounts (counts_limit t) n
+    → drop (input_count t + 1) words ≡ option_to_list (further_word t) ++ behind → behind ≡ counts_words n ++ rest
+    → ((o : Option (List ℕ)) → IsOutput (writes_file t) o → rest ≡ output_words o → ⊥) → NoTool words
+without-output words t n behind rest first number e f none used h =
     let b = behind-inputs words t used first h.0 h.1 in
     let N : Tool → Type 0 = λ x. AreCounts (counts_limit x) used.counts in
     let O : Tool → Type 0 = λ x. IsOutput (writes_file x) used.output in
-    let same = same-behind (counts_limit t) n used.counts behind (output_words used.output) (word-limit t) number (subst N b.tool_is h.1.counts) (sym e ∙ b.rest) in
+    let further : List (List ℕ) = option_to_list (further_word t) in
+    let front = fronts further further behind (counts_words used.counts ++ output_words used.output) refl (sym e ∙ b.rest) in
+    let same = same-behind (counts_limit t) n used.counts rest (output_words used.output) (word-limit t) number (subst N b.tool_is h.1.counts) (sym f ∙ front.1) in
     none used.output (subst O b.tool_is h.1.output) same.1
 
 -- what holds anyway
@@ -191,3 +283,53 @@ first-word (x ∷ xs) word e = let same : word ≡ x = cc in ap (λ (w : String 
 -- the words behind others
 pub behind-words : (words rest : List (String Global)) (n : ℕ) → rest ≡ drop n words → words_of rest ≡ drop n (words_of words)
 behind-words words rest n e = ap words_of e ∙ sym (drop-map (λ (w : String Global). string_bytes w) n words)
+
+-- how the words begin
+pub begin : (words : List (String Global)) (word : String Global) (t : Tool) → Some word ≡ slice_get words 0 → string_bytes word ≡ tool_word t
+    → length words ≡ word_count t → Begins (words_of words) t
+begin words word t first is many = record {
+  first = first-word words word first ∙ is;
+  many = length-map words (λ (w : String Global). string_bytes w) ∙ many;
+}
+
+-- the words behind the files that it reads
+pub words-behind : (words behind : List (String Global)) (t : Tool) (n : ℕ) → n ≡ input_count t → behind ≡ drop (n + 1) words
+    → words_of behind ≡ drop (input_count t + 1) (words_of words)
+words-behind words behind t n same e = behind-words words behind (n + 1) e ∙ ap (λ k. drop (k + 1) (words_of words)) same
+
+-- ---- the words that are a tool's
+
+words-parted : (k : ℕ) (words : List (String Global)) → words_of words ≡ words_of (take k words) ++ drop k (words_of words)
+words-parted zero words = refl
+words-parted (suc k) [] = refl
+words-parted (suc k) (w ∷ words) = ap (λ l. string_bytes w ∷ l) (words-parted k words)
+
+words-taken : (k : ℕ) (words : List (String Global)) → k ≤ length words → length (words_of (take k words)) ≡ k
+words-taken zero words h = refl
+words-taken (suc k) [] h = absurd (let wrong : ⊥ = omega (arith, h) in wrong)
+words-taken (suc k) (w ∷ words) h = ap suc (words-taken k words (omega (arith, h)))
+
+-- words that begin as those of a tool, so many files, and behind them what it takes
+pub is-tool : (words : List (String Global)) (t : Tool) (count : ℕ) (n : Option Counts) (o : Option (List ℕ)) (behind rest : List (List ℕ))
+    → Begins (words_of words) t → count ≡ input_count t → count + 1 ≤ length words
+    → drop (input_count t + 1) (words_of words) ≡ option_to_list (further_word t) ++ behind → behind ≡ counts_words n ++ rest → rest ≡ output_words o
+    → AreCounts (counts_limit t) n → IsOutput (writes_file t) o
+    → IsCommand (words_of words) (Uses (record { tool = t; inputs = words_of (take (count + 1 - 1) (drop 1 words)); counts = n; output = o }))
+is-tool [] t count n o behind rest begins same long further counted output are writes = absurd (let wrong : ⊥ = omega (arith, long) in wrong)
+is-tool (w ∷ words) t count n o behind rest begins same long further counted output are writes =
+    let V = words_of words in
+    let k : count + 1 - 1 ≡ count = omega arith in
+    let first : string_bytes w ≡ tool_word t = begins.first in
+    let last : drop (input_count t) V ≡ option_to_list (further_word t) ++ (counts_words n ++ output_words o) =
+    sym (ap (λ j. drop j (string_bytes w ∷ V)) (add-one (input_count t))) ∙ further
+    ∙ ap (λ b. option_to_list (further_word t) ++ b) (counted ∙ ap (λ r. counts_words n ++ r) output) in
+    let parted : V ≡ words_of (take (count + 1 - 1) words) ++ drop (input_count t) V =
+    words-parted count words ∙ ap (λ j. words_of (take j words) ++ drop count V) (sym k)
+    ∙ ap (λ j. words_of (take (count + 1 - 1) words) ++ drop j V) same in (
+      ap (λ x. x ∷ V) first ∙ ap (λ l. tool_word t ∷ l) (parted ∙ ap (λ l. words_of (take (count + 1 - 1) words) ++ l) last),
+      record {
+        counted = ap (λ j. length (words_of (take j words))) k ∙ words-taken count words (omega (arith, long)) ∙ same;
+        counts = are;
+        output = writes;
+      },
+    )

@@ -1,5 +1,5 @@
 -- The commands that read files, judge what they hold, and end with one answer: a row for each in each of these tables.
-use Rattle.std.specs.Prelude.{ℕ, ◌≡◌, ◌≤◌, ◌+◌, List, [], ◌∷◌, ◌++◌, length, codes, decimal, Bool, true, false, Option, Some, None}
+use Rattle.std.specs.Prelude.{ℕ, ◌≡◌, ◌≤◌, ◌+◌, List, [], ◌∷◌, ◌++◌, length, codes, decimal, Bool, true, false, Option, Some, None, option_to_list}
 use Rattle.command_line.specs.declared.counts.Counts.{Counts}
 use Rattle.command_line.specs.declared.counts.Counts.TheVariants as counts
 use Rattle.command_line.specs.declared.counts.Limit.{Limit}
@@ -18,6 +18,8 @@ tool_word tool.Wave = codes "wave"
 tool_word tool.Picture = codes "picture"
 tool_word tool.Check = codes "check"
 tool_word tool.Bounds = codes "bounds"
+tool_word tool.Latency = codes "bounds"
+tool_word tool.Map = codes "map"
 
 -- how many files it reads; their names are the next words
 abbrev pub input_count : Tool → ℕ
@@ -29,6 +31,21 @@ input_count tool.Wave = 2
 input_count tool.Picture = 2
 input_count tool.Check = 4
 input_count tool.Bounds = 2
+input_count tool.Latency = 2
+input_count tool.Map = 2
+
+-- the word that stands behind the names of the files that it reads, if one does
+abbrev pub further_word : Tool → Option (List ℕ)
+further_word tool.Elf = None
+further_word tool.Unelf = None
+further_word tool.Infer = None
+further_word tool.At = None
+further_word tool.Wave = None
+further_word tool.Picture = None
+further_word tool.Check = None
+further_word tool.Bounds = None
+further_word tool.Latency = Some (codes "latency")
+further_word tool.Map = None
 
 -- which counts it takes as its next words, if it takes any
 abbrev pub counts_limit : Tool → Option Limit
@@ -40,6 +57,8 @@ counts_limit tool.Wave = Some (limit.One 1000000)
 counts_limit tool.Picture = Some (limit.Window 1000000 100000)
 counts_limit tool.Check = Some (limit.One 1000000)
 counts_limit tool.Bounds = None
+counts_limit tool.Latency = None
+counts_limit tool.Map = None
 
 -- whether its last word names a file that it writes
 abbrev pub writes_file : Tool → Bool
@@ -51,6 +70,21 @@ writes_file tool.Wave = true
 writes_file tool.Picture = true
 writes_file tool.Check = false
 writes_file tool.Bounds = false
+writes_file tool.Latency = false
+writes_file tool.Map = false
+
+-- how many words it has
+abbrev pub word_count : Tool → ℕ
+word_count tool.Elf = 3
+word_count tool.Unelf = 3
+word_count tool.Infer = 4
+word_count tool.At = 4
+word_count tool.Wave = 5
+word_count tool.Picture = 6
+word_count tool.Check = 6
+word_count tool.Bounds = 3
+word_count tool.Latency = 4
+word_count tool.Map = 3
 
 -- a tool with the files that it reads, its counts and the file that it writes, if it has them
 pub record ToolUse : Type 0 where
@@ -72,7 +106,8 @@ output_words (Some name) = name ∷ []
 
 -- the words of a tool
 abbrev pub tool_words : ToolUse → List (List ℕ)
-tool_words used = tool_word used.tool ∷ used.inputs ++ (counts_words used.counts ++ output_words used.output)
+tool_words used =
+    tool_word used.tool ∷ used.inputs ++ (option_to_list (further_word used.tool) ++ (counts_words used.counts ++ output_words used.output))
 
 -- a window whose ends are in order, the second at most so great, and at most so far behind the first
 pub record IsWindow (most apart : ℕ) (window : Window) : Type 0 where

@@ -1,6 +1,7 @@
 //! The commands that read files, judge what they hold, and end with one answer: a row of the table for each.
-ghost use Rattle.std.specs.Prelude.{◌≡◌, ◌≢◌, IfSome, IfNone};
-ghost use Rattle.command_line.specs.Tools.{tool_word, input_count, counts_limit, writes_file};
+ghost use Rattle.std.specs.Option.{option_map};
+ghost use Rattle.std.specs.Prelude.{◌≡◌, IfSome, IfNone};
+ghost use Rattle.command_line.specs.Tools.{tool_word, input_count, further_word, word_count, counts_limit, writes_file};
 ghost use Rattle.command_line.specs.declared.tool.Tool.{Tool as AnyTool};
 
 use crate::counts::{Counts, Limit};
@@ -24,6 +25,10 @@ pub enum Tool {
     Check,
     /// `bounds OIL SRC`: how much work of lower tasks may stand before each task.
     Bounds,
+    /// `bounds OIL SRC latency`: the same, and how long the task of highest priority may wait.
+    Latency,
+    /// `map OIL SRC`: what the image takes of memory.
+    Map,
 }
 
 impl Tool {
@@ -40,6 +45,26 @@ impl Tool {
             Tool::Picture => 2,
             Tool::Check => 4,
             Tool::Bounds => 2,
+            Tool::Latency => 2,
+            Tool::Map => 2,
+        }
+    }
+
+    /// The word that stands behind the names of the files that it reads, if one does.
+    pub fn further_word(self) -> Option<&'static str>
+        ensures { option_map (λ word. word.now) result ≡ further_word self }
+    {
+        match self {
+            Tool::Elf => None,
+            Tool::Unelf => None,
+            Tool::Infer => None,
+            Tool::At => None,
+            Tool::Wave => None,
+            Tool::Picture => None,
+            Tool::Check => None,
+            Tool::Bounds => None,
+            Tool::Latency => Some("latency"),
+            Tool::Map => None,
         }
     }
 
@@ -59,6 +84,8 @@ impl Tool {
             }),
             Tool::Check => Some(Limit::One(1_000_000)),
             Tool::Bounds => None,
+            Tool::Latency => None,
+            Tool::Map => None,
         }
     }
 
@@ -75,6 +102,8 @@ impl Tool {
             Tool::Picture => true,
             Tool::Check => false,
             Tool::Bounds => false,
+            Tool::Latency => false,
+            Tool::Map => false,
         }
     }
 }
@@ -88,34 +117,40 @@ pub struct ToolWords<'a> {
     pub output: Option<&'a str>,
 }
 
-/// The tool that a word asks for.
-pub fn tool_named(word: &str) -> Option<Tool>
-    ensures some { IfSome result (λ tool. word.now ≡ tool_word tool) }
-    ensures none { IfNone result ((tool : AnyTool) → word.now ≢ tool_word tool) }
+/// The tool that a word asks for, where there are so many words.
+pub fn tool_named(word: &str, count: usize) -> Option<Tool>
+    ensures some { IfSome result (λ tool. (word.now ≡ tool_word tool) × (count ≡ word_count tool)) }
+    ensures none { IfNone result ((tool : AnyTool) → word.now ≡ tool_word tool → count ≡ word_count tool → ⊥) }
 {
-    if word == "elf" {
+    if word == "elf" && count == 3 {
         return Some(Tool::Elf);
     }
-    if word == "unelf" {
+    if word == "unelf" && count == 3 {
         return Some(Tool::Unelf);
     }
-    if word == "infer" {
+    if word == "infer" && count == 4 {
         return Some(Tool::Infer);
     }
-    if word == "at" {
+    if word == "at" && count == 4 {
         return Some(Tool::At);
     }
-    if word == "wave" {
+    if word == "wave" && count == 5 {
         return Some(Tool::Wave);
     }
-    if word == "picture" {
+    if word == "picture" && count == 6 {
         return Some(Tool::Picture);
     }
-    if word == "check" {
+    if word == "check" && count == 6 {
         return Some(Tool::Check);
     }
-    if word == "bounds" {
+    if word == "bounds" && count == 3 {
         return Some(Tool::Bounds);
+    }
+    if word == "bounds" && count == 4 {
+        return Some(Tool::Latency);
+    }
+    if word == "map" && count == 3 {
+        return Some(Tool::Map);
     }
     None
 }

@@ -1,5 +1,5 @@
 //! The words of tools.
-ghost use Rattle.std.specs.Prelude.{◌≡◌, ◌≤◌, ◌∷◌, ℕ, List, IfSome, IfNone, Option, Some, decimal, length, drop};
+ghost use Rattle.std.specs.Prelude.{◌≡◌, ◌≤◌, ◌∷◌, ◌++◌, ℕ, List, IfSome, IfNone, Option, Some, Decides, option_to_list, decimal, length, drop};
 ghost use Rattle.std.specs.Option.{option_map};
 ghost use Rattle.command_line.specs.declared.counts.Counts.{Counts as AnyCounts};
 ghost use Rattle.command_line.specs.declared.counts.Limit.TheVariants as limit;
@@ -11,6 +11,38 @@ ghost use Rattle.command_line.specs.Words.{use_of};
 use crate::counts::{Counts, Limit, Window};
 use crate::number::number_below;
 use crate::tool::{ToolWords, tool_named};
+
+// The words behind the first ones, so many of them.
+fn words_behind(words: &[String], count: usize) -> &[String]
+    requires { count ≤ length words.now }
+    ensures { result.now ≡ drop count words.now }
+{
+    &words[count..]
+}
+
+// Whether these are one word.
+fn is_same(word: &str, other: &str) -> bool
+    ensures { Decides result (word.now ≡ other.now) }
+{
+    word == other
+}
+
+// The words behind the further word, where there is to be one.
+fn behind_further<'a>(further: Option<&str>, words: &'a [String]) -> Option<&'a [String]>
+    ensures some { IfSome result (λ rest. words_of words.now ≡ option_to_list (option_map (λ word. word.now) further.entry) ++ words_of rest.now) }
+    ensures none { IfNone result
+        ((rest : List (List ℕ)) → words_of words.now ≡ option_to_list (option_map (λ word. word.now) further.entry) ++ rest → ⊥) }
+{
+    let Some(further) = further else {
+        return Some(words);
+    };
+    let first = words.first()?;
+    if is_same(first, further) {
+        Some(words_behind(words, 1))
+    } else {
+        None
+    }
+}
 
 // Counts, if there are to be any, and the words behind them.
 #[derive(Clone, Copy)]
@@ -91,25 +123,18 @@ fn output_word(writes: bool, words: &[String]) -> Option<Option<&str>>
     if words.is_empty() { Some(None) } else { None }
 }
 
-// The words behind the first ones, so many of them.
-fn words_behind(words: &[String], count: usize) -> &[String]
-    requires { count ≤ length words.now }
-    ensures { result.now ≡ drop count words.now }
-{
-    &words[count..]
-}
-
 /// The tool of these words, if they are one's.
 pub fn tool_command(words: &[String]) -> Option<ToolWords<'_>>
     ensures some { IfSome result (λ t. IsCommand (words_of words.now) (Uses (use_of t))) }
     ensures none { IfNone result (NoTool (words_of words.now)) }
 {
-    let tool = tool_named(words.first()?)?;
+    let tool = tool_named(words.first()?, words.len())?;
     let behind = tool.input_count() + 1;
     if words.len() < behind {
         return None;
     }
-    let counted = counts_and_rest(tool.counts_limit(), words_behind(words, behind))?;
+    let rest = behind_further(tool.further_word(), words_behind(words, behind))?;
+    let counted = counts_and_rest(tool.counts_limit(), rest)?;
     let output = output_word(tool.writes_file(), counted.rest)?;
     Some(ToolWords {
         tool,

@@ -9,16 +9,30 @@ use Rattle.masked_code.specs.Owes.{◌▸◌, writes, loads, Owes}
 use Rattle.masked_code.proofs.Leave.{behind}
 use Rattle.event_gen.specs.Pieces.{finds_own}
 
--- the end of the running task's words, which x3 then holds
+-- the end of the running task's words, which x1 then holds
 abbrev pub own_end : ℕ → ℕ
 own_end task = memory_base + 12 * (task + 1)
 
 module _ (from to task : ℕ) (E : List ℕ → State → State → Type 0) (start : State) (rest : List InstrKind) (c : Core) (x1 x2 x3 : ℕ) (tail : List ℕ)
     (is_task : task < 30) (runs : word_at c.ram cur ≡ task + 1) where
-  pub finds_owe : (o : ℕ)
-      → Owes from to (behind 5 o) rest 0 E start (record c { registers = 0 ∷ 8 * (task + 1) ∷ x2 ∷ own_end task ∷ memory_base ∷ tail })
-      → Owes from to o (finds_own ++ rest) 0 E start (record c { registers = 0 ∷ x1 ∷ x2 ∷ x3 ∷ memory_base ∷ tail })
-  finds_owe o go =
+  -- by x3
+  pub finds_by_x3 : (o : ℕ)
+      → Owes from to (behind 5 o) rest 0 E start (record c { registers = 0 ∷ own_end task ∷ x2 ∷ 8 * (task + 1) ∷ memory_base ∷ tail })
+      → Owes from to o (finds_own 3 ++ rest) 0 E start (record c { registers = 0 ∷ x1 ∷ x2 ∷ x3 ∷ memory_base ∷ tail })
+  finds_by_x3 o go =
+      loads cur (record { is = refl; aligned = refl; inside = omega arith }) (task + 1) runs
+      ▸ writes (8 * (task + 1)) (omega arith)
+      ▸ writes (4 * (task + 1)) (omega arith)
+      ▸ writes (12 * (task + 1)) (omega arith)
+      ▸ writes (own_end task) (omega arith)
+      ▸ go
+
+  -- by x10
+  pub finds_by_x10 : (o x5 x6 x7 x8 x9 x10 : ℕ) (more : List ℕ)
+      → Owes from to (behind 5 o) rest 0 E start
+      (record c { registers = 0 ∷ own_end task ∷ x2 ∷ x3 ∷ memory_base ∷ x5 ∷ x6 ∷ x7 ∷ x8 ∷ x9 ∷ 8 * (task + 1) ∷ more })
+      → Owes from to o (finds_own 10 ++ rest) 0 E start (record c { registers = 0 ∷ x1 ∷ x2 ∷ x3 ∷ memory_base ∷ x5 ∷ x6 ∷ x7 ∷ x8 ∷ x9 ∷ x10 ∷ more })
+  finds_by_x10 o x5 x6 x7 x8 x9 x10 more go =
       loads cur (record { is = refl; aligned = refl; inside = omega arith }) (task + 1) runs
       ▸ writes (8 * (task + 1)) (omega arith)
       ▸ writes (4 * (task + 1)) (omega arith)

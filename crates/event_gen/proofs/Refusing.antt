@@ -1,16 +1,16 @@
 -- A service on the events of a task that may be Suspended: what is owed of the code that refuses it behind the look at the task.
-use Rattle.std.proofs.Common.{◌≡◌, ℕ, ◌+◌, ◌*◌, ◌<◌, ◌≤◌, List, [], ◌∷◌, ◌++◌, length, get_or, refl, ap, ⊎_elim}
-use Rattle.std.specs.Prelude.{false, eqb, set, slice_index}
-use Rattle.std.proofs.lemmas.Bool.{eq-eqb}
+use Rattle.std.proofs.Common.{◌≡◌, ℕ, ◌+◌, ◌*◌, ◌≤◌, List, [], ◌∷◌, ◌++◌, length, get_or, refl, ap, ⊎_elim}
+use Rattle.std.specs.Prelude.{true, false, not, eqb, set, slice_index}
 use Rattle.sloth_base.specs.Machine.{Core, State}
 use Rattle.sloth_base.specs.MemoryMap.{memory_base}
 use Rattle.sloth_base.specs.Status.{E_OS_STATE}
+use Rattle.sloth_region.specs.Layout.{controller_base}
 use Rattle.rv32_instr.specs.declared.InstrKind.{InstrKind}
 use Rattle.masked_code.specs.Owes.{◌▸◌, writes, Owes}
 use Rattle.masked_code.specs.Place.{at}
 use Rattle.masked_code.proofs.Leave.{behind}
 use Rattle.masked_code.proofs.Routines.{masked}
-use Rattle.masked_code.proofs.Spread.{spread, spread_from}
+use Rattle.masked_code.proofs.Spread.{based, spread_from}
 use Rattle.block_parts.proofs.Busy.{Finds}
 use Rattle.block_parts.proofs.Landing.{lands}
 use Rattle.block_parts.proofs.Returning.{goes_back}
@@ -25,7 +25,7 @@ passes : (from to : ℕ) (first code : List InstrKind) (E : List ℕ → State �
 passes from to [] code E start c o go = go o
 passes from to (kind ∷ first) code E start c o go = passes from to first code E start c (o + 4) go
 
-module _ (offset to task : ℕ) (code : List InstrKind) (c : Core) (can : CanGoBack offset code c) (level : c.ilevel < 256) (E : List ℕ → State → State → Type 0) where
+module _ (offset to task : ℕ) (code : List InstrKind) (c : Core) (can : CanGoBack offset code c) (E : List ℕ → State → State → Type 0) where
   abbrev x2 : ℕ
   x2 = get_or c.registers 2 0
 
@@ -34,28 +34,28 @@ module _ (offset to task : ℕ) (code : List InstrKind) (c : Core) (can : CanGoB
 
   -- the start, with these lines pending
   abbrev begun : List ℕ → State
-  begun p = at offset (record (spread c) { pending = p })
+  begun p = at offset (record (based c) { pending = p })
 
   -- the look found v: of a Suspended task the service goes back with its status, of another it goes on with `first`
-  pub refuses_owe : (first : List InstrKind) (o : ℕ) (p : List ℕ) (x1 v : ℕ) → o + 4 ≤ 0x20_0000 → length first ≤ 68 → Finds task (record c { pending = p }) v
+  pub refuses_owe : (first : List InstrKind) (o : ℕ) (p : List ℕ) (v x10 : ℕ) → o + 4 ≤ 0x20_0000 → length first ≤ 68 → Finds task (record c { pending = p }) v
       → (LooksSuspended task (record c { pending = p }) → (end : State) → slice_index end.core.registers a0 ≡ E_OS_STATE
-      → WentBack a0 (record (spread c) { pending = p }) (begun p) end → E [] (begun p) end)
+      → WentBack a0 (record (based c) { pending = p }) (begun p) end → E [] (begun p) end)
       → ((LooksSuspended task (record c { pending = p }) → ⊥) → Owes offset to (behind 2 o) (first ++ back) 0 E (begun p)
-      (record (masked (spread c)) { registers = 0 ∷ x1 ∷ x2 ∷ v ∷ memory_base ∷ set tail 5 E_OS_STATE; pending = p }))
+      (record (masked (based c)) { registers = 0 ∷ v ∷ x2 ∷ controller_base ∷ memory_base ∷ set tail 5 E_OS_STATE; pending = p }))
       → Owes offset to o (refusal_code (length first) ++ (first ++ back)) 0 E (begun p)
-      (record (masked (spread c)) { registers = 0 ∷ x1 ∷ x2 ∷ v ∷ memory_base ∷ tail; pending = p })
-  refuses_owe first o p x1 v small few found suspended other =
+      (record (masked (based c)) { registers = 0 ∷ v ∷ x2 ∷ controller_base ∷ memory_base ∷ set tail 5 x10; pending = p })
+  refuses_owe first o p v x10 small few found suspended other =
       writes E_OS_STATE refl
       ▸ record {
         passed = length first;
         lands = lands (o + 4) (4 + 4 * length first) (length first) small few refl;
         when_taken = λ t. ⊎_elim
             (λ s. passes offset to first back E (begun p) _ (behind 2 o)
-            (λ o'. goes_back offset code c can E x1 v E_OS_STATE p p c.ram level (λ end is went. suspended s.0 end is went)))
-            (λ s. let f : eqb v 0 ≡ false = ap (λ x. eqb x 0) s.1 in absurd (cc))
+            (λ o'. goes_back offset code c can E v E_OS_STATE p p c.ram (λ end is went. suspended s.0 end is went)))
+            (λ s. let f : not (eqb v 0) ≡ false = ap (λ x. not (eqb x 0)) s.1 in absurd (cc))
             found;
         when_not = λ n. ⊎_elim
-            (λ s. absurd (n (eq-eqb v 0 s.1)))
+            (λ s. let f : not (eqb v 0) ≡ true = ap (λ x. not (eqb x 0)) s.1 in absurd (n f))
             (λ s. other s.0)
             found;
       }

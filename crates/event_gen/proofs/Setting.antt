@@ -4,18 +4,17 @@ use Rattle.std.specs.Prelude.{set, bit_and}
 use Rattle.std.proofs.lemmas.Bool.{eq-eqb, cases_eq, ne_eqb}
 use Rattle.sloth_base.specs.Machine.{Core, State}
 use Rattle.sloth_base.specs.Arrive.{arrive}
-use Rattle.sloth_base.specs.Status.{E_OK}
+use Rattle.sloth_base.specs.Status.{E_OK, E_OS_STATE}
 use Rattle.sloth_base.specs.MemoryMap.{memory_base}
-use Rattle.sloth_region.specs.Layout.{active, events, wait, words_high, controller_base}
+use Rattle.sloth_region.specs.Layout.{active, events, wait, controller_base}
 use Rattle.rv32_instr.specs.declared.InstrKind.{InstrKind}
-use Rattle.rv32_instr.specs.declared.InstrKind.TheVariants.{Lui}
 use Rattle.rv32_instr.specs.Ram.{word_at, with_word}
 use Rattle.masked_code.specs.Place.{at}
 use Rattle.masked_code.specs.Masked.{FromOpening}
 use Rattle.masked_code.specs.Kernel.{masking}
 use Rattle.masked_code.specs.Owes.{◌▸◌, writes, loads, stores, raises, sets_enabled, Owes}
 use Rattle.masked_code.proofs.Words.{word_at-other}
-use Rattle.masked_code.proofs.Spread.{spread, spread_from}
+use Rattle.masked_code.proofs.Spread.{based, spread_from}
 use Rattle.masked_code.proofs.Routines.{masked}
 use Rattle.masked_code.proofs.Leave.{behind}
 use Rattle.block_parts.proofs.Returning.{goes_back}
@@ -24,17 +23,17 @@ use Rattle.block_parts.proofs.Landing.{lands}
 use Rattle.block_parts.proofs.Serving.{opens}
 use Rattle.block_parts.specs.Looks.{LooksSuspended}
 use Rattle.block_parts.specs.Back.{CanGoBack}
-use Rattle.block_parts.specs.Pieces.{busy, raising_code, back}
+use Rattle.block_parts.specs.Pieces.{looking_code, raising_code, back}
 use Rattle.event_gen.proofs.Refusing.{refuses_owe}
 use Rattle.event_gen.specs.Pieces.{refusal_code, adds_events, asks_awaited, enabling_code}
 use Rattle.event_gen.specs.SetEvent.{MaySet, EventsSet, SetsEvents, with_mask}
 
 abbrev pub body : ℕ → List InstrKind
-body task = Lui 4 words_high ∷ (busy task 3 1 ++ (refusal_code 11 ++ (adds_events task ++ (asks_awaited task ++ (raising_code task ++ (enabling_code task ++ back))))))
+body task = looking_code task ++ (refusal_code 10 ++ (adds_events task ++ (asks_awaited task ++ (raising_code task ++ (enabling_code task ++ back)))))
 
 module _ (offset task : ℕ) (c : Core) (h : MaySet offset task (masking ∷ body task) c) where
   abbrev st : List ℕ → State
-  st p = at offset (record (spread c) { pending = p })
+  st p = at offset (record (based c) { pending = p })
 
   abbrev x2 : ℕ
   x2 = get_or c.registers 2 0
@@ -62,24 +61,27 @@ module _ (offset task : ℕ) (c : Core) (h : MaySet offset task (masking ∷ bod
       record {
         can_run = record { controller = r.controller; registers = r.registers; zero = r.zero; lines = r.lines; aligned = r.aligned; behind = r.behind; inside = r.inside; placed = r.placed };
         previous = g.previous;
+        same_level = g.same_level;
+        bases = g.bases;
         back = g.back;
       }
 
   -- the look at the awaited events
-  asked_owe : (o : ℕ) (p : List ℕ) → o + 8 ≤ 0x20_0000 → (LooksSuspended task (record c { pending = p }) → ⊥)
-      → Owes offset (offset + 4 + 100) o (asks_awaited task ++ (raising_code task ++ (enabling_code task ++ back))) 0 (λ u. EventsSet task (task ∷ u)) (st p)
-      (record (masked (spread c)) { registers = 0 ∷ word ∷ x2 ∷ grown ∷ memory_base ∷ set tail 5 E_OK; pending = p; ram = ram })
+  asked_owe : (o : ℕ) (p : List ℕ) → o + 12 ≤ 0x20_0000 → (LooksSuspended task (record c { pending = p }) → ⊥)
+      → Owes offset (offset + 4 + 76) o (asks_awaited task ++ (raising_code task ++ (enabling_code task ++ back))) 0 (λ u. EventsSet task (task ∷ u)) (st p)
+      (record (masked (based c)) { registers = 0 ∷ grown ∷ x2 ∷ controller_base ∷ memory_base ∷ set tail 5 E_OS_STATE; pending = p; ram = ram })
   asked_owe o p small not_suspended =
       let few = h.is_task in
       let line : task < 32 = omega arith in
       let v = bit_and grown waits_for in
       loads (wait task) (record { is = omega arith; aligned = omega arith; inside = omega arith }) waits_for (word_at-other c.ram (events task) grown (wait task) (inr (omega arith)))
       ▸ writes v refl
+      ▸ writes E_OK refl
       ▸ record {
-        passed = 4;
-        lands = lands (o + 4 + 4) 20 4 (omega arith) (omega arith) refl;
+        passed = 3;
+        lands = lands (o + 4 + 4 + 4) 16 3 (omega arith) (omega arith) refl;
         when_taken = λ t. ⊎_elim
-            (λ none. goes_back offset (masking ∷ body task) c h.goes_back (λ u. EventsSet task (task ∷ u)) waits_for v E_OK p p ram h.level
+            (λ none. goes_back offset (masking ∷ body task) c h.goes_back (λ u. EventsSet task (task ∷ u)) v E_OK p p ram
             (λ last is went. record {
               touches = refl;
               done = inr (inl (record { not_suspended = not_suspended; none_awaited = none; status = is; back = went }));
@@ -89,12 +91,11 @@ module _ (offset task : ℕ) (c : Core) (h : MaySet offset task (masking ∷ bod
         when_not = λ n. ⊎_elim
             (λ none. absurd (n (eq-eqb v 0 none)))
             (λ some.
-            writes controller_base refl
-            ▸ writes 1 refl
+            writes 1 refl
             ▸ raises task (omega arith, line) (λ z. absurd (cc))
             ▸ sets_enabled task (omega arith, line)
             ▸ goes_back offset (masking ∷ body task) (record c { enabled = set c.enabled task 1 }) (enabled_too (set c.enabled task 1))
-            (λ u s last. EventsSet task (task ∷ u) (st p) last) controller_base 1 E_OK p (set p task 1) ram h.level
+            (λ u s last. EventsSet task (task ∷ u) (st p) last) 1 E_OK p (set p task 1) ram
             (λ last is went. record {
               touches = refl;
               done = inr (inr (record {
@@ -113,36 +114,34 @@ module _ (offset task : ℕ) (c : Core) (h : MaySet offset task (masking ∷ bod
 
   -- the code behind the look at the task
   abbrev further : List InstrKind
-  further = refusal_code 11 ++ (passed_code ++ back)
+  further = refusal_code 10 ++ (passed_code ++ back)
 
   -- behind the look, which found v
   looked_owe : (o : ℕ) (p : List ℕ) (v : ℕ) → o + 40 ≤ 0x20_0000 → Finds task (record c { pending = p }) v
-      → Owes offset (offset + 4 + 100) o further 0 (λ u. EventsSet task (task ∷ u)) (st p)
-      (record (masked (spread c)) { registers = 0 ∷ word ∷ x2 ∷ v ∷ memory_base ∷ tail; pending = p })
+      → Owes offset (offset + 4 + 76) o further 0 (λ u. EventsSet task (task ∷ u)) (st p)
+      (record (masked (based c)) { registers = 0 ∷ v ∷ x2 ∷ controller_base ∷ memory_base ∷ set tail 5 word; pending = p })
   looked_owe o p v small found =
       let few = h.is_task in
       let low = h.goes_back.can_run.behind in
-      let n : length passed_code ≡ 11 = refl in
-      refuses_owe offset (offset + 4 + 100) task (masking ∷ body task) c h.goes_back h.level (λ u. EventsSet task (task ∷ u)) passed_code o p word v
+      let n : length passed_code ≡ 10 = refl in
+      refuses_owe offset (offset + 4 + 76) task (masking ∷ body task) c h.goes_back (λ u. EventsSet task (task ∷ u)) passed_code o p v word
       (omega arith) (omega arith) found
       (λ is_suspended end is went. record { touches = refl; done = inl (record { suspended = is_suspended; status = is; back = went }) })
       (λ not_suspended.
-      writes E_OK refl
-      ▸ loads (events task) (record { is = omega arith; aligned = omega arith; inside = omega arith }) (word_at c.ram (events task)) refl
+      loads (events task) (record { is = omega arith; aligned = omega arith; inside = omega arith }) (word_at c.ram (events task)) refl
       ▸ writes grown refl
       ▸ stores (events task) (record { is = omega arith; aligned = omega arith; inside = omega arith }) (inl (omega arith))
-      ▸ asked_owe (behind 6 o) p (omega arith) not_suspended)
+      ▸ asked_owe (behind 5 o) p (omega arith) not_suspended)
 
-  body_owes : Owes offset (offset + 4 + 100) (offset + 4) (body task) 0 (EventsSet task) (at offset (spread c)) (masked (spread c))
+  body_owes : Owes offset (offset + 4 + 76) (offset + 4) (body task) 0 (EventsSet task) (at offset (based c)) (masked (based c))
   body_owes =
       let fits = h.goes_back.can_run.inside in
-      writes memory_base refl
-      ▸ looks_owe offset (offset + 4 + 100) task (EventsSet task) further c h.is_task h.goes_back.can_run.lines
-      h.active_bit h.pending_bit h.enabled_bit (offset + 4 + 4) (get_or c.registers 1 0) (get_or c.registers 3 0)
-      (λ lines v only found. looked_owe (behind 8 (offset + 4)) (arrive lines c.pending) v (omega arith) found)
+      looks_owe offset (offset + 4 + 76) task (EventsSet task) further c h.is_task h.goes_back.can_run.lines
+      h.active_bit h.pending_bit h.enabled_bit (offset + 4) (get_or c.registers 1 0) (get_or c.registers 10 0)
+      (λ lines v only found. looked_owe (behind 5 (offset + 4)) (arrive lines c.pending) v (omega arith) found)
 
-  runs_it : FromOpening 25 (at offset c) (EventsSet task)
-  runs_it = opens offset 25 (body task) c (EventsSet task) h.goes_back.can_run (omega arith) body_owes
+  runs_it : FromOpening 19 (at offset c) (EventsSet task)
+  runs_it = opens offset 19 (body task) c (EventsSet task) h.goes_back.can_run h.goes_back.bases (omega arith) body_owes
 
 pub sets : (task : ℕ) → SetsEvents task (masking ∷ body task)
 sets task = record { size = refl; masks = (body task, refl); runs = λ offset core h. runs_it offset task core h }

@@ -1,14 +1,14 @@
 -- The code of WaitEvent has its effect.
-use Rattle.std.proofs.Common.{◌≡◌, ℕ, ◌+◌, ◌*◌, ◌%◌, ◌<◌, ◌≤◌, ◌⊎◌, List, ◌∷◌, ◌++◌, length, get_or, refl, sym, ap, ◌∙◌, subst, arith, inl, inr, ⊎_elim}
+use Rattle.std.proofs.Common.{◌≡◌, ℕ, ◌+◌, ◌*◌, ◌%◌, ◌<◌, ◌≤◌, ◌⊎◌, List, ◌∷◌, ◌++◌, get_or, refl, sym, ap, ◌∙◌, subst, arith, inl, inr, ⊎_elim}
 use Rattle.std.specs.Prelude.{set, pos, neg_ℤ}
 use Rattle.std.proofs.lemmas.Bool.{eq-eqb, cases_eq, ne_eqb}
 use Rattle.sloth_base.specs.Machine.{Core, State}
 use Rattle.sloth_base.specs.Arithmetic.{plus}
 use Rattle.sloth_base.specs.Status.{E_OK}
 use Rattle.sloth_base.specs.MemoryMap.{memory_base}
-use Rattle.sloth_region.specs.Layout.{cur, active, events, wait, resume, below_word, idle_context, context_bytes, context_level, context_cur, context_below, words_high, controller_base}
+use Rattle.sloth_region.specs.Layout.{cur, active, events, wait, resume, below_word, idle_context, context_bytes, context_level, context_cur, context_below, controller_base}
 use Rattle.rv32_instr.specs.declared.InstrKind.{InstrKind}
-use Rattle.rv32_instr.specs.declared.InstrKind.TheVariants.{Lui, Addi}
+use Rattle.rv32_instr.specs.declared.InstrKind.TheVariants.{Addi}
 use Rattle.rv32_instr.specs.Ram.{word_at, with_word, with_words}
 use Rattle.masked_code.specs.Place.{at}
 use Rattle.masked_code.specs.Masked.{FromOpening}
@@ -16,7 +16,7 @@ use Rattle.masked_code.specs.Pieces.{saving_code, registers_from}
 use Rattle.masked_code.specs.Kernel.{IsBelow, HasLeft, leaving_code, masking}
 use Rattle.masked_code.specs.Owes.{◌▸◌, writes, loads, stores, sets_enabled, IsApart, Owes}
 use Rattle.masked_code.proofs.Words.{word_at-other, word_at-others}
-use Rattle.masked_code.proofs.Spread.{spread, spread_from}
+use Rattle.masked_code.proofs.Spread.{based, spread_from}
 use Rattle.masked_code.proofs.Runs.{saves_owes}
 use Rattle.masked_code.proofs.Routines.{masked}
 use Rattle.masked_code.proofs.Leave.{leave_owes, behind}
@@ -24,20 +24,24 @@ use Rattle.block_parts.proofs.Returning.{goes_back}
 use Rattle.block_parts.proofs.Landing.{lands}
 use Rattle.block_parts.proofs.Serving.{opens_within}
 use Rattle.block_parts.specs.Pieces.{back}
-use Rattle.event_gen.proofs.Finding.{own_end, finds_owe}
-use Rattle.event_gen.specs.Pieces.{finds_own, asks_set, answers_set, goes_to_rest, keeping_code, disabling_code}
+use Rattle.event_gen.proofs.Finding.{own_end, finds_by_x3}
+use Rattle.event_gen.specs.Pieces.{finds_own, asks_set, holds_controller, answers_set, goes_to_rest, keeping_code, disabling_code}
 use Rattle.event_gen.specs.WaitEvent.{MayWait, Waited, HasWaited, Waits, set_of, rested_ram, kept_ram}
 
 -- the registers are saved before this code
 abbrev saved_first : List InstrKind → List InstrKind
 saved_first rest = Addi 1 2 (neg_ℤ (pos context_bytes)) ∷ (saving_code 27 5 1 ++ rest)
 
+-- behind the saved registers
+abbrev saved_then : List InstrKind
+saved_then = keeping_code ++ (holds_controller ++ (disabling_code ++ leaving_code))
+
 abbrev pub body : List InstrKind
-body = Lui 4 words_high ∷ (finds_own ++ (asks_set ++ (answers_set ++ (back ++ (goes_to_rest ++ saved_first (keeping_code ++ (disabling_code ++ leaving_code)))))))
+body = finds_own 3 ++ (asks_set ++ (holds_controller ++ (answers_set ++ (back ++ (goes_to_rest ++ saved_first saved_then)))))
 
 module _ (offset task place own : ℕ) (c : Core) (h : MayWait offset task place own (masking ∷ body) c) where
   abbrev st : State
-  st = at offset (spread c)
+  st = at offset (based c)
 
   abbrev sp : ℕ
   sp = get_or c.registers 2 0
@@ -52,13 +56,13 @@ module _ (offset task place own : ℕ) (c : Core) (h : MayWait offset task place
   found = set_of task c
 
   abbrev ram : List ℕ
-  ram = kept_ram (spread c) task own
+  ram = kept_ram (based c) task own
 
   low : 1024 ≤ offset
   low = h.goes_back.can_run.behind
 
   abbrev end : ℕ
-  end = offset + 4 + 360
+  end = offset + 4 + 356
 
   apart_by : (k : ℕ) → own ≤ k → k + 4 ≤ own + context_bytes → IsApart offset end k
   apart_by k l f = let a = h.code_apart in grind (arith, a)
@@ -77,8 +81,8 @@ module _ (offset task place own : ℕ) (c : Core) (h : MayWait offset task place
   kept p past far =
       let small = h.is_task in
       let over = h.behind in
-      let ws = registers_from 27 5 (spread c).registers in
-      let r2 = rested_ram (spread c) task in
+      let ws = registers_from 27 5 (based c).registers in
+      let r2 = rested_ram (based c) task in
       let r3 = with_words r2 (own + 4 * 5) ws in
       let r4 = with_word r3 own (get_or c.registers 31 0) in
       word_at-other r4 (resume task) at_own p (grind (arith, far))
@@ -95,7 +99,7 @@ module _ (offset task place own : ℕ) (c : Core) (h : MayWait offset task place
       kept (place + k) (omega arith) (inr (omega arith, grind (arith, a)))
 
   abbrev d : Core
-  d = record (masked (spread c)) { enabled = set c.enabled task 0; ram = ram }
+  d = record (masked (based c)) { enabled = set c.enabled task 0; ram = ram }
 
   zero_more : place + 0 ≡ place
   zero_more = omega arith
@@ -128,6 +132,8 @@ module _ (offset task place own : ℕ) (c : Core) (h : MayWait offset task place
           opened = l.opened;
           previous = l.previous;
           running = l.running ∙ kept_below context_level (omega arith);
+          same_level = l.same_level;
+          bases = l.bases;
           pending = l.pending;
           enabled = l.enabled;
           levels = l.levels;
@@ -140,21 +146,21 @@ module _ (offset task place own : ℕ) (c : Core) (h : MayWait offset task place
         };
         pc = has_left.pc ∙ kept_place;
         x2 = has_left.x2;
-        loaded = λ i from upto. has_left.loaded i from upto ∙ kept_below (4 * i) (omega arith);
+        loaded = λ some i from upto. has_left.loaded (λ z. some (sym at_cur ∙ z)) i from upto ∙ kept_below (4 * i) (omega arith);
       }
 
   -- behind the saved registers
-  kept_owe : (o : ℕ) → found ≡ 0
-      → Owes offset end o (keeping_code ++ (disabling_code ++ leaving_code)) 0 (Waited task place own) st
-      (record (masked (spread c)) { registers = 0 ∷ at_own ∷ sp ∷ (own_end task) ∷ memory_base ∷ tail; ram = with_words (rested_ram (spread c) task) (own + 4 * 5) (registers_from 27 5 (spread c).registers) })
-  kept_owe o none =
+  kept_owe : (o : ℕ) → o + 32 ≤ 0x20_0000 → found ≡ 0
+      → Owes offset end o saved_then 0 (Waited task place own) st
+      (record (masked (based c)) { registers = 0 ∷ at_own ∷ sp ∷ found ∷ memory_base ∷ tail; ram = with_words (rested_ram (based c) task) (own + 4 * 5) (registers_from 27 5 (based c).registers) })
+  kept_owe o near none =
       let small = h.is_task in
       let al = h.aligned in
       let over = h.behind in
       let fits = h.inside in
       let under = low in
-      let ws = registers_from 27 5 (spread c).registers in
-      let r2 = rested_ram (spread c) task in
+      let ws = registers_from 27 5 (based c).registers in
+      let r2 = rested_ram (based c) task in
       let r3 = with_words r2 (own + 4 * 5) ws in
       let runs_on : word_at (with_word r3 own (get_or c.registers 31 0)) cur ≡ task + 1 =
       word_at-other r3 own (get_or c.registers 31 0) cur (inl (omega arith))
@@ -169,25 +175,25 @@ module _ (offset task place own : ℕ) (c : Core) (h : MayWait offset task place
       ▸ writes (memory_base + 4 * (task + 1)) (omega arith)
       ▸ stores (resume task) (record { is = omega arith; aligned = omega arith; inside = omega arith }) (inl (omega arith))
       ▸ writes controller_base refl
-      ▸ writes (controller_base + (task + 1)) (omega arith)
+      ▸ writes (task + 1 + controller_base) (omega arith)
       ▸ sets_enabled task (omega arith, omega arith)
-      ▸ leave_owes offset end (Waited task place own) st place d at_own sp (task + 1) (set tail 25 (controller_base + (task + 1))) refl refl h.goes_back.previous still_below low (behind 8 o)
+      ▸ leave_owes offset end (Waited task place own) st place d at_own sp (task + 1 + controller_base) (set (spread_from 26 6 c.registers) 24 (memory_base + 4 * (task + 1))) refl refl h.goes_back.previous still_below low (behind 8 o) (omega (arith, near))
       (λ last left. record { touches = refl; done = inr (has_waited last none left) })
 
   -- the registers are saved; whatever stands behind
   saved_owe : (rest : List InstrKind) (E : List ℕ → State → State → Type 0) (o x1 x3 : ℕ) (before : List ℕ)
       → Owes offset end (behind 1 o + 108) rest 0 E st
-      (record (masked (spread c)) { registers = 0 ∷ at_own ∷ sp ∷ x3 ∷ memory_base ∷ tail; ram = with_words before (own + 4 * 5) (registers_from 27 5 (spread c).registers) })
-      → Owes offset end o (saved_first rest) 0 E st (record (masked (spread c)) { registers = 0 ∷ x1 ∷ sp ∷ x3 ∷ memory_base ∷ tail; ram = before })
+      (record (masked (based c)) { registers = 0 ∷ at_own ∷ sp ∷ x3 ∷ memory_base ∷ tail; ram = with_words before (own + 4 * 5) (registers_from 27 5 (based c).registers) })
+      → Owes offset end o (saved_first rest) 0 E st (record (masked (based c)) { registers = 0 ∷ x1 ∷ sp ∷ x3 ∷ memory_base ∷ tail; ram = before })
   saved_owe rest E o x1 x3 before go =
       writes at_own own_is
-      ▸ saves_owes offset end E st rest own h.aligned 27 5 1 (behind 1 o) (behind 1 o + 108) (record (masked (spread c)) { registers = 0 ∷ at_own ∷ sp ∷ x3 ∷ memory_base ∷ tail; ram = before }) refl refl own_fits own_apart go
+      ▸ saves_owes offset end E st rest own h.aligned 27 5 1 (behind 1 o) (behind 1 o + 108) (record (masked (based c)) { registers = 0 ∷ at_own ∷ sp ∷ x3 ∷ memory_base ∷ tail; ram = before }) refl refl own_fits own_apart go
 
   -- the task goes to rest; whatever stands behind
   rested_owe : (rest : List InstrKind) (E : List ℕ → State → State → Type 0) (o : ℕ)
       → Owes offset end (behind 2 o) rest 0 E st
-      (record (masked (spread c)) { registers = 0 ∷ found ∷ sp ∷ (own_end task) ∷ memory_base ∷ tail; ram = rested_ram (spread c) task })
-      → Owes offset end o (goes_to_rest ++ rest) 0 E st (record (masked (spread c)) { registers = 0 ∷ found ∷ sp ∷ (own_end task) ∷ memory_base ∷ tail })
+      (record (masked (based c)) { registers = 0 ∷ own_end task ∷ sp ∷ found ∷ memory_base ∷ tail; ram = rested_ram (based c) task })
+      → Owes offset end o (goes_to_rest ++ rest) 0 E st (record (masked (based c)) { registers = 0 ∷ own_end task ∷ sp ∷ found ∷ memory_base ∷ tail })
   rested_owe rest E o go =
       let small = h.is_task in
       let under = low in
@@ -197,19 +203,18 @@ module _ (offset task place own : ℕ) (c : Core) (h : MayWait offset task place
 
   -- the look at the events; whatever stands behind the way back
   looked_owe : (rest : List InstrKind)
-      → (found ≡ 0 → Owes offset end (behind 14 (offset + 4)) rest 0 (Waited task place own) st (record (masked (spread c)) { registers = 0 ∷ found ∷ sp ∷ (own_end task) ∷ memory_base ∷ tail }))
-      → Owes offset end (offset + 4) (Lui 4 words_high ∷ (finds_own ++ (asks_set ++ (answers_set ++ (back ++ rest))))) 0 (Waited task place own) st (masked (spread c))
+      → (found ≡ 0 → Owes offset end (behind 12 (offset + 4)) rest 0 (Waited task place own) st (record (masked (based c)) { registers = 0 ∷ own_end task ∷ sp ∷ found ∷ memory_base ∷ tail }))
+      → Owes offset end (offset + 4) (finds_own 3 ++ (asks_set ++ (holds_controller ++ (answers_set ++ (back ++ rest))))) 0 (Waited task place own) st (masked (based c))
   looked_owe rest go =
       let small = h.is_task in
       let fits = h.goes_back.can_run.inside in
-      writes memory_base refl
-      ▸ finds_owe offset end task (Waited task place own) st (asks_set ++ (answers_set ++ (back ++ rest))) (masked (spread c)) (get_or c.registers 1 0) sp
-      (get_or c.registers 3 0) tail small h.runs (offset + 4 + 4) (
+      finds_by_x3 offset end task (Waited task place own) st (asks_set ++ (holds_controller ++ (answers_set ++ (back ++ rest)))) (masked (based c)) (get_or c.registers 1 0) sp
+      controller_base tail small h.runs (offset + 4) (
       loads (events task) (record { is = omega arith; aligned = omega arith; inside = omega arith }) (word_at c.ram (events task)) refl
       ▸ writes found refl
       ▸ record {
-        passed = 5;
-        lands = lands (behind 8 (offset + 4)) 24 5 (omega arith) (omega arith) refl;
+        passed = 4;
+        lands = lands (behind 7 (offset + 4)) 20 4 (omega arith) (omega arith) refl;
         when_taken = λ t. ⊎_elim
             (λ none. go none)
             (λ some. let f = ne_eqb found 0 some in absurd (cc))
@@ -217,21 +222,24 @@ module _ (offset task place own : ℕ) (c : Core) (h : MayWait offset task place
         when_not = λ n. ⊎_elim
             (λ none. absurd (n (eq-eqb found 0 none)))
             (λ some.
-            writes E_OK refl
-            ▸ goes_back offset (masking ∷ body) c h.goes_back (Waited task place own) found (own_end task) E_OK
-            c.pending c.pending c.ram h.level (λ last is went. record { touches = refl; done = inl (record { one_set = some; status = is; back = went }) }))
+            writes controller_base refl
+            ▸ writes E_OK refl
+            ▸ goes_back offset (masking ∷ body) c h.goes_back (Waited task place own) (own_end task) E_OK
+            c.pending c.pending c.ram (λ last is went. record { touches = refl; done = inl (record { one_set = some; status = is; back = went }) }))
             (cases_eq found 0);
       })
 
-  body_owes : Owes offset end (offset + 4) body 0 (Waited task place own) st (masked (spread c))
+  body_owes : Owes offset end (offset + 4) body 0 (Waited task place own) st (masked (based c))
   body_owes =
-      looked_owe (goes_to_rest ++ saved_first (keeping_code ++ (disabling_code ++ leaving_code)))
-      (λ none. rested_owe (saved_first (keeping_code ++ (disabling_code ++ leaving_code))) (Waited task place own) (behind 14 (offset + 4))
-      (saved_owe (keeping_code ++ (disabling_code ++ leaving_code)) (Waited task place own) (behind 2 (behind 14 (offset + 4))) found (own_end task) (rested_ram (spread c) task)
-      (kept_owe (behind 3 (behind 14 (offset + 4)) + 108) none)))
+      let fits = h.goes_back.can_run.inside in
+      let near : behind 3 (behind 12 (offset + 4)) + 108 + 32 ≤ 0x20_0000 = omega arith in
+      looked_owe (goes_to_rest ++ saved_first saved_then)
+      (λ none. rested_owe (saved_first saved_then) (Waited task place own) (behind 12 (offset + 4))
+      (saved_owe saved_then (Waited task place own) (behind 2 (behind 12 (offset + 4))) (own_end task) found (rested_ram (based c) task)
+      (kept_owe (behind 3 (behind 12 (offset + 4)) + 108) near none)))
 
   runs_it : FromOpening 85 (at offset c) (Waited task place own)
-  runs_it = opens_within offset 85 body c (Waited task place own) h.goes_back.can_run (omega arith) body_owes
+  runs_it = opens_within offset 85 body c (Waited task place own) h.goes_back.can_run h.goes_back.bases (omega arith) body_owes
 
 pub waits : Waits (masking ∷ body)
 waits = record { size = refl; masks = (body, refl); runs = λ offset task place own core h. runs_it offset task place own core h }

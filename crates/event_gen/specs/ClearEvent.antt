@@ -18,7 +18,6 @@ mask_register = 30
 -- the code can run, this task runs, and the mask is a word
 pub record MayClear (offset task : ℕ) (code : List InstrKind) (core : Core) : Type 0 where
   pub goes_back : CanGoBack offset code core
-  pub level : core.ilevel < 256
   pub runs : word_at core.ram cur ≡ task + 1
   pub is_task : task < 30
   pub is_word : slice_index core.registers mask_register < 2 ^ 32
@@ -33,7 +32,7 @@ pub record EventsCleared (task : ℕ) (touched : List ℕ) (start end : State) :
   pub status : slice_index end.core.registers a0 ≡ E_OK
   pub back : WentBack a0 (record start.core { ram = cleared_ram start.core.ram task (slice_index start.core.registers mask_register) }) start end
 
--- Code of ClearEvent: behind its first instruction at most 15 more lead to its effect, whatever lines arrive.
+-- Code of ClearEvent: behind its first instruction at most 12 more lead to its effect, whatever lines arrive.
 abbrev pub ClearsEvents : List InstrKind → Type 0
 ClearsEvents code =
-    IsServiceCode service.ClearEvent code ((offset task : ℕ) (core : Core) → MayClear offset task code core → FromOpening 15 (at offset core) (EventsCleared task))
+    IsServiceCode service.ClearEvent code ((offset task : ℕ) (core : Core) → MayClear offset task code core → FromOpening 12 (at offset core) (EventsCleared task))

@@ -16,7 +16,6 @@ use Rattle.block_parts.specs.Looks.{LooksSuspended}
 pub record MayGet (offset task : ℕ) (code : List InstrKind) (core : Core) : Type 0 where
   pub goes_back : CanGoBack offset code core
   pub is_task : task < 30
-  pub level : core.ilevel < 256
   pub active_bit : word_at core.ram (active task) < 2
   pub pending_bit : slice_index core.pending task < 2
   pub enabled_bit : slice_index core.enabled task < 2
@@ -39,7 +38,7 @@ pub record EventsTold (task : ℕ) (touched : List ℕ) (start end : State) : Ty
   pub touches : touched ≡ task ∷ []
   pub told : HasNotTold task start end ⊎ HasTold task start end
 
--- Code of GetEvent: behind its first instruction at most 16 more lead to its effect, whatever lines arrive.
+-- Code of GetEvent: behind its first instruction at most 11 more lead to its effect, whatever lines arrive.
 abbrev pub TellsEvents : ℕ → List InstrKind → Type 0
 TellsEvents task code =
-    IsServiceCode service.GetEvent code ((offset : ℕ) (core : Core) → MayGet offset task code core → FromOpening 16 (at offset core) (EventsTold task))
+    IsServiceCode service.GetEvent code ((offset : ℕ) (core : Core) → MayGet offset task code core → FromOpening 11 (at offset core) (EventsTold task))

@@ -17,7 +17,6 @@ use Rattle.event_gen.specs.ClearEvent.{mask_register}
 pub record MaySet (offset task : ℕ) (code : List InstrKind) (core : Core) : Type 0 where
   pub goes_back : CanGoBack offset code core
   pub is_task : task < 30
-  pub level : core.ilevel < 256
   pub active_bit : word_at core.ram (active task) < 2
   pub pending_bit : slice_index core.pending task < 2
   pub enabled_bit : slice_index core.enabled task < 2
@@ -63,7 +62,7 @@ pub record EventsSet (task : ℕ) (touched : List ℕ) (start end : State) : Typ
   pub touches : touched ≡ task ∷ []
   pub done : HasNotSet task start end ⊎ (HasSet task start end ⊎ HasWoken task start end)
 
--- Code of SetEvent: behind its first instruction at most 25 more lead to its effect, whatever lines arrive.
+-- Code of SetEvent: behind its first instruction at most 19 more lead to its effect, whatever lines arrive.
 abbrev pub SetsEvents : ℕ → List InstrKind → Type 0
 SetsEvents task code =
-    IsServiceCode service.SetEvent code ((offset : ℕ) (core : Core) → MaySet offset task code core → FromOpening 25 (at offset core) (EventsSet task))
+    IsServiceCode service.SetEvent code ((offset : ℕ) (core : Core) → MaySet offset task code core → FromOpening 19 (at offset core) (EventsSet task))

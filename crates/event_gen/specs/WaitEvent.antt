@@ -19,7 +19,6 @@ use Rattle.event_gen.specs.ClearEvent.{mask_register}
 -- below x2, apart from that and from the code.
 pub record MayWait (offset task place own : ℕ) (code : List InstrKind) (core : Core) : Type 0 where
   pub goes_back : CanGoBack offset code core
-  pub level : core.ilevel < 256
   pub runs : word_at core.ram cur ≡ task + 1
   pub is_task : task < 30
   pub below : IsBelow place core
@@ -65,7 +64,9 @@ pub record HasWaited (task place own : ℕ) (start end : State) : Type 0 where
   pub left : LeftAs (waiting_core task place own start.core) end.core
   pub pc : end.pc ≡ word_at start.core.ram place
   pub x2 : slice_index end.core.registers 2 ≡ memory_base + (place + context_bytes)
-  pub loaded : (i : ℕ) → 5 ≤ i → i < 32 → slice_index end.core.registers i ≡ word_at start.core.ram (place + 4 * i)
+  -- nothing is said of the registers where the idle loop runs below
+  pub loaded : word_at start.core.ram (place + context_cur) ≢ 0 → (i : ℕ) → 5 ≤ i → i < 32
+      → slice_index end.core.registers i ≡ word_at start.core.ram (place + 4 * i)
 
 -- what WaitEvent does
 pub record Waited (task place own : ℕ) (touched : List ℕ) (start end : State) : Type 0 where

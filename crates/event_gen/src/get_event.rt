@@ -7,7 +7,7 @@ use crate::pieces::refuse;
 use block_parts::pieces::{go_back, look_at, open};
 use masked_code::emit::emit;
 use rv32_instr::Instr;
-use rv32_instr::asm::{A0, A1, X1, X3, X4, ZERO, addi, lw};
+use rv32_instr::asm::{A0, A1, X4, ZERO, addi, lw};
 use sloth_base::service::E_OK;
 use sloth_region::layout::events;
 use std::alloc::{AllocError, Global};
@@ -22,14 +22,14 @@ pub fn code(alloc: Global, task: u8) -> Result<Vec<Instr>, AllocError>
 {
     let mut code = Vec::new(alloc);
     open(&mut code)?;
-    look_at(&mut code, task, X3, X1)?;
+    look_at(&mut code, task)?;
     refuse(&mut code, TELL)?;
     tell(&mut code, task)?;
     go_back(&mut code)?;
     Ok(code)
 }
 
-/// a1 := the task's events, with the status E_OK. x4 holds the base of memory.
+/// a1 := the task's events, with the status E_OK.
 fn tell(code: &mut Vec<Instr>, task: u8) -> Result<(), AllocError>
     requires { task < 30 }
     ensures { OnOk result (code.new.items ≡ code.old.items ++ tells_events task) }

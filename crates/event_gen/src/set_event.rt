@@ -14,13 +14,13 @@ use sloth_region::layout::{enabled_byte, events, wait};
 use std::alloc::{AllocError, Global};
 
 /// How many instructions `add_events` adds.
-const ADD: u32 = 4;
+const ADD: u32 = 3;
 
 /// How many instructions `ask_awaited` adds.
-const ASK: u32 = 3;
+const ASK: u32 = 4;
 
 /// How many instructions raise the task's line and enable it.
-const WAKE: u32 = 4;
+const WAKE: u32 = 3;
 
 /// The look at the task, its events, its line where one of them is awaited, and the way back.
 pub fn code(alloc: Global, task: u8) -> Result<Vec<Instr>, AllocError>
@@ -29,7 +29,7 @@ pub fn code(alloc: Global, task: u8) -> Result<Vec<Instr>, AllocError>
 {
     let mut code = Vec::new(alloc);
     open(&mut code)?;
-    look_at(&mut code, task, X3, X1)?;
+    look_at(&mut code, task)?;
     refuse(&mut code, ADD + ASK + WAKE)?;
     add_events(&mut code, task)?;
     ask_awaited(&mut code, task)?;
@@ -39,37 +39,37 @@ pub fn code(alloc: Global, task: u8) -> Result<Vec<Instr>, AllocError>
     Ok(code)
 }
 
-/// Adds the events of the mask in x30 to the task's, which stay in x3, with the status E_OK. x4 holds the base of memory.
+/// Adds the events of the mask in x30 to the task's, which stay in x1.
 fn add_events(code: &mut Vec<Instr>, task: u8) -> Result<(), AllocError>
     requires { task < 30 }
     ensures { OnOk result (code.new.items ≡ code.old.items ++ adds_events task) }
 {
     let added = [
-        addi(A0, ZERO, E_OK as i32),
-        lw(X3, X4, events(task)),
-        or(X3, X3, X30),
-        sw(X3, X4, events(task)),
+        lw(X1, X4, events(task)),
+        or(X1, X1, X30),
+        sw(X1, X4, events(task)),
     ];
     emit(code, &added)
 }
 
-/// Goes on behind what wakes the task where it waits for none of the events in x3. x4 holds the base of memory.
+/// The status E_OK, and on behind what wakes the task where it waits for none of the events in x1.
 fn ask_awaited(code: &mut Vec<Instr>, task: u8) -> Result<(), AllocError>
     requires { task < 30 }
     ensures { OnOk result (code.new.items ≡ code.old.items ++ asks_awaited task) }
 {
     let asked = [
-        lw(X1, X4, wait(task)),
-        and(X3, X3, X1),
-        beq(X3, ZERO, past(WAKE)),
+        lw(A0, X4, wait(task)),
+        and(X1, X1, A0),
+        addi(A0, ZERO, E_OK as i32),
+        beq(X1, ZERO, past(WAKE)),
     ];
     emit(code, &asked)
 }
 
-/// Enables the task's line. x1 holds the controller's address and x3 1.
+/// Enables the task's line. x1 holds 1.
 fn enable(code: &mut Vec<Instr>, task: u8) -> Result<(), AllocError>
     requires { task < 30 }
     ensures { OnOk result (code.new.items ≡ code.old.items ++ enabling_code task) }
 {
-    emit(code, &[sb(X3, X1, enabled_byte(task))])
+    emit(code, &[sb(X1, X3, enabled_byte(task))])
 }

@@ -1,11 +1,11 @@
 //! WaitEvent: the running task goes on where one of the events is set; else it waits, and what runs below it goes on.
 ghost use Rattle.std.specs.Prelude.{◌≡◌, ◌++◌, IfOk, OnOk};
-ghost use Rattle.event_gen.specs.Pieces.{asks_set, answers_set, goes_to_rest, saves_own, keeping_code, disabling_code};
+ghost use Rattle.event_gen.specs.Pieces.{asks_set, holds_controller, answers_set, goes_to_rest, saves_own, keeping_code, disabling_code};
 ghost use Rattle.event_gen.specs.WaitEvent.{Waits};
 
 use crate::pieces::find_own;
 use block_parts::pieces::{BACK, OWN_ACTIVE, OWN_EVENTS, go_back, open};
-use masked_code::emit::{emit, past, save};
+use masked_code::emit::{X5, emit, past, save};
 use masked_code::pieces::leave;
 use rv32_instr::Instr;
 use rv32_instr::asm::{
@@ -30,28 +30,37 @@ pub fn code(alloc: Global) -> Result<Vec<Instr>, AllocError>
 {
     let mut code = Vec::new(alloc);
     open(&mut code)?;
-    find_own(&mut code)?;
+    find_own(&mut code, X3)?;
     ask_set(&mut code)?;
+    hold_controller(&mut code)?;
     answer_set(&mut code)?;
     go_back(&mut code)?;
     go_to_rest(&mut code)?;
     save_own(&mut code)?;
     keep(&mut code)?;
+    hold_controller(&mut code)?;
     disable(&mut code)?;
     leave(&mut code)?;
     Ok(code)
 }
 
-/// Goes on behind the way back where none of the events of the mask in x30 is set at x3.
+/// Goes on behind the way back where none of the events of the mask in x30 is set at x1.
 fn ask_set(code: &mut Vec<Instr>) -> Result<(), AllocError>
     ensures { OnOk result (code.new.items ≡ code.old.items ++ asks_set) }
 {
     let asked = [
-        lw(X1, X3, OWN_EVENTS),
-        and(X1, X1, X30),
-        beq(X1, ZERO, past(1 + BACK)),
+        lw(X3, X1, OWN_EVENTS),
+        and(X3, X3, X30),
+        beq(X3, ZERO, past(2 + BACK)),
     ];
     emit(code, &asked)
+}
+
+/// x3 := the controller's address again.
+fn hold_controller(code: &mut Vec<Instr>) -> Result<(), AllocError>
+    ensures { OnOk result (code.new.items ≡ code.old.items ++ holds_controller) }
+{
+    emit(code, &[lui(X3, CONTROLLER_HIGH)])
 }
 
 /// The status E_OK.
@@ -61,11 +70,11 @@ fn answer_set(code: &mut Vec<Instr>) -> Result<(), AllocError>
     emit(code, &[addi(A0, ZERO, E_OK as i32)])
 }
 
-/// The running task, whose words are at x3, isn't Active, and waits for the events of the mask in x30.
+/// The running task, whose words are at x1, isn't Active, and waits for the events of the mask in x30.
 fn go_to_rest(code: &mut Vec<Instr>) -> Result<(), AllocError>
     ensures { OnOk result (code.new.items ≡ code.old.items ++ goes_to_rest) }
 {
-    let rested = [sw(ZERO, X3, OWN_ACTIVE), sw(X30, X3, OWN_WAIT)];
+    let rested = [sw(ZERO, X1, OWN_ACTIVE), sw(X30, X1, OWN_WAIT)];
     emit(code, &rested)
 }
 
@@ -77,28 +86,23 @@ fn save_own(code: &mut Vec<Instr>) -> Result<(), AllocError>
     save(code, 5, 32, X1)
 }
 
-/// The context at x1 is the running task's own, with the address in x31 to go on at. x4 holds the base of memory.
+/// The context at x1 is the running task's own, with the address in x31 to go on at. Leaves `cur` in x5.
 fn keep(code: &mut Vec<Instr>) -> Result<(), AllocError>
     ensures { OnOk result (code.new.items ≡ code.old.items ++ keeping_code) }
 {
     let kept = [
         sw(X31, X1, CONTEXT_PC),
-        lw(X3, X4, CUR),
-        slli(X30, X3, 2),
+        lw(X5, X4, CUR),
+        slli(X30, X5, 2),
         add(X30, X30, X4),
         sw(X1, X30, OWN_RESUME),
     ];
     emit(code, &kept)
 }
 
-/// The running task's line is not enabled. x3 holds `cur`.
+/// The running task's line is not enabled. x5 holds `cur`.
 fn disable(code: &mut Vec<Instr>) -> Result<(), AllocError>
     ensures { OnOk result (code.new.items ≡ code.old.items ++ disabling_code) }
 {
-    let disabled = [
-        lui(X30, CONTROLLER_HIGH),
-        add(X30, X30, X3),
-        sb(ZERO, X30, OWN_ENABLED),
-    ];
-    emit(code, &disabled)
+    emit(code, &[add(X5, X5, X3), sb(ZERO, X5, OWN_ENABLED)])
 }

@@ -32,13 +32,13 @@ use Rattle.asm_lines.specs.declared.source_line.SourceLine.{SourceLine}
 use Rattle.asm_lines.specs.declared.source_line.SourceLine.TheVariants.{Statement}
 use Rattle.asm_lines.specs.declared.table.Mnemonic.TheVariants as m
 use Rattle.asm_lines.specs.Faults.{is_a1, after_line, ends_inside, FaultAt, SourceFault, TextFault, source_lines}
-use Rattle.asm_names.specs.declared.scope.Scope.{Scope}
-use Rattle.asm_names.specs.declared.scope.Kind.TheVariants as kind
-use Rattle.asm_names.specs.Said.{is_label, name_of, written_name}
-use Rattle.asm_names.specs.Bodies.{bodies_of}
-use Rattle.asm_names.specs.Scopes.{any_unknown, is_scheduler, is_lacking, kind_of, scope_of}
+use Rattle.asm_scopes.specs.declared.scope.Scope.{Scope}
+use Rattle.asm_scopes.specs.declared.scope.Kind.TheVariants as kind
+use Rattle.asm_scopes.specs.Said.{is_label, name_of, written_name}
+use Rattle.asm_scopes.specs.Bodies.{bodies_of}
+use Rattle.asm_scopes.specs.Scopes.{any_unknown, is_scheduler, is_lacking, kind_of, scope_of}
 use Rattle.asm_names.specs.NameFaults.{writes_long, NameFault}
-use Rattle.asm_parse.specs.Apps.{app_of}
+use Rattle.asm_items.specs.Apps.{app_of}
 use Rattle.asm_parse.specs.AppTexts.{AppText, SourceTextFault}
 use Rattle.asm_parse.proofs.Fit.{FitsName}
 use Rattle.asm_parse.proofs.Read.{IsRead}

@@ -11,7 +11,7 @@ use Rattle.asm_lines.specs.declared.operands.Operand.TheVariants.{Name, Wrong}
 use Rattle.asm_lines.specs.declared.source_line.SourceLine.TheVariants.{Empty, Statement}
 use Rattle.asm_lines.specs.declared.table.Mnemonic.TheVariants as m
 use Rattle.asm_lines.specs.Bytes.{is_shown, trim}
-use Rattle.asm_lines.specs.Table.{mnemonic_of, alu_of, imm_of, shift_of, load_of, store_of, branch_of, stated_service, plain_of}
+use Rattle.asm_lines.specs.Table.{mnemonic_of, alu_of, imm_of, shift_of, load_of, store_of, branch_of, plain_of}
 use Rattle.asm_lines.specs.Operands.{before}
 use Rattle.asm_lines.specs.SourceLines.{source_line, statement_of, known_statement, read_operands, has_empty}
 use Rattle.asm_lines.specs.Grammar.{starts_bare, Bare, IsTrimmed, is_whole, IsOperands, is_last, is_more, is_something, IsShape}
@@ -115,7 +115,7 @@ operands_read i [] w = refl
 operands_read i (n ∷ ns) w = ap (λ b. cond b (Name n) Wrong ∷ read_operands m.Label (i + 1) ns) w.0 ∙ ap (λ xs. Name n ∷ xs) (operands_read (i + 1) ns w.1)
 
 label_word : mnemonic_of (codes "label") ≡ Some m.Label
-unfolding mnemonic_of alu_of imm_of shift_of load_of store_of branch_of stated_service service_named plain_of
+unfolding mnemonic_of alu_of imm_of shift_of load_of store_of branch_of service_named plain_of
 label_word = refl
 
 pub label_read : (name : List ℕ) (ns : List (List ℕ)) → is_name name ≡ true → AreWritten ns → source_line (label_text name ns) ≡ label_statement name ns

@@ -10,7 +10,7 @@ use Rattle.asm_lines.specs.declared.source_line.SourceLine.{SourceLine}
 use Rattle.asm_lines.specs.declared.source_line.SourceLine.TheVariants.{Statement}
 use Rattle.asm_lines.specs.declared.table.Mnemonic.TheVariants as mnemonic
 use Rattle.asm_lines.specs.Faults.{is_a1, after_line}
-use Rattle.asm_names.specs.Said.{is_label, name_of}
+use Rattle.asm_scopes.specs.Said.{is_label, name_of}
 
 -- ---- the lists of task code
 

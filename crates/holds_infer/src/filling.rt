@@ -6,7 +6,7 @@ ghost use Rattle.least_fault.specs.Order.{NoFault};
 ghost use Rattle.asm_lines.specs.Lines.{without_returns};
 ghost use Rattle.asm_lines.specs.SourceLines.{source_line};
 ghost use Rattle.asm_lines.specs.Faults.{source_lines, TextFault};
-ghost use Rattle.asm_names.specs.Said.{is_label};
+ghost use Rattle.asm_scopes.specs.Said.{is_label};
 ghost use Rattle.code_rules.specs.AppRange.{AppInRange};
 ghost use Rattle.code_rules.specs.WellFormed.{WellFormed};
 ghost use Rattle.sloth_source.specs.SourceText.{HasApp, SourceText};
@@ -17,7 +17,7 @@ ghost use Rattle.holds_infer.specs.FilledText.{filled_part, filled_parts, filled
 use crate::label_text::write_part;
 use asm_lines::cutting::split;
 use asm_lines::{SourceLine, read};
-use asm_names::is_label;
+use asm_scopes::is_label;
 use sloth_base::app::{App, Func};
 use sloth_base::config::Config;
 use sloth_base::list::List;

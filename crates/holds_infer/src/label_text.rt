@@ -6,7 +6,7 @@ ghost use Rattle.holds_infer.specs.FilledText.{label_text, line_end, filled_part
 
 use asm_lines::SourceLine;
 use asm_lines::cutting::line_of;
-use asm_names::{is_label, name_of};
+use asm_scopes::{is_label, name_of};
 use sloth_base::config::Config;
 use sloth_base::memory::NoMemory;
 use sloth_base::numbers::ResId;

@@ -1,5 +1,5 @@
 -- All routines of an image are gathered.
-use Rattle.std.proofs.Common.{◌≡◌, ◌≤◌, ◌<◌, ◌+◌, ◌*◌, ◌/◌, ◌%◌, ℕ, zero, suc, Bool, true, false, Some, List, [], ◌∷◌, ◌++◌, length, get_or, refl, sym, ap, ◌∙◌, subst, inl, inr, arith}
+use Rattle.std.proofs.Common.{◌≡◌, ◌≤◌, ◌<◌, ◌+◌, ◌%◌, ℕ, zero, suc, Bool, true, false, List, [], ◌∷◌, ◌++◌, length, get_or, refl, sym, ap, ◌∙◌, subst, inl, inr, arith}
 use Rattle.std.specs.Prelude.{All, Contains, slice_index}
 use Rattle.std.specs.List.{AllZip}
 use Rattle.std.proofs.lemmas.List.{append_assoc, length-append}
@@ -18,7 +18,6 @@ use Rattle.sloth_base.specs.declared.app.Op.{Op}
 use Rattle.sloth_base.specs.declared.app.Op.TheVariants as op
 use Rattle.sloth_base.specs.declared.config.Config.{Config}
 use Rattle.sloth_base.specs.declared.image.Mark.{Mark}
-use Rattle.sloth_base.specs.declared.image.MarkKind.{MarkKind}
 use Rattle.sloth_base.specs.declared.places.Levels.{Levels}
 use Rattle.sloth_base.specs.declared.service.Service.{Service}
 use Rattle.sloth_base.specs.declared.service.Service.TheVariants as service
@@ -27,7 +26,7 @@ use Rattle.code_rules.specs.AppRange.{IsOp, IsRegister}
 use Rattle.rv32_instr.specs.declared.InstrKind.{InstrKind}
 use Rattle.rv32_instr.specs.declared.block.Block.{Block}
 use Rattle.rv32_expand.specs.Expansion.{block_address}
-use Rattle.rv32_expand.specs.InPlace.{IsItem, IsOfItem, item_mark, mark_kind, mark_number}
+use Rattle.rv32_expand.specs.InPlace.{IsItem, item_mark, mark_kind, mark_number}
 use Rattle.rv32_expand.specs.Sizes.{items_before}
 use Rattle.service_gen.specs.Block.{further_marks}
 use Rattle.block_parts.specs.Marks.{opening, back_mark}
@@ -51,12 +50,13 @@ use Rattle.sloth_link.specs.Items.{HaveItems, IsOwnMark, MarksAreOfItems, item_b
 use Rattle.sloth_link.proofs.ItemBlocks.{item_among, items_own}
 use Rattle.sloth_link.proofs.Joined.{front}
 use Rattle.image_gen.specs.Prologues.{Each, IsPrologue}
+use Rattle.image_gen.specs.Ticks.{IsTickBlock}
 use Rattle.image_gen.specs.Services.{AreServices, IsService, wanted_from}
-use Rattle.image_gen.proofs.Called.{called_with, calls, in_marks, serving_in_marks}
+use Rattle.image_gen.proofs.Called.{called_with, calls, in_marks}
 use Rattle.image_gen.proofs.Places.{code_found}
-use Rattle.sloth_link.proofs.Counting.{Located, few_items, located, before_within, block_at, length_blocks}
+use Rattle.sloth_link.proofs.Counting.{Located, few_items, located, block_at, length_blocks}
 use Rattle.image_gen.proofs.Each.{zip_append}
-use Rattle.image_gen.proofs.Rooming.{none, plain, marked, prologues_fit, services_fit, items_fit}
+use Rattle.image_gen.proofs.Rooming.{none, plain, marked, prologues_fit, ticks_fit, services_fit, items_fit}
 
 -- ---- services by their numbers
 
@@ -135,16 +135,16 @@ by_further P s at back = All-nil P
 
 module _ (config : Config) (app : App) (levels : Levels) (map : Map) (may : MayGenerate config app levels map) where
   -- those of services
-  served_format : (served : List Block) → AreServices levels map (wanted_blocks app) served → All (MarksInFormat config app) served
+  served_format : (served : List Block) → AreServices config levels map (wanted_blocks app) served → All (MarksInFormat config app) served
   served_format served serve = λ k d l.
       let numbers : List ℕ = wanted_from 0 (wanted_blocks app) in
-      let long = AllZip-long (IsService levels map) numbers served serve in
-      let h = zip_at (IsService levels map) numbers served k 0 d serve (omega (arith, l, long)) in
+      let long = AllZip-long (IsService config levels map) numbers served serve in
+      let h = zip_at (IsService config levels map) numbers served k 0 d serve (omega (arith, l, long)) in
       let b : Block = get_or served k d in
       let P : List Mark → Type 0 = λ marks. All (IsInFormat config app) marks in
       let n : ℕ = get_or numbers k 0 in
       let found = code_found (block_code n) h.service h.is in
-      let code = serving_in_marks config h.service (block_object n) levels b.code may.no_counters h.serves in
+      let code = in_marks config may.well_formed.in_range.configuration h.service (block_object n) h.called_with in
       let at = h.at in
       let even = blocks_even n in
       subst P (sym h.marks) (All-cons (IsInFormat config app) (opening b.at (block_code n)) (further_marks h.service b.at)
@@ -160,55 +160,62 @@ pub record IsMade (address : ℕ) (marks : List Mark) (Effect : List InstrKind �
   pub marks_are : block.marks ≡ marks
   pub effect : Effect block.code
 
--- All blocks of an image, each made as it should be: the vectors, boot, the idle loop, a prologue for each task, the services that are
--- called, and the items.
-pub record AreMade (config : Config) (app : App) (levels : Levels) (map : Map) (vectors boot idle : Block) (starts served own : List Block) : Type 0 where
+-- All blocks of an image, each made as it should be: the vectors, boot, the idle loop, a prologue for each task, a tick for each counter, the
+-- services that are called, and the items.
+pub record AreMade (config : Config) (app : App) (levels : Levels) (map : Map) (vectors boot idle : Block) (starts counted served own : List Block) : Type 0 where
   pub vectors_made : IsMade 0x8000_0400 [] (AreJumps 32 map.handlers) vectors
-  pub boot_made : IsMade 0x8000_0480 [] (Boots config.tasks levels.task map.idle) boot
+  pub boot_made : IsMade 0x8000_0480 [] (Boots config.tasks (length config.counters) levels.task levels.top map.idle) boot
   pub idle_made : IsMade map.idle (idle_mark map.idle ∷ []) Idles idle
   pub count : length starts ≡ length config.tasks
   pub each : Each (IsPrologue config app levels map) starts
-  pub serve : AreServices levels map (wanted_blocks app) served
+  pub counted_long : length counted ≡ length config.counters
+  pub each_tick : Each (IsTickBlock config map) counted
+  pub serve : AreServices config levels map (wanted_blocks app) served
   pub items : own ≡ item_blocks app map.places (length app.funcs)
 
 module _ (config : Config) (app : App) (levels : Levels) (map : Map) (may : MayGenerate config app levels map)
-    (vectors boot idle : Block) (starts served own : List Block) (made : AreMade config app levels map vectors boot idle starts served own) where
+    (vectors boot idle : Block) (starts counted served own : List Block) (made : AreMade config app levels map vectors boot idle starts counted served own) where
   abbrev wanted : List Bool
   wanted = wanted_blocks app
 
   abbrev all : List Block
-  all = vectors ∷ boot ∷ idle ∷ (starts ++ (served ++ own))
+  all = vectors ∷ boot ∷ idle ∷ (starts ++ (counted ++ (served ++ own)))
 
   in_starts : (b : Block) → Contains starts b → Contains all b
-  in_starts b c = Contains-append_right (vectors ∷ boot ∷ idle ∷ []) (starts ++ (served ++ own)) b (Contains-append_left starts (served ++ own) b c)
+  in_starts b c = Contains-append_right (vectors ∷ boot ∷ idle ∷ []) (starts ++ (counted ++ (served ++ own))) b (Contains-append_left starts (counted ++ (served ++ own)) b c)
+
+  in_counted : (b : Block) → Contains counted b → Contains all b
+  in_counted b c =
+      Contains-append_right (vectors ∷ boot ∷ idle ∷ []) (starts ++ (counted ++ (served ++ own))) b
+      (Contains-append_right starts (counted ++ (served ++ own)) b (Contains-append_left counted (served ++ own) b c))
 
   in_served : (b : Block) → Contains served b → Contains all b
   in_served b c =
-      Contains-append_right (vectors ∷ boot ∷ idle ∷ []) (starts ++ (served ++ own)) b
-      (Contains-append_right starts (served ++ own) b (Contains-append_left served own b c))
+      Contains-append_right (vectors ∷ boot ∷ idle ∷ []) (starts ++ (counted ++ (served ++ own))) b
+      (Contains-append_right starts (counted ++ (served ++ own)) b (Contains-append_right counted (served ++ own) b (Contains-append_left served own b c)))
 
   in_own : (b : Block) → Contains own b → Contains all b
   in_own b c =
-      Contains-append_right (vectors ∷ boot ∷ idle ∷ []) (starts ++ (served ++ own)) b
-      (Contains-append_right starts (served ++ own) b (Contains-append_right served own b c))
+      Contains-append_right (vectors ∷ boot ∷ idle ∷ []) (starts ++ (counted ++ (served ++ own))) b
+      (Contains-append_right starts (counted ++ (served ++ own)) b (Contains-append_right counted (served ++ own) b (Contains-append_right served own b c)))
 
   has_service : (func item : ℕ) (call : Call) → IsItem app func item → operation app func item ≡ op.Serve call
       → Has all (block_address map.places call.service call.object)
       (opening (block_address map.places call.service call.object) (code_of call.service) ∷ further_marks call.service (block_address map.places call.service call.object))
-      (ServesCall call.service call.object levels)
+      (ServesCall config call.service call.object levels)
   has_service func item call is e =
-      let c = calls config app may.well_formed may.no_counters func item call is e in
+      let c = calls config app may.well_formed func item call is e in
       let number : ℕ = block_number call.service call.object in
       let small = c.0 in
-      let r = found (IsService levels map) 0 wanted served number c.1 made.serve in
+      let r = found (IsService config levels map) 0 wanted served number c.1 made.serve in
       let same : 0 + number ≡ number = omega arith in
-      let h : IsService levels map number r.0 = subst (λ n. IsService levels map n r.0) same r.2 in
+      let h : IsService config levels map number r.0 = subst (λ n. IsService config levels map n r.0) same r.2 in
       let code : block_code number ≡ code_of call.service = omega (arith, small) in
       let object : block_object number ≡ call.object = omega (arith, small) in
       let its : h.service ≡ call.service = same_Some h.service call.service (sym h.is ∙ ap service_of code ∙ of_code call.service) in
       let place : r.0.at ≡ block_address map.places call.service call.object = h.at in
-      let P : Service → Type 0 = λ s. ServesCall s (block_object number) levels r.0.code in
-      let Q : ℕ → Type 0 = λ n. ServesCall call.service n levels r.0.code in
+      let P : Service → Type 0 = λ s. ServesCall config s (block_object number) levels r.0.code in
+      let Q : ℕ → Type 0 = λ n. ServesCall config call.service n levels r.0.code in
       record {
         block = r.0;
         among = in_served r.0 r.1;
@@ -228,6 +235,10 @@ module _ (config : Config) (app : App) (levels : Levels) (map : Map) (may : MayG
         let m : t < length starts = omega (arith, made.count, l) in
         let p = made.each t none m in
         record { block = get_or starts t none; among = in_starts (get_or starts t none) (Contains-get_or starts t none m); at = p.at; marks_are = p.marks; does = p.enters };
+    ticks = λ k l.
+        let m : k < length counted = omega (arith, made.counted_long, l) in
+        let t = made.each_tick k none m in
+        record { block = get_or counted k none; among = in_counted (get_or counted k none) (Contains-get_or counted k none m); at = t.at; marks_are = t.marks; does = t.is_tick };
     services = has_service;
   }
 
@@ -242,17 +253,18 @@ module _ (config : Config) (app : App) (levels : Levels) (map : Map) (may : MayG
   with_one : (b : Block) (m : Mark) → b.marks ≡ m ∷ [] → IsOwnMark app map.places m → MarksAreOfItems app map.places b
   with_one b m e o = subst (All (IsOwnMark app map.places)) (sym e) (All-cons (IsOwnMark app map.places) m [] o (All-nil (IsOwnMark app map.places)))
 
-  each_block : (P : Block → Type 0) → P vectors → P boot → P idle → All P starts → All P served → All P own → All P all
-  each_block P v b i s r o =
-      All-cons P vectors (boot ∷ idle ∷ (starts ++ (served ++ own))) v
-      (All-cons P boot (idle ∷ (starts ++ (served ++ own))) b
-      (All-cons P idle (starts ++ (served ++ own)) i (All-append P starts (served ++ own) s (All-append P served own r o))))
+  each_block : (P : Block → Type 0) → P vectors → P boot → P idle → All P starts → All P counted → All P served → All P own → All P all
+  each_block P v b i s t r o =
+      All-cons P vectors (boot ∷ idle ∷ (starts ++ (counted ++ (served ++ own)))) v
+      (All-cons P boot (idle ∷ (starts ++ (counted ++ (served ++ own)))) b
+      (All-cons P idle (starts ++ (counted ++ (served ++ own))) i (All-append P starts (counted ++ (served ++ own)) s (All-append P counted (served ++ own) t (All-append P served own r o)))))
 
   all_own : All (MarksAreOfItems app map.places) all
   all_own =
       each_block (MarksAreOfItems app map.places) (without vectors made.vectors_made.marks_are) (without boot made.boot_made.marks_are) (with_one idle (idle_mark map.idle) made.idle_made.marks_are tt)
       (λ k d l. without (get_or starts k d) (made.each k d l).marks)
-      (zip_all (IsService levels map) (MarksAreOfItems app map.places) (wanted_from 0 wanted) served
+      (λ k d l. without (get_or counted k d) (made.each_tick k d l).marks)
+      (zip_all (IsService config levels map) (MarksAreOfItems app map.places) (wanted_from 0 wanted) served
       (λ n b h. subst (All (IsOwnMark app map.places)) (sym h.marks)
       (All-cons (IsOwnMark app map.places) (opening b.at (block_code n)) (further_marks h.service b.at) tt (by_further (IsOwnMark app map.places) h.service b.at tt))) made.serve)
       (subst (All (MarksAreOfItems app map.places)) (sym made.items) (items_own app map.places))
@@ -277,7 +289,7 @@ module _ (config : Config) (app : App) (levels : Levels) (map : Map) (may : MayG
       one_mark (item_block app map.places func index) (item_mark app map.places func index) refl (
         (let even = word.2 in omega (arith, even)),
         fields_of config app (function app func) (operation app func index) (service_limit (length config.counters)) (length app.funcs) func index own is.declared (omega (arith, few, inside))
-            (λ call e. in_marks config call.service call.object may.no_counters (called_with config app may.well_formed may.no_counters func index call is e)),
+            (λ call e. in_marks config may.well_formed.in_range.configuration call.service call.object (called_with config app may.well_formed func index call is e)),
       )
 
   items_format : All (MarksInFormat config app) (item_blocks app map.places (length app.funcs))
@@ -293,6 +305,7 @@ module _ (config : Config) (app : App) (levels : Levels) (map : Map) (may : MayG
       let even = may.planned.zones.idle_aligned in
       each_block (MarksInFormat config app) (no_mark vectors made.vectors_made.marks_are) (no_mark boot made.boot_made.marks_are) (one_mark idle (idle_mark map.idle) made.idle_made.marks_are (even, (refl, refl, refl)))
       (λ k d l. no_mark (get_or starts k d) (made.each k d l).marks)
+      (λ k d l. no_mark (get_or counted k d) (made.each_tick k d l).marks)
       (served_format config app levels map may served made.serve)
       (subst (All (MarksInFormat config app)) (sym made.items) items_format)
 
@@ -301,14 +314,16 @@ module _ (config : Config) (app : App) (levels : Levels) (map : Map) (may : MayG
       let few = may.well_formed.in_range.configuration.few_tasks in
       let numbers = all_places app in
       let wanted_few = wanted_long 0 wanted in
-      let served_long = AllZip-long (IsService levels map) (wanted_from 0 wanted) served made.serve in
+      let served_long = AllZip-long (IsService config levels map) (wanted_from 0 wanted) served made.serve in
       let own_long : length own ≡ items_before app.funcs (length app.funcs) = ap length made.items ∙ length_blocks app map.places (length app.funcs) in
       let total = before_all app.funcs in
       let sum = sum-map (λ (f : Func). length f.items) app.funcs in
       let most = may.well_formed.in_range.limits.few_items in
-      let rest = length-append starts (served ++ own) in
+      let rest = length-append starts (counted ++ (served ++ own)) in
+      let middle = length-append counted (served ++ own) in
+      let counters = may.well_formed.in_range.configuration.few_counters in
       let last = length-append served own in
-      omega (arith, few, numbers, wanted_few, served_long, own_long, total, sum, most, rest, last, made.count)
+      omega (arith, few, numbers, wanted_few, served_long, own_long, total, sum, most, rest, middle, last, counters, made.counted_long, made.count)
 
   rooms : FitRooms (code_extents map (length config.tasks) may.planned.lengths) all
   rooms =
@@ -322,17 +337,19 @@ module _ (config : Config) (app : App) (levels : Levels) (map : Map) (may : MayG
       let second = plain (record { base = 0x8000_0480; len = code_bytes may.planned.lengths.boot }) boot made.boot_made.at (omega arith) refl (omega (arith, few, told)) made.boot_made.marks_are in
       let third = marked (record { base = map.idle; len = idle_bytes }) idle (idle_mark map.idle) made.idle_made.at (omega (arith, is)) even (omega (arith, word)) made.idle_made.marks_are
       (omega (arith, made.idle_made.at)) (omega (arith, made.idle_made.at, word)) in
-      let rest = zip_append FitsRoom _ starts _ (served ++ own) (prologues_fit config app levels map may starts made.count made.each)
+      let rest = zip_append FitsRoom _ starts _ (counted ++ (served ++ own)) (prologues_fit config app levels map may starts made.count made.each)
+      (zip_append FitsRoom _ counted _ (served ++ own) (ticks_fit config app levels map may counted made.counted_long made.each_tick)
       (zip_append FitsRoom _ served _ own (services_fit config app levels map may served made.serve)
-      (subst (FitRooms _) (sym made.items) (items_fit config app levels map may))) in
+      (subst (FitRooms _) (sym made.items) (items_fit config app levels map may)))) in
       (first, (second, (third, rest)))
 
-  pub gathered : (blocks : List Block) → blocks ≡ (vectors ∷ boot ∷ idle ∷ starts) ++ served → IsGathered config app levels map blocks
+  pub gathered : (blocks : List Block) → blocks ≡ ((vectors ∷ boot ∷ idle ∷ starts) ++ counted) ++ served → IsGathered config app levels map blocks
   gathered blocks e =
       let items : List Block = item_blocks app map.places (length app.funcs) in
       let same : all_blocks app map blocks ≡ all =
-      ap (λ (bs : List Block). bs ++ items) e ∙ append_assoc (vectors ∷ boot ∷ idle ∷ starts) served items
-      ∙ ap (λ (bs : List Block). vectors ∷ boot ∷ idle ∷ (starts ++ (served ++ bs))) (sym made.items) in
+      ap (λ (bs : List Block). bs ++ items) e ∙ append_assoc ((vectors ∷ boot ∷ idle ∷ starts) ++ counted) served items
+      ∙ append_assoc (vectors ∷ boot ∷ idle ∷ starts) counted (served ++ items)
+      ∙ ap (λ (bs : List Block). vectors ∷ boot ∷ idle ∷ (starts ++ (counted ++ (served ++ bs)))) (sym made.items) in
       record {
         code = subst (HasCode config app levels map) (sym same) has_code;
         items = subst (HasItemBlocks config app map.places) (sym same)

@@ -1,5 +1,5 @@
 -- What is linked is in the format of images.
-use Rattle.std.proofs.Common.{◌*◌, ◌≡◌, ◌≤◌, ℕ, Bool, List, [], ◌∷◌, length, get_or, sym, ap, ◌∙◌, subst, arith}
+use Rattle.std.proofs.Common.{◌*◌, ◌≡◌, ◌≤◌, ℕ, List, [], ◌∷◌, length, get_or, sym, ap, ◌∙◌, subst, arith}
 use Rattle.std.specs.Prelude.{All}
 use Rattle.std.specs.Prelude as prelude
 use Rattle.std.proofs.lemmas.List.{length-append}

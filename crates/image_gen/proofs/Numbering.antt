@@ -1,8 +1,8 @@
 -- The wanted services, number by number.
-use Rattle.std.proofs.Common.{◌≡◌, ◌≤◌, ◌<◌, ◌+◌, ℕ, suc, Bool, true, false, List, [], ◌∷◌, ◌++◌, length, get_or, take, refl, sym, ap, ◌∙◌, subst, arith}
+use Rattle.std.proofs.Common.{◌≡◌, ◌<◌, ◌+◌, ℕ, suc, Bool, true, false, List, [], ◌∷◌, ◌++◌, length, get_or, take, refl, sym, ap, ◌∙◌, subst, arith}
 use Rattle.std.specs.Prelude.{cond}
 use Rattle.std.specs.List.{AllZip}
-use Rattle.std.proofs.lemmas.List.{append-nil, take_more, take_all, length-take-le}
+use Rattle.std.proofs.lemmas.List.{append-nil, take_more, length-take-le}
 use Rattle.rv32_instr.specs.declared.block.Block.{Block}
 use Rattle.image_gen.specs.Services.{wanted_from}
 use Rattle.image_gen.proofs.Each.{zip_push}

@@ -1,8 +1,9 @@
 -- A service by its place in the table of blocks.
-use Rattle.std.proofs.Common.{◌≡◌, ◌∙◌, ℕ, zero, suc, ◌+◌, ◌∷◌, List, [], Result, Ok, Err, Some, IfOk, length, refl, sym, ap, subst, arith}
-use Rattle.std.specs.Prelude.{◌≤◌, slice_get, slice_index}
+use Rattle.std.proofs.Common.{◌≡◌, ◌∙◌, ℕ, zero, suc, ◌+◌, ◌∷◌, List, [], Result, Ok, Err, Some, IfOk, refl, sym, ap, subst, arith}
+use Rattle.std.specs.Prelude.{slice_get, slice_index}
 use Rattle.sloth_base.specs.ServiceCodes.{code_of, services, service_of}
 use Rattle.sloth_base.specs.Blocks.{block_number, block_code, block_object}
+use Rattle.sloth_base.specs.declared.config.Config.{Config}
 use Rattle.sloth_base.specs.declared.memory.NoMemory.{NoMemory}
 use Rattle.sloth_base.specs.declared.places.Levels.{Levels}
 use Rattle.sloth_base.specs.declared.service.Service.{Service}
@@ -12,10 +13,10 @@ use Rattle.rv32_instr.specs.declared.block.Block.{Block}
 use Rattle.service_gen.specs.Block.{further_marks}
 use Rattle.block_parts.specs.Marks.{opening}
 use Rattle.block_parts.specs.ServiceBlock.{IsServiceBlock}
-use Rattle.service_blocks.specs.Calls.{ServesCall}
+use Rattle.service_blocks.specs.Calls.{IsCalledWith, ServesCall}
 use Rattle.image_gen.specs.Services.{IsService}
 
-some_same : (a b : Service) → Some a ≡ Some b → a ≡ b
+pub some_same : (a b : Service) → Some a ≡ Some b → a ≡ b
 some_same a b e = cc
 
 -- the services of a list have the numbers from `first` on
@@ -40,17 +41,18 @@ number_back : (number : ℕ) (s : Service) → service_of (block_code number) �
 number_back number s e = let c = code_found (block_code number) s e in omega (arith, c)
 
 -- what the generator promises of a service is what is asked of the block at its place
-pub served_at : (levels : Levels) (map : Map) (number object : ℕ) (s : Service) (r : Result Block NoMemory) → service_of (block_code number) ≡ Some s
-    → object ≡ block_object number
+pub served_at : (config : Config) (levels : Levels) (map : Map) (number object : ℕ) (s : Service) (r : Result Block NoMemory) → service_of (block_code number) ≡ Some s
+    → object ≡ block_object number → IsCalledWith config s (block_object number)
     → IfOk r (IsServiceBlock s object map.places.blocks (further_marks s))
-    → IfOk r (λ block. ServesCall s object levels block.code)
-    → IfOk r (IsService levels map number)
-served_at levels map number object s (Ok block) e same is_block serves = record {
+    → IfOk r (λ block. ServesCall config s object levels block.code)
+    → IfOk r (IsService config levels map number)
+served_at config levels map number object s (Ok block) e same has is_block serves = record {
   service = s;
   is = e;
   at = is_block.at ∙ ap (slice_index map.places.blocks) (ap (block_number s) same ∙ number_back number s e);
   marks = is_block.marks ∙ ap (λ code. opening block.at code ∷ further_marks s block.at) (code_found (block_code number) s e);
   long = is_block.long ∙ ap option_length (sym e);
-  serves = subst (λ (o : ℕ). ServesCall s o levels block.code) same serves;
+  called_with = has;
+  serves = subst (λ (o : ℕ). ServesCall config s o levels block.code) same serves;
 }
-served_at levels map number object s (Err failed) e same is_block serves = tt
+served_at config levels map number object s (Err failed) e same has is_block serves = tt

@@ -38,7 +38,6 @@ may_generate config app bounds may levels map leveled long within planned =
     let top = leveled.top in
     record {
       well_formed = may.well_formed;
-      no_counters = may.no_counters;
       named = may.named;
       are_levels = leveled;
       small = (omega (arith, top, few), small_levels config levels few long leveled within);

@@ -1,13 +1,14 @@
 -- Each block of the code lies in its room of the map.
-use Rattle.std.proofs.Common.{◌≡◌, ◌≤◌, ◌<◌, ◌+◌, ◌*◌, ◌/◌, ◌%◌, ℕ, zero, suc, Bool, true, false, Some, List, [], ◌∷◌, length, get_or, take, refl, sym, ap, ◌∙◌, subst, arith}
+use Rattle.std.proofs.Common.{◌≡◌, ◌≤◌, ◌<◌, ◌+◌, ◌*◌, ◌%◌, ℕ, zero, suc, Bool, true, false, Some, List, [], ◌∷◌, length, get_or, take, refl, sym, ap, ◌∙◌, subst, arith}
 use Rattle.std.specs.Prelude.{All, cond, slice_index}
 use Rattle.std.specs.Prelude as prelude
-use Rattle.std.specs.List.{AllZip, slice_get}
+use Rattle.std.specs.List.{AllZip}
 use Rattle.std.proofs.lemmas.List.{get_or-take, length-append, length-take-le}
 use Rattle.std.proofs.lemmas.List.Elements.{All-nil, All-cons}
 use Rattle.std.proofs.lemmas.Option.{get_or_from_slice_get, slice_get_within}
 use Rattle.std.proofs.Math.ListN.{get_or-map, length-map}
 use Rattle.sloth_base.specs.Named.{operation, missing}
+use Rattle.sloth_base.specs.Owners.{counter_line}
 use Rattle.sloth_base.specs.declared.app.App.{App}
 use Rattle.sloth_base.specs.declared.app.Func.{Func}
 use Rattle.sloth_base.specs.declared.config.Config.{Config}
@@ -36,7 +37,7 @@ use Rattle.masked_code.specs.Kernel.{masking}
 use Rattle.sloth_base.specs.Arithmetic.{sum32}
 use Rattle.sloth_base.specs.Blocks.{block_count, block_code, block_object}
 use Rattle.mem_map.specs.declared.all_lengths.CodeLengths.{CodeLengths}
-use Rattle.mem_map.specs.Plan.{code_bytes, items_at, prologues_at, services_at, some_extents}
+use Rattle.mem_map.specs.Plan.{code_bytes, items_at, prologues_at, ticks_at, tick_starts, services_at, some_extents}
 use Rattle.mem_map.specs.Run.{extents_of, starts}
 use Rattle.mem_map.specs.Wanted.{wanted_blocks}
 use Rattle.mem_map.specs.Zones.{nowhere}
@@ -49,6 +50,7 @@ use Rattle.sim_image.proofs.Data.{extent_at, extents_long}
 use Rattle.image_gen.specs.Gathered.{MayGenerate}
 use Rattle.sloth_link.specs.Items.{item_block, item_blocks}
 use Rattle.image_gen.specs.Prologues.{Each, IsPrologue}
+use Rattle.image_gen.specs.Ticks.{IsTickBlock}
 use Rattle.image_gen.specs.Services.{IsService, wanted_from}
 use Rattle.sloth_link.proofs.Counting.{located, block_at, length_blocks}
 use Rattle.image_gen.proofs.Each.{zip_from}
@@ -114,15 +116,15 @@ with_back at bytes code room long =
     }
 
 -- the marks of a service's block: the opening, and behind it Schedule's way back
-service_marks : (s : Service) (object : ℕ) (levels : Levels) (code : List InstrKind) (at number : ℕ) → at + 4 * length code < 4294967296
-    → ServesCall s object levels code → HasServiceMarks at (4 * length code) (opening at number ∷ further_marks s at)
-service_marks service.Schedule object levels code at number room h =
+service_marks : (config : Config) (s : Service) (object : ℕ) (levels : Levels) (code : List InstrKind) (at number : ℕ) → at + 4 * length code < 4294967296
+    → ServesCall config s object levels code → HasServiceMarks at (4 * length code) (opening at number ∷ further_marks s at)
+service_marks config service.Schedule object levels code at number room h =
     let again = h.runs.masks_again in
     let long = ap length again.2 ∙ length-append again.0 (masking ∷ again.1) in
     let behind = again.3 in
     with_back at (4 * length code) number room (omega (arith, long, behind))
-service_marks s object levels code at number room h =
-    let some = some_code s object levels code h in opening_alone at (4 * length code) number (omega (arith, some))
+service_marks config s object levels code at number room h =
+    let some = some_code config s object levels code h in opening_alone at (4 * length code) number (omega (arith, some))
 
 same_decl : (d e : TaskDecl) → Some d ≡ Some e → d ≡ e
 same_decl d e is = cc
@@ -177,6 +179,32 @@ module _ (config : Config) (app : App) (levels : Levels) (map : Map) (may : MayG
       let L : ℕ → Type 0 = λ m. FitsRoom (record { base = get_or (take (length config.tasks) map.handlers) k 0; len = m }) (get_or starts k none) in
       subst P (sym room) (subst L (sym len) (subst B (sym at) (prologue_room k (get_or starts k none) below (each k none (omega (arith, below, n)))))))
 
+  -- ---- ticks
+
+  pub ticks_fit : (counted : List Block) → length counted ≡ length config.counters → Each (IsTickBlock config map) counted
+      → FitRooms (extents_of (tick_starts lengths) (prelude.map code_bytes lengths.ticks)) counted
+  ticks_fit counted n each =
+      let count = may.planned.are_lengths.ticks in
+      let all = length-map lengths.ticks code_bytes in
+      let begun = length_starts (ticks_at lengths) (prelude.map code_bytes lengths.ticks) in
+      let same : length (tick_starts lengths) ≡ length (prelude.map code_bytes lengths.ticks) = begun in
+      let rooms = extents_long (tick_starts lengths) (prelude.map code_bytes lengths.ticks) same in
+      zip_from FitsRoom (extents_of (tick_starts lengths) (prelude.map code_bytes lengths.ticks)) counted nowhere none (omega (arith, rooms, all, count, n))
+      (λ k l.
+      let below : k < length config.counters = omega (arith, l, rooms, all, count) in
+      let t = each k none (omega (arith, below, n)) in
+      let few = may.well_formed.in_range.configuration.few_counters in
+      let near = may.planned.reach (counter_line k) (omega (arith, below, few)) in
+      let behind = near.1 in
+      let long = t.is_tick.size ∙ sym (may.planned.are_lengths.each_tick k below) in
+      let at : slice_index map.handlers (counter_line k) ≡ get_or (tick_starts lengths) k 0 = may.planned.addresses.ticks k below in
+      let len : get_or (prelude.map code_bytes lengths.ticks) k 0 ≡ code_bytes (get_or lengths.ticks k 0) = get_or-map code_bytes lengths.ticks k 0 in
+      let room = extent_at (tick_starts lengths) (prelude.map code_bytes lengths.ticks) k same (omega (arith, l, rooms)) in
+      let P : Extent → Type 0 = λ r. FitsRoom r (get_or counted k none) in
+      subst P (sym room)
+      (plain (record { base = get_or (tick_starts lengths) k 0; len = get_or (prelude.map code_bytes lengths.ticks) k 0 }) (get_or counted k none)
+      (t.at ∙ at) (omega (arith, behind, at)) (subst (λ a. a % 4 ≡ 0) at near.0) (omega (arith, long, len)) t.marks))
+
   -- ---- services
 
   blocks_long : length map.places.blocks ≡ block_count
@@ -184,7 +212,7 @@ module _ (config : Config) (app : App) (levels : Levels) (map : Map) (may : MayG
       ap length may.planned.addresses.blocks ∙ length_starts (services_at lengths) (prelude.map code_bytes lengths.services) ∙ length-map lengths.services code_bytes
       ∙ may.planned.are_lengths.services
 
-  service_room : (number : ℕ) (block : Block) → number < block_count → get_or lengths.services number 0 ≡ block_length number → IsService levels map number block
+  service_room : (number : ℕ) (block : Block) → number < block_count → get_or lengths.services number 0 ≡ block_length number → IsService config levels map number block
       → FitsRoom (record { base = slice_index map.places.blocks number; len = code_bytes (block_length number) }) block
   service_room number block l sized h =
       let at = h.at in
@@ -200,15 +228,16 @@ module _ (config : Config) (app : App) (levels : Levels) (map : Map) (may : MayG
       let below = stood.below in
       let own_bytes : get_or bytes number 0 ≡ code_bytes (get_or lengths.services number 0) = get_or-map code_bytes lengths.services number 0 in
       let first = end_above (prologues_at lengths) (prelude.map code_bytes lengths.prologues) in
+      let second = end_above (ticks_at lengths) (prelude.map code_bytes lengths.ticks) in
       let end = may.planned.addresses.code_to in
       let items = end_above (items_at lengths) (prelude.map code_bytes lengths.items) in
       let last = end_of_code config app map may.bounds 0 [] may.planned.zones in
       let even = may.planned.zones.blocks_aligned number 0 (omega (arith, long, l)) in
-      let marks = service_marks h.service (block_object number) levels block.code block.at (block_code number) (omega (arith, at, is, below, own_bytes, sized, all_long, items, end, last)) h.serves in
+      let marks = service_marks config h.service (block_object number) levels block.code block.at (block_code number) (omega (arith, at, is, below, own_bytes, sized, all_long, items, end, last)) h.serves in
       let own = sym h.marks in
       record {
         at = at;
-        above = omega (arith, is, above, first);
+        above = omega (arith, is, above, first, second);
         aligned = even;
         long = omega (arith, all_long);
         few = subst (λ ms. length ms ≤ 2) own marks.few;
@@ -235,10 +264,10 @@ module _ (config : Config) (app : App) (levels : Levels) (map : Map) (may : MayG
       (here.0 ∙ ap (slice_index map.places.blocks) k1, here.1 ∙ ap (λ j. get_or lengths.services j 0) k1)
 
   services_fit_from : (n : ℕ) (addresses sizes : List ℕ) (rest : List Bool) (blocks : List Block) → length addresses ≡ length rest → length sizes ≡ length rest → n + length rest ≡ block_count
-      → Of n addresses sizes → Sized n sizes rest → AllZip (IsService levels map) (wanted_from n rest) blocks → FitRooms (some_extents addresses sizes) blocks
+      → Of n addresses sizes → Sized n sizes rest → AllZip (IsService config levels map) (wanted_from n rest) blocks → FitRooms (some_extents addresses sizes) blocks
   services_fit_from n [] [] [] blocks e f all of sized h = fit_none blocks h
     where
-      fit_none : (bs : List Block) → AllZip (IsService levels map) [] bs → FitRooms [] bs
+      fit_none : (bs : List Block) → AllZip (IsService config levels map) [] bs → FitRooms [] bs
       fit_none [] g = tt
       fit_none (b ∷ bs) g = absurd g
   services_fit_from n [] sizes (w ∷ rest) blocks e f all of sized h = absurd (omega (arith, e))
@@ -253,7 +282,7 @@ module _ (config : Config) (app : App) (levels : Levels) (map : Map) (may : MayG
       let zero_more : n + 0 ≡ n = omega arith in
       let none = sized 0 (omega arith) ∙ ap block_length zero_more in
       let long = h.0.long in
-      let some = some_code h.0.service (block_object n) levels b.code h.0.serves in
+      let some = some_code config h.0.service (block_object n) levels b.code h.0.serves in
       absurd (omega (arith, none, long, some))
   services_fit_from n (a ∷ addresses) (suc size ∷ sizes) (true ∷ rest) (b ∷ blocks) e f all of sized h =
       let zero_more : n + 0 ≡ n = omega arith in
@@ -267,7 +296,7 @@ module _ (config : Config) (app : App) (levels : Levels) (map : Map) (may : MayG
         services_fit_from (n + 1) addresses sizes rest blocks (omega (arith, e)) (omega (arith, f)) (omega (arith, all)) (next_of n a (suc size) addresses sizes of) (next_sized n (suc size) sizes true rest sized) h.1,
       )
 
-  pub services_fit : (blocks : List Block) → AllZip (IsService levels map) (wanted_from 0 wanted) blocks → FitRooms (some_extents map.places.blocks lengths.services) blocks
+  pub services_fit : (blocks : List Block) → AllZip (IsService config levels map) (wanted_from 0 wanted) blocks → FitRooms (some_extents map.places.blocks lengths.services) blocks
   services_fit blocks h =
       let long = blocks_long in
       let all = all_places app in

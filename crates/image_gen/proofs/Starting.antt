@@ -1,5 +1,5 @@
 -- What the prologues need, by the map and the task code.
-use Rattle.std.proofs.Common.{◌≡◌, ◌<◌, ◌+◌, ℕ, Bool, List, [], length, get_or, refl, ap, ◌∙◌, arith}
+use Rattle.std.proofs.Common.{◌≡◌, ◌<◌, ◌+◌, ℕ, List, [], length, get_or, refl, ap, ◌∙◌, arith}
 use Rattle.std.specs.Prelude.{All}
 use Rattle.std.specs.Prelude as prelude
 use Rattle.std.proofs.lemmas.List.{get_or_default}
@@ -13,7 +13,6 @@ use Rattle.sloth_region.specs.declared.map.Map.{Map}
 use Rattle.prologue_gen.specs.Places.{IsTop}
 use Rattle.rv32_expand.specs.Sizes.{items_before}
 use Rattle.rv32_expand.proofs.Verified.{has_first}
-use Rattle.vector_gen.specs.Vectors.{AreInReach}
 use Rattle.mem_map.specs.Plan.{code_bytes}
 use Rattle.sim_image.proofs.Fitting.{part_inside, code_from, code_to}
 use Rattle.mem_map.proofs.Starts.{length_starts}

@@ -1,7 +1,6 @@
 -- What the code of an image is generated from, and the blocks of that code.
 use Rattle.std.specs.Prelude.{ℕ, ◌%◌, ◌<◌, ◌≤◌, ◌≡◌, List, length, All, slice_index}
 use Rattle.std.specs.List.Sorted.{IsPermutation, IsStrictlyIncreasing}
-use Rattle.sloth_base.specs.ConfigRange.{HasNoCounters}
 use Rattle.sloth_base.specs.ImageRange.{AreFields, service_limit}
 use Rattle.sloth_base.specs.Named.{declaration}
 use Rattle.sloth_base.specs.declared.app.App.{App}
@@ -27,10 +26,9 @@ use Rattle.sim_image.specs.Generated.{HasCode, HasItemBlocks}
 use Rattle.sim_image.specs.Rooms.{FitRooms, FollowClosely, HasOwnMarks}
 use Rattle.sim_image.specs.Standing.{IsLinkedIn}
 
--- Well-formed task code of a configuration without counters with its levels, and its map by the bytes of stack that its tasks may need. The body of each task has the task's name.
+-- Well-formed task code with its levels, and its map by the bytes of stack that its tasks may need. The body of each task has the task's name.
 pub record MayGenerate (config : Config) (app : App) (levels : Levels) (map : Map) : Type 0 where
   pub well_formed : WellFormed config app
-  pub no_counters : HasNoCounters config
   pub named : (t : ℕ) → t < length config.tasks → IsBodyName app t (declaration config t).name
   pub are_levels : AreLevels config levels
   pub small : (levels.top < 32) × ((t : ℕ) → slice_index levels.task t < 32)
@@ -79,9 +77,8 @@ pub record IsImageOf (config : Config) (app : App) (levels : Levels) (map : Map)
 
 -- ---- what is built
 
--- Well-formed task code of a configuration without counters with the bytes of stack that its tasks may need. The body of each task has the task's name.
+-- Well-formed task code with the bytes of stack that its tasks may need. The body of each task has the task's name.
 pub record MayBuild (config : Config) (app : App) (bounds : Bounds) : Type 0 where
   pub well_formed : WellFormed config app
-  pub no_counters : HasNoCounters config
   pub named : (t : ℕ) → t < length config.tasks → IsBodyName app t (declaration config t).name
   pub are_bounds : AreBounds config app bounds

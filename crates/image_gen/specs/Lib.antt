@@ -1,3 +1,4 @@
 pub mod Prologues
+pub mod Ticks
 pub mod Services
 pub mod Gathered

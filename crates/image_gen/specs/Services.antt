@@ -2,6 +2,7 @@
 use Rattle.std.specs.Prelude.{ℕ, ◌+◌, ◌≡◌, Bool, true, false, List, [], ◌∷◌, length, Some, get_or, slice_index}
 use Rattle.std.specs.List.{AllZip}
 use Rattle.sloth_base.specs.ServiceCodes.{service_of}
+use Rattle.sloth_base.specs.declared.config.Config.{Config}
 use Rattle.sloth_base.specs.declared.places.Levels.{Levels}
 use Rattle.sloth_base.specs.declared.service.Service.{Service}
 use Rattle.sloth_base.specs.Blocks.{block_code, block_object}
@@ -19,24 +20,25 @@ wanted_from number (true ∷ wanted) = number ∷ wanted_from (number + 1) wante
 wanted_from number (false ∷ wanted) = wanted_from (number + 1) wanted
 
 -- the number is that of a service with an object
-pub record IsServed (number : ℕ) : Type 0 where
+pub record IsServed (config : Config) (number : ℕ) : Type 0 where
   pub service : Service
   pub is : service_of (block_code number) ≡ Some service
-  pub called_with : IsCalledWith service (block_object number)
+  pub called_with : IsCalledWith config service (block_object number)
 
 -- so is that of each wanted one
-abbrev pub AreServed : List Bool → Type 0
-AreServed wanted = (number : ℕ) → get_or wanted number false ≡ true → IsServed number
+abbrev pub AreServed : Config → List Bool → Type 0
+AreServed config wanted = (number : ℕ) → get_or wanted number false ≡ true → IsServed config number
 
 -- the code of a service by its number
-pub record IsService (levels : Levels) (map : Map) (number : ℕ) (block : Block) : Type 0 where
+pub record IsService (config : Config) (levels : Levels) (map : Map) (number : ℕ) (block : Block) : Type 0 where
   pub service : Service
   pub is : service_of (block_code number) ≡ Some service
   pub at : block.at ≡ slice_index map.places.blocks number
   pub marks : block.marks ≡ opening block.at (block_code number) ∷ further_marks service block.at
   pub long : length block.code ≡ block_length number
-  pub serves : ServesCall service (block_object number) levels block.code
+  pub called_with : IsCalledWith config service (block_object number)
+  pub serves : ServesCall config service (block_object number) levels block.code
 
 -- the code of the wanted ones, in the order of their numbers
-abbrev pub AreServices : Levels → Map → List Bool → List Block → Type 0
-AreServices levels map wanted blocks = AllZip (IsService levels map) (wanted_from 0 wanted) blocks
+abbrev pub AreServices : Config → Levels → Map → List Bool → List Block → Type 0
+AreServices config levels map wanted blocks = AllZip (IsService config levels map) (wanted_from 0 wanted) blocks

@@ -5,6 +5,7 @@ ghost use Rattle.image_gen.specs.Gathered.{MayGenerate, IsGathered};
 
 use crate::prologues::{prologues, push};
 use crate::services::services;
+use crate::ticks::ticks;
 use mem_map::wanted_blocks;
 use rv32_instr::Block;
 use sloth_base::app::App;
@@ -15,8 +16,8 @@ use sloth_region::map::Map;
 use std::alloc::Global;
 use vector_gen::{boot, idle, vectors};
 
-/// All routines in the order of their addresses: the vector words, boot, the idle loop, the prologue of each task, and each service that an
-/// item calls; they may be linked by the map.
+/// All routines in the order of their addresses: the vector words, boot, the idle loop, the prologue of each task, the tick of each counter,
+/// and each service that an item calls; they may be linked by the map.
 pub fn gather(
     alloc: Global,
     config: &Config,
@@ -34,6 +35,8 @@ pub fn gather(
     push(&mut blocks, idle(alloc, map)?)?;
     let mut starts = prologues(alloc, config, app, levels, map)?;
     blocks.append(&mut starts)?;
+    let mut counted = ticks(alloc, config, levels, map)?;
+    blocks.append(&mut counted)?;
     let wanted = wanted_blocks(app);
     let mut served = services(alloc, &wanted, config, levels, map)?;
     blocks.append(&mut served)?;

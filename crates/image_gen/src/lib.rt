@@ -6,3 +6,4 @@ pub mod generating;
 pub mod image;
 pub mod prologues;
 pub mod services;
+pub mod ticks;

@@ -1,5 +1,6 @@
 //! The code of the services that are wanted.
 ghost use Rattle.std.specs.Prelude.{◌≡◌, ◌+◌, ◌*◌, ◌<◌, ◌≤◌, ◌∷◌, IfOk, length, slice_index};
+ghost use Rattle.sloth_base.specs.ConfigRange.{InRange};
 ghost use Rattle.sloth_base.specs.Blocks.{block_count, block_number};
 ghost use Rattle.sloth_base.specs.ServiceCodes.{code_of};
 ghost use Rattle.service_gen.specs.Block.{further_marks};
@@ -24,9 +25,10 @@ fn one(
     levels: &Levels,
     map: &Map,
 ) -> Result<Block, NoMemory>
-    requires served { IsServed number }
+    requires served { IsServed config.now number }
+    requires range { InRange config.now }
     requires below { number < block_count }
-    ensures { IfOk result (IsService levels.now map.now number) }
+    ensures { IfOk result (IsService config.now levels.now map.now number) }
 {
     match block_service(number) {
         Some(service) => block(alloc, service, block_object(number), config, levels, map),
@@ -42,8 +44,9 @@ pub fn services(
     levels: &Levels,
     map: &Map,
 ) -> Result<Vec<Block>, NoMemory>
-    requires { AreServed wanted.now }
-    ensures { IfOk result (λ blocks. AreServices levels.now map.now wanted.now blocks.items) }
+    requires served { AreServed config.now wanted.now }
+    requires range { InRange config.now }
+    ensures { IfOk result (λ blocks. AreServices config.now levels.now map.now wanted.now blocks.items) }
 {
     let mut blocks = Vec::new(alloc);
     for number in 0..BLOCK_COUNT {

@@ -80,7 +80,7 @@ module _ (from to : ℕ) (ram : List ℕ) (inside : to ≤ 0x20_0000) where
   ways o code E start c = record {
     next = λ now. Owes from to (o + 4) code 0 E start now;
     touch = λ line lines now. Owes from to (o + 4) code 0 (λ touched. E (line ∷ touched)) (state_arrive lines start) now;
-    skip = λ passed. Owes from to (o + 4) code passed E start c;
+    skip = λ passed now. Owes from to (o + 4) code passed E start now;
     done = λ end. E [] start end;
   }
 
@@ -118,7 +118,15 @@ module _ (from to : ℕ) (ram : List ℕ) (inside : to ≤ 0x20_0000) where
         let now = core_arrive (w ++ a) c in
         onward h.passed u c _ None (few.1 h.passed h.lands) refl (ap (λ y. jumps y now) h.lands ∙ jump_at u now (omega arith)) refl i (h.when_taken refl)
     one (Branch false target) word c few i h = quiet few.0 c _ None refl refl i (h.when_not (λ e. absurd (cc)))
-    one (Jump rd target) word c few i h = absurd h
+    one (Jump rd target) word c few i (◌▸◌ {named} said h) =
+        let u = o + 4 + 4 * h.passed in
+        let now = core_arrive (w ++ a) c in
+        let next = with_register c rd named in
+        onward h.passed u next _ None (few h.passed h.lands)
+        refl
+        (ap (λ v. jumps target (with_register now rd v)) said.is ∙ ap (jumps target) (with_register-arrive c rd named (w ++ a))
+        ∙ ap (λ y. jumps y (core_arrive (w ++ a) next)) h.lands ∙ jump_at u (core_arrive (w ++ a) next) (omega arith))
+        refl (with_register_inside c rd named i) h.goes_on
     one (Load width.Word rd address) word c few i (◌▸◌ {named} said h) =
         let pc = memory_base + o in
         let now = core_arrive (w ++ a) c in

@@ -2,6 +2,9 @@
 use Rattle.std.proofs.Common.{◌≡◌, ℕ, zero, suc, ◌+◌, ◌≤◌, List, [], ◌∷◌, length, get_or, drop, refl, sym, ap, ◌∙◌, arith}
 use Rattle.std.proofs.lemmas.List.{drop_more, drop_all}
 use Rattle.sloth_base.specs.Machine.{Core}
+use Rattle.sloth_base.specs.MemoryMap.{memory_base}
+use Rattle.sloth_region.specs.Layout.{controller_base}
+use Rattle.masked_code.specs.Kernel.{HoldBases}
 
 -- the elements from k on, n of them
 abbrev pub spread_from : ℕ → ℕ → List ℕ → List ℕ
@@ -23,6 +26,17 @@ spread_is c n z =
     let e = spread_list 32 0 c.registers (omega arith) in
     let f : c.registers ≡ get_or c.registers 0 0 ∷ spread_from 31 1 c.registers = e in
     ap (λ r. record c { registers = r }) (ap (λ x. x ∷ spread_from 31 1 c.registers) (sym z) ∙ sym f)
+
+-- the same where x3 and x4 hold the bases
+abbrev pub based : Core → Core
+based c = record c { registers = 0 ∷ get_or c.registers 1 0 ∷ get_or c.registers 2 0 ∷ controller_base ∷ memory_base ∷ spread_from 27 5 c.registers }
+
+pub based_is : (c : Core) → length c.registers ≡ 32 → get_or c.registers 0 0 ≡ 0 → HoldBases c.registers → based c ≡ c
+based_is c n z bases =
+    let tail : List ℕ = spread_from 27 5 c.registers in
+    ap (λ x. record c { registers = 0 ∷ get_or c.registers 1 0 ∷ get_or c.registers 2 0 ∷ x ∷ memory_base ∷ tail }) (sym bases.0)
+    ∙ ap (λ x. record c { registers = 0 ∷ get_or c.registers 1 0 ∷ get_or c.registers 2 0 ∷ get_or c.registers 3 0 ∷ x ∷ tail }) (sym bases.1)
+    ∙ spread_is c n z
 
 -- the first five registers do not matter for the others
 pub others : (a b c d x y z w : ℕ) (tail : List ℕ) (i : ℕ) → 5 ≤ i → get_or (0 ∷ a ∷ b ∷ c ∷ d ∷ tail) i 0 ≡ get_or (0 ∷ x ∷ y ∷ z ∷ w ∷ tail) i 0

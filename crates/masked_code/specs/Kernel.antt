@@ -1,14 +1,18 @@
 -- The code that ends a stretch by going back to what runs below, and the state that this leaves.
-use Rattle.std.specs.Prelude.{ℕ, ◌+◌, ◌*◌, ◌%◌, ◌≡◌, ◌<◌, ◌≤◌, true, pos, List, [], ◌∷◌, ◌++◌, length, slice_index}
+use Rattle.std.specs.Prelude.{ℕ, ◌+◌, ◌*◌, ◌%◌, ◌≡◌, ◌≢◌, ◌<◌, ◌≤◌, true, pos, List, [], ◌∷◌, ◌++◌, length, slice_index}
 use Rattle.sloth_base.specs.Machine.{Core, State}
 use Rattle.sloth_base.specs.MemoryMap.{memory_base}
-use Rattle.sloth_region.specs.Layout.{cur, below_word, idle_context, context_bytes, context_pc, context_level, context_cur, context_below}
+use Rattle.sloth_region.specs.Layout.{cur, below_word, idle_context, context_bytes, context_pc, context_level, context_cur, context_below, controller_base}
 use Rattle.rv32_instr.specs.declared.csr.TheConstants.{MSTATUS, MEPC, PLEVEL}
 use Rattle.rv32_instr.specs.declared.InstrKind.{InstrKind}
-use Rattle.rv32_instr.specs.declared.InstrKind.TheVariants.{Addi, Lw, Sw, Csrrw, Csrrci, Mret}
+use Rattle.rv32_instr.specs.declared.InstrKind.TheVariants.{Addi, Beq, Lw, Sw, Csrrw, Csrrci, Mret}
 use Rattle.rv32_instr.specs.Ram.{word_at, with_word}
 use Rattle.masked_code.specs.Place.{InPlace}
-use Rattle.masked_code.specs.Pieces.{restoring_code}
+use Rattle.masked_code.specs.Pieces.{past, restoring_code}
+
+-- x3 and x4 hold the addresses of the controller and of memory: so they do wherever interrupts are open
+abbrev pub HoldBases : List ℕ → Type 0
+HoldBases registers = (slice_index registers 3 ≡ controller_base) × (slice_index registers 4 ≡ memory_base)
 
 -- the code at an offset can run: it stands behind the service words, and the machine is whole
 pub record CanRun (offset : ℕ) (code : List InstrKind) (core : Core) : Type 0 where
@@ -34,24 +38,31 @@ pub record IsBelow (place : ℕ) (core : Core) : Type 0 where
 abbrev pub masking : InstrKind
 masking = Csrrci 0 8 MSTATUS
 
--- x1 := the address of the context of what runs below; what it says goes to mepc, plevel, the service words and x2
+-- x1 := the address of the context of what runs below; what it says goes to mepc, plevel, the service words and x2; its `cur` stays in x5
 abbrev pub takes_up : List InstrKind
 takes_up =
-    Lw 1 4 (pos below_word) ∷ Lw 3 1 (pos context_pc) ∷ Csrrw 0 3 MEPC ∷ Lw 3 1 (pos context_level) ∷ Csrrw 0 3 PLEVEL
-    ∷ Lw 3 1 (pos context_cur) ∷ Sw 4 3 (pos cur) ∷ Lw 3 1 (pos context_below) ∷ Sw 4 3 (pos below_word)
+    Lw 1 4 (pos below_word) ∷ Lw 2 1 (pos context_pc) ∷ Csrrw 0 2 MEPC ∷ Lw 2 1 (pos context_level) ∷ Csrrw 0 2 PLEVEL
+    ∷ Lw 5 1 (pos context_cur) ∷ Sw 4 5 (pos cur) ∷ Lw 2 1 (pos context_below) ∷ Sw 4 2 (pos below_word)
     ∷ Addi 2 1 (pos context_bytes) ∷ []
 
--- x4 holds the base of memory
-abbrev pub leaving_code : List InstrKind
-leaving_code = takes_up ++ (restoring_code 27 5 1 ++ Mret ∷ [])
+-- passes what restores the registers where the idle loop runs below: `cur` in x5 is 0
+abbrev pub asks_idle : List InstrKind
+asks_idle = Beq 5 0 (past (restoring_code 27 5 1)) ∷ []
 
--- The machine is left as in this core, with interrupts open; of the registers, mepc and plevel it says nothing but that x0 is zero.
+-- back to what runs below
+abbrev pub leaving_code : List InstrKind
+leaving_code = takes_up ++ (asks_idle ++ (restoring_code 27 5 1 ++ Mret ∷ []))
+
+-- The machine is left as in this core, with interrupts open, and plevel is the level that runs; of the registers and mepc it says nothing but
+-- that x0 is zero and that x3 and x4 hold the bases.
 pub record LeftAs (core end : Core) : Type 0 where
   pub zero : slice_index end.registers 0 ≡ 0
   pub registers : length end.registers ≡ 32
+  pub bases : HoldBases end.registers
   pub opened : end.mie ≡ true
   pub previous : end.mpie ≡ true
   pub running : end.ilevel ≡ core.ilevel
+  pub same_level : end.plevel ≡ end.ilevel
   pub pending : end.pending ≡ core.pending
   pub enabled : end.enabled ≡ core.enabled
   pub levels : end.levels ≡ core.levels
@@ -67,9 +78,10 @@ below_again place core =
       ram = with_word (with_word core.ram cur (word_at core.ram (place + context_cur))) below_word (word_at core.ram (place + context_below));
     }
 
--- the state after it, where MPIE was 1: all is as the context says
+-- The state after it, where MPIE was 1: all is as the context says. Of the idle loop it says nothing of x5 to x31.
 pub record HasLeft (place : ℕ) (core : Core) (end : State) : Type 0 where
   pub left : LeftAs (below_again place core) end.core
   pub pc : end.pc ≡ word_at core.ram place
   pub x2 : slice_index end.core.registers 2 ≡ memory_base + (place + context_bytes)
-  pub loaded : (i : ℕ) → 5 ≤ i → i < 32 → slice_index end.core.registers i ≡ word_at core.ram (place + 4 * i)
+  pub loaded : word_at core.ram (place + context_cur) ≢ 0 → (i : ℕ) → 5 ≤ i → i < 32
+      → slice_index end.core.registers i ≡ word_at core.ram (place + 4 * i)

@@ -2,6 +2,7 @@
 use Rattle.std.specs.Prelude.{ℕ, zero, suc, ◌+◌, ◌*◌, ◌%◌, ◌≡◌, ◌≢◌, ◌<◌, ◌≤◌, ◌⊎◌, true, false, List, [], ◌∷◌, Some, slice_index, slice_set}
 use Rattle.sloth_base.specs.declared.app.Width.TheVariants as width
 use Rattle.sloth_base.specs.Machine.{Core, State}
+use Rattle.sloth_base.specs.Arithmetic.{sum32}
 use Rattle.sloth_base.specs.MemoryMap.{memory_base}
 use Rattle.sloth_base.specs.Lines.{flag_of}
 use Rattle.sloth_base.specs.Arrive.{core_arrive, state_arrive}
@@ -124,8 +125,8 @@ pub record Ways : Type 1 where
   pub next : Core → Type 0
   -- the same, where a line was touched, before which these lines had arrived
   pub touch : ℕ → List ℕ → Core → Type 0
-  -- with the instruction behind so many more
-  pub skip : ℕ → Type 0
+  -- with the instruction behind so many more, in this state
+  pub skip : ℕ → Core → Type 0
   -- the routine has gone back
   pub done : State → Type 0
 
@@ -160,13 +161,20 @@ pub record OwesBranch (offset target : ℕ) (taken next : Type 0) (skip : ℕ �
   pub when_taken : taken → skip passed
   pub when_not : (taken → ⊥) → next
 
+-- a jump at an offset, which passes `passed` instructions
+pub record OwesJump (offset target : ℕ) (skip : ℕ → Type 0) : Type 0 where
+  pub passed : ℕ
+  pub lands : target ≡ memory_base + (offset + 4 + 4 * passed)
+  pub goes_on : skip passed
+
 -- One instruction with this effect at an offset; the code's bytes stand from `from` up to `to`. The proof names each
 -- address and each value that is loaded.
 abbrev pub owes_one : ℕ → ℕ → ℕ → Effect → Core → Ways → Type 0
 owes_one from to offset Nothing core ways = ways.next core
 owes_one from to offset (Write rd value) core ways = Owed ℕ (HasValue value) (λ named. ways.next (with_register core rd named))
-owes_one from to offset (Branch taken target) core ways = OwesBranch offset target (taken ≡ true) (ways.next core) ways.skip
-owes_one from to offset (Jump rd target) core ways = ⊥
+owes_one from to offset (Branch taken target) core ways = OwesBranch offset target (taken ≡ true) (ways.next core) (λ passed. ways.skip passed core)
+owes_one from to offset (Jump rd target) core ways =
+    Owed ℕ (HasValue (sum32 (memory_base + offset) 4)) (λ named. OwesJump offset target (λ passed. ways.skip passed (with_register core rd named)))
 owes_one from to offset (Load width.Word rd address) core ways = Owed ℕ (LoadsWord core address) (λ named. ways.next (with_register core rd named))
 owes_one from to offset (Load width.ByteU rd address) core ways = Owed LineByte (LoadsByte address) (owes_load rd core ways)
 owes_one from to offset (Load width rd address) core ways = ⊥
@@ -187,6 +195,6 @@ Owes from to offset (kind ∷ code) (suc skip) Effect start core = Owes from to 
 Owes from to offset (kind ∷ code) zero Effect start core = owes_one from to offset (effect kind (memory_base + offset) core.registers) core (record {
   next = λ now. Owes from to (offset + 4) code 0 Effect start now;
   touch = λ line lines now. Owes from to (offset + 4) code 0 (λ touched. Effect (line ∷ touched)) (state_arrive lines start) now;
-  skip = λ passed. Owes from to (offset + 4) code passed Effect start core;
+  skip = λ passed now. Owes from to (offset + 4) code passed Effect start now;
   done = λ end. Effect [] start end;
 })

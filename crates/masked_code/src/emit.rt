@@ -8,6 +8,9 @@ use rv32_instr::{Instr, InstrKind};
 use sloth_base::numbers::Reg;
 use std::alloc::AllocError;
 
+/// The first register of a context.
+pub const X5: Reg = Reg(5);
+
 /// The bytes of so many words.
 fn offset_of(words: u32) -> i32
     requires { words < 500 }

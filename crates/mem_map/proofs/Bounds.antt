@@ -1,5 +1,5 @@
 -- How long the code, the data and the stacks are at most.
-use Rattle.std.proofs.Common.{◌≡◌, ◌≢◌, ◌≤◌, ◌<◌, ◌+◌, ◌-◌, ◌*◌, ◌%◌, ◌∙◌, ⊎_elim, ℕ, zero, suc, Bool, true, false, List, [], ◌∷◌, Option, Some, None, length, get_or, refl, ap, subst, arith}
+use Rattle.std.proofs.Common.{◌≡◌, ◌≢◌, ◌≤◌, ◌<◌, ◌+◌, ◌-◌, ◌*◌, ◌∙◌, ⊎_elim, ℕ, zero, suc, Bool, true, false, List, [], ◌∷◌, Option, Some, None, length, get_or, refl, ap, subst, arith}
 use Rattle.std.specs.Prelude.{◌==◌, nat_lt, nat_le, All, map, sum_by}
 use Rattle.std.proofs.lemmas.Bool.{cases_lt, eq-eqb, lt-ltb, le-leb}
 use Rattle.std.proofs.lemmas.Grind.{get_or_default_zero}
@@ -21,7 +21,7 @@ use Rattle.rv32_expand.proofs.Counts.{size_few}
 use Rattle.rv32_expand.proofs.InRangeOf.{frame_of}
 use Rattle.mem_map.specs.Run.{end_of}
 use Rattle.mem_map.specs.Wanted.{IsServicePlace}
-use Rattle.mem_map.specs.Plan.{IsSmallPrologue, code_bytes, symbol_bytes}
+use Rattle.mem_map.specs.Plan.{IsSmallPrologue, IsSmallTick, code_bytes, symbol_bytes}
 
 -- ---- sizes of items
 
@@ -83,6 +83,14 @@ prologues_end from (size ∷ sizes) few =
     let h = few 0 0 (omega arith) in
     let most = h.1 in
     let r = prologues_end (from + 4 * size) sizes (λ k d l. few (suc k) d (omega (arith, l))) in
+    omega (arith, most, r)
+
+pub ticks_end : (from : ℕ) (sizes : List ℕ) → All IsSmallTick sizes → end_of from (map code_bytes sizes) ≤ from + 4396 * length sizes
+ticks_end from [] few = omega arith
+ticks_end from (size ∷ sizes) few =
+    let h = few 0 0 (omega arith) in
+    let most = h.1 in
+    let r = ticks_end (from + 4 * size) sizes (λ k d l. few (suc k) d (omega (arith, l))) in
     omega (arith, most, r)
 
 pub symbols_end : (from : ℕ) (symbols : List Symbol) → end_of from (map symbol_bytes symbols) ≤ from + sum_by (λ (y : Symbol). length y.bytes) symbols + 3 * length symbols

@@ -10,4 +10,5 @@ pub mod StackLengths
 pub mod StackParts
 pub mod Callers
 pub mod Wanting
+pub mod OnePlan
 pub mod SmallLengths

@@ -1,8 +1,9 @@
 -- The map that is made of these addresses and zones.
-use Rattle.std.proofs.Common.{◌≡◌, ◌≤◌, ◌<◌, ◌+◌, ◌-◌, ◌∙◌, ℕ, List, ◌∷◌, length, get_or, drop, take, sym, ap, arith}
+use Rattle.std.proofs.Common.{◌≡◌, ◌≤◌, ◌<◌, ◌+◌, ◌-◌, ◌∙◌, ◌⊎◌, ⊎_elim, inl, inr, ℕ, List, ◌∷◌, length, get_or, drop, take, sym, ap, arith}
 use Rattle.std.specs.Prelude.{map, slice_index}
 use Rattle.sloth_base.specs.declared.app.App.{App}
 use Rattle.sloth_base.specs.declared.config.Config.{Config}
+use Rattle.sloth_base.specs.Owners.{first_counter_line, counter_line}
 use Rattle.sloth_region.specs.declared.extent.Extent.{Extent}
 use Rattle.sloth_region.specs.declared.map.Map.{Map}
 use Rattle.sloth_region.specs.Region.{AreApartWithin}
@@ -10,7 +11,7 @@ use Rattle.sloth_base.specs.declared.places.Bounds.{Bounds}
 use Rattle.mem_map.specs.declared.all_lengths.CodeLengths.{CodeLengths}
 use Rattle.mem_map.specs.Run.{starts, end_of}
 use Rattle.mem_map.specs.Zones.{code_zone, data_zone, all_stacks, nowhere, HasZones}
-use Rattle.mem_map.specs.Plan.{MayPlan, HasAddresses, idle_at, prologues_at, services_at, items_at, code_end, code_bytes, symbol_bytes}
+use Rattle.mem_map.specs.Plan.{MayPlan, HasAddresses, idle_at, prologues_at, tick_starts, services_at, items_at, code_end, code_bytes, symbol_bytes}
 use Rattle.mem_map.proofs.Planned.{few_tasks, prologues_above, services_above, items_above, symbols_above, items_all_even, blocks_all_even}
 
 module _ (config : Config) (app : App) (lengths : CodeLengths) (bounds : Bounds) (offsets : List ℕ) (may : MayPlan config app lengths bounds offsets) (plan : Map) where
@@ -42,14 +43,17 @@ module _ (config : Config) (app : App) (lengths : CodeLengths) (bounds : Bounds)
     -- what the calls give
     pub addressed : plan.idle ≡ idle_at lengths → length plan.handlers ≡ 32
         → take (length lengths.prologues) plan.handlers ≡ starts (prologues_at lengths) (map code_bytes lengths.prologues)
-        → ((line : ℕ) → length lengths.prologues ≤ line → line < 32 → slice_index plan.handlers line ≡ plan.idle)
+        → ((c : ℕ) → c < length lengths.ticks → slice_index plan.handlers (counter_line c) ≡ get_or (tick_starts lengths) c 0)
+        → ((line : ℕ) → length lengths.prologues ≤ line → line < 32 → (line < first_counter_line) ⊎ (counter_line (length lengths.ticks) ≤ line)
+        → slice_index plan.handlers line ≡ plan.idle)
         → plan.places.blocks ≡ starts (services_at lengths) (map code_bytes lengths.services)
         → plan.places.items ≡ starts (items_at lengths) (map code_bytes lengths.items)
         → plan.places.first ≡ starts 0 (map (λ f. length f.items) app.funcs)
         → plan.places.symbols ≡ starts code_to (map symbol_bytes app.symbols)
         → HasAddresses config app lengths plan
-    addressed idle lines prologues unused blocks items first symbols =
+    addressed idle lines prologues ticks unused blocks items first symbols =
         let count = may.code.prologues in
+        let counters = may.code.ticks in
         let start = prologues_above config app lengths bounds offsets may in
         let low = services_above config app lengths bounds offsets may in
         let mid = items_above config app lengths bounds offsets may in
@@ -67,7 +71,9 @@ module _ (config : Config) (app : App) (lengths : CodeLengths) (bounds : Bounds)
           idle = idle;
           lines = lines;
           prologues = ap (λ (k : ℕ). take k plan.handlers) (sym count) ∙ prologues;
-          unused = λ line l m. unused line (omega (arith, l, count)) m;
+          ticks = λ c l. ticks c (omega (arith, l, counters));
+          unused = λ line l m other. unused line (omega (arith, l, count)) m
+              (⊎_elim (λ (b : line < 30). inl b) (λ (b : counter_line (length config.counters) ≤ line). inr (omega (arith, b, counters))) other);
           blocks = blocks;
           items = items;
           first = first;

@@ -1,5 +1,5 @@
 -- The addresses of a map, and what they give.
-use Rattle.std.proofs.Common.{◌≡◌, ◌≤◌, ◌<◌, ◌+◌, ◌-◌, ◌%◌, ◌∙◌, ⊎_elim, ℕ, List, ◌++◌, length, get_or, take, refl, sym, ap, subst, arith}
+use Rattle.std.proofs.Common.{◌≡◌, ◌≤◌, ◌<◌, ◌+◌, ◌-◌, ◌%◌, ◌∙◌, ◌⊎◌, ⊎_elim, inl, inr, ℕ, List, ◌++◌, length, get_or, take, refl, sym, ap, subst, arith}
 use Rattle.std.specs.Prelude.{All, map, sum_by, slice_index}
 use Rattle.std.proofs.lemmas.List.{get_or-take, length-map}
 use Rattle.std.proofs.lemmas.List.Elements.{All-map}
@@ -8,6 +8,7 @@ use Rattle.sloth_base.specs.declared.app.App.{App}
 use Rattle.sloth_base.specs.declared.app.Func.{Func}
 use Rattle.sloth_base.specs.declared.app.Symbol.{Symbol}
 use Rattle.sloth_base.specs.declared.config.Config.{Config}
+use Rattle.sloth_base.specs.Owners.{counter_line}
 use Rattle.sloth_region.specs.declared.extent.Extent.{Extent}
 use Rattle.sloth_region.specs.declared.map.Map.{Map}
 use Rattle.sloth_region.specs.Region.{FollowWithin}
@@ -15,8 +16,8 @@ use Rattle.std.proofs.lemmas.Bool.{cases_lt}
 use Rattle.sloth_base.specs.declared.places.Bounds.{Bounds}
 use Rattle.mem_map.specs.Run.{end_of, extents_of, starts, AreClose}
 use Rattle.mem_map.specs.declared.all_lengths.CodeLengths.{CodeLengths}
-use Rattle.mem_map.specs.Plan.{MayPlan, HasAddresses, IsNear, prologues_at, services_at, items_at, code_end, data_end, code_bytes, symbol_bytes, some_extents, code_extents, data_extents}
-use Rattle.mem_map.proofs.Bounds.{sizes_few, before_all, items_end, prologues_end, symbols_end, services_end, IsSize}
+use Rattle.mem_map.specs.Plan.{MayPlan, HasAddresses, IsNear, prologues_at, ticks_at, tick_starts, services_at, items_at, code_end, data_end, code_bytes, symbol_bytes, some_extents, code_extents, data_extents}
+use Rattle.mem_map.proofs.Bounds.{sizes_few, before_all, items_end, prologues_end, ticks_end, symbols_end, services_end, IsSize}
 use Rattle.mem_map.proofs.Covering.{ArePlaced, code_bytes_aligned}
 use Rattle.mem_map.proofs.Starts.{stands, end_above, end_aligned, starts_aligned, length_starts, follow_from, extents_follow, extents_before, some_follow, extents_close, close_before, some_close}
 
@@ -44,16 +45,28 @@ module _ (config : Config) (app : App) (lengths : CodeLengths) (bounds : Bounds)
   sizes_are : All IsSize lengths.items
   sizes_are = sizes_few config app lengths.items may.in_range may.code.items
 
-  pub sizes_small : All (λ (size : ℕ). size ≤ 256) lengths.items
+  pub sizes_small : All (λ (size : ℕ). size ≤ 2048) lengths.items
   sizes_small = λ k d l. let s = sizes_are k d l in let most = s.1 in omega (arith, most)
 
-  pub starts_small : All (λ (size : ℕ). size ≤ 256) lengths.prologues
+  pub starts_small : All (λ (size : ℕ). size ≤ 2048) lengths.prologues
   starts_small = λ k d l. let s = may.code.prologues_fit k d l in let most = s.1 in omega (arith, most)
+
+  pub ticks_small : All (λ (size : ℕ). size ≤ 2048) lengths.ticks
+  ticks_small = λ k d l. let s = may.code.ticks_fit k d l in let most = s.1 in omega (arith, most)
 
   pub few_starts : length lengths.prologues ≤ 30
   few_starts = let c = may.code.prologues in let f = few_tasks in omega (arith, c, f)
 
-  prologues_short : services_at lengths ≤ prologues_at lengths + 17280
+  pub few_ticks : length lengths.ticks ≤ 2
+  few_ticks = let c = may.code.ticks in let f = may.in_range.configuration.few_counters in omega (arith, c, f)
+
+  ticks_short : services_at lengths ≤ ticks_at lengths + 8792
+  ticks_short =
+      let e = ticks_end (ticks_at lengths) lengths.ticks may.code.ticks_fit in
+      let f = few_ticks in
+      omega (arith, e, f)
+
+  prologues_short : ticks_at lengths ≤ prologues_at lengths + 17280
   prologues_short =
       let e = prologues_end (prologues_at lengths) lengths.prologues may.code.prologues_fit in
       let f = few_starts in
@@ -72,7 +85,7 @@ module _ (config : Config) (app : App) (lengths : CodeLengths) (bounds : Bounds)
 
   -- all code is near
   pub code_short : code_end lengths ≤ 0x8010_0370
-  code_short = let a = services_short in let b = items_short in let c = prologues_short in let f = may.code.boot.1 in omega (arith, a, b, c, f)
+  code_short = let a = services_short in let b = items_short in let c = prologues_short in let d = ticks_short in let f = may.code.boot.1 in omega (arith, a, b, c, d, f)
 
   pub code_near : code_end lengths < 0x8010_0400
   code_near = let h = code_short in omega (arith, h)
@@ -86,8 +99,11 @@ module _ (config : Config) (app : App) (lengths : CodeLengths) (bounds : Bounds)
 
   -- ---- multiples of 4
 
+  pub ticks_even : ticks_at lengths % 4 ≡ 0
+  ticks_even = end_aligned (prologues_at lengths) (map code_bytes lengths.prologues) (omega arith) (code_bytes_aligned lengths.prologues)
+
   pub services_even : services_at lengths % 4 ≡ 0
-  services_even = end_aligned (prologues_at lengths) (map code_bytes lengths.prologues) (omega arith) (code_bytes_aligned lengths.prologues)
+  services_even = end_aligned (ticks_at lengths) (map code_bytes lengths.ticks) ticks_even (code_bytes_aligned lengths.ticks)
 
   pub items_even : items_at lengths % 4 ≡ 0
   items_even = end_aligned (services_at lengths) (map code_bytes lengths.services) services_even (code_bytes_aligned lengths.services)
@@ -95,8 +111,14 @@ module _ (config : Config) (app : App) (lengths : CodeLengths) (bounds : Bounds)
   pub code_even : code_end lengths % 4 ≡ 0
   code_even = end_aligned (items_at lengths) (map code_bytes lengths.items) items_even (code_bytes_aligned lengths.items)
 
+  pub ticks_behind : prologues_at lengths ≤ ticks_at lengths
+  ticks_behind = end_above (prologues_at lengths) (map code_bytes lengths.prologues)
+
+  pub ticks_above : ticks_at lengths ≤ services_at lengths
+  ticks_above = end_above (ticks_at lengths) (map code_bytes lengths.ticks)
+
   pub prologues_above : prologues_at lengths ≤ services_at lengths
-  prologues_above = end_above (prologues_at lengths) (map code_bytes lengths.prologues)
+  prologues_above = let a = ticks_behind in let b = ticks_above in omega (arith, a, b)
 
   pub services_above : services_at lengths ≤ items_at lengths
   services_above = end_above (services_at lengths) (map code_bytes lengths.services)
@@ -139,6 +161,9 @@ module _ (config : Config) (app : App) (lengths : CodeLengths) (bounds : Bounds)
   start_some : All (λ (y : ℕ). 1 ≤ y) (map code_bytes lengths.prologues)
   start_some = All-map (λ (y : ℕ). 1 ≤ y) code_bytes lengths.prologues (λ k d l. let h = may.code.prologues_fit k d l in let s = h.0 in omega (arith, s))
 
+  tick_some : All (λ (y : ℕ). 1 ≤ y) (map code_bytes lengths.ticks)
+  tick_some = All-map (λ (y : ℕ). 1 ≤ y) code_bytes lengths.ticks (λ k d l. let h = may.code.ticks_fit k d l in let s = h.0 in omega (arith, s))
+
   item_some : All (λ (y : ℕ). 1 ≤ y) (map code_bytes lengths.items)
   item_some = All-map (λ (y : ℕ). 1 ≤ y) code_bytes lengths.items (λ k d l. let h = sizes_are k d l in let s = h.0 in omega (arith, s))
 
@@ -178,17 +203,48 @@ module _ (config : Config) (app : App) (lengths : CodeLengths) (bounds : Bounds)
         let high = s.below in
         let four = starts_aligned (prologues_at lengths) (map code_bytes lengths.prologues) (omega arith) (code_bytes_aligned lengths.prologues) task 0 (omega (arith, l, count, long, all)) in
         let short = code_short in
+        let ticks = ticks_above in
         let mid = services_above in
         let items = items_above in
-        (omega (arith, is, four), omega (arith, is, low), omega (arith, is, high, short, mid, items))
+        (omega (arith, is, four), omega (arith, is, low), omega (arith, is, high, short, ticks, mid, items))
+
+    -- that of a tick
+    pub tick_near : (c : ℕ) → c < length config.counters → IsNear (slice_index plan.handlers (counter_line c))
+    tick_near c l =
+        let is = at.ticks c l in
+        let count = may.code.ticks in
+        let long = length-map lengths.ticks code_bytes in
+        let all = length_starts (ticks_at lengths) (map code_bytes lengths.ticks) in
+        let s = stands (ticks_at lengths) (map code_bytes lengths.ticks) c (omega (arith, l, count, long)) in
+        let low = s.above in
+        let high = s.below in
+        let four = starts_aligned (ticks_at lengths) (map code_bytes lengths.ticks) ticks_even (code_bytes_aligned lengths.ticks) c 0 (omega (arith, l, count, long, all)) in
+        let short = code_short in
+        let first = ticks_behind in
+        let mid = services_above in
+        let items = items_above in
+        (omega (arith, is, four), omega (arith, is, low, first), omega (arith, is, high, short, mid, items))
 
     pub reach : (line : ℕ) → line < 32 → IsNear (slice_index plan.handlers line)
     reach line h =
         let few = may.code.boot.1 in
         let e = at.idle in
+        let counters : ℕ = length config.counters in
+        let idle : (l : n ≤ line) (other : (line < 30) ⊎ (counter_line counters ≤ line)) → IsNear (slice_index plan.handlers line) = λ l other.
+        let a = at.unused line l h other in
+        (omega (arith, a, e), omega (arith, a, e), omega (arith, a, e, few))
+        in
         ⊎_elim
         (λ (l : line < n). start_near line l)
-        (λ (l : n ≤ line). let a = at.unused line l h in (omega (arith, a, e), omega (arith, a, e), omega (arith, a, e, few)))
+        (λ (l : n ≤ line). ⊎_elim
+        (λ (m : line < 30). idle l (inl m))
+        (λ (m : 30 ≤ line). ⊎_elim
+        (λ (f : line - 30 < counters).
+        let same : counter_line (line - 30) ≡ line = omega (arith, m) in
+        subst (λ k. IsNear (slice_index plan.handlers k)) same (tick_near (line - 30) f))
+        (λ (f : counters ≤ line - 30). idle l (inr (omega (arith, m, f))))
+        (cases_lt (line - 30) counters))
+        (cases_lt line 30))
         (cases_lt line n)
 
     pub code_follows : FollowWithin 0x8000_0400 (code_end lengths) (code_extents plan n lengths)
@@ -200,9 +256,11 @@ module _ (config : Config) (app : App) (lengths : CodeLengths) (bounds : Bounds)
         let items = subst P (sym at.items) (extents_follow (items_at lengths) end (map code_bytes lengths.items) item_some (omega arith)) in
         let Q : List ℕ → Type 0 = λ addresses. FollowWithin (services_at lengths) end (some_extents addresses lengths.services ++ extents_of plan.places.items (map code_bytes lengths.items)) in
         let services = subst Q (sym at.blocks) (some_follow (services_at lengths) end lengths.services (extents_of plan.places.items (map code_bytes lengths.items)) items) in
-        let rest : List Extent = some_extents plan.places.blocks lengths.services ++ extents_of plan.places.items (map code_bytes lengths.items) in
+        let served : List Extent = some_extents plan.places.blocks lengths.services ++ extents_of plan.places.items (map code_bytes lengths.items) in
+        let rest : List Extent = extents_of (tick_starts lengths) (map code_bytes lengths.ticks) ++ served in
+        let ticks = extents_before (ticks_at lengths) end (map code_bytes lengths.ticks) served tick_some services in
         let R : List ℕ → Type 0 = λ addresses. FollowWithin (prologues_at lengths) end (extents_of addresses (map code_bytes lengths.prologues) ++ rest) in
-        let prologues = subst R (sym at.prologues) (extents_before (prologues_at lengths) end (map code_bytes lengths.prologues) rest start_some services) in
+        let prologues = subst R (sym at.prologues) (extents_before (prologues_at lengths) end (map code_bytes lengths.prologues) rest start_some ticks) in
         let behind = follow_from (plan.idle + 4) (prologues_at lengths) end (extents_of (take n plan.handlers) (map code_bytes lengths.prologues) ++ rest) (omega (arith, e)) prologues in
         (omega arith, omega arith, (omega arith, omega (arith, some), (omega (arith, e), omega arith, behind)))
 
@@ -215,9 +273,11 @@ module _ (config : Config) (app : App) (lengths : CodeLengths) (bounds : Bounds)
         let items = subst P (sym at.items) (extents_close (items_at lengths) (map code_bytes lengths.items)) in
         let Q : List ℕ → Type 0 = λ addresses. AreClose (services_at lengths) end (some_extents addresses lengths.services ++ extents_of plan.places.items (map code_bytes lengths.items)) in
         let services = subst Q (sym at.blocks) (some_close (services_at lengths) end lengths.services (extents_of plan.places.items (map code_bytes lengths.items)) items) in
-        let rest : List Extent = some_extents plan.places.blocks lengths.services ++ extents_of plan.places.items (map code_bytes lengths.items) in
+        let served : List Extent = some_extents plan.places.blocks lengths.services ++ extents_of plan.places.items (map code_bytes lengths.items) in
+        let rest : List Extent = extents_of (tick_starts lengths) (map code_bytes lengths.ticks) ++ served in
+        let ticks = close_before (ticks_at lengths) end (map code_bytes lengths.ticks) served services in
         let R : List ℕ → Type 0 = λ addresses. AreClose (prologues_at lengths) end (extents_of addresses (map code_bytes lengths.prologues) ++ rest) in
-        let prologues = subst R (sym at.prologues) (close_before (prologues_at lengths) end (map code_bytes lengths.prologues) rest services) in
+        let prologues = subst R (sym at.prologues) (close_before (prologues_at lengths) end (map code_bytes lengths.prologues) rest ticks) in
         let S : ℕ → Type 0 = λ free. AreClose free end (extents_of (take n plan.handlers) (map code_bytes lengths.prologues) ++ rest) in
         let behind : prologues_at lengths ≡ plan.idle + 4 = omega (arith, e) in
         (refl, (refl, (e, subst S behind prologues)))

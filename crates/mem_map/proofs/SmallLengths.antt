@@ -11,11 +11,11 @@ use Rattle.sloth_base.specs.declared.app.App.{App}
 use Rattle.sloth_base.specs.declared.app.Func.{Func}
 use Rattle.sloth_base.specs.declared.config.Config.{Config}
 use Rattle.code_lengths.specs.Bodies.{IsBody}
-use Rattle.code_lengths.specs.CodeLengths.{block_length, IsPrologueLength}
-use Rattle.code_lengths.proofs.Short.{short_lines, short_prologue, short_block}
+use Rattle.code_lengths.specs.CodeLengths.{tick_length, block_length, IsPrologueLength}
+use Rattle.code_lengths.proofs.Short.{short_lines, short_prologue, short_tick, short_block}
 use Rattle.code_rules.specs.WellFormed.{WellFormed}
 use Rattle.mem_map.specs.Lengths.{AreLengths, wanted_length}
-use Rattle.mem_map.specs.Plan.{AreSmall, IsSmallPrologue}
+use Rattle.mem_map.specs.Plan.{AreSmall, IsSmallPrologue, IsSmallTick}
 use Rattle.mem_map.specs.Wanted.{IsServicePlace, is_wanted}
 use Rattle.mem_map.specs.declared.all_lengths.CodeLengths.{CodeLengths}
 use Rattle.mem_map.proofs.Wanting.{wanted_services}
@@ -25,6 +25,24 @@ pub has_body : (config : Config) (app : App) → WellFormed config app → (t : 
 has_body config app well t declared =
     let b = well.in_range.tasks.body t declared in
     (b.0, (b.1.0, λ d. subst (λ (f : Func). f.task ≡ Some t) (get_or_default app.funcs b.0 missing d b.1.0) b.1.1))
+
+-- the lengths of ticks, and one more
+pub one_more_tick : (config : Config) (xs ys : List ℕ) (n size : ℕ) → ys ≡ xs ++ size ∷ []
+    → (length xs ≡ n) × ((c : ℕ) → c < n → get_or xs c 0 ≡ tick_length c config.alarms) → size ≡ tick_length n config.alarms
+    → (length ys ≡ n + 1) × ((c : ℕ) → c < n + 1 → get_or ys c 0 ≡ tick_length c config.alarms)
+one_more_tick config xs ys n size e before is =
+    let long = before.0 in
+    let longer = ap length e ∙ length-append xs (size ∷ []) in (
+      omega (arith, long, longer),
+      λ c below. ap (λ (l : List ℕ). get_or l c 0) e
+          ∙ (⊎_elim
+          (λ (l : c < n). get_or_append_left xs (size ∷ []) 0 c (omega (arith, l, long)) ∙ before.1 c l)
+          (λ (m : n ≤ c).
+          let last : c ≡ length xs = omega (arith, m, below, long) in
+          let same : n ≡ c = omega (arith, m, below) in
+          ap (λ k. get_or (xs ++ size ∷ []) k 0) last ∙ get_or-append_seam xs size [] 0 ∙ is ∙ ap (λ k. tick_length k config.alarms) same)
+          (cases_lt c n)),
+    )
 
 -- the lengths of prologues, and one more
 pub one_more : (config : Config) (app : App) (xs ys : List ℕ) (n size : ℕ) → ys ≡ xs ++ size ∷ []
@@ -54,6 +72,13 @@ small_prologue config app t size well p =
     let bound = short_prologue p.decl.extended p.func.frame_words in
     (omega (arith, is, bound.0), omega (arith, is, bound.1, words))
 
+-- a tick, of at most 32 alarms
+small_tick : (config : Config) (app : App) (c size : ℕ) → WellFormed config app → size ≡ tick_length c config.alarms → IsSmallTick size
+small_tick config app c size well is =
+    let few = well.in_range.configuration.few_alarms in
+    let bound = short_tick c config.alarms in
+    (omega (arith, is, bound.0), omega (arith, is, bound.1, few))
+
 -- the code of a service
 small_service : (app : App) (number : ℕ) → wanted_length app number ≤ 256
 small_service app number = by (is_wanted number app)
@@ -81,11 +106,16 @@ module _ (config : Config) (app : App) (lengths : CodeLengths) (well : WellForme
         (let b = are.boot in
         let short = short_lines config.tasks in
         let few = well.in_range.configuration.few_tasks in
-        (omega (arith, b), omega (arith, b, short, few)));
+        let counters = well.in_range.configuration.few_counters in
+        (omega (arith, b), omega (arith, b, short, few, counters)));
     prologues = are.prologues;
     prologues_fit = λ k d l.
         let count = are.prologues in
         subst IsSmallPrologue (get_or_default lengths.prologues k 0 d l) (small_prologue config app k _ well (are.each_prologue k (omega (arith, l, count))));
+    ticks = are.ticks;
+    ticks_fit = λ k d l.
+        let count = are.ticks in
+        subst IsSmallTick (get_or_default lengths.ticks k 0 d l) (small_tick config app k _ well (are.each_tick k (omega (arith, l, count))));
     services = are.services;
     services_fit = λ k d l.
         let count = are.services in

@@ -1,14 +1,14 @@
 -- The lengths of the stacks, one more at a time.
 use Rattle.std.proofs.Common.{◌≡◌, ℕ, suc, ◌+◌, ◌<◌, ◌≤◌, ⊎_elim, List, [], ◌∷◌, ◌++◌, get_or, true, false, cond, sym, ap, ◌∙◌, subst, arith}
 use Rattle.std.proofs.lemmas.Bool.{cases_eq}
-use Rattle.std.proofs.lemmas.List.{get_or_append_left, length-append}
+use Rattle.std.proofs.lemmas.List.{append-nil, get_or_append_left, length-append}
 use Rattle.std.proofs.lemmas.List.Elements.{All-append, All-cons, All-nil}
 use Rattle.std.proofs.Math.Seq.{get_or-append_seam}
 use Rattle.sloth_base.specs.declared.config.TaskDecl.{TaskDecl}
 use Rattle.sloth_base.specs.declared.places.Bounds.{Bounds}
 use Rattle.stack_bounds.specs.Bounds.{bytes_of}
 use Rattle.mem_map.specs.Run.{room_for}
-use Rattle.mem_map.specs.Stacks.{is_extended, own_before, first_own, AreLengths}
+use Rattle.mem_map.specs.Stacks.{is_extended, own_before, first_own, lengths_before, AreLengths}
 use Rattle.mem_map.proofs.StackNumbers.{skipped, rises}
 
 room_more : (lengths : List ℕ) (len : ℕ) → room_for 16 (lengths ++ len ∷ []) ≡ room_for 16 lengths + 15 + len
@@ -23,6 +23,7 @@ module _ (tasks : List TaskDecl) (bounds : Bounds) (end : ℕ) (lengths : List �
       let c = h.count in
       let r = h.room in
       record {
+        is = h.is ∙ sym (append-nil (lengths_before tasks bounds end)) ∙ ap (λ b. lengths_before tasks bounds end ++ cond b (bytes_of bounds end ∷ []) []) (sym basic);
         count = omega (arith, s, c);
         shared = h.shared;
         own = λ t l e. ⊎_elim
@@ -42,6 +43,8 @@ module _ (tasks : List TaskDecl) (bounds : Bounds) (end : ℕ) (lengths : List �
       let longer = length-append lengths (len ∷ []) in
       let m = room_more lengths len in
       record {
+        is = ap (λ l. l ++ len ∷ []) h.is ∙ ap (λ k. lengths_before tasks bounds end ++ k ∷ []) is
+            ∙ ap (λ b. lengths_before tasks bounds end ++ cond b (bytes_of bounds end ∷ []) []) (sym extended);
         count = omega (arith, longer, c, one_more);
         shared = λ l. get_or_append_left lengths (len ∷ []) 0 0 (omega (arith, c, l)) ∙ h.shared l;
         own = λ t l e. ⊎_elim

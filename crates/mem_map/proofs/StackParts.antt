@@ -14,9 +14,10 @@ use Rattle.sloth_region.specs.declared.map.Map.{Map}
 use Rattle.sloth_region.specs.Region.{AreApartWithin, IsBelow}
 use Rattle.stack_bounds.specs.Bounds.{IsBasic, MayBePreempted, MayMeet, bytes_of, offset_of}
 use Rattle.stack_bounds.specs.Bounds.MayMeet.{waits, meets_waiting, is_over, is_under}
-use Rattle.mem_map.specs.Zones.{stack_of, nowhere, all_stacks}
+use Rattle.mem_map.specs.Run.{run}
+use Rattle.mem_map.specs.Zones.{data_zone, stack_of, nowhere, all_stacks}
 use Rattle.mem_map.specs.Plan.{AreNeeds}
-use Rattle.mem_map.specs.Stacks.{is_extended, first_own, stack_number, stack_count, shared_length, AreLengths, HasStack, AreOf, top_of, PartsApart, HasStacks}
+use Rattle.mem_map.specs.Stacks.{is_extended, first_own, stack_number, stack_count, shared_length, AreLengths, HasStack, AreOf, top_of, behind_data, PartsApart, HasStacks}
 use Rattle.mem_map.proofs.StackNumbers.{number_own, number_shared, number_below, shares, differ, has_basic, found}
 
 clash : {X : Type 0} → true ≡ false → X
@@ -107,7 +108,8 @@ module _ (config : Config) (app : App) (bounds : Bounds) (offsets : List ℕ) (n
 
     -- ---- a map with these
 
-    module _ (plan : Map) (is : AreOf tasks all offsets n plan.stacks plan.tops) (all_is : all_stacks plan ≡ all) where
+    module _ (plan : Map) (is : AreOf tasks all offsets n plan.stacks plan.tops) (all_is : all_stacks plan ≡ all) (behind : ℕ)
+        (run_is : all ≡ run 16 behind lengths) (data_is : behind_data plan ≡ behind) where
       stack_is : (t : ℕ) → t < n → stack_of plan t ≡ own t
       stack_is t l = is.stack t l
 
@@ -176,6 +178,8 @@ module _ (config : Config) (app : App) (bounds : Bounds) (offsets : List ℕ) (n
             let b = base_is k k_below in
             let s = ap (λ (e : Extent). e.base) (get_or_default plan.stacks k nowhere d l) in
             omega (arith, a, b, s);
+        placed = all_is ∙ run_is ∙ ap (λ k. run 16 k lengths) (sym data_is) ∙ ap (run 16 (behind_data plan)) are.is;
+        number = λ t l. stack_is t l ∙ sym (ap (λ (l : List Extent). get_or l (stack_number tasks t) nowhere) all_is);
         among = λ t l.
             let same = ap length all_is in
             let b = there t l in
@@ -200,9 +204,9 @@ module _ (config : Config) (app : App) (bounds : Bounds) (offsets : List ℕ) (n
 -- ---- as the calls give them
 
 -- the extents behind the third
-behind_data : (from end : ℕ) (words code data_extent : Extent) (extents all : List Extent) → extents ≡ words ∷ code ∷ data_extent ∷ all → AreApartWithin from end extents
+behind_three : (from end : ℕ) (words code data_extent : Extent) (extents all : List Extent) → extents ≡ words ∷ code ∷ data_extent ∷ all → AreApartWithin from end extents
     → AreApartWithin from end all
-behind_data from end words code data_extent extents all is apart =
+behind_three from end words code data_extent extents all is apart =
     let h = subst (AreApartWithin from end) is apart in
     record {
       apart = λ i j d l m. h.apart (suc (suc (suc i))) (suc (suc (suc j))) d (omega (arith, l)) (omega (arith, m));
@@ -219,6 +223,7 @@ pub record ArePlaced (config : Config) (bounds : Bounds) (declared : List TaskDe
   pub extents_are : extents ≡ words ∷ code ∷ data_extent ∷ all
   pub apart : AreApartWithin 0x8000_0004 0x8020_0000 extents
   pub lens : map (λ (e : Extent). e.len) all ≡ lengths
+  pub run_is : all ≡ run 16 (data_extent.base + data_extent.len) lengths
   pub aligned : All (λ (e : Extent). e.base % 16 ≡ 0) all
 
 module _ (config : Config) (app : App) (bounds : Bounds) (offsets : List ℕ) (needs : AreNeeds config app bounds offsets) (declared : List TaskDecl) (lengths : List ℕ) (extents all : List Extent)
@@ -227,7 +232,7 @@ module _ (config : Config) (app : App) (bounds : Bounds) (offsets : List ℕ) (n
   are = subst (λ (l : List TaskDecl). AreLengths l bounds (length l) lengths) h.declared_is h.are
 
   apart : AreApartWithin 0x8000_0004 0x8020_0000 all
-  apart = behind_data 0x8000_0004 0x8020_0000 h.words h.code h.data_extent extents all h.extents_are h.apart
+  apart = behind_three 0x8000_0004 0x8020_0000 h.words h.code h.data_extent extents all h.extents_are h.apart
 
   pub fit : (t : ℕ) → t < length declared → HasStack declared slice offsets t
   fit =
@@ -235,9 +240,10 @@ module _ (config : Config) (app : App) (bounds : Bounds) (offsets : List ℕ) (n
       (subst (λ (x : List Extent). (t : ℕ) → t < length config.tasks → HasStack config.tasks x offsets t) (sym slice_is)
       (has_stack config app bounds offsets needs 0x8000_0004 lengths all are h.lens apart h.aligned))
 
-  pub placed : (plan : Map) → AreOf declared slice offsets (length declared) plan.stacks plan.tops → all_stacks plan ≡ all → HasStacks config app bounds plan
-  placed plan is all_is =
+  pub placed : (plan : Map) → AreOf declared slice offsets (length declared) plan.stacks plan.tops → all_stacks plan ≡ all → data_zone plan ≡ h.data_extent
+      → HasStacks config app bounds plan
+  placed plan is all_is data_is =
       has_stacks config app bounds offsets needs 0x8000_0004 lengths all are h.lens apart h.aligned plan
       (subst (λ (x : List Extent). AreOf config.tasks x offsets (length config.tasks) plan.stacks plan.tops) slice_is
       (subst (λ (l : List TaskDecl). AreOf l slice offsets (length l) plan.stacks plan.tops) h.declared_is is))
-      all_is
+      all_is (h.data_extent.base + h.data_extent.len) h.run_is (ap (λ (e : Extent). e.base + e.len) data_is)

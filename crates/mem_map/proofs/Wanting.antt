@@ -1,5 +1,5 @@
 -- What is wanted has a caller, so it is a service with an object that it may have.
-use Rattle.std.proofs.Common.{◌≡◌, ◌∙◌, ◌<◌, ◌%◌, ℕ, Bool, true, false, List, length, get_or, ap, subst, arith}
+use Rattle.std.proofs.Common.{◌≡◌, ◌∙◌, ◌<◌, ℕ, Bool, true, false, List, length, get_or, ap, subst, arith}
 use Rattle.std.proofs.lemmas.List.FromFn.{length-map-range_with_len, get_or-map-range_with_len, fill_by_all}
 use Rattle.sloth_base.specs.Named.{function, missing, no_item, operation}
 use Rattle.sloth_base.specs.ServiceCodes.{code_of, service_of, object_kind, IsObjectNumber}

@@ -1,11 +1,12 @@
 -- Where the code and the data of an image stand: one piece right behind the other, each with the room of its own length.
-use Rattle.std.specs.Prelude.{ℕ, zero, suc, ◌+◌, ◌*◌, ◌%◌, ◌<◌, ◌≤◌, ◌≡◌, ◌≢◌, List, [], ◌∷◌, ◌++◌, length, All, get_or, slice_index, take}
+use Rattle.std.specs.Prelude.{ℕ, zero, suc, ◌+◌, ◌*◌, ◌%◌, ◌<◌, ◌≤◌, ◌≡◌, ◌≢◌, ◌⊎◌, List, [], ◌∷◌, ◌++◌, length, All, get_or, slice_index, take}
 use Rattle.std.specs.Prelude as prelude
 use Rattle.sloth_base.specs.declared.app.App.{App}
 use Rattle.sloth_base.specs.declared.app.Symbol.{Symbol}
 use Rattle.sloth_base.specs.declared.config.Config.{Config}
 use Rattle.sloth_base.specs.declared.places.Bounds.{Bounds}
 use Rattle.sloth_base.specs.Blocks.{block_count}
+use Rattle.sloth_base.specs.Owners.{first_counter_line, counter_line}
 use Rattle.sloth_base.specs.MemoryMap.{vectors_base, boot_base}
 use Rattle.mem_map.specs.Wanted.{IsServicePlace}
 use Rattle.sloth_region.specs.declared.extent.Extent.{Extent}
@@ -42,9 +43,13 @@ idle_at lengths = boot_base + code_bytes lengths.boot
 abbrev pub prologues_at : CodeLengths → ℕ
 prologues_at lengths = idle_at lengths + idle_bytes
 
--- the first service, behind all prologues
+-- the first tick, behind all prologues
+abbrev pub ticks_at : CodeLengths → ℕ
+ticks_at lengths = end_of (prologues_at lengths) (prelude.map code_bytes lengths.prologues)
+
+-- the first service, behind all ticks
 abbrev pub services_at : CodeLengths → ℕ
-services_at lengths = end_of (prologues_at lengths) (prelude.map code_bytes lengths.prologues)
+services_at lengths = end_of (ticks_at lengths) (prelude.map code_bytes lengths.ticks)
 
 -- the first item, behind all services
 abbrev pub items_at : CodeLengths → ℕ
@@ -58,13 +63,20 @@ code_end lengths = end_of (items_at lengths) (prelude.map code_bytes lengths.ite
 abbrev pub data_end : App → ℕ → ℕ
 data_end app from = end_of from (prelude.map symbol_bytes app.symbols) + 4
 
+-- the addresses of the ticks
+abbrev pub tick_starts : CodeLengths → List ℕ
+tick_starts lengths = starts (ticks_at lengths) (prelude.map code_bytes lengths.ticks)
+
 -- the addresses of a map
 pub record HasAddresses (config : Config) (app : App) (lengths : CodeLengths) (map : Map) : Type 0 where
   pub idle : map.idle ≡ idle_at lengths
   pub lines : length map.handlers ≡ 32
   pub prologues : take (length config.tasks) map.handlers ≡ starts (prologues_at lengths) (prelude.map code_bytes lengths.prologues)
-  -- a line without a task goes to the idle loop
-  pub unused : (line : ℕ) → length config.tasks ≤ line → line < 32 → slice_index map.handlers line ≡ map.idle
+  pub ticks : (c : ℕ) → c < length config.counters → slice_index map.handlers (counter_line c) ≡ get_or (tick_starts lengths) c 0
+  -- a line that is neither a task's nor a counter's goes to the idle loop
+  pub unused :
+      (line : ℕ) → length config.tasks ≤ line → line < 32 → (line < first_counter_line) ⊎ (counter_line (length config.counters) ≤ line)
+      → slice_index map.handlers line ≡ map.idle
   pub blocks : map.places.blocks ≡ starts (services_at lengths) (prelude.map code_bytes lengths.services)
   pub items : map.places.items ≡ starts (items_at lengths) (prelude.map code_bytes lengths.items)
   -- the number of items before those of each function
@@ -89,12 +101,13 @@ some_extents (address ∷ addresses) [] = []
 some_extents (address ∷ addresses) (zero ∷ sizes) = some_extents addresses sizes
 some_extents (address ∷ addresses) (suc size ∷ sizes) = record { base = address; len = code_bytes (suc size) } ∷ some_extents addresses sizes
 
--- vector words, boot, the idle loop, the prologues of so many tasks, the wanted services, the items
+-- vector words, boot, the idle loop, the prologues of so many tasks, the ticks, the wanted services, the items
 abbrev pub code_extents : Map → ℕ → CodeLengths → List Extent
 code_extents map tasks lengths =
     record { base = vectors_base; len = 128 } ∷ record { base = boot_base; len = code_bytes lengths.boot } ∷ record { base = map.idle; len = idle_bytes }
     ∷ (extents_of (take tasks map.handlers) (prelude.map code_bytes lengths.prologues)
-    ++ (some_extents map.places.blocks lengths.services ++ extents_of map.places.items (prelude.map code_bytes lengths.items)))
+    ++ (extents_of (tick_starts lengths) (prelude.map code_bytes lengths.ticks)
+    ++ (some_extents map.places.blocks lengths.services ++ extents_of map.places.items (prelude.map code_bytes lengths.items))))
 
 -- the symbols
 abbrev pub data_extents : Map → App → List Extent
@@ -106,11 +119,17 @@ data_extents map app = extents_of map.places.symbols (prelude.map symbol_bytes a
 abbrev pub IsSmallPrologue : ℕ → Type 0
 IsSmallPrologue size = (1 ≤ size) × (size ≤ 144)
 
--- The pieces of code are not long: boot, a prologue for each task, the wanted services, the items.
+-- a tick has at least one instruction, and at most 11 and 34 for each of 32 alarms
+abbrev pub IsSmallTick : ℕ → Type 0
+IsSmallTick size = (1 ≤ size) × (size ≤ 1099)
+
+-- The pieces of code are not long: boot, a prologue for each task, a tick for each counter, the wanted services, the items.
 pub record AreSmall (config : Config) (app : App) (lengths : CodeLengths) : Type 0 where
   pub boot : (1 ≤ lengths.boot) × (lengths.boot ≤ 136)
   pub prologues : length lengths.prologues ≡ length config.tasks
   pub prologues_fit : All IsSmallPrologue lengths.prologues
+  pub ticks : length lengths.ticks ≡ length config.counters
+  pub ticks_fit : All IsSmallTick lengths.ticks
   pub services : length lengths.services ≡ block_count
   pub services_fit : All (λ size. size ≤ 256) lengths.services
   -- what has code there is a service with an object that it may have

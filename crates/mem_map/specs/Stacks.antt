@@ -1,5 +1,5 @@
 -- The stacks of an image: one for all basic tasks, one for each extended task, and each task's part of its stack.
-use Rattle.std.specs.Prelude.{ℕ, zero, suc, ◌+◌, ◌*◌, ◌%◌, ◌<◌, ◌≤◌, ◌≡◌, ◌≢◌, ◌⊎◌, ◌==◌, Bool, true, List, cond, length, get_or, All}
+use Rattle.std.specs.Prelude.{ℕ, zero, suc, ◌+◌, ◌*◌, ◌%◌, ◌<◌, ◌≤◌, ◌≡◌, ◌≢◌, ◌⊎◌, ◌==◌, Bool, true, List, [], ◌∷◌, ◌++◌, cond, length, get_or, All}
 use Rattle.sloth_base.specs.Named.{undeclared, declaration}
 use Rattle.sloth_base.specs.declared.app.App.{App}
 use Rattle.sloth_base.specs.declared.config.Config.{Config}
@@ -9,8 +9,8 @@ use Rattle.sloth_region.specs.declared.extent.Extent.{Extent}
 use Rattle.sloth_region.specs.declared.map.Map.{Map}
 use Rattle.sloth_region.specs.Region.{aligned, IsBelow}
 use Rattle.stack_bounds.specs.Bounds.{IsBasic, MayBePreempted, MayMeet, bytes_of}
-use Rattle.mem_map.specs.Zones.{stack_of, nowhere, all_stacks}
-use Rattle.mem_map.specs.Run.{room_for}
+use Rattle.mem_map.specs.Zones.{data_zone, stack_of, nowhere, all_stacks}
+use Rattle.mem_map.specs.Run.{room_for, run}
 
 -- ---- which stack each task has
 
@@ -41,8 +41,14 @@ stack_count tasks = first_own tasks + own_before tasks (length tasks)
 abbrev pub shared_length : Bounds → ℕ
 shared_length bounds = aligned bounds.shared 16
 
--- the lengths of the stacks of the tasks before this one
+-- the lengths of the stacks of the tasks before this one: that of the shared one, if some task is basic, and those of the extended tasks
+abbrev pub lengths_before : List TaskDecl → Bounds → ℕ → List ℕ
+lengths_before tasks bounds zero = cond (first_own tasks == 1) (shared_length bounds ∷ []) []
+lengths_before tasks bounds (suc t) = lengths_before tasks bounds t ++ cond (is_extended tasks t) (bytes_of bounds t ∷ []) []
+
+-- the same lengths, and what they are for
 pub record AreLengths (tasks : List TaskDecl) (bounds : Bounds) (end : ℕ) (lengths : List ℕ) : Type 0 where
+  pub is : lengths ≡ lengths_before tasks bounds end
   pub count : length lengths ≡ first_own tasks + own_before tasks end
   pub shared : 0 < first_own tasks → get_or lengths 0 0 ≡ shared_length bounds
   pub own : (t : ℕ) → t < end → is_extended tasks t ≡ true → get_or lengths (first_own tasks + own_before tasks t) 0 ≡ bytes_of bounds t
@@ -71,6 +77,10 @@ pub record AreOf (tasks : List TaskDecl) (all : List Extent) (offsets : List ℕ
 abbrev pub top_of : Map → ℕ → ℕ
 top_of map t = get_or map.tops t 0
 
+-- the address behind the zone of data
+abbrev pub behind_data : Map → ℕ
+behind_data map = (data_zone map).base + (data_zone map).len
+
 -- the parts of two tasks have no address in common
 abbrev pub PartsApart : Bounds → Map → (t u : ℕ) → Type 0
 PartsApart bounds map t u = (top_of map t + bytes_of bounds u ≤ top_of map u) ⊎ (top_of map u + bytes_of bounds t ≤ top_of map t)
@@ -86,6 +96,9 @@ pub record HasStacks (config : Config) (app : App) (bounds : Bounds) (map : Map)
   pub own : (t u : ℕ) → t < length config.tasks → u < length config.tasks → t ≢ u → (declaration config t).extended ≡ true
       → IsBelow (stack_of map t) (stack_of map u) ⊎ IsBelow (stack_of map u) (stack_of map t)
   pub aligned : All (λ e. e.base % 16 ≡ 0) map.stacks
+  -- they stand one behind the other, each at the least multiple of 16 behind the data and the stacks before it
+  pub placed : all_stacks map ≡ run 16 (behind_data map) (lengths_before config.tasks bounds (length config.tasks))
+  pub number : (t : ℕ) → t < length config.tasks → stack_of map t ≡ get_or (all_stacks map) (stack_number config.tasks t) nowhere
   -- the stacks are the extents behind that of the data, and there is no other
   pub among : (t : ℕ) → t < length config.tasks → (k : ℕ) × (k < length (all_stacks map)) × (stack_of map t ≡ get_or (all_stacks map) k nowhere)
   pub no_other : (k : ℕ) → k < length (all_stacks map) → (t : ℕ) × (t < length config.tasks) × (stack_of map t ≡ get_or (all_stacks map) k nowhere)

@@ -1,8 +1,10 @@
 //! Addresses of pieces, each right behind the one before it.
-ghost use Rattle.std.specs.Prelude.{ℕ, ◌≡◌, ◌≤◌, ◌<◌, IfOk, length, map, slice_index, take};
+ghost use Rattle.std.specs.Prelude.{ℕ, ◌≡◌, ◌≤◌, ◌<◌, ◌⊎◌, IfOk, length, map, get_or, slice_index, take};
+ghost use Rattle.sloth_base.specs.Owners.{first_counter_line, counter_line};
 ghost use Rattle.mem_map.specs.Run.{starts, end_of};
 ghost use Rattle.mem_map.specs.Plan.{code_bytes};
 
+use sloth_base::lines::COUNTER_LINE;
 use sloth_base::list::List;
 use sloth_base::places::BLOCK_COUNT;
 use std::alloc::{AllocError, Global};
@@ -10,14 +12,30 @@ use std::alloc::{AllocError, Global};
 /// The bytes of an instruction.
 const WORD: u32 = 4;
 
-/// The address to which the vector word of each line jumps: the prologue of its task, or the idle loop.
-pub fn handlers(idle: u32, prologues: &[u32]) -> [u32; 32]
-    requires { length prologues.now ≤ 30 }
-    ensures prologues { take (length prologues.now) result ≡ prologues.now }
-    ensures unused { (line : ℕ) → length prologues.now ≤ line → line < 32 → slice_index result line ≡ idle }
+// Those of the lines of counters: their ticks. All others go to the idle loop.
+fn with_ticks(idle: u32, ticks: &[u32]) -> [u32; 32]
+    requires { length ticks.now ≤ 2 }
+    ensures ticks { (c : ℕ) → c < length ticks.now → slice_index result (counter_line c) ≡ get_or ticks.now c 0 }
+    ensures unused { (line : ℕ) → line < 32 → (line < first_counter_line) ⊎ (counter_line (length ticks.now) ≤ line) → slice_index result line ≡ idle }
     ensures lines { length result ≡ 32 }
 {
     let mut handlers = [idle; 32];
+    for counter in 0..ticks.len() {
+        handlers[usize::from(COUNTER_LINE) + counter] = ticks[counter];
+    }
+    handlers
+}
+
+/// The address to which the vector word of each line jumps: the prologue of its task, the tick of its counter, or the idle loop.
+pub fn handlers(idle: u32, prologues: &[u32], ticks: &[u32]) -> [u32; 32]
+    requires { (length prologues.now ≤ 30) × (length ticks.now ≤ 2) }
+    ensures prologues { take (length prologues.now) result ≡ prologues.now }
+    ensures ticks { (c : ℕ) → c < length ticks.now → slice_index result (counter_line c) ≡ get_or ticks.now c 0 }
+    ensures unused { (line : ℕ) → length prologues.now ≤ line → line < 32 → (line < first_counter_line) ⊎ (counter_line (length ticks.now) ≤ line)
+        → slice_index result line ≡ idle }
+    ensures lines { length result ≡ 32 }
+{
+    let mut handlers = with_ticks(idle, ticks);
     for task in 0..prologues.len() {
         handlers[task] = prologues[task];
     }

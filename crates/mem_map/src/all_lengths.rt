@@ -1,12 +1,12 @@
 //! How long the code of an image is.
-ghost use Rattle.std.specs.Prelude.{ℕ, ◌≡◌, ◌<◌, IfOk, All, cond, length, get_or};
-ghost use Rattle.code_lengths.specs.CodeLengths.{block_length, IsPrologueLength};
+ghost use Rattle.std.specs.Prelude.{ℕ, ◌≡◌, ◌<◌, ◌≤◌, IfOk, All, cond, length, get_or};
+ghost use Rattle.code_lengths.specs.CodeLengths.{block_length, tick_length, IsPrologueLength};
 ghost use Rattle.code_rules.specs.WellFormed.{WellFormed};
 ghost use Rattle.sloth_base.specs.Blocks.{block_count};
 ghost use Rattle.mem_map.specs.Lengths.{AreLengths, wanted_length};
 
 use crate::wanted::wanted_blocks;
-use code_lengths::{block_length, boot_length, start_length};
+use code_lengths::{block_length, boot_length, start_length, tick_length};
 use rv32_expand::sizes;
 use sloth_base::app::App;
 use sloth_base::config::Config;
@@ -22,6 +22,8 @@ pub struct CodeLengths {
     pub boot: u32,
     /// The prologue of each task, in the order of the tasks.
     pub prologues: List<u32>,
+    /// The tick of each counter, in the order of the counters.
+    pub ticks: List<u32>,
     /// The code of each service with its object, at its place in the table of blocks; 0 where no item calls it.
     pub services: [u32; BLOCK_COUNT],
     /// Each item, over all bodies in order.
@@ -63,6 +65,20 @@ fn prologue_lengths(alloc: Global, config: &Config, app: &App) -> Result<Vec<u32
     Ok(lengths)
 }
 
+// The lengths of the ticks.
+fn tick_lengths(alloc: Global, config: &Config) -> Result<Vec<u32>, AllocError>
+    requires { (length config.now.counters ≤ 2) × (length config.now.alarms ≤ 32) }
+    ensures count { IfOk result (λ lengths. length lengths.items ≡ length config.now.counters) }
+    ensures each { IfOk result (λ lengths. (c : ℕ) → c < length config.now.counters → get_or lengths.items c 0 ≡ tick_length c config.now.alarms) }
+{
+    let mut lengths = Vec::new(alloc);
+    let count = config.counters.items().len() as u32;
+    for counter in 0..count {
+        lengths.push(tick_length(counter, config.alarms.items()))?;
+    }
+    Ok(lengths)
+}
+
 /// How many instructions each piece of the code of well-formed task code has.
 pub fn all_lengths(alloc: Global, config: &Config, app: &App) -> Result<CodeLengths, NoMemory>
     requires { WellFormed config.now app.now }
@@ -70,9 +86,12 @@ pub fn all_lengths(alloc: Global, config: &Config, app: &App) -> Result<CodeLeng
 {
     let items = sizes(alloc, app)?;
     let prologues = prologue_lengths(alloc, config, app)?;
+    let ticks = tick_lengths(alloc, config)?;
+    let counters = config.counters.items().len() as u32;
     Ok(CodeLengths {
-        boot: boot_length(config.tasks.items()),
+        boot: boot_length(config.tasks.items(), counters),
         prologues: List::from_vec(prologues),
+        ticks: List::from_vec(ticks),
         services: service_lengths(app),
         items: List::from_vec(items),
     })

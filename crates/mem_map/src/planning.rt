@@ -1,11 +1,12 @@
 //! The map of an image.
-ghost use Rattle.std.specs.Prelude.{ℕ, ◌≡◌, ◌≤◌, ◌<◌, IfOk, All, length, map, slice_index, take};
+ghost use Rattle.std.specs.Prelude.{ℕ, ◌≡◌, ◌≤◌, ◌<◌, ◌⊎◌, IfOk, All, length, map, get_or, slice_index, take};
 ghost use Rattle.code_rules.specs.WellFormed.{WellFormed};
 ghost use Rattle.stack_bounds.specs.Bounds.{AreBounds};
 ghost use Rattle.mem_map.specs.Run.{starts, end_of};
 ghost use Rattle.mem_map.specs.Zones.{HasZones};
 ghost use Rattle.mem_map.specs.Stacks.{HasStacks};
-ghost use Rattle.mem_map.specs.Plan.{MayPlan, HasAddresses, idle_at, prologues_at, services_at, items_at, code_end, code_bytes, symbol_bytes};
+ghost use Rattle.mem_map.specs.Plan.{MayPlan, HasAddresses, idle_at, prologues_at, ticks_at, tick_starts, services_at, items_at, code_end, code_bytes, symbol_bytes};
+ghost use Rattle.sloth_base.specs.Owners.{first_counter_line, counter_line};
 ghost use Rattle.mem_map.specs.Planned.{IsPlanned};
 
 use crate::addresses::{Pieces, handlers, place_pieces, place_services};
@@ -38,7 +39,7 @@ struct Code {
 
 // The addresses of pieces of code of so many instructions, the first at `from`.
 fn place_code(alloc: Global, from: u32, sizes: &[u32]) -> Result<Pieces, AllocError>
-    requires small { All (λ size. size ≤ 256) sizes.now }
+    requires small { All (λ size. size ≤ 2048) sizes.now }
     requires fits { end_of from (map code_bytes sizes.now) < 4294967296 }
     ensures starts { IfOk result (λ pieces. pieces.starts ≡ starts from (map code_bytes sizes.now)) }
     ensures end { IfOk result (λ pieces. pieces.end ≡ end_of from (map code_bytes sizes.now)) }
@@ -50,27 +51,33 @@ fn place_code(alloc: Global, from: u32, sizes: &[u32]) -> Result<Pieces, AllocEr
 // The addresses of the code behind boot.
 fn plan_code(alloc: Global, lengths: &CodeLengths) -> Result<Code, AllocError>
     requires boot { lengths.now.boot ≤ 136 }
-    requires few { length lengths.now.prologues ≤ 30 }
-    requires prologues { All (λ size. size ≤ 256) lengths.now.prologues }
-    requires items { All (λ size. size ≤ 256) lengths.now.items }
-    requires fits { (services_at lengths.now < 4294967296) × (items_at lengths.now < 4294967296) × (code_end lengths.now < 4294967296) }
+    requires few { (length lengths.now.prologues ≤ 30) × (length lengths.now.ticks ≤ 2) }
+    requires prologues { All (λ size. size ≤ 2048) lengths.now.prologues }
+    requires ticks { All (λ size. size ≤ 2048) lengths.now.ticks }
+    requires items { All (λ size. size ≤ 2048) lengths.now.items }
+    requires fits { (ticks_at lengths.now < 4294967296) × (services_at lengths.now < 4294967296) × (items_at lengths.now < 4294967296)
+        × (code_end lengths.now < 4294967296) }
     ensures idle { IfOk result (λ code. code.idle ≡ idle_at lengths.now) }
     ensures lines { IfOk result (λ code. length code.handlers ≡ 32) }
     ensures prologues { IfOk result (λ code. take (length lengths.now.prologues) code.handlers
         ≡ starts (prologues_at lengths.now) (map code_bytes lengths.now.prologues)) }
-    ensures unused { IfOk result (λ code. (line : ℕ) → length lengths.now.prologues ≤ line → line < 32 → slice_index code.handlers line ≡ code.idle) }
+    ensures ticks { IfOk result (λ code. (c : ℕ) → c < length lengths.now.ticks → slice_index code.handlers (counter_line c)
+        ≡ get_or (tick_starts lengths.now) c 0) }
+    ensures unused { IfOk result (λ code. (line : ℕ) → length lengths.now.prologues ≤ line → line < 32
+        → (line < first_counter_line) ⊎ (counter_line (length lengths.now.ticks) ≤ line) → slice_index code.handlers line ≡ code.idle) }
     ensures services { IfOk result (λ code. code.services ≡ starts (services_at lengths.now) (map code_bytes lengths.now.services)) }
     ensures items { IfOk result (λ code. code.items ≡ starts (items_at lengths.now) (map code_bytes lengths.now.items)) }
     ensures end { IfOk result (λ code. code.end ≡ code_end lengths.now) }
 {
     let idle = BOOT_BASE + WORD * lengths.boot;
     let prologues = place_code(alloc, idle + WORD, lengths.prologues.items())?;
-    let services = place_services(prologues.end, &lengths.services);
+    let ticks = place_code(alloc, prologues.end, lengths.ticks.items())?;
+    let services = place_services(ticks.end, &lengths.services);
     let items = place_code(alloc, services.end, lengths.items.items())?;
     let services = services.starts;
     Ok(Code {
         idle,
-        handlers: handlers(idle, prologues.starts.items()),
+        handlers: handlers(idle, prologues.starts.items(), ticks.starts.items()),
         services,
         items: items.starts,
         end: items.end,
@@ -143,8 +150,9 @@ fn make_map(
 }
 
 /// The map of the image of well-formed task code, with the bytes of stack that its tasks may need: in this order the vector words, boot, the
-/// idle loop, a prologue for each task, the services that items call, all items, each right behind the one before it, all symbols, the stack
-/// that all basic tasks share, and a stack for each extended task. There is room for all of them; only memory for the map itself may be missing.
+/// idle loop, a prologue for each task, a tick for each counter, the services that items call, all items, each right behind the one before it,
+/// all symbols, the stack that all basic tasks share, and a stack for each extended task. There is room for all of them; only memory for the
+/// map itself may be missing.
 pub fn plan(alloc: Global, app: &App, config: &Config, bounds: &Bounds) -> Result<Map, NoMemory>
     requires well_formed { WellFormed config.now app.now }
     requires bounds { AreBounds config.now app.now bounds.now }

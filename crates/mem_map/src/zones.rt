@@ -2,7 +2,7 @@
 ghost use Rattle.std.specs.Prelude.{◌≡◌, ◌<◌, ◌≤◌, ◌+◌, ◌%◌, ◌∷◌, IfOk, All, length, map};
 ghost use Rattle.sloth_base.specs.MemoryMap.{memory_end, vectors_base};
 ghost use Rattle.sloth_region.specs.Region.{AreApartWithin};
-ghost use Rattle.mem_map.specs.Run.{room_for};
+ghost use Rattle.mem_map.specs.Run.{room_for, run};
 ghost use Rattle.mem_map.specs.Zones.{data_zone};
 
 use crate::placing::{place_all, put};
@@ -63,6 +63,7 @@ pub fn plan_zones(
     ensures code { IfOk result (λ zones. zones.code ≡ record { base = vectors_base; len = code_len }) }
     ensures data_zone { IfOk result (λ zones. zones.data ≡ record { base = vectors_base + code_len; len = data_len }) }
     ensures stacks { IfOk result (λ zones. map (λ e. e.len) zones.stacks ≡ stack_lens.now) }
+    ensures stacks_are { IfOk result (λ zones. zones.stacks ≡ run 16 (zones.data.base + zones.data.len) stack_lens.now) }
     ensures stacks_aligned { IfOk result (λ zones. All (λ e. e.base % 16 ≡ 0) zones.stacks) }
 {
     let mut region = Region::new(RAM, RAM_LEN);

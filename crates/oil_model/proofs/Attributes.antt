@@ -9,12 +9,12 @@ use Rattle.least_fault.specs.Order.{NoFault}
 use Rattle.oil_parse.specs.declared.tree.OilAttr.{OilAttr}
 use Rattle.oil_parse.specs.declared.tree.OilObject.{OilObject}
 use Rattle.oil_parse.specs.declared.tree.OilTree.{OilTree}
-use Rattle.oil_model.specs.declared.table.Attribute.{Attribute}
-use Rattle.oil_model.specs.declared.table.Place.TheVariants.{Nowhere}
-use Rattle.oil_model.specs.Table.{place_of, attribute_of, is_allowed}
-use Rattle.oil_model.specs.Objects.{is_of_kind, is_use, has_scheduler}
-use Rattle.oil_model.specs.AttributeFaults.{inner_place, place_at, misses_value, refers_to_none, is_refused, AttributeFault, RowFault}
-use Rattle.oil_model.specs.ModelFaults.{ModelFault}
+use Rattle.oil_rules.specs.declared.table.Attribute.{Attribute}
+use Rattle.oil_rules.specs.declared.table.Place.TheVariants.{Nowhere}
+use Rattle.oil_rules.specs.Table.{place_of, attribute_of, is_allowed}
+use Rattle.oil_rules.specs.Objects.{is_of_kind, is_use, has_scheduler}
+use Rattle.oil_rules.specs.AttributeFaults.{inner_place, place_at, misses_value, refers_to_none, is_refused, AttributeFault, RowFault}
+use Rattle.oil_alarms.specs.ModelFaults.{ModelFault}
 use Rattle.least_fault.proofs.Nowhere.{nowhere, case_false}
 use Rattle.oil_model.proofs.NoFaults.{inner_at}
 use Rattle.sloth_base.specs.declared.refusal.Part.TheVariants.{Oil}
@@ -32,7 +32,7 @@ module _ (tree : OilTree) (none : NoFault (ModelFault tree)) (i : ℕ) (d : OilO
   abbrev pub Here : ℕ → OilAttr → Type 0
   Here k e = NoFault (AttributeFault tree.objects (has_scheduler tree.objects) (place_of (get_or tree.objects i d).kind) (take k (get_or tree.objects i d).attrs) (get_or (get_or tree.objects i d).attrs k e))
 
-  attribute_at : (k : ℕ) (e : OilAttr) → k < length (get_or tree.objects i d).attrs → Here k e
+  pub attribute_at : (k : ℕ) (e : OilAttr) → k < length (get_or tree.objects i d).attrs → Here k e
   attribute_at k e h =
       nowhere (AttributeFault tree.objects (has_scheduler tree.objects) (place_of (get_or tree.objects i d).kind)) (get_or tree.objects i d).attrs
       (λ r f. inner_at tree none i d within r (inr (inl f))) k e h

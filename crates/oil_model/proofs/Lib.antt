@@ -1,8 +1,3 @@
-pub mod Names
-pub mod KindNames
-pub mod Doubles
-pub mod Fronts
-pub mod KeptReferences
 pub mod NoFaults
 pub mod Lists
 pub mod Attributes
@@ -12,4 +7,10 @@ pub mod Unions
 pub mod RangeUnions
 pub mod RangeTasks
 pub mod RangeExtended
+pub mod InBlocks
+pub mod AlarmParts
+pub mod RangeCounters
+pub mod RangeNamed
+pub mod RangeAlarms
+pub mod RangeApart
 pub mod Range

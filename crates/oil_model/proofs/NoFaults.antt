@@ -12,12 +12,14 @@ use Rattle.least_fault.proofs.Nowhere.{nowhere, case_false}
 use Rattle.sloth_base.specs.declared.refusal.Part.TheVariants.{Oil}
 use Rattle.oil_parse.specs.declared.tree.OilObject.{OilObject}
 use Rattle.oil_parse.specs.declared.tree.OilTree.{OilTree}
-use Rattle.oil_model.specs.Table.{place_of, is_nowhere}
-use Rattle.oil_model.specs.Objects.{is_of_kind, has_scheduler}
-use Rattle.oil_model.specs.Events.{events_of}
-use Rattle.oil_model.specs.ObjectFaults.{is_known, is_above, comes_behind}
+use Rattle.oil_rules.specs.Table.{place_of, is_nowhere}
+use Rattle.oil_rules.specs.Objects.{is_of_kind, has_scheduler, names_of}
+use Rattle.oil_rules.specs.Events.{events_of}
+use Rattle.oil_rules.specs.ObjectFaults.{is_known, is_above, is_clock_above, comes_behind}
 use Rattle.oil_model.specs.Configs.{resource_names}
-use Rattle.oil_model.specs.ModelFaults.{InnerFault, ObjectFault, ModelFault}
+use Rattle.oil_rules.specs.TreeFaults.{InnerFault, ObjectFault}
+use Rattle.oil_alarms.specs.AlarmFaults.{PartFault, AlarmFault}
+use Rattle.oil_alarms.specs.ModelFaults.{ModelFault}
 
 lt_of_ne : (a b m : ℕ) → a ≤ b → (a ≡ b → ⊥) → m ≡ a + 1 → m ≤ b
 lt_of_ne a b m h ne e = ⊎_elim (λ l. omega (arith, l, e)) (λ l. absurd (ne (omega (arith, h, l)))) (cases_lt a b)
@@ -51,7 +53,7 @@ module _ (tree : OilTree) (none : NoFault (ModelFault tree)) where
   object_at : (i : ℕ) (d : OilObject) → i < length tree.objects
       → NoFault (ObjectFault tree.objects (has_scheduler tree.objects) (events_of tree.objects) (take i tree.objects) (get_or tree.objects i d))
   object_at i d h =
-      nowhere (ObjectFault tree.objects (has_scheduler tree.objects) (events_of tree.objects)) tree.objects (λ r f. none r (inl f)) i d h
+      nowhere (ObjectFault tree.objects (has_scheduler tree.objects) (events_of tree.objects)) tree.objects (λ r f. none r (inl (inl f))) i d h
 
   pub known : (i : ℕ) (d : OilObject) → i < length tree.objects → is_known (get_or tree.objects i d) ≡ true
   known i d h =
@@ -77,6 +79,29 @@ module _ (tree : OilTree) (none : NoFault (ModelFault tree)) where
   pub few_events : count_by (is_of_kind (codes "EVENT")) tree.objects ≤ 32
   few_events = count_by-limited (is_of_kind (codes "EVENT")) 32 tree.objects
       (λ i d h. (or_parts (comes_behind (codes "EVENT") 32 (take i tree.objects) (get_or tree.objects i d)) _ (or_parts (comes_behind (codes "RESOURCE") 32 (take i tree.objects) (get_or tree.objects i d)) _ (or_parts (comes_behind (codes "TASK") 30 (take i tree.objects) (get_or tree.objects i d)) _ (not_above i d h)).1).1).0)
+
+  clock_not_above : (i : ℕ) (d : OilObject) → i < length tree.objects → is_clock_above (take i tree.objects) (get_or tree.objects i d) ≡ false
+  clock_not_above i d h =
+      let front = take i tree.objects in
+      let o = get_or tree.objects i d in
+      (or_parts (is_clock_above front o) _ (or_parts (comes_behind (codes "EVENT") 32 front o) _ (or_parts (comes_behind (codes "RESOURCE") 32 front o) _
+      (or_parts (comes_behind (codes "TASK") 30 front o) _ (not_above i d h)).1).1).1).0
+
+  pub few_counters : count_by (is_of_kind (codes "COUNTER")) tree.objects ≤ 2
+  few_counters = count_by-limited (is_of_kind (codes "COUNTER")) 2 tree.objects
+      (λ i d h. (or_parts (comes_behind (codes "COUNTER") 2 (take i tree.objects) (get_or tree.objects i d)) _ (clock_not_above i d h)).0)
+
+  pub few_alarms : count_by (is_of_kind (codes "ALARM")) tree.objects ≤ 32
+  few_alarms = count_by-limited (is_of_kind (codes "ALARM")) 32 tree.objects
+      (λ i d h. (or_parts (comes_behind (codes "COUNTER") 2 (take i tree.objects) (get_or tree.objects i d)) _ (clock_not_above i d h)).1)
+
+  -- so many objects of a kind have so many names
+  pub number_of_names : (kind : List ℕ) → length (names_of kind tree.objects) ≡ count_by (is_of_kind kind) tree.objects
+  number_of_names kind = length-map (filter (is_of_kind kind) tree.objects) (λ (o : OilObject). o.name) ∙ length-filter (is_of_kind kind) tree.objects
+
+  -- the blocks of an alarm have no fault
+  pub part_at : (i : ℕ) (d : OilObject) → i < length tree.objects → is_of_kind (codes "ALARM") (get_or tree.objects i d) ≡ true → NoFault (PartFault tree.objects (get_or tree.objects i d))
+  part_at i d h t = λ r f. nowhere (AlarmFault tree.objects) tree.objects (λ s g. none s (inr g)) i d h r (t, f)
 
   pub few_names : length (resource_names tree.objects) ≤ 32
   few_names =

@@ -15,11 +15,11 @@ use Rattle.oil_parse.specs.declared.tree.OilValue.TheVariants.{Word, Number, Tex
 use Rattle.oil_parse.specs.declared.tree.OilAttr.{OilAttr}
 use Rattle.oil_parse.specs.declared.tree.OilObject.{OilObject}
 use Rattle.oil_parse.specs.declared.tree.OilTree.{OilTree}
-use Rattle.oil_model.specs.declared.table.Attribute.TheVariants.{Mask}
-use Rattle.oil_model.specs.Table.{is_allowed, is_word}
-use Rattle.oil_model.specs.Objects.{is_of_kind, is_use, is_used, is_given, number_of, number_given}
-use Rattle.oil_model.specs.Events.{bits, is_event, is_auto, number_mask, number_masks, free_bit, mask_by, taken_more, taken_before, lacks_bit, event_decls, events_of, BitFault}
-use Rattle.oil_model.specs.ModelFaults.{ModelFault}
+use Rattle.oil_rules.specs.declared.table.Attribute.TheVariants.{Mask}
+use Rattle.oil_rules.specs.Table.{is_allowed, is_word}
+use Rattle.oil_rules.specs.Objects.{is_of_kind, is_use, is_used, is_given, number_of, number_given}
+use Rattle.oil_rules.specs.Events.{bits, is_event, is_auto, number_mask, number_masks, free_bit, mask_by, taken_more, taken_before, lacks_bit, event_decls, events_of, BitFault}
+use Rattle.oil_alarms.specs.ModelFaults.{ModelFault}
 use Rattle.least_fault.proofs.Nowhere.{nowhere, case_false}
 use Rattle.sloth_base.specs.declared.refusal.Part.TheVariants.{Oil}
 use Rattle.oil_model.proofs.Lists.{found_has, first_of}
@@ -72,7 +72,7 @@ module _ (tree : OilTree) (none : NoFault (ModelFault tree)) where
   finds_bit : (i : ℕ) (d : OilObject) → i < length tree.objects → lacks_bit (taken_before tree.objects (take i tree.objects)) (get_or tree.objects i d) ≡ false
   finds_bit i d h =
       let o = get_or tree.objects i d in
-      case_false Oil (lacks_bit (taken_before tree.objects (take i tree.objects)) o) o.line O15 (nowhere (BitFault tree.objects) tree.objects (λ r f. none r (inr (inl f))) i d h)
+      case_false Oil (lacks_bit (taken_before tree.objects (take i tree.objects)) o) o.line O15 (nowhere (BitFault tree.objects) tree.objects (λ r f. none r (inl (inr (inl f)))) i d h)
 
   number_mask_positive : (i : ℕ) (d : OilObject) → i < length tree.objects → is_event (get_or tree.objects i d) ≡ true → is_auto (get_or tree.objects i d) ≡ false
       → 0 < number_mask (get_or tree.objects i d)

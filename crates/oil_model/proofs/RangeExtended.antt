@@ -10,13 +10,14 @@ use Rattle.oil_parse.specs.declared.tree.OilValue.{OilValue}
 use Rattle.oil_parse.specs.declared.tree.OilValue.TheVariants.{Word, Number, Text}
 use Rattle.oil_parse.specs.declared.tree.OilObject.{OilObject}
 use Rattle.oil_parse.specs.declared.tree.OilTree.{OilTree}
-use Rattle.oil_model.specs.declared.table.Attribute.TheVariants.{Event}
-use Rattle.oil_model.specs.Table.{is_allowed}
-use Rattle.oil_model.specs.Objects.{is_of_kind, is_use, is_used, is_declared, has_scheduler}
-use Rattle.oil_model.specs.Events.{is_event, number_masks, mask_by, event_decls, events_of, mask_named, mask_given}
-use Rattle.oil_model.specs.AttributeFaults.{misses_value}
-use Rattle.oil_model.specs.ModelFaults.{ModelFault}
-use Rattle.oil_model.specs.Configs.{mask_of_value, listed_mask, event_mask}
+use Rattle.oil_rules.specs.declared.table.Attribute.TheVariants.{Event}
+use Rattle.oil_rules.specs.Table.{is_allowed}
+use Rattle.oil_rules.specs.Objects.{is_of_kind, is_use, is_used, is_declared, has_scheduler}
+use Rattle.oil_rules.specs.Events.{is_event, number_masks, mask_by, event_decls, events_of, mask_named, mask_given}
+use Rattle.oil_rules.specs.AttributeFaults.{misses_value}
+use Rattle.oil_alarms.specs.ModelFaults.{ModelFault}
+use Rattle.oil_model.specs.Configs.{listed_mask, event_mask}
+use Rattle.oil_model.specs.Clocks.{mask_of_value}
 use Rattle.text_pieces.proofs.Tests.{none_pass}
 use Rattle.oil_model.proofs.Lists.{found_has, IsFirst, first_of}
 use Rattle.oil_model.proofs.Attributes.{allowed, refers}
@@ -25,7 +26,7 @@ use Rattle.oil_model.proofs.Unions.{Within, within_both, within_zero}
 use Rattle.oil_model.proofs.RangeUnions.{listed_within, fold_within}
 
 -- an event of a name is declared where an object of that name is
-declared : (taken : ℕ) (objects : List OilObject) (name : List ℕ) → is_declared objects (codes "EVENT") name ≡ list_any (λ (e : EventDecl). bytes_eq e.name name) (event_decls taken objects)
+pub declared : (taken : ℕ) (objects : List OilObject) (name : List ℕ) → is_declared objects (codes "EVENT") name ≡ list_any (λ (e : EventDecl). bytes_eq e.name name) (event_decls taken objects)
 declared taken [] name = refl
 declared taken (o ∷ objects) name = by (declared (bit_or taken (mask_by taken o)) objects name) (declared taken objects name) (is_event o) refl
   where

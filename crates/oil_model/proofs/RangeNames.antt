@@ -12,9 +12,9 @@ use Rattle.sloth_base.specs.declared.refusal.Code.TheVariants.{O9}
 use Rattle.least_fault.specs.Order.{NoFault}
 use Rattle.oil_parse.specs.declared.tree.OilObject.{OilObject}
 use Rattle.oil_parse.specs.declared.tree.OilTree.{OilTree}
-use Rattle.oil_model.specs.Objects.{is_of_kind, has_scheduler}
-use Rattle.oil_model.specs.ObjectFaults.{is_double_of, is_doubled, comes_behind}
-use Rattle.oil_model.specs.ModelFaults.{ModelFault}
+use Rattle.oil_rules.specs.Objects.{is_of_kind, has_scheduler}
+use Rattle.oil_rules.specs.ObjectFaults.{is_double_of, shares_name, is_doubled, is_clock_above, comes_behind}
+use Rattle.oil_alarms.specs.ModelFaults.{ModelFault}
 use Rattle.text_pieces.proofs.Tests.{none_pass, All-kept}
 use Rattle.least_fault.proofs.Nowhere.{case_false}
 use Rattle.oil_model.proofs.NoFaults.{inner_at, not_above}
@@ -35,6 +35,12 @@ module _ (tree : OilTree) (none : NoFault (ModelFault tree)) where
   not_doubled i d h =
       let o = get_or tree.objects i d in
       case_false Oil (is_doubled (has_scheduler tree.objects) (take i tree.objects) o) o.line O9 (λ r x. inner_at tree none i d h r (inl (inl x)))
+
+  -- a task and a counter before it differ in their names, and a counter and a task before it
+  pub names_shared : (i : ℕ) (d : OilObject) → i < length tree.objects → shares_name (take i tree.objects) (get_or tree.objects i d) ≡ false
+  names_shared i d h =
+      let o = get_or tree.objects i d in
+      (or_parts (shares_name (take i tree.objects) o) _ (or_parts (list_any (is_double_of o) (take i tree.objects)) _ (not_doubled i d h)).1).0
 
   -- two objects of one kind differ in their names
   pub named_apart : (K : List ℕ) (i : ℕ) (d : OilObject) → i < length tree.objects → is_of_kind K (get_or tree.objects i d) ≡ true
@@ -62,7 +68,8 @@ module _ (tree : OilTree) (none : NoFault (ModelFault tree)) where
     is_name i d h =
         let o = get_or tree.objects i d in
         let front = take i tree.objects in
-        let long : nat_lt 64 (length o.name) ≡ false = (or_parts (comes_behind (codes "EVENT") 32 front o) _ (or_parts (comes_behind (codes "RESOURCE") 32 front o) _ (or_parts (comes_behind (codes "TASK") 30 front o) _ (not_above tree none i d h)).1).1).1 in
+        let long : nat_lt 64 (length o.name) ≡ false = (or_parts (is_clock_above front o) _ (or_parts (comes_behind (codes "EVENT") 32 front o) _
+        (or_parts (comes_behind (codes "RESOURCE") 32 front o) _ (or_parts (comes_behind (codes "TASK") 30 front o) _ (not_above tree none i d h)).1).1).1).1 in
         record { word = words i d h; short = ltb-false 64 (length o.name) long }
 
     pub are_names : (K : List ℕ) → AreNames (map (λ (o : OilObject). o.name) (filter (is_of_kind K) tree.objects))
@@ -73,7 +80,7 @@ module _ (tree : OilTree) (none : NoFault (ModelFault tree)) where
   scheduler_alone s = All-kept (is_of_kind (codes "RESOURCE")) (λ (o : OilObject). o.name) (λ (name : List ℕ). name ≢ res_scheduler_name) tree.objects
       (λ i d h t e.
       let o = get_or tree.objects i d in
-      let f = (or_parts (list_any (is_double_of o) (take i tree.objects)) _ (not_doubled i d h)).1 in
+      let f = (or_parts (shares_name (take i tree.objects) o) _ (or_parts (list_any (is_double_of o) (take i tree.objects)) _ (not_doubled i d h)).1).1 in
       true_not_false (has_scheduler tree.objects && (is_of_kind (codes "RESOURCE") o && bytes_eq o.name (codes "RES_SCHEDULER")))
       (all_three (has_scheduler tree.objects) (is_of_kind (codes "RESOURCE") o) (bytes_eq o.name (codes "RES_SCHEDULER")) s t ((bytes_eq-Decides o.name (codes "RES_SCHEDULER")).1 e)) f)
     where

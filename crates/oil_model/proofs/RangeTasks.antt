@@ -3,7 +3,7 @@ use Rattle.std.proofs.Common.{◌≡◌, ◌∙◌, inl, inr, ℕ, ◌<◌, ◌�
 use Rattle.std.specs.Prelude.{◌&&◌, ◌==◌, ◌≢◌, not, codes, All, fold, unwrap_or}
 use Rattle.std.specs.List.{list_any}
 use Rattle.std.specs.Str.{bytes_eq}
-use Rattle.std.proofs.lemmas.Bool.{leb-true, eq-eqb}
+use Rattle.std.proofs.lemmas.Bool.{leb-true, eq-eqb, or_parts}
 use Rattle.std.proofs.lemmas.List.{get_or-take, length-take-le}
 use Rattle.std.proofs.lemmas.List.Elements.{All-nil, All-push}
 use Rattle.std.proofs.lemmas.List.Quantifiers.{position-Some}
@@ -14,14 +14,14 @@ use Rattle.oil_parse.specs.declared.tree.OilValue.TheVariants.{Word, Number, Tex
 use Rattle.oil_parse.specs.declared.tree.OilAttr.{OilAttr}
 use Rattle.oil_parse.specs.declared.tree.OilObject.{OilObject}
 use Rattle.oil_parse.specs.declared.tree.OilTree.{OilTree}
-use Rattle.oil_model.specs.declared.table.Attribute.TheVariants.{Priority}
-use Rattle.oil_model.specs.Table.{is_allowed}
-use Rattle.oil_model.specs.Objects.{is_of_kind, is_use, is_used, first_number, number_of, number_given}
-use Rattle.oil_model.specs.Events.{events_of}
-use Rattle.oil_model.specs.ObjectFaults.{lacks_attribute}
-use Rattle.oil_model.specs.TaskFaults.{has_priority, is_taken, repeats_priority, shares_bit, TaskFault}
+use Rattle.oil_rules.specs.declared.table.Attribute.TheVariants.{Priority}
+use Rattle.oil_rules.specs.Table.{is_allowed}
+use Rattle.oil_rules.specs.Objects.{is_of_kind, is_use, is_used, first_number, number_of, number_given}
+use Rattle.oil_rules.specs.Events.{events_of}
+use Rattle.oil_rules.specs.ObjectFaults.{lacks_task_attribute, lacks_attribute}
+use Rattle.oil_rules.specs.TaskFaults.{has_priority, is_taken, repeats_priority, shares_bit, TaskFault}
 use Rattle.sloth_base.specs.Options.{is_number}
-use Rattle.oil_model.specs.ModelFaults.{ModelFault}
+use Rattle.oil_alarms.specs.ModelFaults.{ModelFault}
 use Rattle.oil_model.specs.Configs.{resource_number, listed_resource, with_number, with_resource, resources_of}
 use Rattle.least_fault.proofs.Nowhere.{nowhere, case_false}
 use Rattle.oil_model.proofs.NoFaults.{inner_at}
@@ -76,7 +76,7 @@ module _ (tree : OilTree) (none : NoFault (ModelFault tree)) (i : ℕ) (d : OilO
   has_priority_use : is_used (get_or tree.objects i d).attrs (codes "PRIORITY") ≡ true
   has_priority_use =
       let o = get_or tree.objects i d in
-      let f = case_false Oil (lacks_attribute o) o.line O11 (λ r x. inner_at tree none i d within r (inl (inr (inl x)))) in
+      let f = (or_parts (lacks_task_attribute o) _ (case_false Oil (lacks_attribute o) o.line O11 (λ r x. inner_at tree none i d within r (inl (inr (inl x)))))).0 in
       used (is_of_kind (codes "TASK") o) (is_used o.attrs (codes "PRIORITY")) _ task f
     where
       used : (a b c : Bool) → a ≡ true → (a && not (b && c)) ≡ false → b ≡ true

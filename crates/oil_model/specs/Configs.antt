@@ -1,4 +1,4 @@
--- The configuration that a tree means, where it has no fault. Tasks, resources and events have the numbers of their objects, each kind in
+-- The configuration that a tree means, where it has no fault. Objects of a kind are numbered, each kind in
 -- the order of the text.
 use Rattle.std.specs.Prelude.{◌≡◌, ℕ, if◌then◌else◌, ◌==◌, bit_or, List, [], ◌∷◌, ◌++◌, map, filter, fold, position, codes, Option, Some, None, unwrap_or}
 use Rattle.std.specs.List.{list_any}
@@ -11,8 +11,9 @@ use Rattle.oil_parse.specs.declared.tree.OilValue.TheVariants.{Word}
 use Rattle.oil_parse.specs.declared.tree.OilAttr.{OilAttr}
 use Rattle.oil_parse.specs.declared.tree.OilObject.{OilObject}
 use Rattle.oil_parse.specs.declared.tree.OilTree.{OilTree}
-use Rattle.oil_model.specs.Objects.{names_of, is_of_kind, is_use, is_used, first_is, first_number, has_scheduler}
-use Rattle.oil_model.specs.Events.{events_of, mask_named}
+use Rattle.oil_rules.specs.Objects.{names_of, is_of_kind, is_use, is_used, first_is, first_number, has_scheduler}
+use Rattle.oil_rules.specs.Events.{events_of}
+use Rattle.oil_model.specs.Clocks.{mask_of_value, counters_of, alarms_of}
 
 -- the names of the resources, in the order of their numbers
 abbrev pub resource_names : List OilObject → List (List ℕ)
@@ -40,11 +41,6 @@ with_resource listed (Some number) = with_number listed number
 abbrev pub resources_of : List (List ℕ) → List OilAttr → List ℕ
 resources_of names attrs = fold (λ listed attr. with_resource listed (listed_resource names attr)) [] attrs
 
--- the mask of the event that a value names
-abbrev pub mask_of_value : List EventDecl → OilValue → ℕ
-mask_of_value events (Word word) = mask_named events word
-mask_of_value events _ = 0
-
 -- the mask of the event that an attribute lists
 abbrev pub listed_mask : List EventDecl → OilAttr → ℕ
 listed_mask events attr = if is_use (codes "EVENT") attr then mask_of_value events attr.value else 0
@@ -69,15 +65,15 @@ declared_task names events object = record {
 abbrev pub tasks_of : List (List ℕ) → List EventDecl → List OilObject → List TaskDecl
 tasks_of names events objects = map (declared_task names events) (filter (is_of_kind (codes "TASK")) objects)
 
--- the configuration of these objects: no object declares a counter or an alarm
+-- the configuration of these objects
 abbrev pub config_of : List OilObject → Config
 config_of objects = record {
   tasks = tasks_of (resource_names objects) (events_of objects) objects;
   resources = resource_names objects;
   events = events_of objects;
   res_scheduler = has_scheduler objects;
-  counters = [];
-  alarms = [];
+  counters = counters_of objects;
+  alarms = alarms_of (names_of (codes "TASK") objects) (names_of (codes "COUNTER") objects) (events_of objects) objects;
 }
 
 -- the configuration that a tree means

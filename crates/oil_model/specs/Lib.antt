@@ -1,13 +1,3 @@
-pub mod Cases
-pub mod Table
-pub mod Objects
-pub mod Events
-pub mod ObjectFaults
-pub mod AttributeFaults
-pub mod TaskFaults
-pub mod Fronts
-pub mod References
-pub mod KeptReferences
-pub mod ModelFaults
+pub mod Clocks
 pub mod Configs
 pub mod Trees

@@ -1,11 +1,11 @@
 //! The configuration of a tree that has no fault.
 ghost use Rattle.std.specs.Prelude.{◌≡◌, ◌≤◌, ◌==◌, IfOk, OnOk, position, bytes_eq, length};
 ghost use Rattle.std.specs.List.{list_any};
-ghost use Rattle.oil_model.specs.Configs.{resource_names, resource_number, listed_resource, with_number, with_resource, resources_of, mask_of_value, listed_mask, event_mask, declared_task, tasks_of};
+ghost use Rattle.oil_model.specs.Clocks.{mask_of_value};
+ghost use Rattle.oil_model.specs.Configs.{resource_names, resource_number, listed_resource, with_number, with_resource, resources_of, listed_mask, event_mask, declared_task, tasks_of};
 
-use crate::event_table::EventTable;
-use crate::objects::{first_is, first_number, is_of_kind, is_use, is_used};
 use oil_parse::tree::{OilAttr, OilObject, OilValue};
+use oil_rules::{EventTable, first_is, first_number, is_of_kind, is_use, is_used};
 use sloth_base::config::TaskDecl;
 use sloth_base::list::List;
 use sloth_base::memory::NoMemory;
@@ -97,7 +97,8 @@ fn resources_of(alloc: Global, names: &Names, attrs: &[OilAttr]) -> Result<Vec<R
     Ok(listed)
 }
 
-fn mask_of_value(events: &EventTable, value: &OilValue) -> u32
+/// The mask of the event that a value names, or 0.
+pub fn mask_of_value(events: &EventTable, value: &OilValue) -> u32
     ensures { result ≡ mask_of_value events.now value.now }
 {
     match value {

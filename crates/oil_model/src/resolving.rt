@@ -2,24 +2,22 @@
 ghost use Rattle.std.specs.Prelude.{◌≡◌, ◌≤◌, ◌<◌, All, IfOk, OnOk, IfErr, length, codes};
 ghost use Rattle.least_fault.specs.Search.{Finds};
 ghost use Rattle.least_fault.specs.Order.{NoFault, IsLeast, ErrorIs};
-ghost use Rattle.sloth_base.specs.ConfigRange.{InRange, HasNoCounters};
+ghost use Rattle.sloth_base.specs.ConfigRange.{InRange};
 ghost use Rattle.sloth_base.specs.declared.config.Config.{Config};
 ghost use Rattle.oil_parse.specs.declared.tree.OilTree.{OilTree};
-ghost use Rattle.oil_model.specs.Objects.{has_scheduler};
+ghost use Rattle.oil_rules.specs.Objects.{has_scheduler};
 ghost use Rattle.oil_model.specs.Trees.{IsTree};
-ghost use Rattle.oil_model.specs.Events.{events_of};
-ghost use Rattle.oil_model.specs.Objects.{names_of};
-ghost use Rattle.oil_model.specs.ModelFaults.{ModelFault};
+ghost use Rattle.oil_rules.specs.Events.{events_of};
+ghost use Rattle.oil_rules.specs.Objects.{names_of};
+ghost use Rattle.oil_alarms.specs.ModelFaults.{ModelFault};
 ghost use Rattle.oil_model.specs.Configs.{resource_names, config_of, IsConfig};
 
+use crate::clocks::{Clocks, clocks_of};
 use crate::config::{resource_names, tasks_of};
-use crate::event_table::EventTable;
-use crate::events::events_of;
-use crate::judge::judge;
-use crate::numbers::names_of;
-use crate::object_table::ObjectTable;
-use crate::objects::has_scheduler;
+use least_fault::merge;
+use oil_alarms::judge as judge_alarms;
 use oil_parse::tree::{OilObject, OilTree};
+use oil_rules::{EventTable, Front, events_of, has_scheduler, judge, names_of};
 use sloth_base::config::{Config, EventDecl};
 use sloth_base::list::List;
 use sloth_base::memory::NoMemory;
@@ -36,6 +34,8 @@ fn config_of(
     events: Vec<EventDecl>,
 ) -> Result<Config, NoMemory>
     requires few { length (resource_names objects.now) ≤ 32 }
+    requires few_tasks { length (names_of (codes "TASK") objects.now) ≤ 32 }
+    requires few_counters { length (names_of (codes "COUNTER") objects.now) ≤ 32 }
     requires scheduler { scheduler ≡ has_scheduler objects.now }
     requires resource_numbers { resources.now ≡ resource_names objects.now }
     requires event_numbers { event_names.now ≡ names_of (codes "EVENT") objects.now }
@@ -45,13 +45,14 @@ fn config_of(
     let names = resource_names(alloc, objects)?;
     let table = EventTable::new(events.as_slice(), event_names);
     let tasks = tasks_of(alloc, resources, &table, objects)?;
+    let Clocks { counters, alarms } = clocks_of(alloc, &table, objects)?;
     Ok(Config {
         tasks: List::from_vec(tasks),
         resources: List::from_vec(names),
         events: List::from_vec(events),
         res_scheduler: scheduler,
-        counters: List::from_vec(Vec::new(alloc)),
-        alarms: List::from_vec(Vec::new(alloc)),
+        counters: List::from_vec(counters),
+        alarms: List::from_vec(alarms),
     })
 }
 
@@ -60,19 +61,20 @@ fn refusal_of(
     alloc: Global,
     tree: &OilTree,
     scheduler: bool,
-    resources: &Names,
     event_names: &Names,
     events: &[EventDecl],
 ) -> Result<Option<Refusal>, NoMemory>
     requires scheduler { scheduler ≡ has_scheduler tree.now.objects }
-    requires resource_numbers { resources.now ≡ resource_names tree.now.objects }
     requires event_numbers { event_names.now ≡ names_of (codes "EVENT") tree.now.objects }
     requires events { events.now ≡ events_of tree.now.objects }
     ensures { IfOk result (Finds (ModelFault tree.now)) }
 {
-    let objects = ObjectTable::new(tree.objects.items(), resources, event_names);
+    let objects = tree.objects.items();
+    let all = Front::of(alloc, objects)?;
     let events = EventTable::new(events, event_names);
-    judge(alloc, tree, &objects, scheduler, &events)
+    let of_tree = judge(alloc, tree, &all, scheduler, &events)?;
+    let of_alarms = judge_alarms(alloc, objects)?;
+    Ok(merge(of_tree, of_alarms))
 }
 
 /// The configuration of a tree with these events, or its least fault.
@@ -93,17 +95,9 @@ fn config_or_refusal(
     ensures config { IfOk result (λ found. IfOk found (IsConfig tree.now)) }
     ensures none { IfOk result (λ found. OnOk found (NoFault (ModelFault tree.now))) }
     ensures in_range { IfOk result (λ found. IfOk found InRange) }
-    ensures no_counters { IfOk result (λ found. IfOk found HasNoCounters) }
     ensures refused { IfOk result (λ found. IfErr found (IsLeast (ModelFault tree.now))) }
 {
-    let refusal = refusal_of(
-        alloc,
-        tree,
-        scheduler,
-        resources,
-        event_names,
-        events.as_slice(),
-    )?;
+    let refusal = refusal_of(alloc, tree, scheduler, event_names, events.as_slice())?;
     if let Some(refusal) = refusal {
         return Ok(Err(refusal));
     }
@@ -140,7 +134,6 @@ pub fn resolve(alloc: Global, tree: &OilTree) -> Result<Config, BuildError>
     ensures config { IfOk result (IsConfig tree.now) }
     ensures none { OnOk result (NoFault (ModelFault tree.now)) }
     ensures in_range { IfOk result InRange }
-    ensures no_counters { IfOk result HasNoCounters }
     ensures refused { IfErr result (λ error. ErrorIs (ModelFault tree.now) error) }
 {
     match meaning_of(alloc, tree)? {

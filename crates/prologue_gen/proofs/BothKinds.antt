@@ -16,7 +16,7 @@ use Rattle.prologue_gen.proofs.Resuming.{enters_or_resumes}
 
 -- the code of a prologue
 abbrev pub code : Bool → ℕ → ℕ → ℕ → ℕ → ℕ → List InstrKind
-code extended task level frame words first = saves_context ++ (marks_active task level ++ (takes_up extended task ++ starts_anew frame words first))
+code extended task level frame words first = saves_context level ++ (marks_active task ++ (takes_up extended task ++ starts_anew frame words first))
 
 -- it enters the task, whose frame is given by its offset
 by_offset : (extended : Bool) (task level first frame words : ℕ) → task < 30 → level < 32 → first < 2 ^ 32 → words ≤ 32
@@ -39,15 +39,15 @@ length_is true task level first frame words code h = h.size
 length_is false task level first frame words code h = h.size
 
 pub size : (extended : Bool) (task level first frame words : ℕ) (code : List InstrKind) → DoesEnter extended task level first frame words code
-    → (0 < length code) × (length code ≤ 109 + words)
+    → (0 < length code) × (length code ≤ 108 + words)
 size true task level first frame words code h = let n = h.size in (omega arith, omega arith)
 size false task level first frame words code h = let n = h.size in (omega arith, omega arith)
 
 -- where no context is kept, both start the task
 pub starts : (extended : Bool) (task level first frame words : ℕ) (code : List InstrKind) → DoesEnter extended task level first frame words code
     → (offset place : ℕ) (core : Core) → first % 4 ≡ 0 → MayStart offset task place frame words code core
-    → Masked (110 + words) (at (vector task) core) (WithArrivals (Entered task level first place frame words) (at (vector task) core))
+    → Masked (109 + words) (at (vector task) core) (WithArrivals (Entered task level first place frame words) (at (vector task) core))
 starts true task level first frame words code h = h.starts
 starts false task level first frame words code h = λ offset place core aligned may.
-    masked_more (75 + words) (110 + words) (at (vector task) core) (WithArrivals (Entered task level first place frame words) (at (vector task) core)) (omega arith)
+    masked_more (74 + words) (109 + words) (at (vector task) core) (WithArrivals (Entered task level first place frame words) (at (vector task) core)) (omega arith)
     (h.runs offset place core aligned may.enters)

@@ -1,29 +1,35 @@
 -- What was preempted is saved, and the task is the running one.
-use Rattle.std.proofs.Common.{◌≡◌, ℕ, ◌+◌, ◌*◌, ◌%◌, ◌<◌, ◌≤◌, ◌⊎◌, List, ◌∷◌, ◌++◌, get_or, refl, ◌∙◌, arith, inl, lit≤}
-use Rattle.std.specs.Prelude.{false, pos, neg_ℤ}
+use Rattle.std.proofs.Common.{◌≡◌, ℕ, ◌+◌, ◌*◌, ◌%◌, ◌<◌, ◌≤◌, ◌⊎◌, List, ◌∷◌, ◌++◌, get_or, refl, ◌∙◌, subst, arith, inl, lit≤}
+use Rattle.std.specs.Prelude.{Bool, false, true, pos, neg_ℤ, eqb}
 use Rattle.sloth_base.specs.Machine.{Core, State}
-use Rattle.sloth_region.specs.Layout.{cur, active, below_word, idle_context, context_bytes, context_pc, context_level, context_cur, context_below}
+use Rattle.sloth_region.specs.Layout.{cur, active, below_word, idle_context, context_bytes, context_pc, context_level, context_cur, context_below, controller_base}
 use Rattle.rv32_instr.specs.declared.InstrKind.{InstrKind}
-use Rattle.rv32_instr.specs.declared.InstrKind.TheVariants.{Addi}
 use Rattle.rv32_instr.specs.Ram.{word_at, with_word, with_words}
 use Rattle.sloth_base.specs.Arithmetic.{plus}
 use Rattle.sloth_base.specs.MemoryMap.{memory_base}
 use Rattle.masked_code.specs.Owes.{◌▸◌, writes, loads, stores, accesses, IsWordAt, IsApart, Owes}
-use Rattle.masked_code.specs.Pieces.{saving_code, registers_from}
+use Rattle.masked_code.specs.Pieces.{saving_code}
 use Rattle.masked_code.proofs.Words.{word_at-other, word_at-others}
-use Rattle.masked_code.proofs.Spread.{spread, spread_from}
+use Rattle.masked_code.proofs.Spread.{based, spread_from}
 use Rattle.masked_code.proofs.Runs.{saves_owes}
 use Rattle.masked_code.proofs.Leave.{behind}
-use Rattle.prologue_gen.specs.Pieces.{saves_csrs, saves_words, marks_active}
+use Rattle.prologue_gen.specs.Pieces.{asks_preempted, saves_csrs, saves_words, marks_active}
+use Rattle.prologue_gen.specs.Fresh.{saved_registers}
 use Rattle.prologue_gen.specs.Resumed.{with_entry}
+use Rattle.prologue_gen.proofs.SavedRegisters.{none_saved, all_saved}
 
 -- what stands before this code in each prologue
 abbrev pub enters_first : ℕ → ℕ → List InstrKind → List InstrKind
-enters_first task level rest = Addi 1 2 (neg_ℤ (pos context_bytes)) ∷ (saving_code 27 5 1 ++ (saves_csrs ++ (saves_words ++ (marks_active task level ++ rest))))
+enters_first task level rest = asks_preempted ++ (saving_code 27 5 1 ++ (saves_csrs level ++ (saves_words ++ (marks_active task ++ rest))))
 
--- the state behind it, whatever x1, x2 and x3 are
-abbrev pub entered : ℕ → ℕ → ℕ → Core → ℕ → ℕ → ℕ → Core
-entered task level place c x1 x2 x3 = record c { registers = 0 ∷ x1 ∷ x2 ∷ x3 ∷ memory_base ∷ spread_from 27 5 c.registers; plevel = level % 256; ram = with_entry (spread c) task place }
+-- the state behind it, whatever x1 and x2 are
+abbrev pub entered : ℕ → ℕ → ℕ → Core → ℕ → ℕ → Core
+entered task level place c x1 x2 =
+    record c { registers = 0 ∷ x1 ∷ x2 ∷ controller_base ∷ memory_base ∷ c.plevel ∷ spread_from 26 6 c.registers; plevel = level % 256; ram = with_entry (based c) task place }
+
+-- where the branch lands
+lands : (o : ℕ) → o ≤ 0x20_1000 → plus (memory_base + o) (pos 112) ≡ memory_base + (o + 4 + 4 * 27)
+lands o small = omega arith
 
 module _ (from to task level place : ℕ) (c : Core) (E : List ℕ → State → State → Type 0) (start : State) (rest : List InstrKind) (is_task : task < 30)
     (masked : c.mie ≡ false) (x2 : get_or c.registers 2 0 ≡ memory_base + (place + context_bytes)) (aligned : place % 4 ≡ 0) (past : idle_context ≤ place)
@@ -35,7 +41,7 @@ module _ (from to task level place : ℕ) (c : Core) (E : List ℕ → State →
   tail = spread_from 27 5 c.registers
 
   abbrev ram1 : List ℕ
-  ram1 = with_words c.ram (place + 20) (registers_from 27 5 (spread c).registers)
+  ram1 = with_words c.ram (place + 20) (saved_registers (based c))
 
   abbrev ram3 : List ℕ
   ram3 = with_word (with_word ram1 place c.mepc) (place + 4) c.plevel
@@ -43,14 +49,12 @@ module _ (from to task level place : ℕ) (c : Core) (E : List ℕ → State →
   abbrev ram4 : List ℕ
   ram4 = with_word ram3 (place + 4 + 4) (word_at c.ram cur)
 
-  found : (p : ℕ) → p + 4 ≤ idle_context → word_at ram3 p ≡ word_at c.ram p
-  found p under =
-      word_at-other (with_word ram1 place c.mepc) (place + 4) c.plevel p (inl (omega arith))
-      ∙ word_at-other ram1 place c.mepc p (inl (omega arith))
-      ∙ word_at-others (registers_from 27 5 (spread c).registers) c.ram (place + 20) p (inl (omega arith))
-
   found_below : word_at ram4 below_word ≡ word_at c.ram below_word
-  found_below = word_at-other ram3 (place + 4 + 4) (word_at c.ram cur) below_word (inl (omega arith)) ∙ found below_word (lit≤ tt)
+  found_below =
+      word_at-other ram3 (place + 4 + 4) (word_at c.ram cur) below_word (inl (omega arith))
+      ∙ word_at-other (with_word ram1 place c.mepc) (place + 4) c.plevel below_word (inl (omega arith))
+      ∙ word_at-other ram1 place c.mepc below_word (inl (omega arith))
+      ∙ word_at-others (saved_registers (based c)) c.ram (place + 20) below_word (inl (omega arith))
 
   word0 : IsWordAt (plus own (pos context_pc)) place
   word0 = record { is = omega arith; aligned = aligned; inside = omega arith }
@@ -92,16 +96,14 @@ module _ (from to task level place : ℕ) (c : Core) (E : List ℕ → State →
   next_task = omega arith
 
   -- what is stored in the context, and the words of the entry
-  begun_owe : (o x3 x4 : ℕ) → Owes from to (behind 15 o) rest 0 E start (entered task level place c own (get_or c.registers 2 0) 1)
-      → Owes from to o (saves_csrs ++ (saves_words ++ (marks_active task level ++ rest))) 0 E start
-      (record (spread c) { registers = 0 ∷ own ∷ get_or c.registers 2 0 ∷ x3 ∷ x4 ∷ tail; ram = ram1 })
-  begun_owe o x3 x4 go =
-      writes memory_base refl
-      ▸ accesses c.mepc refl masked
+  begun_owe : (o : ℕ) → Owes from to (behind 12 o) rest 0 E start (entered task level place c own 1)
+      → Owes from to o (saves_csrs level ++ (saves_words ++ (marks_active task ++ rest))) 0 E start
+      (record (based c) { registers = 0 ∷ own ∷ word_at c.ram cur ∷ controller_base ∷ memory_base ∷ tail; ram = ram1 })
+  begun_owe o go =
+      accesses c.mepc refl masked
       ▸ stores place word0 apart0
       ▸ accesses c.plevel refl masked
       ▸ stores (place + 4) word4 apart4
-      ▸ loads cur (record { is = refl; aligned = refl; inside = lit≤ tt }) (word_at c.ram cur) (found cur (lit≤ tt))
       ▸ stores (place + 4 + 4) word8 apart8
       ▸ loads below_word (record { is = refl; aligned = refl; inside = lit≤ tt }) (word_at c.ram below_word) found_below
       ▸ stores (place + 4 + 4 + 4) word12 apart12
@@ -110,7 +112,6 @@ module _ (from to task level place : ℕ) (c : Core) (E : List ℕ → State →
       ▸ stores cur (record { is = refl; aligned = refl; inside = lit≤ tt }) (under cur (lit≤ tt))
       ▸ writes 1 refl
       ▸ stores (active task) word_active (under (active task) active_under)
-      ▸ accesses c.plevel refl masked
       ▸ go
 
   own_is : plus (get_or c.registers 2 0) (neg_ℤ (pos context_bytes)) ≡ own
@@ -122,8 +123,35 @@ module _ (from to task level place : ℕ) (c : Core) (E : List ℕ → State →
   context_apart : (place + 4 * (5 + 27) ≤ from) ⊎ (to ≤ place)
   context_apart = grind (arith, apart)
 
-  pub enters_owe : (o : ℕ) → Owes from to (behind 15 (o + 4 + 108)) rest 0 E start (entered task level place c own (get_or c.registers 2 0) 1)
-      → Owes from to o (enters_first task level rest) 0 E start (spread c)
-  enters_owe o go =
+  abbrev after : List InstrKind
+  after = saves_csrs level ++ (saves_words ++ (marks_active task ++ rest))
+
+  -- behind what saves the registers, with the bytes that it leaves
+  abbrev Begun : ℕ → List ℕ → Type 0
+  Begun o registers =
+      Owes from to o after 0 E start
+      (record (based c) { registers = 0 ∷ own ∷ word_at c.ram cur ∷ controller_base ∷ memory_base ∷ tail; ram = with_words c.ram (place + 20) registers })
+
+  -- the branch, and the registers of a task
+  pub enters_owe : (o : ℕ) → o ≤ 0x20_0000
+      → ((o' : ℕ) → o' ≡ o + 168 → Owes from to o' rest 0 E start (entered task level place c own 1))
+      → Owes from to o (enters_first task level rest) 0 E start (based c)
+  enters_owe o small go =
       writes own own_is
-      ▸ saves_owes from to E start (saves_csrs ++ (saves_words ++ (marks_active task level ++ rest))) place aligned 27 5 1 (o + 4) (o + 4 + 108) (record (spread c) { registers = 0 ∷ own ∷ get_or c.registers 2 0 ∷ get_or c.registers 3 0 ∷ get_or c.registers 4 0 ∷ tail }) refl refl context_fits context_apart (begun_owe (o + 4 + 108) (get_or c.registers 3 0) (get_or c.registers 4 0) go)
+      ▸ loads cur (record { is = refl; aligned = refl; inside = lit≤ tt }) (word_at c.ram cur) refl
+      ▸ record {
+        passed = 27;
+        lands = lands (o + 4 + 4) (omega arith);
+        when_taken = λ t.
+            subst (Begun (behind 27 (behind 3 o))) (none_saved (based c) t)
+            (begun_owe (behind 27 (behind 3 o)) (go (behind 12 (behind 27 (behind 3 o))) (omega arith)));
+        when_not = λ n.
+            saves_owes from to E start after place aligned 27 5 1 (behind 3 o) (behind 3 o + 108)
+            (record (based c) { registers = 0 ∷ own ∷ word_at c.ram cur ∷ controller_base ∷ memory_base ∷ tail }) refl refl context_fits context_apart
+            (subst (Begun (behind 3 o + 108)) (all_saved (based c) (not_true (eqb (word_at c.ram cur) 0) n))
+            (begun_owe (behind 3 o + 108) (go (behind 12 (behind 3 o + 108)) (omega arith))));
+      }
+    where
+      not_true : (b : Bool) → (b ≡ true → ⊥) → b ≡ false
+      not_true true n = absurd (n refl)
+      not_true false n = refl

@@ -1,3 +1,4 @@
+pub mod SavedRegisters
 pub mod Entering
 pub mod Starting
 pub mod Resuming

@@ -7,23 +7,24 @@ use Rattle.sloth_base.specs.Machine.{Core, State}
 use Rattle.sloth_base.specs.Arithmetic.{plus}
 use Rattle.sloth_base.specs.Status.{E_OK}
 use Rattle.sloth_base.specs.MemoryMap.{memory_base}
-use Rattle.sloth_region.specs.Layout.{cur, active, resume, below_word, idle_context, context_bytes}
+use Rattle.sloth_region.specs.Layout.{cur, active, resume, below_word, idle_context, context_bytes, controller_base}
 use Rattle.rv32_instr.specs.declared.InstrKind.{InstrKind}
 use Rattle.rv32_instr.specs.Ram.{word_at, with_word, with_words}
 use Rattle.masked_code.specs.Place.{at, InPlace}
-use Rattle.masked_code.specs.Kernel.{CanRun}
+use Rattle.masked_code.specs.Kernel.{CanRun, HoldBases}
 use Rattle.rv32_instr.specs.declared.InstrKind.TheVariants.{Jal}
 use Rattle.masked_code.specs.Masked.{Masked, WithArrivals}
 use Rattle.masked_code.specs.Owes.{◌▸◌, writes, loads, stores, accesses, Owes}
-use Rattle.masked_code.specs.Pieces.{restoring_code, restored_registers, registers_from}
+use Rattle.masked_code.specs.Pieces.{restoring_code, restored_registers}
 use Rattle.masked_code.proofs.Words.{word_at-other, word_at-others}
-use Rattle.masked_code.proofs.Spread.{spread, spread_is, spread_from}
+use Rattle.masked_code.proofs.Spread.{based, based_is, spread_from}
 use Rattle.masked_code.proofs.Runs.{restores_owes, length-restored, restored_other, restored_at}
 use Rattle.masked_code.proofs.Leave.{behind}
 use Rattle.masked_code.proofs.Routines.{jumps_in}
 use Rattle.prologue_gen.specs.Pieces.{takes_own, answers_wait, asks_kept}
-use Rattle.prologue_gen.specs.Fresh.{vector, Entered}
+use Rattle.prologue_gen.specs.Fresh.{vector, Entered, saved_registers}
 use Rattle.prologue_gen.specs.Resumed.{MayStart, MayResume, Resumed, EntersOrResumes, with_entry}
+use Rattle.prologue_gen.proofs.SavedRegisters.{few_saved}
 use Rattle.prologue_gen.proofs.Entering.{enters_first, entered, enters_owe}
 use Rattle.prologue_gen.proofs.Starting.{starts, starts_owe, length-starts}
 
@@ -45,7 +46,8 @@ lands o small = omega arith
 entry_keeps : (c : Core) (task place p : ℕ) → (p + 4 ≤ place) ⊎ (place + context_bytes ≤ p) → (4 ≤ p) → (p + 4 ≤ below_word) ⊎ (below_word + 4 ≤ p)
     → (p + 4 ≤ active task) ⊎ (active task + 4 ≤ p) → word_at (with_entry c task place) p ≡ word_at c.ram p
 entry_keeps c task place p far past below activity =
-    let ws = registers_from 27 5 c.registers in
+    let ws = saved_registers c in
+    let few = few_saved c in
     let r1 = with_words c.ram (place + 4 * 5) ws in
     let r2 = with_word r1 place c.mepc in
     let r3 = with_word r2 (place + 4) c.plevel in
@@ -60,7 +62,7 @@ entry_keeps c task place p far past below activity =
     ∙ word_at-other r3 (place + 4 + 4) (word_at c.ram cur) p (grind (arith, far))
     ∙ word_at-other r2 (place + 4) c.plevel p (grind (arith, far))
     ∙ word_at-other r1 place c.mepc p (grind (arith, far))
-    ∙ word_at-others ws c.ram (place + 4 * 5) p (grind (arith, far))
+    ∙ word_at-others ws c.ram (place + 4 * 5) p (grind (arith, far, few))
 
 -- the resume word stands apart from it
 kept_word : (c : Core) (task place : ℕ) → task < 30 → idle_context ≤ place → word_at (with_entry c task place) (resume task) ≡ word_at c.ram (resume task)
@@ -72,13 +74,13 @@ module _ (from to task level first place frame words : ℕ) (c : Core) (is_task 
   E = Entered task level first place frame words
 
   abbrev start : State
-  start = at (vector task) (spread c)
+  start = at (vector task) (based c)
 
-  pub fresh_owe : (o x1 x2 : ℕ) → o ≤ 0x20_0000
-      → ((o' : ℕ) → Owes from to o' (starts (memory_base + frame) words first) 0 E start (entered task level place c 0 x2 1))
-      → Owes from to o (either task (memory_base + frame) words first) 0 E start (entered task level place c x1 x2 1)
-  fresh_owe o x1 x2 small go =
-      loads (resume task) (record { is = omega arith; aligned = omega arith; inside = omega arith }) 0 (kept_word (spread c) task place is_task past ∙ none)
+  pub fresh_owe : (o x1 : ℕ) → o ≤ 0x20_0000
+      → ((o' : ℕ) → Owes from to o' (starts (memory_base + frame) words first) 0 E start (entered task level place c 0 1))
+      → Owes from to o (either task (memory_base + frame) words first) 0 E start (entered task level place c x1 1)
+  fresh_owe o x1 small go =
+      loads (resume task) (record { is = omega arith; aligned = omega arith; inside = omega arith }) 0 (kept_word (based c) task place is_task past ∙ none)
       ▸ record {
         passed = 33;
         lands = lands (o + 4) (omega arith);
@@ -108,7 +110,7 @@ module _ (from to task level place own : ℕ) (c : Core) (rest : List InstrKind)
   R = Resumed task level place own
 
   abbrev begun : State
-  begun = at (vector task) (spread c)
+  begun = at (vector task) (based c)
 
   abbrev at_own : ℕ
   at_own = memory_base + own
@@ -117,12 +119,12 @@ module _ (from to task level place own : ℕ) (c : Core) (rest : List InstrKind)
   sp = memory_base + (own + context_bytes)
 
   abbrev ram : List ℕ
-  ram = with_word (with_entry (spread c) task place) (resume task) 0
+  ram = with_word (with_entry (based c) task place) (resume task) 0
 
   kept : (k : ℕ) → k + 4 ≤ context_bytes → word_at ram (own + k) ≡ word_at c.ram (own + k)
   kept k within =
-      word_at-other (with_entry (spread c) task place) (resume task) 0 (own + k) (inr (omega arith))
-      ∙ entry_keeps (spread c) task place (own + k) (grind (arith, is_kept.apart)) (omega arith) (inr (omega arith)) (inr (omega arith))
+      word_at-other (with_entry (based c) task place) (resume task) 0 (own + k) (inr (omega arith))
+      ∙ entry_keeps (based c) task place (own + k) (grind (arith, is_kept.apart)) (omega arith) (inr (omega arith)) (inr (omega arith))
 
   zero_more : own + 0 ≡ own
   zero_more = omega arith
@@ -140,7 +142,7 @@ module _ (from to task level place own : ℕ) (c : Core) (rest : List InstrKind)
   level_is = omega arith
 
   abbrev regs : List ℕ
-  regs = 0 ∷ at_own ∷ sp ∷ pc ∷ memory_base ∷ spread_from 27 5 c.registers
+  regs = 0 ∷ at_own ∷ sp ∷ controller_base ∷ memory_base ∷ c.plevel ∷ spread_from 26 6 c.registers
 
   abbrev loaded : List ℕ
   loaded = restored_registers 27 5 ram own regs
@@ -160,9 +162,14 @@ module _ (from to task level place own : ℕ) (c : Core) (rest : List InstrKind)
     left = record {
       zero = other 0 (λ e. absurd (omega arith)) ∙ restored_other 27 5 ram own regs 0 (inl (lit< tt));
       registers = length-set loaded 10 E_OK ∙ long;
+      bases = (
+        other 3 (λ e. absurd (omega arith)) ∙ restored_other 27 5 ram own regs 3 (inl (lit< tt)),
+        other 4 (λ e. absurd (omega arith)) ∙ restored_other 27 5 ram own regs 4 (inl (lit< tt)),
+      );
       opened = is_kept.previous;
       previous = refl;
       running = level_is;
+      same_level = refl;
       pending = refl;
       enabled = refl;
       levels = refl;
@@ -196,8 +203,8 @@ module _ (from to task level place own : ℕ) (c : Core) (rest : List InstrKind)
   sp_is : plus at_own (pos context_bytes) ≡ sp
   sp_is = omega arith
 
-  goes_on_owe : (o x2 x3 : ℕ) → Owes from to o (takes_own task ++ (restoring_code 27 5 1 ++ (answers_wait ++ rest))) 0 R begun (entered task level place c at_own x2 x3)
-  goes_on_owe o x2 x3 =
+  goes_on_owe : (o x2 : ℕ) → Owes from to o (takes_own task ++ (restoring_code 27 5 1 ++ (answers_wait ++ rest))) 0 R begun (entered task level place c at_own x2)
+  goes_on_owe o x2 =
       stores (resume task) (record { is = omega arith; aligned = omega arith; inside = omega arith }) (inl (omega arith))
       ▸ loads own (record { is = omega arith; aligned = is_kept.aligned; inside = omega arith }) pc kept_pc
       ▸ accesses c.mepc refl is_kept.masked
@@ -207,17 +214,17 @@ module _ (from to task level place own : ℕ) (c : Core) (rest : List InstrKind)
   not_zero : at_own ≢ 0
   not_zero e = absurd (omega arith)
 
-  pub resumed_owe : (o x1 x2 x3 : ℕ) → o ≤ 0x20_0000 → Owes from to o (asks_first task rest) 0 R begun (entered task level place c x1 x2 x3)
-  resumed_owe o x1 x2 x3 small =
-      loads (resume task) (record { is = omega arith; aligned = omega arith; inside = omega arith }) at_own (kept_word (spread c) task place is_kept.is_task is_kept.past ∙ is_kept.is)
+  pub resumed_owe : (o x1 x2 : ℕ) → o ≤ 0x20_0000 → Owes from to o (asks_first task rest) 0 R begun (entered task level place c x1 x2)
+  resumed_owe o x1 x2 small =
+      loads (resume task) (record { is = omega arith; aligned = omega arith; inside = omega arith }) at_own (kept_word (based c) task place is_kept.is_task is_kept.past ∙ is_kept.is)
       ▸ record {
         passed = 33;
         lands = lands (o + 4) (omega arith);
         when_taken = λ t. let f = ne_eqb at_own 0 not_zero in absurd (cc);
-        when_not = λ n. goes_on_owe (behind 2 o) x2 x3;
+        when_not = λ n. goes_on_owe (behind 2 o) x2;
       }
 
-length-code : (task level frame words first : ℕ) → length (code task level frame words first) ≡ words + 109
+length-code : (task level frame words first : ℕ) → length (code task level frame words first) ≡ words + 108
 length-code task level frame words first = let e = length-starts frame words first in omega arith
 
 module _ (task level first frame words : ℕ) (is_task : task < 30) (low_level : level < 32) (first_fits : first < 2 ^ 32) (few : words ≤ 32) (offset place : ℕ) (c : Core) where
@@ -228,49 +235,46 @@ module _ (task level first frame words : ℕ) (is_task : task < 30) (low_level :
   rest = either task (memory_base + frame) words first
 
   -- from the vector word on
-  whole_runs : (E : List ℕ → State → State → Type 0) (jump : ℤ) → CanRun offset whole c → c.mie ≡ false → InPlace c.ram (vector task) (Jal 0 jump ∷ [])
+  whole_runs : (E : List ℕ → State → State → Type 0) (jump : ℤ) → CanRun offset whole c → HoldBases c.registers → c.mie ≡ false → InPlace c.ram (vector task) (Jal 0 jump ∷ [])
       → plus (memory_base + vector task) jump ≡ memory_base + offset
-      → Owes offset (offset + 4 * length whole) offset whole 0 E (at (vector task) (spread c)) (spread c)
-      → Masked (110 + words) (at (vector task) c) (WithArrivals E (at (vector task) c))
-  whole_runs E jump can masked vector_word to_code all =
+      → Owes offset (offset + 4 * length whole) offset whole 0 E (at (vector task) (based c)) (based c)
+      → Masked (109 + words) (at (vector task) c) (WithArrivals E (at (vector task) c))
+  whole_runs E jump can bases masked vector_word to_code all =
       let long = length-code task level (memory_base + frame) words first in
-      let n = words + 109 in
-      let e : suc n ≡ 110 + words = omega arith in
+      let n = words + 108 in
+      let e : suc n ≡ 109 + words = omega arith in
       let to = offset + 4 * length whole in
       subst (λ k. Masked k (at (vector task) c) (WithArrivals E (at (vector task) c))) e
       (jumps_in (vector task) offset n jump whole c E (at (vector task) c) (omega arith) vector_word to_code
       (record { masked = masked; there = can.controller; lines = can.lines; aligned = can.aligned; fits = can.inside; placed = can.placed })
       (omega arith)
-      (subst (λ x. Owes offset to offset whole 0 E (at (vector task) x) x) (spread_is c can.registers can.zero) all))
+      (subst (λ x. Owes offset to offset whole 0 E (at (vector task) x) x) (based_is c can.registers can.zero bases) all))
 
-  small_offset : CanRun offset whole c → behind 15 (offset + 4 + 108) ≤ 0x20_0000
+  small_offset : CanRun offset whole c → offset + 168 ≤ 0x20_0000
   small_offset can =
       let long = length-code task level (memory_base + frame) words first in
       let fits = can.inside in
       omega arith
 
   starts_it : first % 4 ≡ 0 → MayStart offset task place frame words whole c
-      → Masked (110 + words) (at (vector task) c) (WithArrivals (Entered task level first place frame words) (at (vector task) c))
+      → Masked (109 + words) (at (vector task) c) (WithArrivals (Entered task level first place frame words) (at (vector task) c))
   starts_it first_aligned may =
       let h = may.enters in
       let can = h.can_run in
       let to = offset + 4 * length whole in
       let E = Entered task level first place frame words in
-      let sp = get_or c.registers 2 0 in
-      let o = behind 15 (offset + 4 + 108) in
-      let chosen = fresh_owe offset to task level first place frame words c is_task h.behind may.kept_none o (memory_base + place) sp (small_offset can)
-      (λ o'. starts_owe offset to task level first place frame words 0 c low_level first_fits first_aligned h.masked h.previous h.frame_aligned h.frame_inside h.frame_apart o' sp 1)
-      in
-      whole_runs E h.jump can h.masked h.vector_word h.to_code
-      (enters_owe offset to task level place c E (at (vector task) (spread c)) rest is_task h.masked h.x2 h.aligned h.behind h.inside h.apart can.behind offset chosen)
+      let small = small_offset can in
+      whole_runs E h.jump can h.bases h.masked h.vector_word h.to_code
+      (enters_owe offset to task level place c E (at (vector task) (based c)) rest is_task h.masked h.x2 h.aligned h.behind h.inside h.apart can.behind offset (omega (arith, small))
+      (λ o e. fresh_owe offset to task level first place frame words c is_task h.behind may.kept_none o (memory_base + place) (omega (arith, small, e))
+      (λ o'. starts_owe offset to task level first place frame words c low_level first_fits first_aligned h.masked h.previous h.frame_aligned h.frame_inside h.frame_apart o' 0 1)))
 
-  resumes_it : (own : ℕ) → MayResume offset task place own whole c → Masked (110 + words) (at (vector task) c) (WithArrivals (Resumed task level place own) (at (vector task) c))
+  resumes_it : (own : ℕ) → MayResume offset task place own whole c → Masked (109 + words) (at (vector task) c) (WithArrivals (Resumed task level place own) (at (vector task) c))
   resumes_it own h =
       let can = h.can_run in
       let to = offset + 4 * length whole in
       let E = Resumed task level place own in
-      let sp = get_or c.registers 2 0 in
-      let o = behind 15 (offset + 4 + 108) in
+      let small = small_offset can in
       let kept : IsKept offset task level place own c = record {
         is_task = is_task;
         low_level = low_level;
@@ -286,9 +290,9 @@ module _ (task level first frame words : ℕ) (is_task : task < 30) (low_level :
         returns = h.returns;
         low = can.behind;
       } in
-      let chosen = resumed_owe offset to task level place own c (starts (memory_base + frame) words first) kept o (memory_base + place) sp 1 (small_offset can) in
-      whole_runs E h.jump can h.masked h.vector_word h.to_code
-      (enters_owe offset to task level place c E (at (vector task) (spread c)) rest is_task h.masked h.x2 h.aligned h.behind h.inside h.apart can.behind offset chosen)
+      whole_runs E h.jump can h.bases h.masked h.vector_word h.to_code
+      (enters_owe offset to task level place c E (at (vector task) (based c)) rest is_task h.masked h.x2 h.aligned h.behind h.inside h.apart can.behind offset (omega (arith, small))
+      (λ o e. resumed_owe offset to task level place own c (starts (memory_base + frame) words first) kept o (memory_base + place) 1 (omega (arith, small, e))))
 
 pub enters_or_resumes : (task level first frame words : ℕ) → task < 30 → level < 32 → first < 2 ^ 32 → words ≤ 32
     → EntersOrResumes task level first frame words (code task level (memory_base + frame) words first)

@@ -1,9 +1,11 @@
 -- The code of a prologue has its effect where the task starts anew.
-use Rattle.std.proofs.Common.{◌≡◌, ℕ, suc, ◌+◌, ◌-◌, ◌*◌, ◌%◌, ◌^◌, ◌<◌, ◌≤◌, ◌⊎◌, List, [], ◌∷◌, ◌++◌, length, get_or, refl, ap, ◌∙◌, subst, arith, inl, inr, length-append, lit<, lit≤}
+use Rattle.std.proofs.Common.{◌≡◌, ◌≢◌, ℕ, suc, ◌+◌, ◌-◌, ◌*◌, ◌%◌, ◌^◌, ◌<◌, ◌≤◌, ◌⊎◌, List, [], ◌∷◌, ◌++◌, length, get_or, refl, ap, ◌∙◌, subst, arith, inl, inr, length-append, lit<, lit≤}
 use Rattle.std.specs.Prelude.{false, true, replicate}
+use Rattle.std.proofs.lemmas.List.{get_or-set_other}
 use Rattle.sloth_base.specs.Machine.{Core, State}
 use Rattle.rv32_instr.specs.declared.InstrKind.{InstrKind}
 use Rattle.rv32_instr.specs.declared.InstrKind.TheVariants.{Mret}
+use Rattle.sloth_region.specs.Layout.{controller_base}
 use Rattle.rv32_instr.specs.Ram.{with_words}
 use Rattle.sloth_base.specs.Arithmetic.{hi}
 use Rattle.sloth_base.specs.MemoryMap.{memory_base}
@@ -12,7 +14,7 @@ use Rattle.masked_code.specs.Masked.{Masked, WithArrivals}
 use Rattle.masked_code.specs.Owes.{◌▸◌, writes, accesses, Owes}
 use Rattle.masked_code.specs.Pieces.{clearing_code, clears_words, cleared_registers}
 use Rattle.masked_code.proofs.Parts.{hi_lo}
-use Rattle.masked_code.proofs.Spread.{spread, spread_is, spread_from, others}
+use Rattle.masked_code.proofs.Spread.{based, based_is, spread_from, others}
 use Rattle.masked_code.proofs.Runs.{clears_owes, clears_words_owes, length-clears_words, length-cleared, cleared_at, cleared_other}
 use Rattle.masked_code.proofs.Leave.{behind}
 use Rattle.masked_code.proofs.Routines.{jumps_in}
@@ -31,23 +33,23 @@ starts frame words first = beginning_code frame first ++ last words
 abbrev pub code : ℕ → ℕ → ℕ → ℕ → ℕ → List InstrKind
 code task level frame words first = enters_first task level (starts frame words first)
 
-module _ (from to task level first place frame words x1 : ℕ) (c : Core) (low_level : level < 32) (first_fits : first < 2 ^ 32)
+module _ (from to task level first place frame words : ℕ) (c : Core) (low_level : level < 32) (first_fits : first < 2 ^ 32)
     (first_aligned : first % 4 ≡ 0) (masked : c.mie ≡ false) (previous : c.mpie ≡ true) (frame_aligned : frame % 4 ≡ 0)
     (frame_inside : frame + 4 * words ≤ 0x20_0000) (frame_apart : (frame + 4 * words ≤ from) ⊎ (to ≤ frame)) where
   abbrev sp : ℕ
   sp = memory_base + frame
 
   abbrev start : State
-  start = at (vector task) (spread c)
+  start = at (vector task) (based c)
 
   abbrev tail : List ℕ
-  tail = spread_from 27 5 c.registers
+  tail = spread_from 26 6 c.registers
 
   abbrev ram8 : List ℕ
-  ram8 = with_entry (spread c) task place
+  ram8 = with_entry (based c) task place
 
   abbrev regs : List ℕ
-  regs = 0 ∷ x1 ∷ sp ∷ first ∷ memory_base ∷ tail
+  regs = 0 ∷ first ∷ sp ∷ controller_base ∷ memory_base ∷ c.plevel ∷ tail
 
   -- the state behind all that is stored and set
   abbrev stored : Core
@@ -62,8 +64,12 @@ module _ (from to task level first place frame words x1 : ℕ) (c : Core) (low_l
   level_is : level % 256 ≡ level
   level_is = omega arith
 
-  below_ten : (i : ℕ) → 30 ≤ i → 5 ≤ i
-  below_ten i h = omega arith
+  -- the registers from x30 on are as they were
+  same_above : (i : ℕ) → 30 ≤ i → get_or regs i 0 ≡ get_or (based c).registers i 0
+  same_above i h =
+      let not_five : i ≢ 5 = λ e. absurd (omega arith) in
+      get_or-set_other (0 ∷ first ∷ sp ∷ controller_base ∷ memory_base ∷ spread_from 27 5 c.registers) 5 i c.plevel 0 not_five
+      ∙ others first sp controller_base memory_base (get_or c.registers 1 0) (get_or c.registers 2 0) controller_base memory_base (spread_from 27 5 c.registers) i (omega arith)
 
   done : Entered task level first place frame words [] start (record { pc = first - first % 4; core = record stored { registers = cleared_registers 25 5 regs; ram = with_words ram8 (frame + 4 * 0) (replicate words 0); ilevel = level % 256; mie = c.mpie; mpie = true } })
   done = record {
@@ -71,13 +77,15 @@ module _ (from to task level first place frame words x1 : ℕ) (c : Core) (low_l
     pc = first_is;
     x2 = cleared_other 25 5 regs 2 (inl (lit< tt));
     zeros = λ i from upto. cleared_at 25 5 regs i from upto (lit≤ tt);
-    kept = λ i past. cleared_other 25 5 regs i (inr past) ∙ others x1 sp first memory_base (get_or c.registers 1 0) (get_or c.registers 2 0) (get_or c.registers 3 0) (get_or c.registers 4 0) tail i (below_ten i past);
+    kept = λ i past. cleared_other 25 5 regs i (inr past) ∙ same_above i past;
     left = record {
       zero = cleared_other 25 5 regs 0 (inl (lit< tt));
       registers = length-cleared 25 5 regs;
+      bases = (cleared_other 25 5 regs 3 (inl (lit< tt)), cleared_other 25 5 regs 4 (inl (lit< tt)));
       opened = previous;
       previous = refl;
       running = level_is;
+      same_level = refl;
       pending = refl;
       enabled = refl;
       levels = refl;
@@ -105,8 +113,8 @@ module _ (from to task level first place frame words x1 : ℕ) (c : Core) (low_l
   sp_fits = omega arith
 
   -- the start of the task, in the state behind the entry
-  pub starts_owe : (o x2 x3 : ℕ) → Owes from to o (starts sp words first) 0 (Entered task level first place frame words) start (entered task level place c x1 x2 x3)
-  starts_owe o x2 x3 =
+  pub starts_owe : (o x1 x2 : ℕ) → Owes from to o (starts sp words first) 0 (Entered task level first place frame words) start (entered task level place c x1 x2)
+  starts_owe o x1 x2 =
       writes (hi sp * 4096) refl
       ▸ writes sp (hi_lo sp sp_fits)
       ▸ writes (hi first * 4096) refl
@@ -120,7 +128,7 @@ length-starts frame words first =
     let f = length-clears_words words 0 2 in
     omega arith
 
-length-code : (task level frame words first : ℕ) → length (code task level frame words first) ≡ words + 74
+length-code : (task level frame words first : ℕ) → length (code task level frame words first) ≡ words + 73
 length-code task level frame words first = let e = length-starts frame words first in omega arith
 
 module _ (task level first frame words : ℕ) (is_task : task < 30) (low_level : level < 32) (first_fits : first < 2 ^ 32) (first_aligned : first % 4 ≡ 0)
@@ -128,22 +136,23 @@ module _ (task level first frame words : ℕ) (is_task : task < 30) (low_level :
   abbrev whole : List InstrKind
   whole = code task level (memory_base + frame) words first
 
-  pub runs_it : Masked (75 + words) (at (vector task) c) (WithArrivals (Entered task level first place frame words) (at (vector task) c))
+  pub runs_it : Masked (74 + words) (at (vector task) c) (WithArrivals (Entered task level first place frame words) (at (vector task) c))
   runs_it =
       let can = h.can_run in
       let long = length-code task level (memory_base + frame) words first in
-      let n = words + 74 in
-      let e : suc n ≡ 75 + words = omega arith in
+      let n = words + 73 in
+      let e : suc n ≡ 74 + words = omega arith in
       let to = offset + 4 * length whole in
       let E = Entered task level first place frame words in
       let own = memory_base + place in
-      let began = starts_owe offset to task level first place frame words own c low_level first_fits first_aligned h.masked h.previous h.frame_aligned h.frame_inside h.frame_apart (behind 15 (offset + 4 + 108)) (get_or c.registers 2 0) 1 in
-      let all = enters_owe offset to task level place c E (at (vector task) (spread c)) (starts (memory_base + frame) words first) is_task h.masked h.x2 h.aligned h.behind h.inside h.apart can.behind offset began in
+      let fits = can.inside in
+      let all = enters_owe offset to task level place c E (at (vector task) (based c)) (starts (memory_base + frame) words first) is_task h.masked h.x2 h.aligned h.behind h.inside h.apart can.behind offset (omega (arith, fits))
+      (λ o' e. starts_owe offset to task level first place frame words c low_level first_fits first_aligned h.masked h.previous h.frame_aligned h.frame_inside h.frame_apart o' own 1) in
       subst (λ k. Masked k (at (vector task) c) (WithArrivals E (at (vector task) c))) e
       (jumps_in (vector task) offset n h.jump whole c E (at (vector task) c) (omega arith) h.vector_word h.to_code
       (record { masked = h.masked; there = can.controller; lines = can.lines; aligned = can.aligned; fits = can.inside; placed = can.placed })
       (omega arith)
-      (subst (λ x. Owes offset to offset whole 0 E (at (vector task) x) x) (spread_is c can.registers can.zero) all))
+      (subst (λ x. Owes offset to offset whole 0 E (at (vector task) x) x) (based_is c can.registers can.zero h.bases) all))
 
 pub enters : (task level first frame words : ℕ) → task < 30 → level < 32 → first < 2 ^ 32 → words ≤ 32 → Enters task level first frame words (code task level (memory_base + frame) words first)
 enters task level first frame words a b d f =

@@ -1,5 +1,5 @@
 -- The prologue of a task that starts anew: what was preempted is saved in a context, and the task begins.
-use Rattle.std.specs.Prelude.{ℕ, ℤ, ◌+◌, ◌*◌, ◌%◌, ◌≡◌, ◌<◌, ◌≤◌, ◌⊎◌, false, true, List, [], ◌∷◌, length, replicate, slice_index}
+use Rattle.std.specs.Prelude.{ℕ, ℤ, ◌+◌, ◌*◌, ◌%◌, ◌≡◌, ◌<◌, ◌≤◌, ◌⊎◌, ◌==◌, cond, false, true, List, [], ◌∷◌, length, replicate, slice_index}
 use Rattle.sloth_base.specs.Machine.{Core, State}
 use Rattle.code_lengths.specs.CodeLengths.{prologue_length}
 use Rattle.sloth_region.specs.Layout.{cur, active, below_word, idle_context, context_bytes}
@@ -11,7 +11,7 @@ use Rattle.sloth_base.specs.MemoryMap.{memory_base}
 use Rattle.masked_code.specs.Masked.{Masked, WithArrivals}
 use Rattle.masked_code.specs.Place.{at, InPlace}
 use Rattle.masked_code.specs.Pieces.{registers_from}
-use Rattle.masked_code.specs.Kernel.{CanRun, LeftAs}
+use Rattle.masked_code.specs.Kernel.{CanRun, HoldBases, LeftAs}
 
 -- the offset of a line's vector word
 abbrev pub vector : ℕ → ℕ
@@ -27,6 +27,7 @@ pub record MayEnter (offset task place frame words : ℕ) (code : List InstrKind
   pub can_run : CanRun offset code core
   pub masked : core.mie ≡ false
   pub previous : core.mpie ≡ true
+  pub bases : HoldBases core.registers
   pub jump : ℤ
   pub vector_word : InPlace core.ram (vector task) (Jal 0 jump ∷ [])
   pub to_code : plus (memory_base + vector task) jump ≡ memory_base + offset
@@ -39,10 +40,14 @@ pub record MayEnter (offset task place frame words : ℕ) (code : List InstrKind
   pub frame_inside : frame + 4 * words ≤ 0x20_0000
   pub frame_apart : IsApartFrom offset (length code) frame (4 * words)
 
+-- the registers that are saved: those of a task, and none of the idle loop
+abbrev pub saved_registers : Core → List ℕ
+saved_registers core = cond (word_at core.ram cur == 0) [] (registers_from 27 5 core.registers)
+
 -- what the context of the preempted task or of the idle loop says
 abbrev pub with_context : Core → ℕ → List ℕ
 with_context core place =
-    with_words (with_words core.ram (place + 4 * 5) (registers_from 27 5 core.registers)) place
+    with_words (with_words core.ram (place + 4 * 5) (saved_registers core)) place
     (core.mepc ∷ core.plevel ∷ word_at core.ram cur ∷ word_at core.ram below_word ∷ [])
 
 -- the bytes in which the task runs: what it preempted has its context at `place`, and the words of its frame are zero
@@ -59,9 +64,9 @@ pub record Entered (task level first place frame words : ℕ) (touched : List �
   pub zeros : (i : ℕ) → 5 ≤ i → i < 30 → slice_index end.core.registers i ≡ 0
   pub kept : (i : ℕ) → 30 ≤ i → slice_index end.core.registers i ≡ slice_index start.core.registers i
 
--- Code of a prologue: with the jump of the vector word, at most 75 + words instructions lead to its effect, whatever lines arrive.
+-- Code of a prologue: with the jump of the vector word, at most 74 + words instructions lead to its effect, whatever lines arrive.
 pub record Enters (task level first frame words : ℕ) (code : List InstrKind) : Type 0 where
   pub size : length code ≡ prologue_length false words
   pub runs :
       (offset place : ℕ) (core : Core) → first % 4 ≡ 0 → MayEnter offset task place frame words code core
-      → Masked (75 + words) (at (vector task) core) (WithArrivals (Entered task level first place frame words) (at (vector task) core))
+      → Masked (74 + words) (at (vector task) core) (WithArrivals (Entered task level first place frame words) (at (vector task) core))

@@ -1,6 +1,6 @@
 -- The pieces of a prologue.
 use Rattle.std.specs.Prelude.{ℕ, Bool, false, true, ◌+◌, pos, neg_ℤ, List, [], ◌∷◌, ◌++◌}
-use Rattle.sloth_region.specs.Layout.{cur, active, resume, below_word, context_bytes, context_pc, context_level, context_cur, context_below, words_high}
+use Rattle.sloth_region.specs.Layout.{cur, active, resume, below_word, context_bytes, context_pc, context_level, context_cur, context_below}
 use Rattle.rv32_instr.specs.declared.csr.TheConstants.{MEPC, PLEVEL}
 use Rattle.rv32_instr.specs.declared.InstrKind.{InstrKind}
 use Rattle.rv32_instr.specs.declared.InstrKind.TheVariants.{Lui, Addi, Lw, Sw, Beq, Csrrs, Csrrw, Csrrwi, Mret}
@@ -8,27 +8,29 @@ use Rattle.sloth_base.specs.Arithmetic.{hi, lo}
 use Rattle.sloth_base.specs.Status.{E_OK}
 use Rattle.masked_code.specs.Pieces.{past, saving_code, restoring_code, clearing_code, clears_words}
 
--- what the CSRs say goes into the context at x1; leaves the base of memory in x4
-abbrev pub saves_csrs : List InstrKind
-saves_csrs = Lui 4 words_high ∷ Csrrs 3 0 MEPC ∷ Sw 1 3 (pos context_pc) ∷ Csrrs 3 0 PLEVEL ∷ Sw 1 3 (pos context_level) ∷ []
+-- x1 := the place of the context, directly below x2; leaves `cur` in x2, and passes what saves the registers where that is 0
+abbrev pub asks_preempted : List InstrKind
+asks_preempted = Addi 1 2 (neg_ℤ (pos context_bytes)) ∷ Lw 2 4 (pos cur) ∷ Beq 2 0 (past (saving_code 27 5 1)) ∷ []
 
--- so does what the service words say, and then the context stands below
+-- what the CSRs say goes into the context at x1, by x5; the level is now that of the entry
+abbrev pub saves_csrs : ℕ → List InstrKind
+saves_csrs level = Csrrs 5 0 MEPC ∷ Sw 1 5 (pos context_pc) ∷ Csrrwi 5 level PLEVEL ∷ Sw 1 5 (pos context_level) ∷ []
+
+-- so does what the service words say, `cur` being in x2, and then the context stands below
 abbrev pub saves_words : List InstrKind
-saves_words =
-    Lw 3 4 (pos cur) ∷ Sw 1 3 (pos context_cur) ∷ Lw 3 4 (pos below_word) ∷ Sw 1 3 (pos context_below) ∷ Sw 4 1 (pos below_word) ∷ []
+saves_words = Sw 1 2 (pos context_cur) ∷ Lw 2 4 (pos below_word) ∷ Sw 1 2 (pos context_below) ∷ Sw 4 1 (pos below_word) ∷ []
 
--- the context stands directly below x2
-abbrev pub saves_context : List InstrKind
-saves_context = Addi 1 2 (neg_ℤ (pos context_bytes)) ∷ (saving_code 27 5 1 ++ (saves_csrs ++ saves_words))
+-- the context stands directly below x2, with the registers where a task was running
+abbrev pub saves_context : ℕ → List InstrKind
+saves_context level = asks_preempted ++ (saving_code 27 5 1 ++ (saves_csrs level ++ saves_words))
 
--- the task is the running one and Active, and its level is that of the entry
-abbrev pub marks_active : ℕ → ℕ → List InstrKind
-marks_active task level =
-    Addi 3 0 (pos (task + 1)) ∷ Sw 4 3 (pos cur) ∷ Addi 3 0 (pos 1) ∷ Sw 4 3 (pos (active task)) ∷ Csrrwi 0 level PLEVEL ∷ []
+-- the task is the running one and Active
+abbrev pub marks_active : ℕ → List InstrKind
+marks_active task = Addi 2 0 (pos (task + 1)) ∷ Sw 4 2 (pos cur) ∷ Addi 2 0 (pos 1) ∷ Sw 4 2 (pos (active task)) ∷ []
 
 -- x2 is the task's frame, and its first item is where the entry goes to
 abbrev pub beginning_code : ℕ → ℕ → List InstrKind
-beginning_code frame first = Lui 2 (hi frame) ∷ Addi 2 2 (lo frame) ∷ Lui 3 (hi first) ∷ Addi 3 3 (lo first) ∷ Csrrw 0 3 MEPC ∷ []
+beginning_code frame first = Lui 2 (hi frame) ∷ Addi 2 2 (lo frame) ∷ Lui 1 (hi first) ∷ Addi 1 1 (lo first) ∷ Csrrw 0 1 MEPC ∷ []
 
 -- a start with a frame of zero words and zero registers
 abbrev pub starts_anew : ℕ → ℕ → ℕ → List InstrKind
@@ -36,7 +38,7 @@ starts_anew frame words first = beginning_code frame first ++ (clears_words word
 
 -- no context is kept for the task any more; its pc and x2 are those of its context at x1
 abbrev pub takes_own : ℕ → List InstrKind
-takes_own task = Sw 4 0 (pos (resume task)) ∷ Lw 3 1 (pos context_pc) ∷ Csrrw 0 3 MEPC ∷ Addi 2 1 (pos context_bytes) ∷ []
+takes_own task = Sw 4 0 (pos (resume task)) ∷ Lw 2 1 (pos context_pc) ∷ Csrrw 0 2 MEPC ∷ Addi 2 1 (pos context_bytes) ∷ []
 
 -- the service that waited has done so
 abbrev pub answers_wait : List InstrKind

@@ -11,7 +11,7 @@ use Rattle.sloth_base.specs.Arithmetic.{plus}
 use Rattle.sloth_base.specs.MemoryMap.{memory_base}
 use Rattle.masked_code.specs.Masked.{Masked, WithArrivals}
 use Rattle.masked_code.specs.Place.{at, InPlace}
-use Rattle.masked_code.specs.Kernel.{CanRun, LeftAs}
+use Rattle.masked_code.specs.Kernel.{CanRun, HoldBases, LeftAs}
 use Rattle.prologue_gen.specs.Fresh.{vector, IsApartFrom, MayEnter, Entered, with_context}
 
 -- The state in which the line of a task that is to start anew has just been taken: no context is kept for it.
@@ -25,6 +25,7 @@ pub record MayResume (offset task place own : ℕ) (code : List InstrKind) (core
   pub can_run : CanRun offset code core
   pub masked : core.mie ≡ false
   pub previous : core.mpie ≡ true
+  pub bases : HoldBases core.registers
   pub jump : ℤ
   pub vector_word : InPlace core.ram (vector task) (Jal 0 jump ∷ [])
   pub to_code : plus (memory_base + vector task) jump ≡ memory_base + offset
@@ -55,13 +56,13 @@ pub record Resumed (task level place own : ℕ) (touched : List ℕ) (start end 
   pub status : slice_index end.core.registers 10 ≡ E_OK
   pub loaded : (i : ℕ) → 5 ≤ i → i < 32 → i ≢ 10 → slice_index end.core.registers i ≡ word_at start.core.ram (own + 4 * i)
 
--- Code of the prologue of an extended task: with the jump of the vector word, at most 110 + words instructions lead to a start
+-- Code of the prologue of an extended task: with the jump of the vector word, at most 109 + words instructions lead to a start
 -- where no context is kept, and to the place of the wait where one is, whatever lines arrive.
 pub record EntersOrResumes (task level first frame words : ℕ) (code : List InstrKind) : Type 0 where
   pub size : length code ≡ prologue_length true words
   pub starts :
       (offset place : ℕ) (core : Core) → first % 4 ≡ 0 → MayStart offset task place frame words code core
-      → Masked (110 + words) (at (vector task) core) (WithArrivals (Entered task level first place frame words) (at (vector task) core))
+      → Masked (109 + words) (at (vector task) core) (WithArrivals (Entered task level first place frame words) (at (vector task) core))
   pub resumes :
       (offset place own : ℕ) (core : Core) → MayResume offset task place own code core
-      → Masked (110 + words) (at (vector task) core) (WithArrivals (Resumed task level place own) (at (vector task) core))
+      → Masked (109 + words) (at (vector task) core) (WithArrivals (Resumed task level place own) (at (vector task) core))

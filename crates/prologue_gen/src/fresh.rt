@@ -1,68 +1,82 @@
 //! The parts of a prologue: what was preempted is saved, and the task starts anew.
 ghost use Rattle.std.specs.Prelude.{◌≡◌, ◌+◌, ◌<◌, ◌≤◌, ◌++◌, OnOk};
-ghost use Rattle.prologue_gen.specs.Pieces.{saves_context, saves_csrs, saves_words, marks_active, beginning_code, starts_anew};
+ghost use Rattle.prologue_gen.specs.Pieces.{asks_preempted, saves_context, saves_csrs, saves_words, marks_active, beginning_code, starts_anew};
 
-use masked_code::emit::{clear, clear_words, emit, save};
+use masked_code::emit::{X5, clear, clear_words, emit, past, save};
 use rv32_instr::Instr;
-use rv32_instr::asm::{X1, X2, X3, X4, ZERO, addi, csrrs, csrrw, csrrwi, lui, lw, mret, sw};
+use rv32_instr::asm::{X1, X2, X4, ZERO, addi, beq, csrrs, csrrw, csrrwi, lui, lw, mret, sw};
 use rv32_instr::constant::{hi, lo};
 use rv32_instr::csr::{MEPC, PLEVEL};
 use sloth_region::layout::{
-    BELOW_WORD, CONTEXT_BELOW, CONTEXT_BYTES, CONTEXT_CUR, CONTEXT_LEVEL, CONTEXT_PC, CUR,
-    WORDS_HIGH, active,
+    BELOW_WORD, CONTEXT_BELOW, CONTEXT_BYTES, CONTEXT_CUR, CONTEXT_LEVEL, CONTEXT_PC, CUR, active,
 };
 use std::alloc::AllocError;
 
-/// Saves the registers, and then what the CSRs and the service words say, in the context directly below x2.
-pub fn save_context(code: &mut Vec<Instr>) -> Result<(), AllocError>
-    ensures { OnOk result (code.new.items ≡ code.old.items ++ saves_context) }
+/// The registers of a context: x5 to x31.
+const REGISTERS: u32 = 27;
+
+/// Saves the registers where a task was running, and then what the CSRs and the service words say, in the context directly below x2.
+/// The level is then this one.
+pub fn save_context(code: &mut Vec<Instr>, level: u8) -> Result<(), AllocError>
+    requires { level < 32 }
+    ensures { OnOk result (code.new.items ≡ code.old.items ++ saves_context level) }
 {
-    emit(code, &[addi(X1, X2, -CONTEXT_BYTES)])?;
+    ask_preempted(code)?;
     save(code, 5, 32, X1)?;
-    save_csrs(code)?;
+    save_csrs(code, level)?;
     save_words(code)?;
     Ok(())
 }
 
-/// What the CSRs say. Leaves the base of memory in x4.
-fn save_csrs(code: &mut Vec<Instr>) -> Result<(), AllocError>
-    ensures { OnOk result (code.new.items ≡ code.old.items ++ saves_csrs) }
+/// x1 := the place of the context; passes what saves the registers, where no task was running. Leaves `cur` in x2.
+fn ask_preempted(code: &mut Vec<Instr>) -> Result<(), AllocError>
+    ensures { OnOk result (code.new.items ≡ code.old.items ++ asks_preempted) }
+{
+    let asked = [
+        addi(X1, X2, -CONTEXT_BYTES),
+        lw(X2, X4, CUR),
+        beq(X2, ZERO, past(REGISTERS)),
+    ];
+    emit(code, &asked)
+}
+
+/// What the CSRs say, by x5; the level is then this one.
+fn save_csrs(code: &mut Vec<Instr>, level: u8) -> Result<(), AllocError>
+    requires { level < 32 }
+    ensures { OnOk result (code.new.items ≡ code.old.items ++ saves_csrs level) }
 {
     let saved = [
-        lui(X4, WORDS_HIGH),
-        csrrs(X3, MEPC, ZERO),
-        sw(X3, X1, CONTEXT_PC),
-        csrrs(X3, PLEVEL, ZERO),
-        sw(X3, X1, CONTEXT_LEVEL),
+        csrrs(X5, MEPC, ZERO),
+        sw(X5, X1, CONTEXT_PC),
+        csrrwi(X5, PLEVEL, level),
+        sw(X5, X1, CONTEXT_LEVEL),
     ];
     emit(code, &saved)
 }
 
-/// What the service words say; the context then stands below.
+/// What the service words say, `cur` being in x2; the context then stands below.
 fn save_words(code: &mut Vec<Instr>) -> Result<(), AllocError>
     ensures { OnOk result (code.new.items ≡ code.old.items ++ saves_words) }
 {
     let saved = [
-        lw(X3, X4, CUR),
-        sw(X3, X1, CONTEXT_CUR),
-        lw(X3, X4, BELOW_WORD),
-        sw(X3, X1, CONTEXT_BELOW),
+        sw(X2, X1, CONTEXT_CUR),
+        lw(X2, X4, BELOW_WORD),
+        sw(X2, X1, CONTEXT_BELOW),
         sw(X1, X4, BELOW_WORD),
     ];
     emit(code, &saved)
 }
 
-/// The task becomes the running one and Active, and is to run at this level. x4 holds the base of memory.
-pub fn mark_active(code: &mut Vec<Instr>, task: u32, level: u8) -> Result<(), AllocError>
-    requires { (task < 30) × (level < 32) }
-    ensures { OnOk result (code.new.items ≡ code.old.items ++ marks_active task level) }
+/// The task becomes the running one and Active.
+pub fn mark_active(code: &mut Vec<Instr>, task: u32) -> Result<(), AllocError>
+    requires { task < 30 }
+    ensures { OnOk result (code.new.items ≡ code.old.items ++ marks_active task) }
 {
     let marked = [
-        addi(X3, ZERO, task as i32 + 1),
-        sw(X3, X4, CUR),
-        addi(X3, ZERO, 1),
-        sw(X3, X4, active(task as u8)),
-        csrrwi(ZERO, PLEVEL, level),
+        addi(X2, ZERO, task as i32 + 1),
+        sw(X2, X4, CUR),
+        addi(X2, ZERO, 1),
+        sw(X2, X4, active(task as u8)),
     ];
     emit(code, &marked)
 }
@@ -74,9 +88,9 @@ fn begin(code: &mut Vec<Instr>, frame: u32, first: u32) -> Result<(), AllocError
     let begun = [
         lui(X2, hi(frame)),
         addi(X2, X2, lo(frame)),
-        lui(X3, hi(first)),
-        addi(X3, X3, lo(first)),
-        csrrw(ZERO, MEPC, X3),
+        lui(X1, hi(first)),
+        addi(X1, X1, lo(first)),
+        csrrw(ZERO, MEPC, X1),
     ];
     emit(code, &begun)
 }

@@ -18,7 +18,7 @@ use sloth_base::places::Levels;
 use sloth_region::map::Map;
 use std::alloc::{AllocError, Global};
 
-/// The prologue of a task, at the address of its line's handler in the map: 74 instructions for a basic task, 109 for an extended
+/// The prologue of a task, at the address of its line's handler in the map: 73 instructions for a basic task, 108 for an extended
 /// one, and one for each word of the frame of the task's body.
 pub fn prologue(
     alloc: Global,
@@ -110,8 +110,8 @@ fn code_of(
     ensures enters { IfOk result (λ code. DoesEnter extended task level first (frame - memory_base) words code.items) }
 {
     let mut code = Vec::new(alloc);
-    save_context(&mut code)?;
-    mark_active(&mut code, task, level)?;
+    save_context(&mut code, level)?;
+    mark_active(&mut code, task)?;
     take_up(&mut code, extended, task)?;
     start_anew(&mut code, frame, words, first)?;
     Ok(code)

@@ -4,7 +4,7 @@ ghost use Rattle.prologue_gen.specs.Pieces.{takes_own, answers_wait, goes_on, as
 
 use masked_code::emit::{emit, past, restore};
 use rv32_instr::Instr;
-use rv32_instr::asm::{A0, X1, X2, X3, X4, ZERO, addi, beq, csrrw, lw, mret, sw};
+use rv32_instr::asm::{A0, X1, X2, X4, ZERO, addi, beq, csrrw, lw, mret, sw};
 use rv32_instr::csr::MEPC;
 use sloth_base::service::E_OK;
 use sloth_region::layout::{CONTEXT_BYTES, CONTEXT_PC, resume};
@@ -13,7 +13,7 @@ use std::alloc::AllocError;
 /// How many instructions take up a task's own context.
 const GOES_ON: u32 = 33;
 
-/// Takes up the context that is kept for an extended task; for a basic one none is kept. x4 holds the base of memory.
+/// Takes up the context that is kept for an extended task; for a basic one none is kept.
 pub fn take_up(code: &mut Vec<Instr>, extended: bool, task: u32) -> Result<(), AllocError>
     requires { task < 30 }
     ensures { OnOk result (code.new.items ≡ code.old.items ++ takes_up extended task) }
@@ -25,7 +25,7 @@ pub fn take_up(code: &mut Vec<Instr>, extended: bool, task: u32) -> Result<(), A
     Ok(())
 }
 
-/// x1 := the address of the task's own context; passes what takes it up where there is none. x4 holds the base of memory.
+/// x1 := the address of the task's own context; passes what takes it up where there is none.
 fn ask_kept(code: &mut Vec<Instr>, task: u32) -> Result<(), AllocError>
     requires { task < 30 }
     ensures { OnOk result (code.new.items ≡ code.old.items ++ asks_kept task) }
@@ -34,7 +34,7 @@ fn ask_kept(code: &mut Vec<Instr>, task: u32) -> Result<(), AllocError>
     emit(code, &asked)
 }
 
-/// The task goes on behind its wait, as its context at x1 says. x4 holds the base of memory.
+/// The task goes on behind its wait, as its context at x1 says.
 fn go_on(code: &mut Vec<Instr>, task: u32) -> Result<(), AllocError>
     requires { task < 30 }
     ensures { OnOk result (code.new.items ≡ code.old.items ++ goes_on task) }
@@ -52,8 +52,8 @@ fn take_own(code: &mut Vec<Instr>, task: u32) -> Result<(), AllocError>
 {
     let taken = [
         sw(ZERO, X4, resume(task)),
-        lw(X3, X1, CONTEXT_PC),
-        csrrw(ZERO, MEPC, X3),
+        lw(X2, X1, CONTEXT_PC),
+        csrrw(ZERO, MEPC, X2),
         addi(X2, X1, CONTEXT_BYTES),
     ];
     emit(code, &taken)

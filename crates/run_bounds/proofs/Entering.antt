@@ -1,6 +1,6 @@
 -- The entry of the task of highest priority ends within its latency.
 use Rattle.std.proofs.Common.{◌≡◌, ℕ, suc, ◌+◌, ◌*◌, ◌<◌, ◌≤◌, ◌⊎◌, ◌&&◌, leb, List, [], ◌∷◌, ◌++◌, Bool, true, false, cond, length, is_some, refl, sym, ap, ◌∙◌, subst, arith, inl, inr}
-use Rattle.std.specs.Prelude.{AllPairs, slice_index_or, ◌||◌, max}
+use Rattle.std.specs.Prelude.{AllPairs, slice_index_or, ◌||◌}
 use Rattle.std.specs.List.{AllByRecursion}
 use Rattle.std.proofs.lemmas.Bool.{cases_Bool, cond-true, cond-false, false≢true, leb-false}
 use Rattle.std.proofs.lemmas.List.{append-nil}

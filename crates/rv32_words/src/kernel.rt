@@ -1,13 +1,13 @@
-//! A configuration of one task, its levels and its task code, and the map of its kernel.
-ghost use Rattle.std.specs.Prelude.{◌≡◌, ◌↔◌, ◌<◌, ◌≤◌, ℕ, All, IfOk, false, length, slice_index};
+//! Configurations of one task, its levels and its task code, and the map of its kernel.
+ghost use Rattle.std.specs.Prelude.{◌≡◌, ◌↔◌, ◌<◌, ◌≤◌, ℕ, All, IfOk, false, length, slice_index, ◌∷◌, []};
 ghost use Rattle.sloth_base.specs.ConfigRange.{InRange};
 ghost use Rattle.code_lengths.specs.Bodies.{IsBody};
 ghost use Rattle.prologue_gen.specs.Places.{IsBasic, IsTop};
-ghost use Rattle.rv32_words.specs.Alone.{alone};
+ghost use Rattle.rv32_words.specs.Alone.{alone, main_task, go_event, clock_counter, asleep, clock_alarms};
 ghost use Rattle.vector_gen.specs.Vectors.{AreInReach};
 
 use sloth_base::app::{App, Func};
-use sloth_base::config::{Config, EventDecl, TaskDecl};
+use sloth_base::config::{Action, AlarmDecl, Config, CounterDecl, EventDecl, TaskDecl};
 use sloth_base::list::List;
 use sloth_base::memory::NoMemory;
 use sloth_base::name::Name;
@@ -25,7 +25,25 @@ pub fn config(alloc: Global, extended: bool, non: bool, autostart: bool) -> Resu
     ensures basic { IfOk result (λ config. IsBasic config.tasks 0 ↔ (extended ≡ false)) }
     ensures one { IfOk result (λ config. length config.tasks ≡ 1) }
 {
-    let main = TaskDecl {
+    let mut tasks = Vec::new(alloc);
+    tasks
+        .push(main_task(alloc, extended, non, autostart)?)
+        .map_err(|_| NoMemory)?;
+    let mut events = Vec::new(alloc);
+    events.push(event(alloc)?).map_err(|_| NoMemory)?;
+    Ok(alone(alloc, tasks, events))
+}
+
+// The task.
+fn main_task(
+    alloc: Global,
+    extended: bool,
+    non: bool,
+    autostart: bool,
+) -> Result<TaskDecl, NoMemory>
+    ensures { IfOk result (λ task. task ≡ main_task extended non autostart) }
+{
+    Ok(TaskDecl {
         name: Name::new(alloc, b"Main")?,
         priority: 3,
         extended,
@@ -33,16 +51,87 @@ pub fn config(alloc: Global, extended: bool, non: bool, autostart: bool) -> Resu
         autostart,
         resources: List::from_vec(Vec::new(alloc)),
         events: extended as u32,
-    };
-    let mut tasks = Vec::new(alloc);
-    tasks.push(main).map_err(|_| NoMemory)?;
-    let event = EventDecl {
+    })
+}
+
+// Its event.
+fn event(alloc: Global) -> Result<EventDecl, NoMemory>
+    ensures { IfOk result (λ event. event ≡ go_event) }
+{
+    Ok(EventDecl {
         name: Name::new(alloc, b"Go")?,
         mask: 1,
-    };
+    })
+}
+
+/// A configuration of an extended task with its event, and of a counter with three alarms: the first activates the task, the others set its
+/// event.
+pub fn clock(alloc: Global) -> Result<Config, NoMemory>
+    ensures range { IfOk result InRange }
+    ensures one { IfOk result (λ config. length config.counters ≡ 1) }
+    ensures three { IfOk result (λ config. length config.alarms ≡ 3) }
+{
+    let mut tasks = Vec::new(alloc);
+    tasks
+        .push(main_task(alloc, true, false, false)?)
+        .map_err(|_| NoMemory)?;
     let mut events = Vec::new(alloc);
-    events.push(event).map_err(|_| NoMemory)?;
-    Ok(alone(alloc, tasks, events))
+    events.push(event(alloc)?).map_err(|_| NoMemory)?;
+    let counters = counters(alloc)?;
+    let alarms = alarms(alloc)?;
+    Ok(Config {
+        tasks: List::from_vec(tasks),
+        resources: List::from_vec(Vec::new(alloc)),
+        events: List::from_vec(events),
+        res_scheduler: false,
+        counters: List::from_vec(counters),
+        alarms: List::from_vec(alarms),
+    })
+}
+
+// A counter.
+fn counters(alloc: Global) -> Result<Vec<CounterDecl>, NoMemory>
+    ensures { IfOk result (λ counters. counters.items ≡ clock_counter ∷ []) }
+{
+    let counter = CounterDecl {
+        name: Name::new(alloc, b"Clock")?,
+        max: 1_000_000,
+        min_cycle: 6144,
+    };
+    let mut counters = Vec::new(alloc);
+    counters.push(counter).map_err(|_| NoMemory)?;
+    Ok(counters)
+}
+
+// Its alarms.
+fn alarms(alloc: Global) -> Result<Vec<AlarmDecl>, NoMemory>
+    ensures { IfOk result (λ alarms. alarms.items ≡ clock_alarms) }
+{
+    let mut alarms = Vec::new(alloc);
+    alarms
+        .push(alarm(alloc, b"A", Action::Activate(TaskId(0)))?)
+        .map_err(|_| NoMemory)?;
+    alarms
+        .push(alarm(alloc, b"B", Action::Set(TaskId(0), 1))?)
+        .map_err(|_| NoMemory)?;
+    alarms
+        .push(alarm(alloc, b"C", Action::Set(TaskId(0), 1))?)
+        .map_err(|_| NoMemory)?;
+    Ok(alarms)
+}
+
+// An alarm of the counter, which doesn't start by itself.
+fn alarm(alloc: Global, name: &[u8], action: Action) -> Result<AlarmDecl, NoMemory>
+    requires { (1 ≤ length name.now) × (length name.now ≤ 64) }
+    ensures { IfOk result (λ alarm. alarm ≡ asleep name.now action) }
+{
+    Ok(AlarmDecl {
+        name: Name::new(alloc, name)?,
+        counter: 0,
+        action,
+        time: 0,
+        cycle: 0,
+    })
 }
 
 // The configuration of these tasks and events alone.

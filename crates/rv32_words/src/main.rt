@@ -3,7 +3,9 @@
 #![tactic(auto)]
 
 ghost use Rattle.std.specs.Prelude.{ℕ, ◌≡◌, ◌<◌, ◌≤◌, All, length, slice_index};
+ghost use Rattle.alarm_gen.specs.Block.{HasAlarmBlock};
 ghost use Rattle.event_gen.specs.Block.{HasEventBlock as HasEventBlock};
+ghost use Rattle.sloth_base.specs.ConfigRange.{InRange};
 ghost use Rattle.prologue_gen.specs.Places.{IsTop};
 ghost use Rattle.service_gen.specs.Block.{HasBlock};
 ghost use Rattle.vector_gen.specs.Vectors.{AreInReach};
@@ -13,7 +15,7 @@ mod kernel;
 mod listing;
 
 use crate::instructions::list_instructions;
-use crate::kernel::{app, config, levels, map};
+use crate::kernel::{app, clock, config, levels, map};
 use crate::listing::list;
 use prologue_gen::prologue;
 use service_gen::block;
@@ -40,11 +42,63 @@ fn list_boot(
     autostart: bool,
     levels: &Levels,
     map: &Map,
-) -> anyhow::Result<()> {
+) -> anyhow::Result<()>
+    requires { levels.now.top < 32 }
+{
     let alloc = rt.alloc();
     let config = config(alloc, false, false, autostart)?;
     let code = boot(alloc, &config, levels, map)?;
     list(rt, "boot", &code)
+}
+
+// Boot with a counter, and the tick of that counter with its alarms.
+fn list_clock(
+    rt: &(impl Print + AllocGlobal),
+    config: &Config,
+    levels: &Levels,
+    map: &Map,
+) -> anyhow::Result<()>
+    requires range { InRange config.now }
+    requires one { length config.now.counters ≡ 1 }
+    requires levels { levels.now.top < 32 }
+{
+    let start = boot(rt.alloc(), config, levels, map)?;
+    list(rt, "boot", &start)?;
+    let code = alarm_gen::tick(rt.alloc(), 0, config, levels, map)?;
+    list(rt, "tick", &code)
+}
+
+// The block of a service on alarms.
+fn list_alarm_service(
+    rt: &(impl Print + AllocGlobal),
+    service: Service,
+    object: u32,
+    config: &Config,
+    levels: &Levels,
+    map: &Map,
+) -> anyhow::Result<()>
+    requires { HasAlarmBlock config.now service object × InRange config.now }
+{
+    let code = alarm_gen::block(rt.alloc(), service, object, config, levels, map)?;
+    list(rt, "service", &code)
+}
+
+// The blocks of the services on alarms: those that set one for the alarms 0 and 2, the others for the alarm 2.
+fn list_alarm_services(
+    rt: &(impl Print + AllocGlobal),
+    config: &Config,
+    levels: &Levels,
+    map: &Map,
+) -> anyhow::Result<()>
+    requires range { InRange config.now }
+    requires three { length config.now.alarms ≡ 3 }
+{
+    list_alarm_service(rt, Service::SetRelAlarm, 0, config, levels, map)?;
+    list_alarm_service(rt, Service::SetRelAlarm, 2, config, levels, map)?;
+    list_alarm_service(rt, Service::SetAbsAlarm, 0, config, levels, map)?;
+    list_alarm_service(rt, Service::SetAbsAlarm, 2, config, levels, map)?;
+    list_alarm_service(rt, Service::CancelAlarm, 2, config, levels, map)?;
+    list_alarm_service(rt, Service::GetAlarm, 2, config, levels, map)
 }
 
 // The prologue of a task that is extended or basic, preemptable or not, with a frame of so many words.
@@ -163,7 +217,10 @@ fn list_kernel(rt: &(impl Print + AllocGlobal)) -> anyhow::Result<()> {
     list_entries(rt, &levels, &map)?;
     let config = config(rt.alloc(), false, false, false)?;
     list_services(rt, &config, &levels, &map)?;
-    list_event_services(rt, &config, &levels, &map)
+    list_event_services(rt, &config, &levels, &map)?;
+    let counted = clock(rt.alloc())?;
+    list_clock(rt, &counted, &levels, &map)?;
+    list_alarm_services(rt, &counted, &levels, &map)
 }
 
 fn main(rt: HostRuntime) -> anyhow::Result<()> {

@@ -1,4 +1,4 @@
--- The generated OIL text declares 30 tasks: its tokens are cut and its objects built by computation.
+-- The generated OIL text declares 30 tasks and no counter: its tokens are cut and its objects built by computation.
 use Rattle.std.proofs.Common.{◌≡◌, ◌≤◌, ◌∙◌, ℕ, List, [], ◌∷◌, length, filter, take, drop, Some, refl, sym, ap, arith}
 use Rattle.std.specs.Prelude.{codes}
 use Rattle.std.specs.Fmt.{digits}
@@ -20,9 +20,10 @@ use Rattle.oil_parse.specs.Machine.{nothing_built, next, built_after, Built}
 use Rattle.oil_parse.specs.Shapes.{key_of, sign_of, shape_by}
 use Rattle.oil_parse.proofs.Steps.{build}
 use Rattle.oil_parse.proofs.Complete.{file_takes}
-use Rattle.oil_model.specs.Objects.{is_of_kind}
+use Rattle.oil_rules.specs.Objects.{is_of_kind}
+use Rattle.oil_model.specs.Clocks.{declared_counter}
 use Rattle.oil_model.specs.Configs.{declared_task, resource_names}
-use Rattle.oil_model.specs.Events.{events_of}
+use Rattle.oil_rules.specs.Events.{events_of}
 use Rattle.sloth_source.specs.OilText.{OilText}
 
 -- the pieces of a text that is no longer than the first list
@@ -74,3 +75,18 @@ thirty-tasks config h =
     ∙ length-map (filter (is_of_kind (codes "TASK")) objects) (declared_task (resource_names objects) (events_of objects))
     ∙ ap (λ (os : List OilObject). length (filter (is_of_kind (codes "TASK")) os)) same
     ∙ thirty-objects
+
+-- none of them is a counter
+no-objects : length (filter (is_of_kind (codes "COUNTER")) (objects_of (tokens_in (oil_text 30)))) ≡ 0
+unfolding pieces oil_text event_object resource_object schedule_of autostart_of event_attribute task_object number_behind digits class_of is_word_byte is_digit is_hex_digit is_quoted is_not_lf comment_length comment_piece text_piece slash_piece number_piece piece_by next built_after key_of sign_of shape_by
+no-objects = refl
+
+pub no-counters : (config : Config) → OilText (oil_text 30) config → length config.counters ≡ 0
+no-counters config h =
+    let objects : List OilObject = h.tree.objects in
+    let tree = h.has_tree in
+    let same = same-objects (oil_text 30) tree.tokens h.tree tree.are_tokens tree.is_file in
+    ap (λ (c : Config). length c.counters) h.means
+    ∙ length-map (filter (is_of_kind (codes "COUNTER")) objects) declared_counter
+    ∙ ap (λ (os : List OilObject). length (filter (is_of_kind (codes "COUNTER")) os)) same
+    ∙ no-objects

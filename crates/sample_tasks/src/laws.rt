@@ -8,3 +8,8 @@ ghost use Rattle.sloth_source.specs.OilText.{OilText};
 pub fn all_tasks_are_declared()
     ensures { (config : Config) → OilText (oil_text 30) config → length config.tasks ≡ 30 }
 {}
+
+/// It declares no counter.
+pub fn no_counter_is_declared()
+    ensures { (config : Config) → OilText (oil_text 30) config → length config.counters ≡ 0 }
+{}

@@ -2,6 +2,7 @@
 #![tactic(auto)]
 
 ghost use Rattle.std.specs.Prelude.{IfOk};
+ghost use Rattle.sloth_base.specs.ConfigRange.{InRange};
 ghost use Rattle.block_parts.specs.ServiceBlock.{IsServiceBlock};
 ghost use Rattle.service_gen.specs.Block.{further_marks};
 ghost use Rattle.service_blocks.specs.Calls.{IsCalledWith, ServesCall};
@@ -23,13 +24,16 @@ pub fn block(
     levels: &Levels,
     map: &Map,
 ) -> Result<Block, NoMemory>
-    requires { IsCalledWith service object }
+    requires called { IsCalledWith config.now service object }
+    requires range { InRange config.now }
     ensures block { IfOk result (IsServiceBlock service object map.now.places.blocks (further_marks service)) }
-    ensures serves { IfOk result (λ block. ServesCall service object levels.now block.code) }
+    ensures serves { IfOk result (λ block. ServesCall config.now service object levels.now block.code) }
 {
     match service {
         Service::SetEvent | Service::ClearEvent | Service::GetEvent | Service::WaitEvent =>
             event_gen::block(alloc, service, object, config, levels, map),
+        Service::SetRelAlarm | Service::SetAbsAlarm | Service::CancelAlarm | Service::GetAlarm =>
+            alarm_gen::block(alloc, service, object, config, levels, map),
         _ => service_gen::block(alloc, service, object, config, levels, map),
     }
 }

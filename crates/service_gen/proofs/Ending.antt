@@ -17,12 +17,11 @@ use Rattle.service_gen.specs.TerminateTask.{ended_ram, Terminated}
 pub ended_kept : (ram : List ℕ) (own p : ℕ) → own < 30 → below_word ≤ p → word_at (ended_ram ram own) p ≡ word_at ram p
 ended_kept ram own p small far = word_at-other (with_word ram (active own) 0) (events own) 0 p (inr (omega arith)) ∙ word_at-other ram (active own) 0 p (inr (omega arith))
 
-module _ (from to own : ℕ) (E : List ℕ → State → State → Type 0) (start : State) (rest : List InstrKind) (c : Core) (x1 x2 x3 : ℕ) (tail : List ℕ) (small : own < 30) (runs : word_at c.ram cur ≡ own + 1) (low : 1024 ≤ from) where
-  pub ends_owe : (o : ℕ) → ((lines : List ℕ) → AreOf own lines → Owes from to (behind 10 o) rest 0 (λ touched. E (own ∷ touched)) (state_arrive lines start) (record c { registers = 0 ∷ 8 * (own + 1) ∷ x2 ∷ (memory_base + 12 * (own + 1)) ∷ memory_base ∷ tail; pending = set (arrive lines c.pending) own 0; ram = ended_ram c.ram own })) → Owes from to o (ending_code ++ rest) 0 E start (record c { registers = 0 ∷ x1 ∷ x2 ∷ x3 ∷ memory_base ∷ tail })
+module _ (from to own : ℕ) (E : List ℕ → State → State → Type 0) (start : State) (rest : List InstrKind) (c : Core) (x1 x2 x5 : ℕ) (tail : List ℕ) (small : own < 30) (runs : word_at c.ram cur ≡ own + 1) (low : 1024 ≤ from) where
+  pub ends_owe : (o : ℕ) → ((lines : List ℕ) → AreOf own lines → Owes from to (behind 9 o) rest 0 (λ touched. E (own ∷ touched)) (state_arrive lines start) (record c { registers = 0 ∷ (memory_base + 12 * (own + 1)) ∷ x2 ∷ controller_base ∷ memory_base ∷ 8 * (own + 1) ∷ tail; pending = set (arrive lines c.pending) own 0; ram = ended_ram c.ram own })) → Owes from to o (ending_code ++ rest) 0 E start (record c { registers = 0 ∷ x1 ∷ x2 ∷ controller_base ∷ memory_base ∷ x5 ∷ tail })
   ends_owe o go =
       loads cur (record { is = refl; aligned = refl; inside = omega arith }) (own + 1) runs
-      ▸ writes controller_base refl
-      ▸ writes (controller_base + (own + 1)) (omega arith)
+      ▸ writes (own + 1 + controller_base) (omega arith)
       ▸ clears own (omega arith, omega arith) refl
       ▸ λ lines only.
       writes (8 * (own + 1)) (omega arith)
@@ -54,6 +53,8 @@ has_ended c d own place start end small past e same en le sc co has_left =
         opened = left.opened;
         previous = left.previous;
         running = left.running ∙ kept (place + context_level) (omega arith);
+        same_level = left.same_level;
+        bases = left.bases;
         pending = refl;
         enabled = left.enabled ∙ sym en;
         levels = left.levels ∙ sym le;
@@ -67,5 +68,5 @@ has_ended c d own place start end small past e same en le sc co has_left =
       };
       pc = has_left.pc ∙ kept place (omega arith);
       x2 = has_left.x2;
-      loaded = λ i from upto. has_left.loaded i from upto ∙ kept (place + 4 * i) (omega arith);
+      loaded = λ some i from upto. has_left.loaded (λ z. some (sym (kept (place + context_cur) (omega arith)) ∙ z)) i from upto ∙ kept (place + 4 * i) (omega arith);
     }

@@ -1,17 +1,15 @@
 -- The code of ReleaseResource has its effect.
-use Rattle.std.proofs.Common.{◌≡◌, ℕ, ◌+◌, List, ◌∷◌, length, get_or, refl, arith}
+use Rattle.std.proofs.Common.{ℕ, ◌+◌, List, ◌∷◌, refl, arith}
 use Rattle.sloth_base.specs.Machine.{Core}
 use Rattle.sloth_base.specs.Status.{E_OK}
-use Rattle.sloth_base.specs.MemoryMap.{memory_base}
-use Rattle.sloth_region.specs.Layout.{saved_level, words_high}
+use Rattle.sloth_region.specs.Layout.{saved_level}
 use Rattle.rv32_instr.specs.declared.InstrKind.{InstrKind}
-use Rattle.rv32_instr.specs.declared.InstrKind.TheVariants.{Lui}
 use Rattle.rv32_instr.specs.Ram.{word_at}
 use Rattle.masked_code.specs.Place.{at}
 use Rattle.masked_code.specs.Masked.{FromOpening}
 use Rattle.masked_code.specs.Kernel.{masking}
 use Rattle.masked_code.specs.Owes.{◌▸◌, writes, loads, Owes}
-use Rattle.masked_code.proofs.Spread.{spread}
+use Rattle.masked_code.proofs.Spread.{based}
 use Rattle.masked_code.proofs.Routines.{masked}
 use Rattle.block_parts.proofs.Returning.{goes_back_at}
 use Rattle.block_parts.proofs.Serving.{opens}
@@ -19,22 +17,21 @@ use Rattle.service_gen.specs.Pieces as piece
 use Rattle.service_gen.specs.ReleaseResource.{MayRelease, Released, Releases}
 
 abbrev pub body : ℕ → List InstrKind
-body resource = Lui 4 words_high ∷ piece.releasing_code resource
+body resource = piece.releasing_code resource
 
 module _ (offset resource : ℕ) (c : Core) (h : MayRelease offset resource (masking ∷ body resource) c) where
-  body_owes : Owes offset (offset + 4 + 24) (offset + 4) (body resource) 0 (Released resource) (at offset (spread c)) (masked (spread c))
+  body_owes : Owes offset (offset + 4 + 20) (offset + 4) (body resource) 0 (Released resource) (at offset (based c)) (masked (based c))
   body_owes =
       let small = h.is_resource in
       let fits = h.level in
       let level = word_at c.ram (saved_level resource) in
-      writes memory_base refl
-      ▸ loads (saved_level resource) (record { is = omega arith; aligned = omega arith; inside = omega arith }) level refl
+      loads (saved_level resource) (record { is = omega arith; aligned = omega arith; inside = omega arith }) level refl
       ▸ writes E_OK refl
-      ▸ goes_back_at offset (masking ∷ body resource) c h.goes_back (Released resource) (get_or c.registers 1 0) level level E_OK c.pending c.pending
+      ▸ goes_back_at offset (masking ∷ body resource) c h.goes_back (Released resource) level level E_OK c.pending c.pending
       c.ram (omega arith) (λ last is went. record { touches = refl; status = is; back = went })
 
-  runs_it : FromOpening 6 (at offset c) (Released resource)
-  runs_it = opens offset 6 (body resource) c (Released resource) h.goes_back.can_run (omega arith) body_owes
+  runs_it : FromOpening 5 (at offset c) (Released resource)
+  runs_it = opens offset 5 (body resource) c (Released resource) h.goes_back.can_run h.goes_back.bases (omega arith) body_owes
 
 pub releases : (resource : ℕ) → Releases resource (masking ∷ body resource)
 releases resource = record { size = refl; masks = (body resource, refl); runs = λ offset core h. runs_it offset resource core h }

@@ -1,22 +1,21 @@
 -- The code of GetTaskState has its effect.
-use Rattle.std.proofs.Common.{◌≡◌, ℕ, ◌+◌, ◌<◌, ◌≤◌, List, [], ◌∷◌, ◌++◌, length, get_or, refl, sym, ap, subst, arith, ⊎_elim}
-use Rattle.std.specs.Prelude.{set, negsuc, nat_lt, ◌≢◌}
+use Rattle.std.proofs.Common.{◌≡◌, ℕ, ◌+◌, ◌<◌, ◌≤◌, List, [], ◌∷◌, ◌++◌, get_or, refl, sym, ap, subst, arith, ⊎_elim}
+use Rattle.std.specs.Prelude.{set, negsuc, nat_lt, bit_xor, ◌≢◌}
 use Rattle.std.proofs.lemmas.Bool.{cases_eq, cases_lt, eq-eqb, ne_eqb, lt-ltb}
 use Rattle.sloth_base.specs.Machine.{Core, State}
-use Rattle.sloth_base.specs.Arithmetic.{plus, difference32, one_if, shifted_left}
+use Rattle.sloth_base.specs.Arithmetic.{plus, one_if, shifted_left}
 use Rattle.sloth_base.specs.Arrive.{arrive}
 use Rattle.sloth_base.specs.Status.{E_OK}
 use Rattle.sloth_base.specs.MemoryMap.{memory_base}
-use Rattle.sloth_region.specs.Layout.{cur, active, words_high, controller_base}
+use Rattle.sloth_region.specs.Layout.{cur, active, controller_base}
 use Rattle.rv32_instr.specs.declared.InstrKind.{InstrKind}
-use Rattle.rv32_instr.specs.declared.InstrKind.TheVariants.{Lui}
 use Rattle.rv32_instr.specs.Ram.{word_at}
 use Rattle.masked_code.specs.Place.{at}
 use Rattle.masked_code.specs.Masked.{FromOpening}
 use Rattle.masked_code.specs.Kernel.{masking}
 use Rattle.masked_code.specs.Owes.{◌▸◌, writes, loads, loads_byte, Owes, Pending, Enabled}
 use Rattle.masked_code.proofs.Leave.{behind}
-use Rattle.masked_code.proofs.Spread.{spread, spread_from}
+use Rattle.masked_code.proofs.Spread.{based, spread_from}
 use Rattle.masked_code.proofs.Routines.{masked}
 use Rattle.block_parts.proofs.Busy.{bit_arrives}
 use Rattle.block_parts.proofs.Landing.{lands}
@@ -28,7 +27,7 @@ use Rattle.service_gen.specs.GetTaskState.{MayTellState, IsNumber, StateTold, Te
 use Rattle.service_gen.specs.GetTaskState.IsNumber.{running, preempted, waiting, ready, suspended}
 
 abbrev pub body : ℕ → List InstrKind
-body task = Lui 4 words_high ∷ (asks_active task ++ (tells_active task ++ (back ++ (asks_waiting task ++ (tells_resting task ++ back)))))
+body task = asks_active task ++ (tells_active task ++ (back ++ (asks_waiting task ++ (tells_resting task ++ back))))
 
 -- how far the running task's number is from this one
 abbrev apart : ℕ → ℕ → ℕ
@@ -53,10 +52,7 @@ module _ (offset task own : ℕ) (c : Core) (h : MayTellState offset task own (m
   line = let s = h.is_task in omega arith
 
   abbrev st : List ℕ → State
-  st p = at offset (record (spread c) { pending = p })
-
-  abbrev x1 : ℕ
-  x1 = get_or c.registers 1 0
+  st p = at offset (record (based c) { pending = p })
 
   abbrev x2 : ℕ
   x2 = get_or c.registers 2 0
@@ -71,38 +67,37 @@ module _ (offset task own : ℕ) (c : Core) (h : MayTellState offset task own (m
   enabled = get_or c.enabled task 0
 
   -- the way back, with the number in a1, where these lines were touched before
-  back_owe : (p before : List ℕ) (x x3 number : ℕ) → IsNumber task own (record (spread c) { pending = p }) (before ++ []) number
+  back_owe : (p before : List ℕ) (x number : ℕ) → IsNumber task own (record (based c) { pending = p }) (before ++ []) number
       → Owes 0 0 0 back 0 (λ u. StateTold task own (before ++ u)) (st p)
-      (record (masked (spread c)) { registers = 0 ∷ x ∷ x2 ∷ x3 ∷ memory_base ∷ set (set tail 6 number) 5 E_OK; pending = p })
-  back_owe p before x x3 number is =
-      goes_back_with offset (masking ∷ body task) c h.goes_back (λ u. StateTold task own (before ++ u)) x x3 E_OK number p p c.ram h.level
+      (record (masked (based c)) { registers = 0 ∷ x ∷ x2 ∷ controller_base ∷ memory_base ∷ set (set tail 6 number) 5 E_OK; pending = p })
+  back_owe p before x number is =
+      goes_back_with offset (masking ∷ body task) c h.goes_back (λ u. StateTold task own (before ++ u)) x E_OK number p p c.ram
       (λ last status answer went. record {
         status = status;
-        number = subst (IsNumber task own (record (spread c) { pending = p }) (before ++ [])) (sym answer) is;
+        number = subst (IsNumber task own (record (based c) { pending = p }) (before ++ [])) (sym answer) is;
         back = went;
       })
 
   -- the task is neither Active nor does it wait: what its pending byte tells
-  rests : (q : ℕ) (p : List ℕ) → word ≡ 0 → enabled ≡ 1 → get_or p task 0 ≡ q → q < 2 → IsNumber task own (record (spread c) { pending = p }) (task ∷ []) (difference32 3 q)
+  rests : (q : ℕ) (p : List ℕ) → word ≡ 0 → enabled ≡ 1 → get_or p task 0 ≡ q → q < 2 → IsNumber task own (record (based c) { pending = p }) (task ∷ []) (bit_xor q 3)
   rests q p a e is small =
       ⊎_elim
-      (λ (z : q ≡ 0). suspended (a, (omega arith), e) refl (ap (λ v. difference32 3 v) z))
-      (λ n. let one : q ≡ 1 = ⊎_elim (λ (z : q < 1). absurd (n (omega arith))) (λ (m : 1 ≤ q). omega arith) (cases_lt q 1) in ready a e (omega arith) refl (ap (λ v. difference32 3 v) one))
+      (λ (z : q ≡ 0). suspended (a, (omega arith), e) refl (ap (λ v. bit_xor v 3) z))
+      (λ n. let one : q ≡ 1 = ⊎_elim (λ (z : q < 1). absurd (n (omega arith))) (λ (m : 1 ≤ q). omega arith) (cases_lt q 1) in ready a e (omega arith) refl (ap (λ v. bit_xor v 3) one))
       (cases_eq q 0)
 
   -- the task is not Active
-  resting_owe : (o : ℕ) → o + 12 ≤ 0x20_0000 → word ≡ 0 → Owes offset (offset + 4 + 92) o (asks_waiting task ++ (tells_resting task ++ back)) 0 (StateTold task own) (st c.pending) (record (masked (spread c)) { registers = 0 ∷ x1 ∷ x2 ∷ word ∷ memory_base ∷ set tail 5 E_OK; pending = c.pending })
+  resting_owe : (o : ℕ) → o + 12 ≤ 0x20_0000 → word ≡ 0 → Owes offset (offset + 4 + 64) o (asks_waiting task ++ (tells_resting task ++ back)) 0 (StateTold task own) (st c.pending) (record (masked (based c)) { registers = 0 ∷ word ∷ x2 ∷ controller_base ∷ memory_base ∷ set tail 5 E_OK; pending = c.pending })
   resting_owe o low a =
       let long = h.goes_back.can_run.lines in
       let below = line in
-      writes controller_base refl
-      ▸ loads_byte (Enabled task) (omega arith, below)
+      loads_byte (Enabled task) (omega arith, below)
       ▸ writes 1 refl
       ▸ record {
-        passed = 3;
-        lands = lands (behind 3 o) 16 3 (omega arith) (omega arith) refl;
+        passed = 2;
+        lands = lands (behind 2 o) 12 2 (omega arith) (omega arith) refl;
         when_taken = λ t. ⊎_elim
-            (λ z. back_owe c.pending [] controller_base enabled 1 (waiting a z refl refl))
+            (λ z. back_owe c.pending [] enabled 1 (waiting a z refl refl))
             (λ ne. let f = ne_eqb enabled 0 ne in absurd (cc))
             (cases_eq enabled 0);
         when_not = λ n.
@@ -112,17 +107,16 @@ module _ (offset task own : ℕ) (c : Core) (h : MayTellState offset task own (m
             ▸ λ lines only.
             let p = arrive lines c.pending in
             let q = get_or p task 0 in
-            writes 3 refl
-            ▸ writes (difference32 3 q) refl
-            ▸ back_owe p (task ∷ []) controller_base q (difference32 3 q)
+            writes (bit_xor q 3) refl
+            ▸ back_owe p (task ∷ []) q (bit_xor q 3)
             (rests q p a e refl (bit_arrives lines c.pending task (omega arith) h.pending_bit));
       }
 
   -- the task is Active
-  active_owe : (o : ℕ) → word ≡ 1 → Owes offset (offset + 4 + 92) o (tells_active task ++ (back ++ (asks_waiting task ++ (tells_resting task ++ back)))) 0 (StateTold task own) (st c.pending) (record (masked (spread c)) { registers = 0 ∷ x1 ∷ x2 ∷ word ∷ memory_base ∷ set tail 5 E_OK; pending = c.pending })
+  active_owe : (o : ℕ) → word ≡ 1 → Owes offset (offset + 4 + 64) o (tells_active task ++ (back ++ (asks_waiting task ++ (tells_resting task ++ back)))) 0 (StateTold task own) (st c.pending) (record (masked (based c)) { registers = 0 ∷ word ∷ x2 ∷ controller_base ∷ memory_base ∷ set tail 5 E_OK; pending = c.pending })
   active_owe o a =
       let v = apart own task in
-      let number : IsNumber task own (spread c) [] (told v) =
+      let number : IsNumber task own (based c) [] (told v) =
       ⊎_elim
       (λ (e : task ≡ own). running a e refl (told_own task own h.is_task e))
       (λ ne. preempted a ne refl (told_other task own h.is_task h.is_own ne))
@@ -132,29 +126,28 @@ module _ (offset task own : ℕ) (c : Core) (h : MayTellState offset task own (m
       ▸ writes v refl
       ▸ writes (one_if (nat_lt 0 v)) refl
       ▸ writes (told v) refl
-      ▸ back_owe c.pending [] x1 v (told v) number
+      ▸ back_owe c.pending [] v (told v) number
 
-  body_owes : Owes offset (offset + 4 + 92) (offset + 4) (body task) 0 (StateTold task own) (at offset (spread c)) (masked (spread c))
+  body_owes : Owes offset (offset + 4 + 64) (offset + 4) (body task) 0 (StateTold task own) (at offset (based c)) (masked (based c))
   body_owes =
       let fits = h.goes_back.can_run.inside in
       let small = h.is_task in
       let bit = h.active_bit in
-      writes memory_base refl
-      ▸ writes E_OK refl
+      writes E_OK refl
       ▸ loads (active task) (record { is = omega arith; aligned = omega arith; inside = omega arith }) word refl
       ▸ record {
-        passed = 8;
-        lands = lands (behind 3 (offset + 4)) 36 8 (omega arith) (omega arith) refl;
+        passed = 6;
+        lands = lands (behind 2 (offset + 4)) 28 6 (omega arith) (omega arith) refl;
         when_taken = λ t. ⊎_elim
-            (λ z. resting_owe (behind 12 (offset + 4)) (omega arith) z)
+            (λ z. resting_owe (behind 9 (offset + 4)) (omega arith) z)
             (λ ne. let f = ne_eqb word 0 ne in absurd (cc))
             (cases_eq word 0);
-        when_not = λ n. active_owe (behind 4 (offset + 4))
+        when_not = λ n. active_owe (behind 3 (offset + 4))
             (⊎_elim (λ (z : word < 1). absurd (n (eq-eqb word 0 (omega arith)))) (λ (m : 1 ≤ word). omega arith) (cases_lt word 1));
       }
 
-  runs_it : FromOpening 15 (at offset c) (StateTold task own)
-  runs_it = opens_within offset 15 (body task) c (StateTold task own) h.goes_back.can_run (omega arith) body_owes
+  runs_it : FromOpening 10 (at offset c) (StateTold task own)
+  runs_it = opens_within offset 10 (body task) c (StateTold task own) h.goes_back.can_run h.goes_back.bases (omega arith) body_owes
 
 pub tells_state : (task : ℕ) → TellsState task (masking ∷ body task)
 tells_state task = record { size = refl; masks = (body task, refl); runs = λ offset own core h. runs_it offset task own core h }

@@ -1,16 +1,14 @@
 -- The code of GetTaskID has its effect.
-use Rattle.std.proofs.Common.{◌≡◌, ℕ, ◌+◌, List, ◌∷◌, ◌++◌, length, get_or, refl, arith}
+use Rattle.std.proofs.Common.{ℕ, ◌+◌, List, ◌∷◌, ◌++◌, get_or, refl, arith}
 use Rattle.sloth_base.specs.Machine.{Core}
 use Rattle.sloth_base.specs.Status.{E_OK}
-use Rattle.sloth_base.specs.MemoryMap.{memory_base}
-use Rattle.sloth_region.specs.Layout.{cur, words_high}
+use Rattle.sloth_region.specs.Layout.{cur}
 use Rattle.rv32_instr.specs.declared.InstrKind.{InstrKind}
-use Rattle.rv32_instr.specs.declared.InstrKind.TheVariants.{Lui}
 use Rattle.masked_code.specs.Place.{at}
 use Rattle.masked_code.specs.Masked.{FromOpening}
 use Rattle.masked_code.specs.Kernel.{masking}
 use Rattle.masked_code.specs.Owes.{◌▸◌, writes, loads, Owes}
-use Rattle.masked_code.proofs.Spread.{spread}
+use Rattle.masked_code.proofs.Spread.{based}
 use Rattle.masked_code.proofs.Routines.{masked}
 use Rattle.block_parts.proofs.Returning.{goes_back_with}
 use Rattle.block_parts.proofs.Serving.{opens}
@@ -19,21 +17,20 @@ use Rattle.block_parts.specs.Pieces.{back}
 use Rattle.service_gen.specs.GetTaskID.{MayTell, Told, TellsTask}
 
 abbrev pub body : List InstrKind
-body = Lui 4 words_high ∷ (tells_own ++ back)
+body = tells_own ++ back
 
 module _ (offset task : ℕ) (c : Core) (h : MayTell offset task (masking ∷ body) c) where
-  body_owes : Owes offset (offset + 4 + 32) (offset + 4) body 0 (Told task) (at offset (spread c)) (masked (spread c))
+  body_owes : Owes offset (offset + 4 + 20) (offset + 4) body 0 (Told task) (at offset (based c)) (masked (based c))
   body_owes =
       let small = h.is_task in
-      writes memory_base refl
-      ▸ loads cur (record { is = refl; aligned = refl; inside = omega arith }) (task + 1) h.runs
+      loads cur (record { is = refl; aligned = refl; inside = omega arith }) (task + 1) h.runs
       ▸ writes task (omega arith)
       ▸ writes E_OK refl
-      ▸ goes_back_with offset (masking ∷ body) c h.goes_back (Told task) (get_or c.registers 1 0) (get_or c.registers 3 0) E_OK task c.pending c.pending
-      c.ram h.level (λ last is answer went. record { touches = refl; status = is; number = answer; back = went })
+      ▸ goes_back_with offset (masking ∷ body) c h.goes_back (Told task) (get_or c.registers 1 0) E_OK task c.pending c.pending
+      c.ram (λ last is answer went. record { touches = refl; status = is; number = answer; back = went })
 
-  runs_it : FromOpening 8 (at offset c) (Told task)
-  runs_it = opens offset 8 body c (Told task) h.goes_back.can_run (omega arith) body_owes
+  runs_it : FromOpening 5 (at offset c) (Told task)
+  runs_it = opens offset 5 body c (Told task) h.goes_back.can_run h.goes_back.bases (omega arith) body_owes
 
 pub tells : TellsTask (masking ∷ body)
 tells = record { size = refl; masks = (body, refl); runs = λ offset task core h. runs_it offset task core h }

@@ -5,33 +5,30 @@ use Rattle.std.proofs.lemmas.List.{get_or-set_other}
 use Rattle.sloth_base.specs.Machine.{Core, State}
 use Rattle.sloth_base.specs.Status.{E_OK}
 use Rattle.sloth_base.specs.MemoryMap.{memory_base}
-use Rattle.sloth_region.specs.Layout.{cur, words_high, controller_base}
+use Rattle.sloth_region.specs.Layout.{cur, controller_base}
 use Rattle.rv32_instr.specs.declared.InstrKind.{InstrKind}
-use Rattle.rv32_instr.specs.declared.InstrKind.TheVariants.{Lui, Csrrw, Mret}
+use Rattle.rv32_instr.specs.declared.InstrKind.TheVariants.{Csrrw, Mret}
 use Rattle.rv32_instr.specs.declared.csr.TheConstants.{MEPC, PLEVEL}
 use Rattle.masked_code.specs.Place.{at, InPlace}
 use Rattle.masked_code.specs.Masked.{FromOpening}
 use Rattle.masked_code.specs.Kernel.{CanRun, masking}
 use Rattle.masked_code.specs.Owes.{◌▸◌, writes, loads, loads_byte, accesses, Owes, Level}
-use Rattle.masked_code.proofs.Spread.{spread, spread_from, others}
+use Rattle.masked_code.proofs.Spread.{based, spread_from, others}
 use Rattle.masked_code.proofs.Routines.{masked}
-use Rattle.block_parts.proofs.Serving.{opens}
-use Rattle.service_gen.specs.Pieces.{level_code, stops_at_back, comes_back}
+use Rattle.block_parts.proofs.Landing.{lands}
+use Rattle.block_parts.proofs.Serving.{opens_within}
+use Rattle.service_gen.specs.Pieces.{level_code, passes_back, comes_back, stops_at_back}
 use Rattle.block_parts.specs.Back.{a0}
 use Rattle.service_gen.specs.Schedule.{start_register, way_back, MayYield, Yielded, MayComeBack, CameBack, Yields}
 
 -- up to the way back
 abbrev pub lowering : List InstrKind
-lowering = Lui 4 words_high ∷ (level_code ++ stops_at_back)
+lowering = level_code ++ passes_back
 
 abbrev pub body : List InstrKind
-body = lowering ++ comes_back
+body = lowering ++ (comes_back ++ stops_at_back)
 
--- ---- code in place is so in its parts
-
-in_place-first : (ram : List ℕ) (first rest : List InstrKind) (offset : ℕ) → InPlace ram offset (first ++ rest) → InPlace ram offset first
-in_place-first ram [] rest offset h = tt
-in_place-first ram (kind ∷ first) rest offset h = (h.0, in_place-first ram first rest (offset + 4) h.1)
+-- ---- code in place is so behind its first part
 
 pub in_place-rest : (ram : List ℕ) (first rest : List InstrKind) (offset : ℕ) → InPlace ram offset (first ++ rest) → InPlace ram (offset + 4 * length first) rest
 in_place-rest ram [] rest offset h = subst (λ o. InPlace ram o rest) (let e : offset ≡ offset + 0 = omega arith in e) h
@@ -51,84 +48,65 @@ module _ (offset task : ℕ) (c : Core) (h : MayYield offset task (masking ∷ b
   abbrev tail : List ℕ
   tail = spread_from 27 5 c.registers
 
-  abbrev here : ℕ
-  here = memory_base + (offset + 32)
-
   abbrev there : ℕ
-  there = memory_base + (offset + 52)
+  there = memory_base + (offset + 24)
 
   -- the registers at the end
   abbrev low : List ℕ
-  low = 0 ∷ (controller_base + (task + 1)) ∷ x2 ∷ there ∷ memory_base ∷ tail
+  low = 0 ∷ there ∷ x2 ∷ controller_base ∷ memory_base ∷ tail
 
   abbrev end : State
   end =
       record {
         pc = there - there % 4;
-        core = record (spread c) { registers = set (set low 30 c.ilevel) 10 E_OK; mepc = there - there % 4; plevel = level % 256; ilevel = level % 256; mie = c.mpie; mpie = true };
+        core = record (based c) { registers = set (set low 30 c.plevel) 10 E_OK; mepc = there - there % 4; plevel = level % 256; ilevel = level % 256; mie = c.mpie; mpie = true };
       }
 
-  kept : (i : ℕ) → 5 ≤ i → i ≢ a0 → i ≢ start_register → get_or end.core.registers i 0 ≡ get_or (spread c).registers i 0
+  kept : (i : ℕ) → 5 ≤ i → i ≢ a0 → i ≢ start_register → get_or end.core.registers i 0 ≡ get_or (based c).registers i 0
   kept i past not_status not_level =
-      get_or-set_other (set low 30 c.ilevel) 10 i E_OK 0 not_status ∙ get_or-set_other low 30 i c.ilevel 0 not_level
-      ∙ others (controller_base + (task + 1)) x2 there memory_base (get_or c.registers 1 0) x2 (get_or c.registers 3 0) (get_or c.registers 4 0) tail i past
+      get_or-set_other (set low 30 c.plevel) 10 i E_OK 0 not_status ∙ get_or-set_other low 30 i c.plevel 0 not_level
+      ∙ others there x2 controller_base memory_base (get_or c.registers 1 0) x2 controller_base memory_base tail i past
 
-  has_yielded : Yielded offset task [] (at offset (spread c)) end
+  has_yielded : Yielded offset task [] (at offset (based c)) end
   has_yielded =
       let fits = h.line in
       let aligned = h.can_run.aligned in
       record {
         touches = refl;
-        left = record { zero = refl; registers = refl; opened = h.previous; previous = refl; running = omega arith; pending = refl; enabled = refl; levels = refl; ram = refl; scratch = refl; controller = refl };
+        left = record { zero = refl; registers = refl; bases = (refl, refl); opened = h.previous; previous = refl; running = omega arith; same_level = refl; pending = refl; enabled = refl; levels = refl; ram = refl; scratch = refl; controller = refl };
         pc = omega arith;
         x2 = refl;
         status = refl;
-        level = refl;
+        level = h.same_level;
         kept = kept;
       }
 
-  lowering_owes : Owes offset (offset + 4 + 48) (offset + 4) lowering 0 (Yielded offset task) (at offset (spread c)) (masked (spread c))
+  lowering_owes : Owes offset (offset + 4 + 48) (offset + 4) body 0 (Yielded offset task) (at offset (based c)) (masked (based c))
   lowering_owes =
       let small = h.is_task in
       let inside = h.can_run.inside in
-      writes memory_base refl
-      ▸ accesses c.ilevel refl refl
-      ▸ loads cur (record { is = refl; aligned = refl; inside = omega arith }) (task + 1) h.runs
-      ▸ writes controller_base refl
-      ▸ writes (controller_base + (task + 1)) (omega arith)
+      loads cur (record { is = refl; aligned = refl; inside = omega arith }) (task + 1) h.runs
+      ▸ writes (task + 1 + controller_base) (omega arith)
       ▸ loads_byte (Level task) (omega arith, omega arith)
       ▸ accesses c.plevel refl refl
-      ▸ writes here (omega arith)
       ▸ writes there (omega arith)
-      ▸ accesses c.mepc refl refl
-      ▸ writes E_OK refl
-      ▸ has_yielded
-
-  can_lower : CanRun offset (masking ∷ lowering) c
-  can_lower =
-      let can = h.can_run in
-      let inside = can.inside in
-      record {
-        controller = can.controller;
-        registers = can.registers;
-        zero = can.zero;
-        lines = can.lines;
-        aligned = can.aligned;
-        behind = can.behind;
-        inside = omega arith;
-        placed = in_place-first c.ram (masking ∷ lowering) comes_back offset can.placed;
+      ▸ record {
+        passed = 4;
+        lands = lands (offset + 4 + 4 + 4 + 4 + 4) 20 4 (omega arith) (omega arith) refl;
+        goes_on = accesses c.mepc refl refl ▸ writes E_OK refl ▸ has_yielded;
       }
 
-  lowers_it : FromOpening 12 (at offset c) (Yielded offset task)
-  lowers_it = opens offset 12 lowering c (Yielded offset task) can_lower (omega arith) lowering_owes
+  lowers_it : FromOpening 8 (at offset c) (Yielded offset task)
+  lowers_it = opens_within offset 8 body c (Yielded offset task) h.can_run h.bases (omega arith) lowering_owes
 
 -- ---- the way back
 
+-- behind its first instruction
 abbrev returning : List InstrKind
-returning = Csrrw 0 30 PLEVEL ∷ Csrrw 0 31 MEPC ∷ Mret ∷ []
+returning = Csrrw 0 30 PLEVEL ∷ Csrrw 0 31 MEPC ∷ Mret ∷ stops_at_back
 
 module _ (offset : ℕ) (c : Core) (h : MayComeBack offset (masking ∷ body) c) where
-  returning_owes : Owes (offset + way_back) (offset + way_back + 4 + 12) (offset + way_back + 4) returning 0 CameBack (at (offset + way_back) (spread c)) (masked (spread c))
+  returning_owes : Owes (offset + way_back) (offset + way_back + 4 + 24) (offset + way_back + 4) returning 0 CameBack (at (offset + way_back) (based c)) (masked (based c))
   returning_owes =
       let fits = h.level in
       let aligned = h.goes_back.back in
@@ -136,7 +114,7 @@ module _ (offset : ℕ) (c : Core) (h : MayComeBack offset (masking ∷ body) c)
       ▸ accesses c.mepc refl refl
       ▸ record {
         touches = refl;
-        left = record { zero = refl; registers = refl; opened = h.goes_back.previous; previous = refl; running = omega arith; pending = refl; enabled = refl; levels = refl; ram = refl; scratch = refl; controller = refl };
+        left = record { zero = refl; registers = refl; bases = (refl, refl); opened = h.goes_back.previous; previous = refl; running = omega arith; same_level = refl; pending = refl; enabled = refl; levels = refl; ram = refl; scratch = refl; controller = refl };
         pc = omega arith;
         registers = refl;
       }
@@ -155,11 +133,11 @@ module _ (offset : ℕ) (c : Core) (h : MayComeBack offset (masking ∷ body) c)
         aligned = omega arith;
         behind = omega arith;
         inside = omega arith;
-        placed = in_place-rest c.ram (masking ∷ lowering) comes_back offset can.placed;
+        placed = in_place-rest c.ram (masking ∷ lowering) (comes_back ++ stops_at_back) offset can.placed;
       }
 
   returns_it : FromOpening 3 (at (offset + way_back) c) CameBack
-  returns_it = opens (offset + way_back) 3 returning c CameBack can_return (omega arith) returning_owes
+  returns_it = opens_within (offset + way_back) 3 returning c CameBack can_return h.goes_back.bases (omega arith) returning_owes
 
 pub yields : Yields (masking ∷ body)
 yields =

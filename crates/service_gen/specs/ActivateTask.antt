@@ -16,7 +16,6 @@ use Rattle.block_parts.specs.Back.{CanGoBack, WentBack, a0}
 pub record MayActivate (offset task : ℕ) (code : List InstrKind) (core : Core) : Type 0 where
   pub goes_back : CanGoBack offset code core
   pub is_task : task < 30
-  pub level : core.ilevel < 256
   pub active_bit : word_at core.ram (active task) < 2
   pub pending_bit : slice_index core.pending task < 2
   pub enabled_bit : slice_index core.enabled task < 2
@@ -29,7 +28,7 @@ pub record Activated (task : ℕ) (touched : List ℕ) (start end : State) : Typ
       ⊎ ((LooksSuspended task start.core → ⊥) × (slice_index end.core.registers a0 ≡ E_OS_LIMIT))
   pub back : WentBack a0 (record start.core { pending = slice_set start.core.pending task 1 }) start end
 
--- Code of ActivateTask: behind its first instruction at most 16 more lead to its effect, whatever lines arrive.
+-- Code of ActivateTask: behind its first instruction at most 11 more lead to its effect, whatever lines arrive.
 abbrev pub Activates : ℕ → List InstrKind → Type 0
 Activates task code =
-    IsServiceCode service.ActivateTask code ((offset : ℕ) (core : Core) → MayActivate offset task code core → FromOpening 16 (at offset core) (Activated task))
+    IsServiceCode service.ActivateTask code ((offset : ℕ) (core : Core) → MayActivate offset task code core → FromOpening 11 (at offset core) (Activated task))

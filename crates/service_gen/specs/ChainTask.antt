@@ -18,7 +18,6 @@ use Rattle.service_gen.specs.TerminateTask.{Terminated}
 -- the code can run, the task `own` runs, what runs below it has its context at `place`, and what tells of the chained task are bits
 pub record MayChain (offset task own place : ℕ) (code : List InstrKind) (core : Core) : Type 0 where
   pub goes_back : CanGoBack offset code core
-  pub level : core.ilevel < 256
   pub runs : word_at core.ram cur ≡ own + 1
   pub is_own : own < 30
   pub is_task : task < 30
@@ -46,8 +45,8 @@ pub record HasNotChained (task own : ℕ) (touched : List ℕ) (start end : Stat
 abbrev pub Chained : ℕ → ℕ → ℕ → List ℕ → State → State → Type 0
 Chained task own place touched start end = HasChained task own place touched start end ⊎ HasNotChained task own touched start end
 
--- Code of ChainTask: behind its first instruction at most 63 more lead to its effect, whatever lines arrive.
+-- Code of ChainTask: behind its first instruction at most 59 more lead to its effect, whatever lines arrive.
 abbrev pub Chains : ℕ → List InstrKind → Type 0
 Chains task code =
     IsServiceCode service.ChainTask code ((offset own place : ℕ) (core : Core) → MayChain offset task own place code core
-    → FromOpening 63 (at offset core) (Chained task own place))
+    → FromOpening 59 (at offset core) (Chained task own place))

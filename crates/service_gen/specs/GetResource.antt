@@ -27,7 +27,7 @@ pub record Taken (resource ceiling : ℕ) (touched : List ℕ) (start end : Stat
   pub status : slice_index end.core.registers a0 ≡ E_OK
   pub back : WentBack a0 (raised_to resource ceiling start.core) start end
 
--- Code of GetResource: behind its first instruction at most 10 more lead to its effect, whatever lines arrive.
+-- Code of GetResource: behind its first instruction at most 8 more lead to its effect, whatever lines arrive.
 abbrev pub Takes : ℕ → ℕ → List InstrKind → Type 0
 Takes resource ceiling code =
-    IsServiceCode service.GetResource code ((offset : ℕ) (core : Core) → MayTake offset resource code core → FromOpening 10 (at offset core) (Taken resource ceiling))
+    IsServiceCode service.GetResource code ((offset : ℕ) (core : Core) → MayTake offset resource code core → FromOpening 8 (at offset core) (Taken resource ceiling))

@@ -14,7 +14,6 @@ use Rattle.block_parts.specs.Back.{CanGoBack, WentBack, a0, a1}
 -- the code can run, and this task runs
 pub record MayTell (offset task : ℕ) (code : List InstrKind) (core : Core) : Type 0 where
   pub goes_back : CanGoBack offset code core
-  pub level : core.ilevel < 256
   pub runs : word_at core.ram cur ≡ task + 1
   pub is_task : task < 30
 
@@ -25,7 +24,7 @@ pub record Told (task : ℕ) (touched : List ℕ) (start end : State) : Type 0 w
   pub number : slice_index end.core.registers a1 ≡ task
   pub back : WentBack a1 start.core start end
 
--- Code of GetTaskID: behind its first instruction at most 8 more lead to its effect, whatever lines arrive.
+-- Code of GetTaskID: behind its first instruction at most 5 more lead to its effect, whatever lines arrive.
 abbrev pub TellsTask : List InstrKind → Type 0
 TellsTask code =
-    IsServiceCode service.GetTaskID code ((offset task : ℕ) (core : Core) → MayTell offset task code core → FromOpening 8 (at offset core) (Told task))
+    IsServiceCode service.GetTaskID code ((offset task : ℕ) (core : Core) → MayTell offset task code core → FromOpening 5 (at offset core) (Told task))

@@ -15,7 +15,6 @@ use Rattle.block_parts.specs.Looks.{LooksSuspended}
 -- the code can run, the task `own` runs, and what tells of the other task are bits
 pub record MayTellState (offset task own : ℕ) (code : List InstrKind) (core : Core) : Type 0 where
   pub goes_back : CanGoBack offset code core
-  pub level : core.ilevel < 256
   pub runs : word_at core.ram cur ≡ own + 1
   pub is_own : own < 30
   pub is_task : task < 30
@@ -39,7 +38,7 @@ pub record StateTold (task own : ℕ) (touched : List ℕ) (start end : State) :
   pub number : IsNumber task own start.core touched (slice_index end.core.registers a1)
   pub back : WentBack a1 start.core start end
 
--- Code of GetTaskState: behind its first instruction at most 15 more lead to its effect, whatever lines arrive.
+-- Code of GetTaskState: behind its first instruction at most 10 more lead to its effect, whatever lines arrive.
 abbrev pub TellsState : ℕ → List InstrKind → Type 0
 TellsState task code =
-    IsServiceCode service.GetTaskState code ((offset own : ℕ) (core : Core) → MayTellState offset task own code core → FromOpening 15 (at offset core) (StateTold task own))
+    IsServiceCode service.GetTaskState code ((offset own : ℕ) (core : Core) → MayTellState offset task own code core → FromOpening 10 (at offset core) (StateTold task own))

@@ -23,7 +23,7 @@ pub record Released (resource : ℕ) (touched : List ℕ) (start end : State) : 
   pub status : slice_index end.core.registers a0 ≡ E_OK
   pub back : WentBack a0 (record start.core { ilevel = word_at start.core.ram (saved_level resource) }) start end
 
--- Code of ReleaseResource: behind its first instruction at most 6 more lead to its effect, whatever lines arrive.
+-- Code of ReleaseResource: behind its first instruction at most 5 more lead to its effect, whatever lines arrive.
 abbrev pub Releases : ℕ → List InstrKind → Type 0
 Releases resource code =
-    IsServiceCode service.ReleaseResource code ((offset : ℕ) (core : Core) → MayRelease offset resource code core → FromOpening 6 (at offset core) (Released resource))
+    IsServiceCode service.ReleaseResource code ((offset : ℕ) (core : Core) → MayRelease offset resource code core → FromOpening 5 (at offset core) (Released resource))

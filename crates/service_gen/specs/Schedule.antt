@@ -9,7 +9,7 @@ use Rattle.rv32_instr.specs.declared.InstrKind.{InstrKind}
 use Rattle.rv32_instr.specs.Ram.{word_at}
 use Rattle.masked_code.specs.Masked.{FromOpening}
 use Rattle.masked_code.specs.Place.{at}
-use Rattle.masked_code.specs.Kernel.{CanRun, LeftAs, masking}
+use Rattle.masked_code.specs.Kernel.{CanRun, HoldBases, LeftAs, masking}
 use Rattle.block_parts.specs.ServiceCode.{IsServiceCode}
 use Rattle.block_parts.specs.Back.{CanGoBack, a0}
 
@@ -17,15 +17,17 @@ use Rattle.block_parts.specs.Back.{CanGoBack, a0}
 abbrev pub start_register : ℕ
 start_register = 30
 
--- where the way back stands in the code: behind 13 instructions
+-- where the way back stands in the code: behind 6 instructions
 abbrev pub way_back : ℕ
-way_back = 52
+way_back = 24
 
 -- the code can run, this task runs, and its line has a level
 pub record MayYield (offset task : ℕ) (code : List InstrKind) (core : Core) : Type 0 where
   pub can_run : CanRun offset code core
   pub previous : core.mpie ≡ true
-  pub level : core.ilevel < 256
+  -- as every stretch ends by `mret`
+  pub same_level : core.plevel ≡ core.ilevel
+  pub bases : HoldBases core.registers
   pub runs : word_at core.ram cur ≡ task + 1
   pub is_task : task < 30
   pub line : slice_index core.levels task < 256
@@ -53,10 +55,10 @@ pub record CameBack (touched : List ℕ) (start end : State) : Type 0 where
   pub pc : end.pc ≡ slice_index start.core.registers 31
   pub registers : end.core.registers ≡ start.core.registers
 
--- Behind the first instruction at most 12 more lead to the effect, whatever lines arrive. So do at most 3 behind the first of the way back.
+-- Behind the first instruction at most 8 more lead to the effect, whatever lines arrive. So do at most 3 behind the first of the way back.
 pub record RunsAndComesBack (code : List InstrKind) : Type 0 where
-  pub masks_again : (first rest : List InstrKind) × (code ≡ first ++ masking ∷ rest) × (length first ≡ 13)
-  pub lowers : (offset task : ℕ) (core : Core) → MayYield offset task code core → FromOpening 12 (at offset core) (Yielded offset task)
+  pub masks_again : (first rest : List InstrKind) × (code ≡ first ++ masking ∷ rest) × (length first ≡ 6)
+  pub lowers : (offset task : ℕ) (core : Core) → MayYield offset task code core → FromOpening 8 (at offset core) (Yielded offset task)
   pub comes_back : (offset : ℕ) (core : Core) → MayComeBack offset code core → FromOpening 3 (at (offset + way_back) core) CameBack
 
 -- code of Schedule

@@ -1,5 +1,5 @@
 -- TerminateTask (OSEK OS 2.2.3, section 13.2.3.2).
-use Rattle.std.specs.Prelude.{ℕ, ◌+◌, ◌*◌, ◌≡◌, ◌<◌, ◌≤◌, true, List, [], ◌∷◌, slice_index, slice_set}
+use Rattle.std.specs.Prelude.{ℕ, ◌+◌, ◌*◌, ◌≡◌, ◌≢◌, ◌<◌, ◌≤◌, true, List, [], ◌∷◌, slice_index, slice_set}
 use Rattle.sloth_base.specs.declared.service.Service.TheVariants as service
 use Rattle.sloth_base.specs.Machine.{Core, State}
 use Rattle.sloth_base.specs.MemoryMap.{memory_base}
@@ -8,13 +8,14 @@ use Rattle.rv32_instr.specs.declared.InstrKind.{InstrKind}
 use Rattle.rv32_instr.specs.Ram.{word_at, with_word}
 use Rattle.masked_code.specs.Masked.{FromOpening}
 use Rattle.masked_code.specs.Place.{at}
-use Rattle.masked_code.specs.Kernel.{CanRun, IsBelow, LeftAs}
+use Rattle.masked_code.specs.Kernel.{CanRun, HoldBases, IsBelow, LeftAs}
 use Rattle.block_parts.specs.ServiceCode.{IsServiceCode}
 
 -- the code stands at an offset, this task runs, and the context of what runs below it stands at `place`
 pub record MayTerminate (offset task place : ℕ) (code : List InstrKind) (core : Core) : Type 0 where
   pub can_run : CanRun offset code core
   pub previous : core.mpie ≡ true
+  pub bases : HoldBases core.registers
   pub runs : word_at core.ram cur ≡ task + 1
   pub is_task : task < 30
   pub below : IsBelow place core
@@ -38,10 +39,12 @@ pub record Terminated (task place : ℕ) (touched : List ℕ) (start end : State
   pub left : LeftAs (ended_core task place start.core) end.core
   pub pc : end.pc ≡ word_at start.core.ram place
   pub x2 : slice_index end.core.registers 2 ≡ memory_base + (place + context_bytes)
-  pub loaded : (i : ℕ) → 5 ≤ i → i < 32 → slice_index end.core.registers i ≡ word_at start.core.ram (place + 4 * i)
+  -- nothing is said of the registers where the idle loop runs below
+  pub loaded : word_at start.core.ram (place + context_cur) ≢ 0 → (i : ℕ) → 5 ≤ i → i < 32
+      → slice_index end.core.registers i ≡ word_at start.core.ram (place + 4 * i)
 
--- Code of TerminateTask: behind its first instruction at most 49 more lead to the end of the task, whatever lines arrive.
+-- Code of TerminateTask: behind its first instruction at most 48 more lead to the end of the task, whatever lines arrive.
 abbrev pub Terminates : List InstrKind → Type 0
 Terminates code =
     IsServiceCode service.TerminateTask code ((offset task place : ℕ) (core : Core) → MayTerminate offset task place code core
-    → FromOpening 49 (at offset core) (Terminated task place))
+    → FromOpening 48 (at offset core) (Terminated task place))

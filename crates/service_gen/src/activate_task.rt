@@ -6,7 +6,7 @@ ghost use Rattle.service_gen.specs.ActivateTask.{Activates};
 use block_parts::pieces::{go_back, look_at, open, raise};
 use masked_code::emit::emit;
 use rv32_instr::Instr;
-use rv32_instr::asm::{A0, X1, slli};
+use rv32_instr::asm::{A0, X1, slli, xori};
 use std::alloc::{AllocError, Global};
 
 /// The look at the task, the raised line, and the way back.
@@ -16,16 +16,16 @@ pub fn code(alloc: Global, task: u8) -> Result<Vec<Instr>, AllocError>
 {
     let mut code = Vec::new(alloc);
     open(&mut code)?;
-    look_at(&mut code, task, A0, X1)?;
+    look_at(&mut code, task)?;
     tell(&mut code)?;
     raise(&mut code, task)?;
     go_back(&mut code)?;
     Ok(code)
 }
 
-/// The status: E_OS_LIMIT, which is 4, where a0 is 1, and E_OK where it is 0.
+/// The status: E_OK, which is 0, where x1 is 1, and E_OS_LIMIT, which is 4, where it is 0.
 fn tell(code: &mut Vec<Instr>) -> Result<(), AllocError>
     ensures { OnOk result (code.new.items ≡ code.old.items ++ status_code) }
 {
-    emit(code, &[slli(A0, A0, 2)])
+    emit(code, &[xori(A0, X1, 1), slli(A0, A0, 2)])
 }

@@ -8,7 +8,7 @@ use block_parts::pieces::{BACK, LOOK, end, go_back, look_at, open, raise};
 use masked_code::emit::{emit, past};
 use masked_code::pieces::leave;
 use rv32_instr::Instr;
-use rv32_instr::asm::{A0, X1, X3, X4, ZERO, addi, beq, lw};
+use rv32_instr::asm::{A0, X1, X4, ZERO, addi, beq, bne, lw};
 use sloth_base::service::E_OS_LIMIT;
 use sloth_region::layout::CUR;
 use std::alloc::{AllocError, Global};
@@ -24,7 +24,7 @@ pub fn code(alloc: Global, task: u8) -> Result<Vec<Instr>, AllocError>
     let mut code = Vec::new(alloc);
     open(&mut code)?;
     ask(&mut code, task)?;
-    look_at(&mut code, task, X3, X1)?;
+    look_at(&mut code, task)?;
     refuse(&mut code)?;
     go_back(&mut code)?;
     end(&mut code)?;
@@ -33,25 +33,25 @@ pub fn code(alloc: Global, task: u8) -> Result<Vec<Instr>, AllocError>
     Ok(code)
 }
 
-/// Goes on behind the refusal where the task is the caller. x4 holds the base of memory.
+/// Goes on behind the refusal where the task is the caller.
 fn ask(code: &mut Vec<Instr>, task: u8) -> Result<(), AllocError>
     requires { task < 30 }
     ensures { OnOk result (code.new.items ≡ code.old.items ++ own_task_code task) }
 {
     let asked = [
-        lw(X3, X4, CUR),
-        addi(X1, ZERO, task as i32 + 1),
-        beq(X3, X1, past(LOOK + REFUSE + BACK)),
+        lw(X1, X4, CUR),
+        addi(A0, ZERO, task as i32 + 1),
+        beq(X1, A0, past(LOOK + REFUSE + BACK)),
     ];
     emit(code, &asked)
 }
 
-/// Goes on behind the refusal where x3 is 0; else the status is E_OS_LIMIT.
+/// Goes on behind the refusal where x1 is 1: the task is Suspended. Else the status is E_OS_LIMIT.
 fn refuse(code: &mut Vec<Instr>) -> Result<(), AllocError>
     ensures { OnOk result (code.new.items ≡ code.old.items ++ refusing_code) }
 {
     let refused = [
-        beq(X3, ZERO, past(1 + BACK)),
+        bne(X1, ZERO, past(1 + BACK)),
         addi(A0, ZERO, E_OS_LIMIT as i32),
     ];
     emit(code, &refused)

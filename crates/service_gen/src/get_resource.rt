@@ -1,13 +1,14 @@
 //! GetResource: the level that runs is saved, and at least the resource's ceiling runs.
 ghost use Rattle.std.specs.Prelude.{◌≡◌, ◌≤◌, ◌++◌, IfOk, OnOk};
-ghost use Rattle.service_gen.specs.Pieces.{taking_code};
+ghost use Rattle.service_gen.specs.Pieces.{taking_code, goes_on};
 ghost use Rattle.service_gen.specs.GetResource.{Takes};
 
-use block_parts::pieces::{go_on, open};
+use block_parts::pieces::{go_back, open};
 use masked_code::emit::{emit, past};
 use rv32_instr::Instr;
-use rv32_instr::asm::{X1, X3, X4, ZERO, addi, bgeu, csrrs, sw};
-use rv32_instr::csr::ILEVEL;
+use rv32_instr::asm::{A0, X1, X4, ZERO, addi, bgeu, csrrw, sw};
+use rv32_instr::csr::PLEVEL;
+use sloth_base::service::E_OK;
 use sloth_region::layout::saved;
 use std::alloc::{AllocError, Global};
 
@@ -23,17 +24,25 @@ pub fn code(alloc: Global, resource: u8, ceiling: u8) -> Result<Vec<Instr>, Allo
     Ok(code)
 }
 
-/// Saves the level that runs, and leaves the greater of it and the ceiling in x3. x4 holds the base of memory.
+/// The ceiling is the level for `mret`, and the one that runs, which plevel held, is saved; where that is greater, it stays.
 fn take(code: &mut Vec<Instr>, resource: u8, ceiling: u8) -> Result<(), AllocError>
     requires { resource ≤ 32 }
     ensures { OnOk result (code.new.items ≡ code.old.items ++ taking_code resource ceiling) }
 {
     let taken = [
-        csrrs(X3, ILEVEL, ZERO),
-        sw(X3, X4, saved(resource)),
         addi(X1, ZERO, ceiling as i32),
-        bgeu(X3, X1, past(1)),
-        addi(X3, X1, 0),
+        csrrw(A0, PLEVEL, X1),
+        sw(A0, X4, saved(resource)),
+        bgeu(X1, A0, past(1)),
+        csrrw(ZERO, PLEVEL, A0),
     ];
     emit(code, &taken)
+}
+
+/// Back to the caller, with the status E_OK.
+fn go_on(code: &mut Vec<Instr>) -> Result<(), AllocError>
+    ensures { OnOk result (code.new.items ≡ code.old.items ++ goes_on) }
+{
+    emit(code, &[addi(A0, ZERO, E_OK as i32)])?;
+    go_back(code)
 }

@@ -22,7 +22,7 @@ pub fn code(alloc: Global) -> Result<Vec<Instr>, AllocError>
     Ok(code)
 }
 
-/// a1 := the running task's number, with the status E_OK. x4 holds the base of memory.
+/// a1 := the running task's number, with the status E_OK.
 fn tell_own(code: &mut Vec<Instr>) -> Result<(), AllocError>
     ensures { OnOk result (code.new.items ≡ code.old.items ++ tells_own) }
 {

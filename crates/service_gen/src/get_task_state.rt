@@ -6,9 +6,9 @@ ghost use Rattle.service_gen.specs.GetTaskState.{TellsState};
 use block_parts::pieces::{BACK, go_back, open};
 use masked_code::emit::{emit, past};
 use rv32_instr::Instr;
-use rv32_instr::asm::{A0, A1, X1, X3, X4, ZERO, addi, beq, lbu, lui, lw, slli, sltu, sub};
+use rv32_instr::asm::{A0, A1, X1, X3, X4, ZERO, addi, beq, lbu, lw, slli, sltu, xori};
 use sloth_base::service::E_OK;
-use sloth_region::layout::{CONTROLLER_HIGH, CUR, active, enabled_byte, pending_byte};
+use sloth_region::layout::{CUR, active, enabled_byte, pending_byte};
 use std::alloc::{AllocError, Global};
 
 /// The state's number where the task waits.
@@ -21,7 +21,7 @@ const SUSPENDED: i32 = 3;
 const TELL_ACTIVE: u32 = 4;
 
 /// How many instructions `tell_resting` adds.
-const TELL_RESTING: u32 = 3;
+const TELL_RESTING: u32 = 2;
 
 /// The number where the task is Active with the way back, and then the number where it is not, with the way back.
 pub fn code(alloc: Global, task: u8) -> Result<Vec<Instr>, AllocError>
@@ -39,28 +39,28 @@ pub fn code(alloc: Global, task: u8) -> Result<Vec<Instr>, AllocError>
     Ok(code)
 }
 
-/// The status E_OK; goes on behind the first way back where the task is not Active. x4 holds the base of memory.
+/// The status E_OK; goes on behind the first way back where the task is not Active.
 fn ask_active(code: &mut Vec<Instr>, task: u8) -> Result<(), AllocError>
     requires { task < 30 }
     ensures { OnOk result (code.new.items ≡ code.old.items ++ asks_active task) }
 {
     let asked = [
         addi(A0, ZERO, E_OK as i32),
-        lw(X3, X4, active(task)),
-        beq(X3, ZERO, past(TELL_ACTIVE + BACK)),
+        lw(X1, X4, active(task)),
+        beq(X1, ZERO, past(TELL_ACTIVE + BACK)),
     ];
     emit(code, &asked)
 }
 
-/// a1 := 0 where the task runs, and 2 where it is preempted. x4 holds the base of memory.
+/// a1 := 0 where the task runs, and 2 where it is preempted.
 fn tell_active(code: &mut Vec<Instr>, task: u8) -> Result<(), AllocError>
     requires { task < 30 }
     ensures { OnOk result (code.new.items ≡ code.old.items ++ tells_active task) }
 {
     let told = [
-        lw(X3, X4, CUR),
-        addi(X3, X3, -1 - task as i32),
-        sltu(A1, ZERO, X3),
+        lw(X1, X4, CUR),
+        addi(X1, X1, -1 - task as i32),
+        sltu(A1, ZERO, X1),
         slli(A1, A1, 1),
     ];
     emit(code, &told)
@@ -72,23 +72,18 @@ fn ask_waiting(code: &mut Vec<Instr>, task: u8) -> Result<(), AllocError>
     ensures { OnOk result (code.new.items ≡ code.old.items ++ asks_waiting task) }
 {
     let asked = [
-        lui(X1, CONTROLLER_HIGH),
-        lbu(X3, X1, enabled_byte(task)),
+        lbu(X1, X3, enabled_byte(task)),
         addi(A1, ZERO, WAITING),
-        beq(X3, ZERO, past(TELL_RESTING)),
+        beq(X1, ZERO, past(TELL_RESTING)),
     ];
     emit(code, &asked)
 }
 
-/// a1 := 3 where the task is Suspended, and 2 where it is Ready. x1 holds the controller's address.
+/// a1 := 3 where the task is Suspended, and 2 where it is Ready, whose pending byte is 1.
 fn tell_resting(code: &mut Vec<Instr>, task: u8) -> Result<(), AllocError>
     requires { task < 30 }
     ensures { OnOk result (code.new.items ≡ code.old.items ++ tells_resting task) }
 {
-    let told = [
-        lbu(X3, X1, pending_byte(task)),
-        addi(A1, ZERO, SUSPENDED),
-        sub(A1, A1, X3),
-    ];
+    let told = [lbu(X1, X3, pending_byte(task)), xori(A1, X1, SUSPENDED)];
     emit(code, &told)
 }

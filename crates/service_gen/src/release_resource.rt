@@ -6,7 +6,7 @@ ghost use Rattle.service_gen.specs.ReleaseResource.{Releases};
 use block_parts::pieces::{go_on, open};
 use masked_code::emit::emit;
 use rv32_instr::Instr;
-use rv32_instr::asm::{X3, X4, lw};
+use rv32_instr::asm::{X1, X4, lw};
 use sloth_region::layout::saved;
 use std::alloc::{AllocError, Global};
 
@@ -21,11 +21,11 @@ pub fn code(alloc: Global, resource: u8) -> Result<Vec<Instr>, AllocError>
     Ok(code)
 }
 
-/// To the level that was saved for the resource, with the status E_OK. x4 holds the base of memory.
+/// To the level that was saved for the resource, with the status E_OK.
 fn release(code: &mut Vec<Instr>, resource: u8) -> Result<(), AllocError>
     requires { resource ≤ 32 }
     ensures { OnOk result (code.new.items ≡ code.old.items ++ releasing_code resource) }
 {
-    emit(code, &[lw(X3, X4, saved(resource))])?;
+    emit(code, &[lw(X1, X4, saved(resource))])?;
     go_on(code)
 }

@@ -1,19 +1,24 @@
 -- The law of boot.
-use Rattle.std.proofs.Common.{◌≡◌, ℕ, zero, suc, ◌-◌, ◌<◌, ◌≤◌, List, [], ◌∷◌, ◌++◌, length, refl, sym, ap, ◌∙◌, arith, ⊎_elim, true, false, cond}
-use Rattle.std.specs.Prelude.{slice_index, replicate}
-use Rattle.std.proofs.lemmas.Bool.{cases_Bool}
+use Rattle.std.proofs.Common.{◌≡◌, ℕ, zero, suc, ◌-◌, ◌<◌, ◌≤◌, List, [], ◌∷◌, ◌++◌, length, refl, sym, ap, ◌∙◌, arith, ⊎_elim, inl, inr, true, false, cond}
+use Rattle.std.specs.Prelude.{◌⊎◌, slice_index, replicate}
+use Rattle.std.proofs.lemmas.Bool.{cases_Bool, cases_lt}
 use Rattle.std.proofs.lemmas.List.{length-append, length-replicate}
-use Rattle.sloth_base.specs.ConfigRange.{HasNoCounters}
 use Rattle.sloth_base.specs.declared.event.Event.TheVariants as event
 use Rattle.sloth_base.specs.declared.image.Image.{Image}
 use Rattle.sloth_base.specs.Machine.{State}
+use Rattle.sloth_base.specs.Owners.{first_counter_line, counter_line, line_kind, owners_in}
+use Rattle.sloth_base.specs.declared.lines.LineKind.TheVariants as line_of
+use Rattle.sloth_base.specs.declared.lines.Owners.{Owners}
+use Rattle.sloth_base.proofs.Owners.{unused_behind, counter_owned}
 use Rattle.rv32_machine.specs.Start.{ram_of, start}
-use Rattle.osek_scheduler.specs.State.{declaration, opening}
+use Rattle.osek_scheduler.specs.State.{declaration, opening, opening_clock}
 use Rattle.osek_scheduler.specs.Steps.{OsekStep}
 use Rattle.vector_gen.specs.Boot.{Booted}
 use Rattle.sim_relation.specs.Build.{Build, Fits}
 use Rattle.sim_relation.specs.Stands.{Stands, Fixed}
 use Rattle.sim_relation.specs.Start.{Starts, started_system}
+use Rattle.sim_relation.proofs.ClockKept.{clock_kept}
+use Rattle.sim_relation.proofs.Framing.{word_kept}
 use Rattle.sim_relation.proofs.Starting.{starts_stand}
 use Rattle.sim_entries.specs.Boot.{IsImage, AreLevelsOf}
 use Rattle.sim_entries.proofs.Spot.{zero_at}
@@ -37,8 +42,22 @@ length-ram bytes h =
     let n = length-replicate {A = ℕ} (2097152 - length bytes) 0 in
     omega arith
 
-module _ (b : Build) (image : Image) (levels : List ℕ) (end : State) (fits : Fits b) (none : HasNoCounters b.config) (is : IsImage b image) (ranks : AreLevelsOf b levels)
-    (effect : Booted b.config.tasks levels b.idle [] (start image) end) where
+-- a line that nothing owns is before those of counters or behind them
+unused_beside : (owners : Owners) (line : ℕ) → owners.tasks ≤ first_counter_line → line_kind owners line ≡ line_of.Unused
+    → (line < first_counter_line) ⊎ (counter_line owners.counters ≤ line)
+unused_beside owners line few unused =
+    ⊎_elim (λ (l : line < first_counter_line). inl l)
+    (λ (g : first_counter_line ≤ line).
+    ⊎_elim
+    (λ (l : line < counter_line owners.counters).
+    let back : counter_line (line - first_counter_line) ≡ line = omega (arith, g) in
+    absurd (counter_owned owners (line - first_counter_line) few (omega (arith, g, l)) (ap (line_kind owners) back ∙ unused)))
+    (λ (h : counter_line owners.counters ≤ line). inr h)
+    (cases_lt line (counter_line owners.counters)))
+    (cases_lt line first_counter_line)
+
+module _ (b : Build) (image : Image) (levels : List ℕ) (end : State) (fits : Fits b) (is : IsImage b image) (ranks : AreLevelsOf b levels)
+    (effect : Booted b.config.tasks (length b.config.counters) levels (length b.config.tasks) b.idle [] (start image) end) where
   ram_is : (i : ℕ) → slice_index end.core.ram i ≡ slice_index b.memory i
   ram_is i = ap (λ r. slice_index r i) effect.left.ram ∙ ram_at image.memory i ∙ ap (λ m. slice_index m i) is.memory
 
@@ -46,6 +65,8 @@ module _ (b : Build) (image : Image) (levels : List ℕ) (end : State) (fits : F
   fixed = record {
     open_to_lines = effect.left.opened;
     previous = effect.left.previous;
+    same_level = effect.left.same_level;
+    bases = effect.left.bases;
     controller = effect.left.controller;
     registers = effect.left.registers;
     zero = effect.left.zero;
@@ -69,10 +90,18 @@ module _ (b : Build) (image : Image) (levels : List ℕ) (end : State) (fits : F
     level = effect.left.running;
     x2 = effect.x2;
     fixed = fixed;
-    service_words = λ i h. ram_is i ∙ is.service_words i h;
+    service_words = λ i h o. ram_is i ∙ is.service_words i h o;
+    clock = clock_kept b b.memory end.core.ram (opening_clock b.config) fits
+        (λ p from to a. word_kept b.memory end.core.ram 0 1024 p (λ i x y. ram_is i) (omega arith) (omega arith)) is.clock;
     pending = pending;
     enabled = effect.enabled;
-    other_enabled = λ line h. effect.other_enabled line h ∙ zero_at 32 line;
+    counters = λ c h. record {
+      enabled = effect.counter_enabled c h;
+      pending = effect.other_pending (counter_line c) (let few = fits.few_tasks in omega (arith, few)) ∙ zero_at 32 (counter_line c);
+      level = effect.counter_level c h;
+    };
+    other_enabled = λ line unused.
+        effect.other_enabled line (unused_behind (owners_in b.config) line unused, unused_beside (owners_in b.config) line fits.few_tasks unused) ∙ zero_at 32 line;
     levels = λ t h. effect.level t h ∙ ranks t h;
     data_stands = λ y k h.
         let d = is.data_stands y k h in
@@ -81,4 +110,4 @@ module _ (b : Build) (image : Image) (levels : List ℕ) (end : State) (fits : F
 
   -- boot is the event Boot, and the relation stands behind it
   pub boots_law : OsekStep b.config b.app event.Boot (opening b.config b.app) (started_system b) × Stands b end (started_system b)
-  boots_law = ((refl, refl), starts_stand b end fits none starts)
+  boots_law = ((refl, refl), starts_stand b end fits starts)

@@ -5,7 +5,6 @@ use Rattle.sloth_base.specs.declared.event.Arrival.{Arrival}
 use Rattle.sloth_base.specs.declared.image.Image.{Image}
 use Rattle.sloth_base.specs.Machine.{State}
 use Rattle.sloth_base.specs.Arrive.{state_arrive}
-use Rattle.sloth_base.specs.ConfigRange.{HasNoCounters}
 use Rattle.sloth_base.specs.Owners.{owners_in, IsOwned}
 use Rattle.rv32_machine.specs.Start.{start}
 use Rattle.masked_code.specs.Trace.{Trace, touched_lines, early, late}
@@ -31,7 +30,7 @@ use Rattle.sim_entries.proofs.Boot.{boots_law, ram_at}
 pub none_early : (trace : Trace) → touched_lines trace ≡ [] → early trace ≡ []
 none_early trace h = sym (lines_before 0 trace) ∙ ap (map (λ (a : Arrival). a.line)) (nothing_before 0 trace h)
 
-module _ (b : Build) (view : View) (arrivals : List Arrival) (setting : IsSetting (setting_of b view arrivals)) (image : Image) (fits : Fits b) (none : HasNoCounters b.config) (is : IsImage b image)
+module _ (b : Build) (view : View) (arrivals : List Arrival) (setting : IsSetting (setting_of b view arrivals)) (image : Image) (fits : Fits b) (is : IsImage b image)
     (boot : BootStands b) where
   abbrev first : State
   first = start image
@@ -39,9 +38,9 @@ module _ (b : Build) (view : View) (arrivals : List Arrival) (setting : IsSettin
   in_ram : (i : ℕ) → slice_index first.core.ram i ≡ slice_index b.memory i
   in_ram i = ram_at image.memory i ∙ ap (λ m. slice_index m i) is.memory
 
-  route : Booting arrivals 130 first (Booted b.config.tasks boot.levels b.idle)
+  route : Booting arrivals 136 first (Booted b.config.tasks (length b.config.counters) boot.levels (length b.config.tasks) b.idle)
   route =
-      booting arrivals 130 first (Booted b.config.tasks boot.levels b.idle) (λ touched from last e. e.left.opened) refl
+      booting arrivals 136 first (Booted b.config.tasks (length b.config.counters) boot.levels (length b.config.tasks) b.idle) (λ touched from last e. e.left.opened) refl
       (boot.boots.runs 0x480 first.core fits.idle_address
       (record {
         masked = refl;
@@ -63,10 +62,10 @@ module _ (b : Build) (view : View) (arrivals : List Arrival) (setting : IsSettin
   pub boot_stretch : BootLaw (setting_of b view arrivals) (Stands b) (start image)
   boot_stretch =
       let untouched : touched_lines route.trace ≡ [] = route.effect.touches in
-      let effect : Booted b.config.tasks boot.levels b.idle [] first route.last =
-      subst (λ x. Booted b.config.tasks boot.levels b.idle x first route.last) untouched
-      (subst (λ x. Booted b.config.tasks boot.levels b.idle (touched_lines route.trace) (state_arrive x first) route.last) (none_early route.trace untouched) route.effect) in
-      let law = boots_law b image boot.levels route.last fits none is boot.ranks effect in
+      let effect : Booted b.config.tasks (length b.config.counters) boot.levels (length b.config.tasks) b.idle [] first route.last =
+      subst (λ x. Booted b.config.tasks (length b.config.counters) boot.levels (length b.config.tasks) b.idle x first route.last) untouched
+      (subst (λ x. Booted b.config.tasks (length b.config.counters) boot.levels (length b.config.tasks) b.idle (touched_lines route.trace) (state_arrive x first) route.last) (none_early route.trace untouched) route.effect) in
+      let law = boots_law b image boot.levels route.last fits is boot.ranks effect in
       let in_range = lines_trace (IsOwned (owners_in b.config)) (suc route.more) 0 (lines_at arrivals) first route.trace route.end (owned_at (setting_of b view arrivals) setting) route.steps in
       let few : length b.config.tasks ≤ 32 = let f = fits.few_tasks in omega arith in
       record {

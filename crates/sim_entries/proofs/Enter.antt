@@ -31,7 +31,7 @@ use Rattle.sim_entries.specs.Entries.{EntersAnew, StandsAlone, first_words}
 use Rattle.sim_entries.proofs.EntryRam.{IsStored}
 use Rattle.sim_entries.proofs.Saving.{preempted, cleared, cleared_long, saved, is_saved, entry_ram, entry_machine}
 use Rattle.sim_entries.proofs.Spot.{zero_at, stored_apart}
-use Rattle.masked_code.specs.Pieces.{registers_from}
+use Rattle.prologue_gen.specs.Fresh.{saved_registers}
 
 -- a function that has items is there
 pub there : (app : App) (f : ℕ) → 0 < length (function app f).items → f < length app.funcs
@@ -84,7 +84,7 @@ module _ (b : Build) (state end : State) (s : System) (t place : ℕ) (fits : Fi
   ram_is : end.core.ram ≡ saved state t place frame words
   ram_is = effect.left.ram
 
-  is_stored : IsStored state.core.ram (preempted state) (registers_from 27 5 state.core.registers) (cleared words) place t frame (saved state t place frame words)
+  is_stored : IsStored state.core.ram (preempted state) (saved_registers state.core) (cleared words) place t frame (saved state t place frame words)
   is_stored = is_saved b state s t place fits k sane declared x2 frame words from to apart_frame
 
   ram : EntryRam b state (saved state t place frame words) t place

@@ -173,10 +173,10 @@ module _ (b : Build) (view : View) (arrivals : List Arrival) (setting : IsSettin
     first = item_address b.places (body_of b.app.funcs t) 0
 
     module _ (prologue : PrologueStands b t) where
-      sizes : (0 < length prologue.code) × (length prologue.code ≤ 109 + words)
+      sizes : (0 < length prologue.code) × (length prologue.code ≤ 108 + words)
       sizes = kinds.size (declaration b.config t).extended t (start_level b t) first frame words prologue.code prologue.enters
 
-      short : suc (109 + words) ≤ stretch_limit b.config (Takes t)
+      short : suc (108 + words) ≤ stretch_limit b.config (Takes t)
       short = let w = prologue.few_words in let l = task_limit b.config t declared in omega arith
 
       can_run : CanRun prologue.offset prologue.code core
@@ -204,6 +204,7 @@ module _ (b : Build) (view : View) (arrivals : List Arrival) (setting : IsSettin
             can_run = can_run;
             masked = refl;
             previous = k.fixed.open_to_lines;
+            bases = k.fixed.bases;
             jump = prologue.jump;
             vector_word = placed_in b core.ram (vector t) _ k.fixed.code prologue.vector_word;
             to_code = prologue.to_code;
@@ -221,7 +222,7 @@ module _ (b : Build) (view : View) (arrivals : List Arrival) (setting : IsSettin
 
       enters_anew : (task found t).frames ≡ [] → StandsAlone b found t → Stretches
       enters_anew fresh alone =
-          stretches (109 + words) short (Entered t (start_level b t) first place frame words) (λ lines from last e. e.left.opened) (λ lines from last e. e.touches)
+          stretches (108 + words) short (Entered t (start_level b t) first place frame words) (λ lines from last e. e.left.opened) (λ lines from last e. e.touches)
           (subst (λ n. Masked n (at (vector t) core) (WithArrivals (Entered t (start_level b t) first place frame words) (at (vector t) core))) (omega arith)
           (kinds.starts (declaration b.config t).extended t (start_level b t) first frame words prologue.code prologue.enters prologue.offset place core
           (fits.items (body_of b.app.funcs t) 0)
@@ -251,6 +252,7 @@ module _ (b : Build) (view : View) (arrivals : List Arrival) (setting : IsSettin
               can_run = start.can_run;
               masked = start.masked;
               previous = start.previous;
+              bases = start.bases;
               jump = start.jump;
               vector_word = start.vector_word;
               to_code = start.to_code;
@@ -270,7 +272,7 @@ module _ (b : Build) (view : View) (arrivals : List Arrival) (setting : IsSettin
 
         enters_again : (declaration b.config t).extended ≡ true → Stretches
         enters_again extended =
-            stretches (109 + words) short (Resumed t (start_level b t) place has.place) (λ lines from last e. e.left.opened) (λ lines from last e. e.touches)
+            stretches (108 + words) short (Resumed t (start_level b t) place has.place) (λ lines from last e. e.left.opened) (λ lines from last e. e.touches)
             (subst (λ n. Masked n (at (vector t) core) (WithArrivals (Resumed t (start_level b t) place has.place) (at (vector t) core))) (omega arith)
             ((subst (λ (x : Bool). DoesEnter x t (start_level b t) first frame words prologue.code) extended prologue.enters).resumes prologue.offset place has.place core may_resume))
             (λ last e. again.resume_law b now last found t place has.place fits k sane declared chosen some (anew.there b.app (body_of b.app.funcs t) prologue.has_item) spot_is.1 has.rested.link e)

@@ -28,7 +28,7 @@ pub record IsStored (ram words registers zeros : List ℕ) (place t frame : ℕ)
   pub long : length new ≡ 2097152
   pub outside : (i : ℕ) → idle_context ≤ i → (i < place) ⊎ (place + context_bytes ≤ i) → (i < frame) ⊎ (frame + 4 * length zeros ≤ i) → slice_index new i ≡ slice_index ram i
   pub word_is : (j : ℕ) → j < 4 → word_at new (place + 4 * j) ≡ slice_index words j
-  pub register_is : (j : ℕ) → j < 27 → word_at new (place + 20 + 4 * j) ≡ slice_index registers j
+  pub register_is : (j : ℕ) → j < length registers → word_at new (place + 20 + 4 * j) ≡ slice_index registers j
   pub frame_words : AreWords new frame zeros
   pub named : (p : ℕ) → p + 4 ≤ idle_context → p % 4 ≡ 0 → p ≢ cur → p ≢ below_word → p ≢ active t → word_at new p ≡ word_at ram p
   pub current : word_at new cur ≡ t + 1
@@ -39,7 +39,7 @@ pub record IsStored (ram words registers zeros : List ℕ) (place t frame : ℕ)
 pub record MayStore (ram words registers zeros : List ℕ) (place t frame : ℕ) : Type 0 where
   pub size : length ram ≡ 2097152
   pub four : length words ≡ 4
-  pub rest : length registers ≡ 27
+  pub rest : length registers ≤ 27
   pub declared : t < 30
   pub behind : idle_context ≤ place
   pub aligned : place % 4 ≡ 0
@@ -107,7 +107,7 @@ module _ (ram words registers zeros : List ℕ) (place t frame : ℕ) (may : May
       context_word (place + 4 * j) (omega arith) (omega arith)
       ∙ word_at-with_words words ram1 place j (omega arith) (omega arith) may.small_words
 
-  register_is : (j : ℕ) → j < 27 → word_at new (place + 20 + 4 * j) ≡ slice_index registers j
+  register_is : (j : ℕ) → j < length registers → word_at new (place + 20 + 4 * j) ≡ slice_index registers j
   register_is j h =
       context_word (place + 20 + 4 * j) (omega arith) (omega arith)
       ∙ word_at-others words ram1 place (place + 20 + 4 * j) (inr (omega arith))

@@ -9,7 +9,7 @@ use Rattle.sloth_base.specs.Choose.{choose}
 use Rattle.sloth_base.specs.Status.{E_OK}
 use Rattle.sloth_region.specs.Layout.{resume, idle_context}
 use Rattle.rv32_instr.specs.Ram.{word_at, with_word}
-use Rattle.masked_code.specs.Pieces.{registers_from}
+use Rattle.prologue_gen.specs.Fresh.{saved_registers}
 use Rattle.masked_code.proofs.Words.{word_at-same, get_or-with_word, length-with_word}
 use Rattle.osek_scheduler.specs.declared.state.TaskState.TheVariants as mode
 use Rattle.osek_scheduler.specs.State.{Frame, Task, System, HasBody, task, with_task, declaration}
@@ -82,7 +82,7 @@ module _ (b : Build) (state end : State) (s : System) (t place own : ℕ) (fits 
   abbrev before : List ℕ
   before = saved state t place (b.top t) 0
 
-  is_stored : IsStored state.core.ram (preempted state) (registers_from 27 5 state.core.registers) (cleared 0) place t (b.top t) before
+  is_stored : IsStored state.core.ram (preempted state) (saved_registers state.core) (cleared 0) place t (b.top t) before
   is_stored = is_saved b state s t place fits k sane declared x2 (b.top t) 0 from to apart_top
 
   abbrev new : List ℕ

@@ -1,14 +1,17 @@
 -- What every entry leaves, anew or behind a wait: what was preempted is saved, and the task is the running one.
 use Rattle.std.proofs.Common.{◌≡◌, ℕ, ◌+◌, ◌-◌, ◌*◌, ◌%◌, ◌<◌, ◌≤◌, List, length, refl, sym, ap, ◌∙◌, subst, arith, ⊎_elim, inl, inr}
-use Rattle.std.specs.Prelude.{◌⊎◌, ◌≢◌, slice_index, replicate}
+use Rattle.std.specs.Prelude.{◌⊎◌, ◌≢◌, true, false, eqb, slice_index, replicate}
+use Rattle.std.proofs.lemmas.Bool.{cases_Bool, ne_eqb}
 use Rattle.std.proofs.lemmas.List.{length-replicate}
-use Rattle.sloth_base.specs.Machine.{State}
+use Rattle.sloth_base.specs.Machine.{Core, State}
 use Rattle.sloth_base.specs.Take.{take}
 use Rattle.sloth_region.specs.Layout.{cur, below_word, active, resume, idle_context}
 use Rattle.rv32_instr.specs.Ram.{word_at}
 use Rattle.masked_code.specs.Kernel.{LeftAs}
 use Rattle.masked_code.specs.Pieces.{registers_from}
 use Rattle.masked_code.proofs.Words.{word_below}
+use Rattle.prologue_gen.specs.Fresh.{saved_registers}
+use Rattle.prologue_gen.proofs.SavedRegisters.{none_saved, all_saved, few_saved}
 use Rattle.osek_scheduler.specs.State.{System}
 use Rattle.sim_relation.specs.Build.{Build, Fits, start_level}
 use Rattle.sim_relation.specs.Stands.{Stands}
@@ -31,9 +34,17 @@ cleared words = replicate words 0
 pub cleared_long : (words : ℕ) → length (cleared words) ≡ words
 cleared_long words = length-replicate words 0
 
+-- the registers that are saved are words
+saved_small : (core : Core) → ((i : ℕ) → slice_index core.registers i < 4294967296) → (j : ℕ) → slice_index (saved_registers core) j < 4294967296
+saved_small core small j =
+    ⊎_elim
+    (λ (e : eqb (word_at core.ram cur) 0 ≡ true). subst (λ l. slice_index l j < 4294967296) (sym (none_saved core e)) (omega arith))
+    (λ (e : eqb (word_at core.ram cur) 0 ≡ false). subst (λ l. slice_index l j < 4294967296) (sym (all_saved core e)) (registers_small 27 5 core.registers small j))
+    (cases_Bool (eqb (word_at core.ram cur) 0))
+
 -- the bytes with the context of what is preempted, the words of the entry, and a frame of zero words
 abbrev pub saved : State → (t place frame words : ℕ) → List ℕ
-saved state t place frame words = stored state.core.ram (preempted state) (registers_from 27 5 state.core.registers) (cleared words) place t frame
+saved state t place frame words = stored state.core.ram (preempted state) (saved_registers state.core) (cleared words) place t frame
 
 module _ (b : Build) (state : State) (s : System) (t place : ℕ) (fits : Fits b) (k : Stands b state s) (sane : Sane state)
     (declared : t < length b.config.tasks) (x2 : slice_index state.core.registers 2 ≡ 0x8000_0000 + (place + 128)) where
@@ -50,7 +61,10 @@ module _ (b : Build) (state : State) (s : System) (t place : ℕ) (fits : Fits b
   old = state.core.ram
 
   abbrev rest : List ℕ
-  rest = registers_from 27 5 state.core.registers
+  rest = saved_registers state.core
+
+  small_rest : (j : ℕ) → slice_index rest j < 4294967296
+  small_rest = saved_small state.core sane.registers
 
   small_words : (j : ℕ) → slice_index (preempted state) j < 4294967296
   small_words = words_small state.pc state.core.ilevel (word_at old cur) (word_at old below_word) sane.pc (let i = sane.level in omega arith) (word_below old cur sane.bytes) (word_below old below_word sane.bytes)
@@ -67,7 +81,7 @@ module _ (b : Build) (state : State) (s : System) (t place : ℕ) (fits : Fits b
         is_stored old (preempted state) rest (cleared words) place t frame (record {
           size = k.fixed.ram;
           four = refl;
-          rest = refl;
+          rest = few_saved state.core;
           declared = few30;
           behind = sp.behind;
           aligned = sp.aligned;
@@ -76,7 +90,7 @@ module _ (b : Build) (state : State) (s : System) (t place : ℕ) (fits : Fits b
           frame_inside = omega arith;
           apart = subst (λ (w : ℕ). (place + 128 ≤ frame) ⊎ (frame + 4 * w ≤ place)) (sym (cleared_long words)) apart;
           small_words = small_words;
-          small_registers = registers_small 27 5 state.core.registers sane.registers;
+          small_registers = small_rest;
           small_zeros = zeros_small words;
         })
 
@@ -103,11 +117,13 @@ module _ (b : Build) (state : State) (s : System) (t place : ℕ) (fits : Fits b
             level_word = word_is 1 (omega arith);
             current_word = word_is 2 (omega arith);
             link_word = word_is 3 (omega arith);
-            register_words = λ i x y.
+            register_words = λ some i x y.
+                let whole : rest ≡ registers_from 27 5 state.core.registers = all_saved state.core (ne_eqb (word_at old cur) 0 some) in
+                let many : length rest ≡ 27 = ap length whole in
                 let p : place + 20 + 4 * (i - 5) ≡ place + 4 * i = omega arith in
                 let v : 5 + (i - 5) ≡ i = omega arith in
-                ap (word_at new) (sym p) ∙ in_context (place + 20 + 4 * (i - 5)) (omega arith) (omega arith) ∙ is_saved.register_is (i - 5) (omega arith)
-                ∙ registers_at 27 5 (i - 5) state.core.registers (omega arith) ∙ ap (λ j. slice_index state.core.registers j) v;
+                ap (word_at new) (sym p) ∙ in_context (place + 20 + 4 * (i - 5)) (omega arith) (omega arith) ∙ is_saved.register_is (i - 5) (omega (arith, many, x, y))
+                ∙ ap (λ l. slice_index l (i - 5)) whole ∙ registers_at 27 5 (i - 5) state.core.registers (omega arith) ∙ ap (λ j. slice_index state.core.registers j) v;
             named = λ p h v n0 n1 n2 n3. low p v n3 ∙ is_saved.named p h v n0 n1 n2;
             current = low cur (omega arith) (λ h. omega arith) ∙ is_saved.current;
             link = low below_word (omega arith) (λ h. omega arith) ∙ is_saved.link;
@@ -127,4 +143,6 @@ module _ (b : Build) (state : State) (s : System) (t place : ℕ) (fits : Fits b
     controller = left.controller;
     open_to_lines = left.opened;
     previous = left.previous;
+    same_level = left.same_level;
+    bases = left.bases;
   }

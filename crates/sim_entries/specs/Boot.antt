@@ -2,16 +2,19 @@
 use Rattle.std.specs.Prelude.{ℕ, ◌<◌, ◌≤◌, ◌≡◌, List, length, slice_index}
 use Rattle.sloth_base.specs.declared.image.Image.{Image}
 use Rattle.sloth_region.specs.Layout.{idle_context}
-use Rattle.osek_scheduler.specs.State.{declaration, opening}
+use Rattle.osek_scheduler.specs.State.{declaration, opening, opening_clock}
 use Rattle.sloth_base.specs.PriorityLevels.{level_of}
 use Rattle.sim_relation.specs.Build.{Build}
+use Rattle.sim_relation.specs.ClockStands.{ClockStands, IsBesideClock}
 use Rattle.sim_relation.specs.DataStands.{DataStands}
 
--- The image of what is built: its service words are zero, and its data are those that the task code declares.
+-- The image of what is built: the words of alarms are those that the configuration declares, all other service words are zero, and the data are
+-- those that the task code declares.
 pub record IsImage (b : Build) (image : Image) : Type 0 where
   pub memory : image.memory ≡ b.memory
   pub size : length b.memory ≤ 0x20_0000
-  pub service_words : (i : ℕ) → i < idle_context → slice_index b.memory i ≡ 0
+  pub service_words : (i : ℕ) → i < idle_context → IsBesideClock i → slice_index b.memory i ≡ 0
+  pub clock : ClockStands b.config b.memory (opening_clock b.config)
   pub data_stands : DataStands b b.memory (opening b.config b.app).symbols
 
 -- the level of each task is that of its priority

@@ -18,7 +18,7 @@ pub record BootStands (b : Build) : Type 0 where
   pub levels : List ℕ
   pub ranks : AreLevelsOf b levels
   pub code : List InstrKind
-  pub boots : Boots b.config.tasks levels b.idle code
+  pub boots : Boots b.config.tasks (length b.config.counters) levels (length b.config.tasks) b.idle code
   pub placed : IsPlaced b 0x480 code
 
 -- The prologue of a task, which starts it anew or goes on behind its wait, and the jump to it at the vector of the task's line. Its

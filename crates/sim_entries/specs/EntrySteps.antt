@@ -1,6 +1,5 @@
 -- The laws of boot and of entries, without arrivals and in a run.
 use Rattle.std.specs.Prelude.{ℕ, ◌+◌, ◌<◌, ◌≡◌, ◌≢◌, List, [], true, length, Some, slice_index}
-use Rattle.sloth_base.specs.ConfigRange.{HasNoCounters}
 use Rattle.sloth_base.specs.declared.event.Arrival.{Arrival}
 use Rattle.sloth_base.specs.declared.image.Image.{Image}
 use Rattle.sloth_base.specs.declared.event.Event.TheVariants as event
@@ -49,15 +48,15 @@ ResumeLaw = (b : Build) (state end : State) (s : System) (t place own : ℕ) →
 
 -- From the start of the machine, boot is the event Boot.
 abbrev pub BootsLaw : Type 0
-BootsLaw = (b : Build) (image : Image) (levels : List ℕ) (end : State) → Fits b → HasNoCounters b.config → IsImage b image → AreLevelsOf b levels
-    → Booted b.config.tasks levels b.idle [] (start image) end
+BootsLaw = (b : Build) (image : Image) (levels : List ℕ) (end : State) → Fits b → IsImage b image → AreLevelsOf b levels
+    → Booted b.config.tasks (length b.config.counters) levels (length b.config.tasks) b.idle [] (start image) end
     → OsekStep b.config b.app event.Boot (opening b.config b.app) (started_system b) × Stands b end (started_system b)
 
 -- ---- in a run, whatever lines arrive
 
 -- The code of boot is the first stretch.
 abbrev pub BootStretch : Type 0
-BootStretch = (b : Build) (view : View) (arrivals : List Arrival) (image : Image) → IsSetting (setting_of b view arrivals) → Fits b → HasNoCounters b.config
+BootStretch = (b : Build) (view : View) (arrivals : List Arrival) (image : Image) → IsSetting (setting_of b view arrivals) → Fits b
     → IsImage b image → BootStands b → BootLaw (setting_of b view arrivals) (Stands b) (start image)
 
 -- Where the line that is taken at a count is that of a task that is to start anew, its prologue is a stretch.

@@ -1,5 +1,5 @@
 -- A service goes back with a status and has changed the events of a task, that of its caller or of another: the relation stands.
-use Rattle.std.proofs.Common.{◌≡◌, ℕ, zero, ◌^◌, ◌<◌, List, length, refl, sym, ap, ◌∙◌, subst, arith, inr}
+use Rattle.std.proofs.Common.{◌≡◌, ℕ, ◌^◌, ◌<◌, List, length, refl, sym, ap, ◌∙◌, subst, arith, inr}
 use Rattle.std.specs.Prelude.{◌≢◌, slice_index}
 use Rattle.sloth_base.specs.Machine.{State}
 use Rattle.sloth_base.specs.declared.service.Service.{Service}
@@ -56,6 +56,8 @@ module _ (b : Build) (state : State) (s : System) (t : ℕ) (called : Task) (ser
         opened = l.opened;
         previous = l.previous;
         running = l.running;
+        same_level = l.same_level;
+        bases = l.bases;
         pending = refl;
         enabled = refl;
         levels = l.levels;
@@ -102,6 +104,8 @@ module _ (b : Build) (state : State) (s : System) (t : ℕ) (called : Task) (ser
             controller = refl;
             open_to_lines = back.left.opened;
             previous = back.left.previous;
+            same_level = back.left.same_level;
+            bases = back.left.bases;
           };
           pc = refl;
           registers = refl;

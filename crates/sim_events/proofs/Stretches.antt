@@ -44,11 +44,10 @@ module _ (b : Build) (view : View) (arrivals : List Arrival) (count : ℕ) (stat
       let declared = ltb-true object (length b.config.tasks) o.names in
       let there = k b view arrivals count state s t service.GetEvent TellsEvents fits setting after_boot stands o.opens block.serves.masks in
       going_on_stretches b view arrivals count state s t service.GetEvent TellsEvents fits setting after_boot stands o block.serves.masks
-      16 (omega arith) (λ place. EventsTold object) (λ place touched from to e. touches_one b object touched declared e.touches)
+      11 (omega arith) (λ place. EventsTold object) (λ place touched from to e. touches_one b object touched declared e.touches)
       (λ place can. block.serves.runs block.offset start.core (record {
         goes_back = can.goes_back;
         is_task = let f = fits.few_tasks in omega arith;
-        level = can.level;
         active_bit = active_bit b start found there object declared;
         pending_bit = there.lines.bits object declared;
         enabled_bit = enabled_bit b start found there object declared;
@@ -63,10 +62,9 @@ module _ (b : Build) (view : View) (arrivals : List Arrival) (count : ℕ) (stat
       let mask_is : slice_index start.core.registers mask_register ≡ opening.block.call.mask =
       opening.block.mask (subst (λ v. length (mask_of v opening.block.call.mask) ≡ 2) (sym opening.calls) refl) in
       going_on_stretches b view arrivals count state s t service.ClearEvent (λ object. ClearsEvents) fits setting after_boot stands o.goes_on block.serves.masks
-      15 (omega arith) (λ place. EventsCleared t) (λ place touched from to e. touches_none b touched e.touches)
+      12 (omega arith) (λ place. EventsCleared t) (λ place touched from to e. touches_none b touched e.touches)
       (λ place can. block.serves.runs block.offset t start.core (record {
         goes_back = can.goes_back;
-        level = can.level;
         runs = can.current;
         is_task = can.is_task;
         is_word = subst (λ x. x < 2 ^ 32) (sym mask_is) o.is_word;
@@ -83,11 +81,10 @@ module _ (b : Build) (view : View) (arrivals : List Arrival) (count : ℕ) (stat
       let declared = ltb-true object (length b.config.tasks) o.goes_on.names in
       let there = k b view arrivals count state s t service.SetEvent SetsEvents fits setting after_boot stands o.goes_on.opens block.serves.masks in
       going_on_stretches b view arrivals count state s t service.SetEvent SetsEvents fits setting after_boot stands o.goes_on block.serves.masks
-      25 (omega arith) (λ place. EventsSet object) (λ place touched from to e. touches_one b object touched declared e.touches)
+      19 (omega arith) (λ place. EventsSet object) (λ place touched from to e. touches_one b object touched declared e.touches)
       (λ place can. block.serves.runs block.offset start.core (record {
         goes_back = can.goes_back;
         is_task = let f = fits.few_tasks in omega arith;
-        level = can.level;
         active_bit = active_bit b start found there object declared;
         pending_bit = there.lines.bits object declared;
         enabled_bit = enabled_bit b start found there object declared;

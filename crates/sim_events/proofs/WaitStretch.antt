@@ -68,7 +68,6 @@ module _ (b : Build) (state : State) (s : System) (t offset place : ℕ) (code :
         let kept : ℕ = kept_at state in
         record {
           goes_back = can.goes_back;
-          level = can.level;
           runs = can.current;
           is_task = can.is_task;
           below = can.below;

@@ -1,7 +1,7 @@
 -- What the zones of an image give.
-use Rattle.std.proofs.Common.{◌≡◌, ◌≢◌, ◌≤◌, ◌<◌, ◌+◌, ◌-◌, ◌%◌, ◌&&◌, ℕ, zero, suc, Bool, true, false, List, [], ◌∷◌, length, get_or, refl, sym, ap, subst, inl, inr, ⊎_elim, arith}
+use Rattle.std.proofs.Common.{◌≡◌, ◌≢◌, ◌≤◌, ◌<◌, ◌+◌, ◌-◌, ◌%◌, ℕ, zero, suc, true, List, [], ◌∷◌, length, get_or, refl, sym, ap, subst, inl, inr, ⊎_elim, arith}
 use Rattle.std.specs.Prelude.{All, nat_le, nat_lt, slice_index_or}
-use Rattle.std.proofs.lemmas.Bool.{leb-true, ltb-true, le-leb, lt-ltb, cases_lt, and_parts, and_from, false_from_ne_true}
+use Rattle.std.proofs.lemmas.Bool.{leb-true, ltb-true, le-leb, lt-ltb, and_parts, and_from, false_from_ne_true}
 use Rattle.sloth_base.specs.declared.app.App.{App}
 use Rattle.sloth_base.specs.declared.config.Config.{Config}
 use Rattle.sloth_region.specs.declared.extent.Extent.{Extent}
@@ -21,7 +21,7 @@ use Rattle.sloth_base.specs.declared.places.Bounds.{Bounds}
 use Rattle.stack_bounds.specs.Bounds.{MayMeet, bytes_of}
 use Rattle.sim_laws.specs.Nested.{HasNestedParts}
 use Rattle.sim_image.specs.Symbols.{HasSymbols}
-use Rattle.sim_image.specs.Zones.{IsInCode, RoomForCalls, is_in, build_of, ZonesFit, StacksAreApart, BlocksArePlaced}
+use Rattle.sim_image.specs.Zones.{IsInCode, RoomForCalls, HasFewAlarms, is_in, build_of, ZonesFit, StacksAreApart, BlocksArePlaced}
 use Rattle.sim_image.proofs.Data.{symbols_are_apart}
 use Rattle.sim_image.proofs.Following.{follow_from_apart, ends}
 
@@ -85,9 +85,11 @@ module _ (config : Config) (app : App) (map : Map) (bounds : Bounds) (back : ℕ
   elsewhere i (inl h) = let p = inside (code_zone map) i h in let f = code_from in let t = code_to in (omega (arith, p.0, f), omega (arith, p.1, t))
   elsewhere i (inr h) = let p = inside (data_zone map) i h in let f = code_from in let t = code_to in (omega (arith, p.0, f, t), p.1)
 
-  pub fits : HasStacks config app bounds map → RoomForCalls bounds config app → HasSymbols map app → back % 4 ≡ 0 → Fits b
-  fits parts calls has back_aligned = record {
+  pub fits : HasFewAlarms config → HasStacks config app bounds map → RoomForCalls bounds config app → HasSymbols map app → back % 4 ≡ 0 → Fits b
+  fits few parts calls has back_aligned = record {
     few_tasks = z.few_tasks;
+    few_counters = few.0;
+    few_alarms = few.1;
     elsewhere = λ i e. let h = (elsewhere i e).0 in omega (arith, h);
     outside = λ t i l e. let h = elsewhere i e in let s = part_inside parts t l in inl (omega (arith, h.1, s.0));
     apart = λ i e. false_from_ne_true (is_in (data_zone map) i) (λ d. let p = inside (code_zone map) i e in let q = inside (data_zone map) i d in let c = code_to in omega (arith, p.1, q.0, c));
@@ -128,7 +130,7 @@ module _ (config : Config) (app : App) (map : Map) (bounds : Bounds) (back : ℕ
       }
 
 pub zones_fit : ZonesFit
-zones_fit config app map bounds back memory z parts calls has = fits config app map bounds back memory z parts calls has
+zones_fit config app map bounds back memory z few parts calls has = fits config app map bounds back memory z few parts calls has
 
 pub stacks_are_apart : StacksAreApart
 stacks_are_apart config app map bounds back memory z s = stacks_apart config app map bounds back memory z s

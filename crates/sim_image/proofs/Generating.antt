@@ -2,12 +2,12 @@
 use Rattle.std.proofs.Common.{◌≡◌, ◌≢◌, ◌≤◌, ◌<◌, ◌+◌, ◌-◌, ◌*◌, ℕ, zero, suc, List, [], ◌∷◌, length, get_or, refl, sym, ap, subst, ◌∙◌, ◌⊎◌, inl, inr, ⊎_elim, arith}
 use Rattle.std.specs.Prelude.{All, Contains, Some, slice_index}
 use Rattle.std.specs.Prelude as prelude
-use Rattle.std.specs.List.{slice_get}
 use Rattle.std.proofs.lemmas.List.Elements.{All-contains}
 use Rattle.std.proofs.lemmas.List.Sorted.{All-permutation, Contains-permutation}
 use Rattle.std.proofs.lemmas.Option.{get_or_from_slice_get, slice_get_within}
 use Rattle.std.proofs.Math.ListN.{length-map}
 use Rattle.sloth_base.specs.Named.{function, missing, operation, body_of, IsBodyOf}
+use Rattle.sloth_base.specs.Owners.{counter_line}
 use Rattle.sloth_base.specs.ServiceCodes.{code_of}
 use Rattle.sloth_base.specs.declared.app.App.{App}
 use Rattle.sloth_base.specs.declared.app.Call.{Call}
@@ -21,7 +21,6 @@ use Rattle.sloth_base.specs.declared.config.Config.{Config}
 use Rattle.sloth_base.specs.declared.image.Image.{Image}
 use Rattle.sloth_base.specs.declared.image.Mark.{Mark}
 use Rattle.sloth_base.specs.declared.places.Levels.{Levels}
-use Rattle.sloth_region.specs.declared.extent.Extent.{Extent}
 use Rattle.sloth_region.specs.declared.map.Map.{Map}
 use Rattle.rv32_instr.specs.declared.block.Block.{Block}
 use Rattle.rv32_instr.specs.Range.{InRange}
@@ -44,7 +43,7 @@ use Rattle.sim_entries.specs.Generated.{HasOneBody}
 use Rattle.sim_items.specs.Outside.{HasIdle}
 use Rattle.sim_laws.specs.Kernel.{CallsService, IsKnown}
 use Rattle.sim_laws.specs.Kernel.IsKnown.{serves as known_serves}
-use Rattle.sim_laws.specs.Generated.{HasPrologue, IsGenerated}
+use Rattle.sim_laws.specs.Generated.{HasPrologue, HasTick, IsGenerated}
 use Rattle.sim_laws.specs.Items.{HasItems}
 use Rattle.sim_laws.proofs.Items.{marks_found, item_stands}
 use Rattle.sim_laws.proofs.Known.{item_known}
@@ -53,7 +52,7 @@ use Rattle.sloth_link.specs.Linked.{marks_of, code_bytes, block_section, datum_s
 use Rattle.sloth_link.proofs.Written.{code_bytes_length, front_of}
 use Rattle.mem_map.specs.Zones.{code_zone}
 use Rattle.sloth_base.specs.declared.places.Bounds.{Bounds}
-use Rattle.sim_image.specs.Zones.{build_of, IsInCode}
+use Rattle.sim_image.specs.Zones.{build_of, HasFewAlarms, IsInCode}
 use Rattle.sloth_link.specs.Items.{item_block}
 use Rattle.sloth_link.specs.Standing.{ItemsStand}
 use Rattle.sim_image.specs.Generated.{Has, IsBuiltBy, BuiltIsGenerated, BuiltIsInPlace}
@@ -137,6 +136,24 @@ module _ (config : Config) (app : App) (levels : Levels) (map : Map) (bounds : B
         has_item = (has_first config app g.has_items.well_formed (body_of app.funcs t) body.0).inside;
       }
 
+  few_alarms : HasFewAlarms config
+  few_alarms = let range = g.has_items.well_formed.in_range.configuration in (range.few_counters, range.few_alarms)
+
+  tick : (c : ℕ) → c < length config.counters → HasTick b map c
+  tick c l =
+      let h = g.has_code.ticks c l in
+      let a = above h.block h.among in
+      let at = h.at in
+      let handler = slice_index map.handlers (counter_line c) in
+      let e : handler ≡ 0x8000_0000 + (handler - 0x8000_0000) = omega (arith, a, at) in
+      record {
+        code = h.block.code;
+        is_tick = h.does;
+        offset = handler - 0x8000_0000;
+        is = e;
+        placed = placed h.block (handler - 0x8000_0000) h.among (h.at ∙ e);
+      }
+
   tops : (t : ℕ) → t < length config.tasks → 0x8000_0000 + b.top t ≡ slice_index map.tops t
   tops t l =
       let s = (part_inside config app map bounds back image.memory g.linked.zones g.linked.has_stacks t l).0 in
@@ -186,7 +203,7 @@ module _ (config : Config) (app : App) (levels : Levels) (map : Map) (bounds : B
   -- the block of a service that is called, apart from the call
   module _ (func item : ℕ) (is : IsItem app func item) (call : Call) (e : operation app func item ≡ op.Serve call) where
     h : Has blocks (block_address map.places call.service call.object) (opening (block_address map.places call.service call.object) (code_of call.service)
-        ∷ further_marks call.service (block_address map.places call.service call.object)) (ServesCall call.service call.object levels)
+        ∷ further_marks call.service (block_address map.places call.service call.object)) (ServesCall config call.service call.object levels)
     h = g.has_code.services func item call is e
 
     abbrev address : ℕ
@@ -199,7 +216,7 @@ module _ (config : Config) (app : App) (levels : Levels) (map : Map) (bounds : B
     address_is = let a = above h.block h.among in let at = h.at in omega (arith, a, at)
 
     some : 0 < length h.block.code
-    some = some_code call.service call.object levels h.block.code h.does
+    some = some_code config call.service call.object levels h.block.code h.does
 
     own : Contains h.block.marks (opening address (code_of call.service))
     own = subst (λ (l : List Mark). Contains l (opening address (code_of call.service))) (sym h.marks_are) (0, omega arith, refl)
@@ -272,7 +289,7 @@ module _ (config : Config) (app : App) (levels : Levels) (map : Map) (bounds : B
       own_back = subst (λ (l : List Mark). Contains l back_at) (sym marks_are) (1, omega arith, refl)
 
       yields : Yields h.block.code
-      yields = subst (λ v. ServesCall v call.object levels h.block.code) s h.does
+      yields = subst (λ v. ServesCall config v call.object levels h.block.code) s h.does
 
       back_is : back ≡ 0x8000_0000 + (offset + way_back)
       back_is = let i = g.back_is func item call is e s in let a = address_is in omega (arith, i, a)
@@ -305,16 +322,15 @@ module _ (config : Config) (app : App) (levels : Levels) (map : Map) (bounds : B
 
   pub generated : IsGenerated b image levels map
   generated = record {
-    fits = zones_fit config app map bounds back image.memory g.linked.zones g.linked.has_stacks g.linked.calls_fit g.linked.has_symbols g.back_aligned;
+    fits = zones_fit config app map bounds back image.memory g.linked.zones few_alarms g.linked.has_stacks g.linked.calls_fit g.linked.has_symbols g.back_aligned;
     well_formed = g.has_items.well_formed;
     are_levels = g.are_levels;
     places = refl;
     idle_is = refl;
     tops = tops;
-    no_counters = g.no_counters;
     tasks = ap length g.names.tasks ∙ length-map config.tasks (λ (d : TaskDecl). d.name);
     counters = g.counters;
-    is_image = linked_is_image map config app bounds size blocks symbols image back g.linked;
+    is_image = linked_is_image map config app bounds size blocks symbols image back g.has_items.well_formed.in_range.configuration g.linked;
     bytes = g.bytes;
     vectors = g.has_code.vectors.block.code;
     jumps = g.has_code.vectors.does;
@@ -324,6 +340,7 @@ module _ (config : Config) (app : App) (levels : Levels) (map : Map) (bounds : B
     boot_placed = placed g.has_code.boot.block 0x480 g.has_code.boot.among g.has_code.boot.at;
     idle = idle;
     prologues = prologue;
+    ticks = tick;
     stacks = stacks_are_apart config app map bounds back image.memory g.linked.zones g.linked.has_stacks;
     nested = parts_nested config app map bounds back image.memory g.linked.zones g.linked.has_stacks;
     items = λ func item l. item_stands b image func item has_items (item_of func item l) (range func item (item_of func item l));

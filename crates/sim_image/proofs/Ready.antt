@@ -7,7 +7,7 @@ use Rattle.sim_image.specs.Zones.{build_of, BlocksCanRun}
 use Rattle.sim_image.proofs.Fitting.{zones_fit, blocks_are_placed}
 
 pub blocks_can_run : BlocksCanRun
-blocks_can_run config app map bounds back memory blocks core z parts calls y ba r c s some controller registers zero lines same = λ k d l.
+blocks_can_run config app map bounds back memory blocks core z few parts calls y ba r c s some controller registers zero lines same = λ k d l.
     let block : Block = slice_index_or blocks k d in
     let b = build_of config app map bounds back memory in
     let p = blocks_are_placed config app map bounds back memory blocks z r c s k d l in
@@ -17,7 +17,7 @@ blocks_can_run config app map bounds back memory blocks core z parts calls y ba 
       zero = zero;
       lines = lines;
       aligned = p.aligned;
-      behind = code_behind b (block.at - 0x8000_0000) block.code (zones_fit config app map bounds back memory z parts calls y ba) (some k d l) p;
+      behind = code_behind b (block.at - 0x8000_0000) block.code (zones_fit config app map bounds back memory z few parts calls y ba) (some k d l) p;
       inside = p.inside;
       placed = placed_in b core.ram (block.at - 0x8000_0000) block.code same p;
     }

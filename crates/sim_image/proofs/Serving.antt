@@ -1,5 +1,6 @@
 -- The code of a service.
 use Rattle.std.proofs.Common.{◌<◌, ℕ, List, length, ap, arith}
+use Rattle.sloth_base.specs.declared.config.Config.{Config}
 use Rattle.sloth_base.specs.declared.places.Levels.{Levels}
 use Rattle.sloth_base.specs.declared.service.Service.{Service}
 use Rattle.sloth_base.specs.declared.service.Service.TheVariants as service
@@ -7,10 +8,6 @@ use Rattle.rv32_instr.specs.declared.InstrKind.{InstrKind}
 use Rattle.service_blocks.specs.Calls.{ServesCall}
 
 -- the code of a service has an instruction
-pub some_code : (s : Service) (object : ℕ) (levels : Levels) (code : List InstrKind) → ServesCall s object levels code → 0 < length code
-some_code service.Schedule object levels code h = let n = ap length h.masks.1 in omega (arith, n)
-some_code service.SetRelAlarm object levels code h = absurd h
-some_code service.SetAbsAlarm object levels code h = absurd h
-some_code service.CancelAlarm object levels code h = absurd h
-some_code service.GetAlarm object levels code h = absurd h
-some_code s object levels code h = let n = ap length h.masks.1 in omega (arith, n)
+pub some_code : (config : Config) (s : Service) (object : ℕ) (levels : Levels) (code : List InstrKind) → ServesCall config s object levels code → 0 < length code
+some_code config service.Schedule object levels code h = let n = ap length h.masks.1 in omega (arith, n)
+some_code config s object levels code h = let n = ap length h.masks.1 in omega (arith, n)

@@ -3,7 +3,7 @@ use Rattle.std.specs.Prelude.{ℕ, ◌+◌, ◌%◌, ◌<◌, ◌≡◌, List, [
 use Rattle.std.specs.Prelude as prelude
 use Rattle.std.specs.List.Sorted.{IsPermutation, IsStrictlyIncreasing}
 use Rattle.sloth_base.specs.Named.{operation}
-use Rattle.sloth_base.specs.ConfigRange.{HasNoCounters}
+use Rattle.sloth_base.specs.Owners.{counter_line}
 use Rattle.sloth_base.specs.ServiceCodes.{code_of}
 use Rattle.sloth_base.specs.declared.app.App.{App}
 use Rattle.sloth_base.specs.declared.app.Call.{Call}
@@ -33,6 +33,7 @@ use Rattle.block_parts.specs.Marks.{opening}
 use Rattle.service_gen.specs.Schedule.{way_back}
 use Rattle.service_blocks.specs.Calls.{ServesCall}
 use Rattle.sim_relation.specs.Bounds.{AreBelow}
+use Rattle.sim_ticks.specs.TickSteps.{IsTick}
 use Rattle.sim_laws.specs.Generated.{IsGenerated}
 use Rattle.sloth_link.specs.declared.datum.Datum.{Datum}
 use Rattle.sloth_link.specs.Linked.{marks_of, addresses}
@@ -53,14 +54,15 @@ pub record Has (blocks : List Block) (address : ℕ) (marks : List Mark) (Does :
 -- the code that every kernel has is among the blocks, by the contracts of the generators
 pub record HasCode (config : Config) (app : App) (levels : Levels) (map : Map) (blocks : List Block) : Type 0 where
   pub vectors : Has blocks vectors_base [] (AreJumps 32 map.handlers)
-  pub boot : Has blocks boot_base [] (Boots config.tasks levels.task map.idle)
+  pub boot : Has blocks boot_base [] (Boots config.tasks (length config.counters) levels.task levels.top map.idle)
   pub idle : Has blocks map.idle (idle_mark map.idle ∷ []) Idles
   pub prologues : (t : ℕ) → t < length config.tasks → Has blocks (slice_index map.handlers t) [] (EntersTask t config app levels map)
+  pub ticks : (c : ℕ) → c < length config.counters → Has blocks (slice_index map.handlers (counter_line c)) [] (IsTick config c)
   -- the code of each service that an item calls
   pub services : (func item : ℕ) (call : Call) → IsItem app func item → operation app func item ≡ op.Serve call
       → Has blocks (block_address map.places call.service call.object)
       (opening (block_address map.places call.service call.object) (code_of call.service)
-      ∷ further_marks call.service (block_address map.places call.service call.object)) (ServesCall call.service call.object levels)
+      ∷ further_marks call.service (block_address map.places call.service call.object)) (ServesCall config call.service call.object levels)
 
 -- each item of the task code is a block of its own, at addresses that agree with the lengths, and no other block has its mark
 pub record HasItemBlocks (config : Config) (app : App) (places : Places) (blocks : List Block) : Type 0 where
@@ -73,7 +75,6 @@ pub record HasItemBlocks (config : Config) (app : App) (places : Places) (blocks
 pub record IsBuiltBy (config : Config) (app : App) (levels : Levels) (map : Map) (bounds : Bounds) (back size : ℕ) (blocks : List Block) (symbols : List Datum)
     (image : Image) : Type 0 where
   pub are_levels : AreLevels config levels
-  pub no_counters : HasNoCounters config
   pub counters : image.counters ≡ prelude.map (λ c. c.name) config.counters
   pub linked : IsLinkedIn map config app bounds size blocks symbols image.memory
   pub has_code : HasCode config app levels map blocks

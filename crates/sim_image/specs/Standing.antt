@@ -1,4 +1,4 @@
--- What is linked is an image of what is built: its service words are zero, and its symbols stand.
+-- What is linked is an image of what is built: the words of its alarms stand, all other service words are zero, and its symbols stand.
 use Rattle.std.specs.Prelude.{ℕ, ◌≤◌, ◌≡◌, List, All}
 use Rattle.sloth_base.specs.declared.app.App.{App}
 use Rattle.sloth_base.specs.declared.config.Config.{Config}
@@ -6,13 +6,14 @@ use Rattle.sloth_base.specs.declared.image.Image.{Image}
 use Rattle.sloth_region.specs.declared.map.Map.{Map}
 use Rattle.rv32_instr.specs.declared.block.Block.{Block}
 use Rattle.rv32_instr.specs.Range.{InRange}
+use Rattle.sloth_base.specs.ConfigRange as config_range
 use Rattle.sim_entries.specs.Boot.{IsImage}
 use Rattle.sloth_link.specs.declared.datum.Datum.{Datum}
 use Rattle.sloth_link.specs.Linked.{BlockStands, AreLinked, sections_of, HaveRoom}
 use Rattle.mem_map.specs.Zones.{HasZones}
 use Rattle.mem_map.specs.Stacks.{HasStacks}
 use Rattle.sloth_base.specs.declared.places.Bounds.{Bounds}
-use Rattle.sloth_link.specs.Symbols.{data_of}
+use Rattle.sloth_link.specs.Image.{all_data}
 use Rattle.sim_image.specs.Symbols.{HasSymbols}
 use Rattle.sim_image.specs.Zones.{IsInCode, RoomForCalls, build_of}
 
@@ -26,7 +27,7 @@ pub record IsLinkedIn (map : Map) (config : Config) (app : App) (bounds : Bounds
   pub in_code : All (IsInCode map) blocks
   pub in_range : All (λ b. All InRange b.code) blocks
   pub has_symbols : HasSymbols map app
-  pub symbols_are : symbols ≡ data_of map.places.symbols app.symbols
+  pub data_are : symbols ≡ all_data config app map
   pub room : HaveRoom size blocks symbols
   pub linked : AreLinked size (sections_of blocks symbols) memory
   pub code : All (BlockStands memory) blocks
@@ -34,4 +35,4 @@ pub record IsLinkedIn (map : Map) (config : Config) (app : App) (bounds : Bounds
 -- it is an image of what is built
 abbrev pub LinkedIsImage : Type 0
 LinkedIsImage = (map : Map) (config : Config) (app : App) (bounds : Bounds) (size : ℕ) (blocks : List Block) (symbols : List Datum) (image : Image) (back : ℕ)
-    → IsLinkedIn map config app bounds size blocks symbols image.memory → IsImage (build_of config app map bounds back image.memory) image
+    → config_range.InRange config → IsLinkedIn map config app bounds size blocks symbols image.memory → IsImage (build_of config app map bounds back image.memory) image

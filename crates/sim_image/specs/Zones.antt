@@ -54,12 +54,16 @@ pub record IsInCode (map : Map) (block : Block) : Type 0 where
   pub from : (code_zone map).base ≤ block.at
   pub to : block.at + 4 * length block.code ≤ (code_zone map).base + (code_zone map).len
 
+-- a configuration has at most 2 counters and 32 alarms: the service words have room for theirs
+abbrev pub HasFewAlarms : Config → Type 0
+HasFewAlarms config = (length config.counters ≤ 2) × (length config.alarms ≤ 32)
+
 -- ---- the laws: one lemma each
 
 -- what is built fits where the image has zones
 abbrev pub ZonesFit : Type 0
-ZonesFit = (config : Config) (app : App) (map : Map) (bounds : Bounds) (back : ℕ) (memory : List ℕ) → HasZones map config → HasStacks config app bounds map
-    → RoomForCalls bounds config app → HasSymbols map app → back % 4 ≡ 0 → Fits (build_of config app map bounds back memory)
+ZonesFit = (config : Config) (app : App) (map : Map) (bounds : Bounds) (back : ℕ) (memory : List ℕ) → HasZones map config → HasFewAlarms config
+    → HasStacks config app bounds map → RoomForCalls bounds config app → HasSymbols map app → back % 4 ≡ 0 → Fits (build_of config app map bounds back memory)
 
 -- the parts of two tasks that may have something there at once are apart
 abbrev pub StacksAreApart : Type 0
@@ -76,7 +80,7 @@ BlocksArePlaced = (config : Config) (app : App) (map : Map) (bounds : Bounds) (b
 -- every block can run wherever the bytes of code are those that were linked
 abbrev pub BlocksCanRun : Type 0
 BlocksCanRun = (config : Config) (app : App) (map : Map) (bounds : Bounds) (back : ℕ) (memory : List ℕ) (blocks : List Block) (core : Core)
-    → HasZones map config
+    → HasZones map config → HasFewAlarms config
     → HasStacks config app bounds map → RoomForCalls bounds config app → HasSymbols map app → back % 4 ≡ 0 → All (λ b. All InRange b.code) blocks
     → All (IsInCode map) blocks → All (BlockStands memory) blocks → All (λ b. 0 < length b.code) blocks → core.controller ≡ true
     → length core.registers ≡ 32 → slice_index core.registers 0 ≡ 0 → length core.pending ≡ 32

@@ -11,7 +11,7 @@ use Rattle.sloth_base.specs.Machine.{State}
 use Rattle.sloth_base.specs.Arrivals.{moments}
 use Rattle.sloth_base.specs.Owners.{owners_in, AreOwned}
 use Rattle.rv32_machine.specs.Run.{after_from, arrived, run_from}
-use Rattle.observe.specs.Pieces.{Piece, pieces, cut_off}
+use Rattle.observe.specs.Pieces.{pieces, cut_off}
 use Rattle.observe.specs.Observe.{observe, piece_events, found_admits, admission}
 use Rattle.observe.proofs.Cutting.{pieces-append, cut_off-append}
 use Rattle.observe.proofs.Moments.{moments-none}

@@ -88,7 +88,8 @@ kept_all (line ∷ lines) s u f = let r = kept_all lines (with_arrival line s) u
 clock_one : (t : ℕ) (s : System) → (admitted_state t s).clock ≡ s.clock
 clock_one t s = admit_cases (λ z. z.clock ≡ s.clock) t s (λ e. refl) (λ n. refl)
 
-same_clock : (c : Config) (lines : List ℕ) (s : System) → length c.tasks ≤ first_counter_line → AreTasks (owners_in c) lines → (with_admits lines s).clock ≡ s.clock
+-- arrivals of tasks leave counters and alarms as they are
+pub same_clock : (c : Config) (lines : List ℕ) (s : System) → length c.tasks ≤ first_counter_line → AreTasks (owners_in c) lines → (with_admits lines s).clock ≡ s.clock
 same_clock c [] s few h = refl
 same_clock c (line ∷ lines) s few h =
     same_clock c lines (with_arrival line s) few h.1 ∙ ap (λ (z : System). z.clock) (task_arrival line s (tasks_below c line few h.0)) ∙ clock_one line s

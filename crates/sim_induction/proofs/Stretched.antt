@@ -1,5 +1,5 @@
 -- The laws of stretches, from what contracts say of the code that runs.
-use Rattle.std.proofs.Common.{◌≡◌, ℕ, ◌+◌, ◌-◌, ◌<◌, ◌≤◌, List, [], ◌∷◌, ◌++◌, length, sym, ap, ◌∙◌, subst, arith, Bool, true, false, cond, Option, Some, None, nat_le, suc}
+use Rattle.std.proofs.Common.{◌≡◌, ℕ, ◌+◌, ◌-◌, ◌<◌, ◌≤◌, List, [], ◌++◌, length, sym, ap, ◌∙◌, subst, arith, Bool, true, false, cond, Some, None, nat_le, suc}
 use Rattle.std.specs.Prelude.{◌&&◌, ◌==◌, map, IfSome, slice_index, Contains}
 use Rattle.std.proofs.lemmas.Bool.{ne_eqb, eq-eqb, lt-ltb, le-leb}
 use Rattle.sloth_base.specs.declared.service.Service.{Service}

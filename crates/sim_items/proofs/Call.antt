@@ -272,7 +272,7 @@ module _ (b : Build) (view : View) (arrivals : List Arrival) (count : ℕ) (stat
         let p = in_part in
         let keeps = part_keeps b here.fits ram s2 t is_active.declared (inl is_active.active) stands.apart spot value p.0 p.1 in
         record {
-          machine = kept_machine b m stands.fixed (0x8000_0000 + offset) y new refl refl keeps.long;
+          machine = kept_machine b m stands.fixed (0x8000_0000 + offset) y new refl refl stands.fixed.bases keeps.long;
           level = refl;
           kept = keeps;
           data_stay = part_data b here.fits ram s2 t is_active.declared (inl is_active.active) stands.apart spot value p.0 p.1;

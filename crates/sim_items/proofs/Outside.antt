@@ -159,5 +159,5 @@ module _ (b : Build) (view : View) (arrivals : List Arrival) (progress : State �
       one_instruction n (event.Idle ∷ []) (settled_state s1) stays (ap touched n_is ∙ idle.idles.untouched idle.offset n.core placed)
           (marked_shows n idle.mark (event.Idle ∷ []) (ap (mark_at view) runs_idle.pc ∙ idle.marked)
           (ap (λ k. events_of_kind k view idle.mark (seen_at given count state n)) idle.shows))
-          (now.tidy.booted, none_due b n s1 now few here.none empty, quiet b n s1 now, refl) (λ e. cc) (stands_fresh b n s1 [] now),
+          (now.tidy.booted, none_due b n s1 now few here.none empty, quiet b n s1 now here.none, refl) (λ e. cc) (stands_fresh b n s1 [] now),
     )

@@ -41,6 +41,8 @@ pub record Wrote (core own : List ℕ) (rd value : ℕ) (core_now own_now : List
   pub long : length core_now ≡ 32
   pub zero : slice_index core_now 0 ≡ slice_index core 0
   pub x2 : slice_index core_now 2 ≡ slice_index core 2
+  pub x3 : slice_index core_now 3 ≡ slice_index core 3
+  pub x4 : slice_index core_now 4 ≡ slice_index core 4
   pub own_long : length own_now ≡ 25
   pub same : (i : ℕ) → i < 25 → slice_index own_now i ≡ slice_index core_now (i + 5)
   pub shows : seen_in rd value ≡ slice_index core_now rd
@@ -51,7 +53,7 @@ pub wrote : (core : Core) (own : List ℕ) (rd value : ℕ) → length core.regi
     → Wrote core.registers own rd value (with_register core rd value).registers (meaning.with_register own rd value)
 wrote core own rd value long zero_is own_long same (inl e) =
     subst (λ r. Wrote core.registers own r value (with_register core r value).registers (meaning.with_register own r value)) (sym e)
-    (record { long = long; zero = refl; x2 = refl; own_long = own_long; same = same; shows = sym zero_is })
+    (record { long = long; zero = refl; x2 = refl; x3 = refl; x4 = refl; own_long = own_long; same = same; shows = sym zero_is })
 wrote core own rd value long zero_is own_long same (inr h) =
     let low = h.0 in
     let high = h.1 in
@@ -61,6 +63,8 @@ wrote core own rd value long zero_is own_long same (inr h) =
       long = length-set core.registers rd value ∙ long;
       zero = get_or-set_other core.registers rd 0 value 0 (λ e. omega arith);
       x2 = get_or-set_other core.registers rd 2 value 0 (λ e. omega arith);
+      x3 = get_or-set_other core.registers rd 3 value 0 (λ e. omega arith);
+      x4 = get_or-set_other core.registers rd 4 value 0 (λ e. omega arith);
       own_long = length-set own (rd - 5) value ∙ own_long;
       same = λ i l.
           ⊎_elim

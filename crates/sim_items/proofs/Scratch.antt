@@ -20,7 +20,8 @@ pub registers_pass : (b : Build) (n : State) (s : System) (t : ℕ) → Stands b
     → Position b n.core.ram t (task s t) (thread_of (at offset (record n.core { registers = registers }))) place
     → b.low t + context_bytes ≤ place → place % 4 ≡ 0 → Passes b n (at offset (record n.core { registers = registers })) s t
 registers_pass b n s t now offset registers long same place x2 position room aligned = record {
-  machine = kept_machine b n now.fixed (0x8000_0000 + offset) registers n.core.ram long (same 0 (omega arith) (λ e. omega arith)) refl;
+  machine = kept_machine b n now.fixed (0x8000_0000 + offset) registers n.core.ram long (same 0 (omega arith) (λ e. omega arith))
+      (same 3 (omega arith) (λ e. omega arith) ∙ now.fixed.bases.0, same 4 (omega arith) (λ e. omega arith) ∙ now.fixed.bases.1) refl;
   level = refl;
   kept = same_keeps b n.core.ram s t;
   data_stay = λ i d. refl;

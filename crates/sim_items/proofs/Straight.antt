@@ -113,6 +113,8 @@ module _ (b : Build) (view : View) (state : State) (s : System) (t : ℕ) (fits 
       controller = core_kept (λ c. c.controller ≡ state.core.controller) (λ rs. refl);
       open_to_lines = core_kept (λ c. c.mie ≡ state.core.mie) (λ rs. refl) ∙ k.fixed.open_to_lines;
       previous = core_kept (λ c. c.mpie ≡ state.core.mpie) (λ rs. refl) ∙ k.fixed.previous;
+      same_level = core_kept (λ c. c.plevel ≡ c.ilevel) (λ rs. k.fixed.same_level);
+      bases = (w.x3 ∙ k.fixed.bases.0, w.x4 ∙ k.fixed.bases.1);
     }
 
     next_pc : next.pc ≡ item_address b.places frame.func (frame.item + 1)

@@ -51,7 +51,7 @@ module _ (b : Build) (state : State) (s : System) (t : ℕ) (fits : Fits b) (k :
 
     task_step : TaskStep b state next s t own_now s.symbols
     task_step = record {
-      machine = kept_machine b state k.fixed next.pc state.core.registers state.core.ram refl refl refl;
+      machine = kept_machine b state k.fixed next.pc state.core.registers state.core.ram refl refl k.fixed.bases refl;
       level = refl;
       low = λ i x y. refl;
       code = λ i h. refl;

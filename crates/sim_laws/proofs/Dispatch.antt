@@ -7,6 +7,8 @@ use Rattle.sloth_base.specs.declared.app.Call.{Call}
 use Rattle.sloth_base.specs.declared.app.Op.TheVariants as op
 use Rattle.sloth_base.specs.Choose.{choose}
 use Rattle.sloth_base.specs.Machine.{State}
+use Rattle.sloth_base.specs.Owners.{counter_line, owners_in}
+use Rattle.sloth_base.proofs.Owners.{IsCounterLine}
 use Rattle.rv32_machine.specs.Run.{arrived}
 use Rattle.masked_code.specs.Trace.{Trace, late}
 use Rattle.rv32_expand.specs.Expansion.{expansion}
@@ -27,7 +29,7 @@ use Rattle.sim_relation.specs.Position.{Position, Standing, Owing, InExpansion, 
 use Rattle.sim_relation.specs.Context.{Running, RunsIdle, RunsTask}
 use Rattle.sim_relation.specs.Stands.{Stands, AreActive, IsActive}
 use Rattle.sim_relation.proofs.Arrive.{stands_arrived}
-use Rattle.sim_relation.proofs.Choice.{taken_declared, taken_ready}
+use Rattle.sim_relation.proofs.Choice.{taken_cases, taken_ready}
 use Rattle.sim_relation.proofs.Framing.{position_elim}
 use Rattle.sim_relation.proofs.Tops.{falling_head}
 use Rattle.sim_entries.specs.Range.{Sane}
@@ -49,6 +51,9 @@ use Rattle.sim_services.proofs.ScheduleStretch.{back_stretches, yields_stretches
 use Rattle.sim_services.proofs.TerminateStretch.{terminate_stretches}
 use Rattle.sim_events.proofs.Stretches as on_events
 use Rattle.sim_events.proofs.WaitStretch.{wait_stretches}
+use Rattle.sim_ticks.specs.AlarmSteps.{OpensAlarm}
+use Rattle.sim_ticks.proofs.AlarmStretches.{relative_stretches, absolute_stretches, cancel_stretches, told_stretches}
+use Rattle.sim_ticks.proofs.TickRoute.{tick_advances}
 use Rattle.sim_laws.specs.Bounded.{IsBounded}
 use Rattle.sim_laws.specs.Kernel.{Kernel, CallsService, Computes, Invokes, IsKnown}
 use Rattle.sim_laws.specs.Kernel.IsKnown.{computes, flows, invokes, returns, serves}
@@ -68,6 +73,7 @@ use Rattle.osek_scheduler.specs.Steps.{IsAt}
 use Rattle.prio_levels.specs.Levels.{AreLevels}
 use Rattle.rv32_instr.specs.declared.InstrKind.{InstrKind}
 use Rattle.service_blocks.specs.Calls.{ServesCall}
+use Rattle.alarm_gen.specs.Block.{ServesAlarm}
 use Rattle.event_gen.specs.ClearEvent.{ClearsEvents}
 use Rattle.event_gen.specs.GetEvent.{TellsEvents}
 use Rattle.event_gen.specs.SetEvent.{SetsEvents}
@@ -320,8 +326,17 @@ module _ (b : Build) (image : Image) (kernel : Kernel b image) where
               names = names served is;
             }
 
+            abbrev opens_alarm : (served : Service) → a.call.service ≡ served → ends_for_good served ≡ false
+                → StandsAtBlock b view served object (ServesAlarm b.config served object) → OpensAlarm b view n s1 t served
+            opens_alarm served is goes block = record {
+              range = kernel.well_formed.in_range.configuration;
+              goes_on = opens_on served (ServesAlarm b.config served) is goes block;
+              words = bounded.core.registers;
+              values = steady.valid.clock.values;
+            }
+
             served : (levels : Levels) → AreLevels b.config levels → (called : Service) → a.call.service ≡ called
-                → StandsAtBlock b view called object (ServesCall called object levels) → Goes
+                → StandsAtBlock b view called object (ServesCall b.config called object levels) → Goes
             served levels are service.TerminateTask is block =
                 stretch (terminate_stretches b view arrivals count state s t kernel.fits setting after_boot stands (record {
                   opens = opens service.TerminateTask (λ o. Terminates) is block;
@@ -377,11 +392,14 @@ module _ (b : Build) (image : Image) (kernel : Kernel b image) where
                   holds_nothing = pauses_holding_nothing (inl is);
                   words = bounded.core.registers;
                 }))
-            -- no code is generated of a service on alarms
-            served levels are service.SetRelAlarm is block = absurd block.serves
-            served levels are service.SetAbsAlarm is block = absurd block.serves
-            served levels are service.CancelAlarm is block = absurd block.serves
-            served levels are service.GetAlarm is block = absurd block.serves
+            served levels are service.SetRelAlarm is block =
+                stretch (relative_stretches b view arrivals count state s t kernel.fits setting after_boot stands (opens_alarm service.SetRelAlarm is refl block))
+            served levels are service.SetAbsAlarm is block =
+                stretch (absolute_stretches b view arrivals count state s t kernel.fits setting after_boot stands (opens_alarm service.SetAbsAlarm is refl block))
+            served levels are service.CancelAlarm is block =
+                stretch (cancel_stretches b view arrivals count state s t kernel.fits setting after_boot stands (opens_alarm service.CancelAlarm is refl block))
+            served levels are service.GetAlarm is block =
+                stretch (told_stretches b view arrivals count state s t kernel.fits setting after_boot stands (opens_alarm service.GetAlarm is refl block))
 
           at_block : AtBlock b p.frame (thread_of n) → IsKnown b view p.frame.func p.frame.item → Goes
           at_block a (computes h) = absurd (subst (IsStraight b.app p.frame.func) a.is h.straight)
@@ -392,7 +410,7 @@ module _ (b : Build) (image : Image) (kernel : Kernel b image) where
               let same : op.Serve h.call ≡ op.Serve a.call = sym h.is ∙ a.is in
               let call : h.call ≡ a.call = cc in
               served a h.levels h.are_levels a.call.service refl
-              (subst (λ (c : Call). StandsAtBlock b view c.service c.object (ServesCall c.service c.object h.levels)) call h.block)
+              (subst (λ (c : Call). StandsAtBlock b view c.service c.object (ServesCall b.config c.service c.object h.levels)) call h.block)
 
           standing : Goes
           standing = ⊎_elim (λ (e : InExpansion b (task s1 t) p.frame (thread_of n)). in_item e known) (λ (a : AtBlock b p.frame (thread_of n)). at_block a known) q.here
@@ -452,17 +470,36 @@ module _ (b : Build) (image : Image) (kernel : Kernel b image) where
     sane : Sane n
     sane = record { pc = bounded.pc; registers = bounded.core.registers; bytes = bounded.core.bytes; level = bounded.core.level }
 
-    -- a line is taken: its task starts anew, or goes on behind its wait
-    enters : (t : ℕ) → choose n.core ≡ Some t → Goes
-    enters t chosen =
-        let l = taken_declared b n s1 k t chosen in
+    -- a task's line is taken: the task starts anew, or goes on behind its wait
+    enters : (t : ℕ) → t < length b.config.tasks → choose n.core ≡ Some t → Goes
+    enters t l chosen =
         let r = taken_ready b n s1 k few t l chosen in
         enter_advances b view arrivals setting kernel.fits count after_boot state s stands sane t l chosen (basic_anew b.config b.app s1 t steady.valid l r)
         (λ fresh u h ne alive. kernel.stacks t u l h ne (meets b n s1 k few steady.valid steady.owing t l chosen u h alive)) (kernel.prologues t l) (progress_in b)
+
+    -- a counter's line is taken: the counter ticks
+    ticks : (c : ℕ) → c < length b.config.counters → choose n.core ≡ Some (counter_line c) → Goes
+    ticks c l chosen =
+        tick_advances b view arrivals setting kernel.fits count after_boot state s stands c chosen
+        (record {
+          range = kernel.well_formed.in_range.configuration;
+          declared = l;
+          stands = k;
+          value = steady.valid.clock.values c;
+          bytes = bounded.core.bytes;
+        })
+        (kernel.ticks c l) (progress_in b)
+
+    takes : (line : ℕ) → choose n.core ≡ Some line → Goes
+    takes line chosen =
+        ⊎_elim (λ (l : line < length b.config.tasks). enters line l chosen)
+        (λ (found : (c : ℕ) × IsCounterLine (owners_in b.config) line c).
+        ticks found.0 found.1.declared (subst (λ x. choose n.core ≡ Some x) found.1.is chosen))
+        (taken_cases b n s1 k line chosen)
 
     pub advance : Advances (setting_of b view arrivals) (Stands b) (progress_in b) count state s
     advance = by (choose n.core) refl
       where
         by : (o : Option ℕ) → choose n.core ≡ o → Goes
-        by (Some t) e = enters t e
+        by (Some line) e = takes line e
         by None e = by_stack e k.stack refl

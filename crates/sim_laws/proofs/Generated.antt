@@ -2,6 +2,7 @@
 use Rattle.std.proofs.Common.{◌≡◌, ℕ, zero, suc, ◌+◌, ◌*◌, ◌<◌, ◌≤◌, ℤ, List, [], ◌∷◌, length, sym, ap, ◌∙◌, subst, arith, true}
 use Rattle.std.specs.Prelude.{Some, slice_index, slice_index_or}
 use Rattle.sloth_base.specs.declared.image.Image.{Image}
+use Rattle.sloth_base.specs.Owners.{counter_line}
 use Rattle.sloth_base.specs.declared.places.Levels.{Levels}
 use Rattle.sloth_region.specs.declared.map.Map.{Map}
 use Rattle.rv32_instr.specs.declared.InstrKind.{InstrKind}
@@ -19,6 +20,7 @@ use Rattle.sim_relation.specs.Placed.{IsPlaced}
 use Rattle.sim_entries.specs.Codes.{PrologueStands}
 use Rattle.sim_entries.specs.Generated.{IsBuiltFrom}
 use Rattle.sim_entries.proofs.Generated.{enters_built}
+use Rattle.sim_ticks.specs.TickSteps.{TickStands}
 use Rattle.sim_laws.specs.Kernel.{Kernel}
 use Rattle.sim_laws.specs.Generated.{IsGenerated}
 
@@ -73,11 +75,25 @@ module _ (b : Build) (image : Image) (levels : Levels) (map : Map) (g : IsGenera
         has_item = p.has_item;
       }
 
+  tick : (c : ℕ) → c < length b.config.counters → TickStands b c
+  tick c l =
+      let few = g.fits.few_counters in
+      let p = g.ticks c l in
+      let v = vector_of b map.handlers g.vectors (counter_line c) (omega (arith, few, l)) g.jumps g.vectors_placed in
+      record {
+        code = p.code;
+        is_tick = p.is_tick;
+        offset = p.offset;
+        placed = p.placed;
+        jump = v.jump;
+        vector_word = record { aligned = omega arith; inside = omega (arith, few, l); is_code = v.is_code; placed = (v.placed, tt) };
+        to_code = v.target_is ∙ p.is;
+      }
+
   pub generated_kernel : Kernel b image
   generated_kernel = record {
     fits = g.fits;
     well_formed = g.well_formed;
-    no_counters = g.no_counters;
     tasks = g.tasks;
     counters = g.counters;
     is_image = g.is_image;
@@ -86,11 +102,13 @@ module _ (b : Build) (image : Image) (levels : Levels) (map : Map) (g : IsGenera
       levels = levels.task;
       ranks = built.ranks;
       code = g.boot;
-      boots = subst (λ i. Boots b.config.tasks levels.task i g.boot) (sym g.idle_is) g.boots;
+      boots = subst (λ i. Boots b.config.tasks (length b.config.counters) levels.task (length b.config.tasks) i g.boot) (sym g.idle_is)
+          (subst (λ top. Boots b.config.tasks (length b.config.counters) levels.task top map.idle g.boot) built.highest g.boots);
       placed = g.boot_placed;
     };
     idle = g.idle;
     prologues = prologue;
+    ticks = tick;
     stacks = g.stacks;
     nested = g.nested;
     items = g.items;

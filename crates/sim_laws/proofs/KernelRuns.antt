@@ -127,7 +127,7 @@ module _ (b : Build) (image : Image) (kernel : Kernel b image) where
 
     booting : BootLaw (setting_of b view arrivals) R (start image)
     booting =
-        let law = boot_stretch b view arrivals setting image kernel.fits kernel.no_counters kernel.is_image kernel.boot in
+        let law = boot_stretch b view arrivals setting image kernel.fits kernel.is_image kernel.boot in
         boot_with (setting_of b view arrivals) setting (Stands b) IsBounded (IsSteady b.config b.app) (progress_in b) (bounds_stay arrivals) (steady_stays b.config b.app kernel.well_formed)
         (start image) law (sym (booted_admits (late law.trace) law.after) ∙ law.related.tidy.booted)
         (start_bounded image kernel.bytes) (opening_steady b.config b.app kernel.well_formed)

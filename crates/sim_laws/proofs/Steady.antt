@@ -1,6 +1,6 @@
 -- With well-formed task code each event keeps a system valid; what follows from that for the routines.
 use Rattle.std.proofs.Common.{◌≡◌, ℕ, ◌<◌, List, [], ◌++◌, length, refl, sym, ap, ◌∙◌, subst, true, false, inl, inr}
-use Rattle.std.specs.Prelude.{◌-◌, ◌⊎◌, get_or, not, ◌&&◌}
+use Rattle.std.specs.Prelude.{◌⊎◌, get_or, not, ◌&&◌}
 use Rattle.code_rules.specs.Code.{Ends, Pauses}
 use Rattle.std.proofs.Math.ListN.{get_or-map}
 use Rattle.std.proofs.Math.Bool.{and-true}

@@ -2,7 +2,7 @@
 use Rattle.std.specs.Prelude.{ℕ, ◌+◌, ◌<◌, ◌≤◌, ◌≡◌, ◌≢◌, List, length, slice_index}
 use Rattle.std.specs.Prelude as prelude
 use Rattle.sloth_base.specs.declared.image.Image.{Image}
-use Rattle.sloth_base.specs.ConfigRange.{HasNoCounters}
+use Rattle.sloth_base.specs.Owners.{counter_line}
 use Rattle.sloth_base.specs.declared.places.Levels.{Levels}
 use Rattle.sloth_region.specs.declared.map.Map.{Map}
 use Rattle.rv32_instr.specs.declared.InstrKind.{InstrKind}
@@ -25,6 +25,7 @@ use Rattle.sim_entries.specs.Entries.{first_words}
 use Rattle.sim_entries.specs.Generated.{HasOneBody}
 use Rattle.sim_items.specs.Place.{ItemStands}
 use Rattle.sim_items.specs.Outside.{HasIdle}
+use Rattle.sim_ticks.specs.TickSteps.{IsTick}
 use Rattle.sim_laws.specs.Kernel.{Kernel, IsKnown, WayBackStands}
 use Rattle.sim_laws.specs.Nested.{HasNestedParts}
 
@@ -39,7 +40,15 @@ pub record HasPrologue (b : Build) (levels : Levels) (map : Map) (t : ℕ) : Typ
   pub few_words : first_words b t ≤ 32
   pub has_item : 0 < length (function b.app (body_of b.app.funcs t)).items
 
--- By the levels and the map: the vector words, boot, the idle loop, a prologue for each task, and the items with their services.
+-- so does the tick of a counter
+pub record HasTick (b : Build) (map : Map) (c : ℕ) : Type 0 where
+  pub code : List InstrKind
+  pub is_tick : IsTick b.config c code
+  pub offset : ℕ
+  pub is : slice_index map.handlers (counter_line c) ≡ memory_base + offset
+  pub placed : IsPlaced b offset code
+
+-- By the levels and the map: the vector words, boot, the idle loop, a prologue for each task, a tick for each counter, and the items with their services.
 pub record IsGenerated (b : Build) (image : Image) (levels : Levels) (map : Map) : Type 0 where
   pub fits : Fits b
   pub well_formed : WellFormed b.config b.app
@@ -47,7 +56,6 @@ pub record IsGenerated (b : Build) (image : Image) (levels : Levels) (map : Map)
   pub places : b.places ≡ map.places
   pub idle_is : b.idle ≡ map.idle
   pub tops : (t : ℕ) → t < length b.config.tasks → memory_base + b.top t ≡ slice_index map.tops t
-  pub no_counters : HasNoCounters b.config
   pub tasks : length image.tasks ≡ length b.config.tasks
   pub counters : image.counters ≡ prelude.map (λ c. c.name) b.config.counters
   pub is_image : IsImage b image
@@ -56,10 +64,11 @@ pub record IsGenerated (b : Build) (image : Image) (levels : Levels) (map : Map)
   pub jumps : AreJumps 32 map.handlers vectors
   pub vectors_placed : IsPlaced b 0x400 vectors
   pub boot : List InstrKind
-  pub boots : Boots b.config.tasks levels.task map.idle boot
+  pub boots : Boots b.config.tasks (length b.config.counters) levels.task levels.top map.idle boot
   pub boot_placed : IsPlaced b 0x480 boot
   pub idle : HasIdle b (view_of_image image)
   pub prologues : (t : ℕ) → t < length b.config.tasks → HasPrologue b levels map t
+  pub ticks : (c : ℕ) → c < length b.config.counters → HasTick b map c
   pub stacks : (t u : ℕ) → t < length b.config.tasks → u < length b.config.tasks → u ≢ t → MayMeet b.config b.app t u → AreApart b t u
   pub nested : HasNestedParts b
   pub items : (func item : ℕ) → item < length (function b.app func).items → ItemStands b (view_of_image image) func item

@@ -1,7 +1,6 @@
 -- A kernel in place: what the builder says of an image.
 use Rattle.std.specs.Prelude.{ℕ, ◌+◌, ◌*◌, ◌<◌, ◌≤◌, ◌≡◌, ◌≢◌, ◌⊎◌, length, map}
 use Rattle.sloth_base.specs.declared.image.Image.{Image}
-use Rattle.sloth_base.specs.ConfigRange.{HasNoCounters}
 use Rattle.sloth_base.specs.declared.app.Call.{Call}
 use Rattle.sloth_base.specs.declared.app.Op.TheVariants as op
 use Rattle.sloth_base.specs.declared.service.Service.TheVariants as service
@@ -25,6 +24,7 @@ use Rattle.sim_items.specs.Place.{ItemStands, IsStraight, IsFlow}
 use Rattle.sim_items.specs.Outside.{HasIdle}
 use Rattle.sim_services.specs.Opening.{StandsAtBlock}
 pub use Rattle.sim_services.specs.Stretch.{HasWayBack}
+use Rattle.sim_ticks.specs.TickSteps.{TickStands}
 
 -- an item computes on registers, frame words and data, and isn't the last one of its function
 pub record Computes (b : Build) (func item : ℕ) : Type 0 where
@@ -50,7 +50,7 @@ pub record CallsService (b : Build) (view : View) (func item : ℕ) : Type 0 whe
   pub is : operation b.app func item ≡ op.Serve call
   pub levels : Levels
   pub are_levels : AreLevels b.config levels
-  pub block : StandsAtBlock b view call.service call.object (ServesCall call.service call.object levels)
+  pub block : StandsAtBlock b view call.service call.object (ServesCall b.config call.service call.object levels)
   pub in_ram : block.offset < 0x20_0000
   pub apart : (memory_base + block.offset < item_address b.places func item)
       ⊎ (item_address b.places func item + 4 * length (expansion b.app b.places func item) ≤ memory_base + block.offset)
@@ -69,12 +69,10 @@ WayBackStands b view = (func item : ℕ) (call : Call) → item < length (functi
     → call.service ≡ service.Schedule → HasWayBack b view call.object
 
 -- Tasks whose code has only such items, and whose parts of the stacks are apart where they may be in use at once: the code of boot, of the
--- prologues, of the idle loop and of the items stands in the image.
+-- prologues, of ticks, of the idle loop and of the items stands in the image.
 pub record Kernel (b : Build) (image : Image) : Type 0 where
   pub fits : Fits b
   pub well_formed : WellFormed b.config b.app
-  -- no code serves counters and alarms yet
-  pub no_counters : HasNoCounters b.config
   pub tasks : length image.tasks ≡ length b.config.tasks
   pub counters : image.counters ≡ map (λ c. c.name) b.config.counters
   pub is_image : IsImage b image
@@ -82,6 +80,7 @@ pub record Kernel (b : Build) (image : Image) : Type 0 where
   pub boot : BootStands b
   pub idle : HasIdle b (view_of_image image)
   pub prologues : (t : ℕ) → t < length b.config.tasks → PrologueStands b t
+  pub ticks : (c : ℕ) → c < length b.config.counters → TickStands b c
   -- the parts of tasks that may have something there at once
   pub stacks : (t u : ℕ) → t < length b.config.tasks → u < length b.config.tasks → u ≢ t → MayMeet b.config b.app t u → AreApart b t u
   pub nested : HasNestedParts b

@@ -1,26 +1,41 @@
 -- An arrival at a count that finds MIE 1 is the admit of its task.
-use Rattle.std.proofs.Common.{◌≡◌, ℕ, ◌<◌, ◌≤◌, List, [], ◌∷◌, length, set, get_or, refl, sym, ap, ◌∙◌, subst, arith, ⊎_elim, inl, inr, true, false}
+use Rattle.std.proofs.Common.{◌≡◌, ℕ, ◌-◌, ◌<◌, ◌≤◌, List, [], ◌∷◌, length, set, get_or, refl, sym, ap, ◌∙◌, subst, arith, ⊎_elim, inl, inr, true, false, cond}
 use Rattle.std.specs.Prelude.{◌⊎◌, ◌≢◌, slice_index}
+use Rattle.std.proofs.lemmas.Bool.{le-ltb}
 use Rattle.std.proofs.lemmas.List.{set-get_or, get_or-set_same, get_or-set_other, length-set}
 use Rattle.sloth_base.specs.Machine.{State}
+use Rattle.sloth_region.specs.Layout.{counter_value}
+use Rattle.rv32_instr.specs.Ram.{word_at}
 use Rattle.sloth_base.specs.Arrive.{state_arrive}
-use Rattle.sloth_base.specs.Owners.{owners_in, AreOwned}
-use Rattle.sloth_base.proofs.Owners.{owned_task}
+use Rattle.sloth_base.specs.Owners.{first_counter_line, counter_line, owners_in, AreOwned}
+use Rattle.sloth_base.proofs.Owners.{IsCounterLine, owned_cases}
+use Rattle.osek_scheduler.specs.declared.state.Counter.{Counter}
 use Rattle.osek_scheduler.specs.declared.state.TaskState.{TaskState}
 use Rattle.osek_scheduler.specs.declared.state.TaskState.TheVariants as mode
-use Rattle.osek_scheduler.specs.State.{Task, System, sleeping_task, task, with_task}
+use Rattle.osek_scheduler.specs.State.{Task, System, Clock, sleeping_task, task, with_task, counter, no_counter}
 use Rattle.osek_scheduler.specs.Priority.{is_in, is_active}
 use Rattle.osek_scheduler.specs.Services.{if_suspended, activated_state}
-use Rattle.osek_scheduler.specs.Steps.{admitted_state}
+use Rattle.osek_scheduler.specs.Steps.{admitted_state, made_due}
 use Rattle.sim_induction.specs.Admits.{with_arrival, with_admits}
 use Rattle.sim_induction.proofs.Lines.{task_arrival}
 use Rattle.sim_relation.specs.Build.{Build}
+use Rattle.sim_relation.specs.ClockStands.{CounterLineStands}
 use Rattle.sim_relation.specs.ServiceWords.{ServiceWords, active_word}
 use Rattle.sim_relation.specs.Stands.{Stands, IsLineOf, IsAlive, TidyTask}
 use Rattle.sim_relation.proofs.Tops.{falling_active}
 use Rattle.sim_relation.specs.Moves.{changed_system, WholeMachine}
-use Rattle.sim_relation.proofs.Parts.{other_task, by_task, falling_kept, running_tasks, rests, anew}
+use Rattle.sim_relation.proofs.Parts.{other_task, by_element, by_task, falling_kept, running_tasks, rests, anew}
 use Rattle.sim_relation.proofs.Rebuilt.{among, rebuilt}
+use Rattle.sim_relation.proofs.Aside.{aside}
+use Rattle.sim_relation.proofs.ClockKept.{line_stands, no_task, in_range}
+
+-- the arrival of a counter's line makes the counter due
+counter_arrival : (c : ℕ) (s : System) → with_arrival (counter_line c) s ≡ made_due c s
+counter_arrival c s =
+    let back : counter_line c - first_counter_line ≡ c = omega arith in
+    ap (λ v. cond v (admitted_state (counter_line c) s) (made_due (counter_line c - first_counter_line) s))
+    (le-ltb (counter_line c) first_counter_line (omega arith))
+    ∙ ap (λ d. made_due d s) back
 
 -- the line of a task that is not Suspended
 more_pending : (m : TaskState) (p e : ℕ) → (m ≡ mode.Suspended → ⊥) → IsLineOf m p e → IsLineOf m 1 e
@@ -52,22 +67,25 @@ not_suspended mode.Ready x y n = refl
 not_suspended mode.Active x y n = refl
 not_suspended (mode.Waiting w) x y n = refl
 
+-- an arrival leaves of the machine all but a pending byte
+arrived_machine : (b : Build) (state : State) (s : System) → Stands b state s → (l : ℕ) → WholeMachine state (state_arrive (l ∷ []) state)
+arrived_machine b state s k l = record {
+  ram = refl;
+  registers = refl;
+  zero = refl;
+  pending = length-set state.core.pending l 1;
+  enabled = refl;
+  levels = refl;
+  controller = refl;
+  open_to_lines = k.fixed.open_to_lines;
+  previous = k.fixed.previous;
+  same_level = k.fixed.same_level;
+  bases = k.fixed.bases;
+}
+
 module _ (b : Build) (state : State) (s : System) (l : ℕ) (k : Stands b state s) (inside : l < length b.config.tasks) (few : length b.config.tasks ≤ 32) where
   abbrev now : State
   now = state_arrive (l ∷ []) state
-
-  whole : WholeMachine state now
-  whole = record {
-    ram = refl;
-    registers = refl;
-    zero = refl;
-    pending = length-set state.core.pending l 1;
-    enabled = refl;
-    levels = refl;
-    controller = refl;
-    open_to_lines = k.fixed.open_to_lines;
-    previous = k.fixed.previous;
-  }
 
   here_pending : slice_index (set state.core.pending l 1) l ≡ 1
   here_pending = let f = k.fixed.pending in get_or-set_same state.core.pending l 1 0 (omega arith)
@@ -83,7 +101,7 @@ module _ (b : Build) (state : State) (s : System) (l : ℕ) (k : Stands b state 
     raised = rebuilt b state now s k l own s.symbols fresh k.stack
         (record {
           declared = inside;
-          machine = whole;
+          machine = arrived_machine b state s k l;
           code = λ i x. refl;
           active = record {
             falling = falling_kept b s next k.stack in_stack k.active.falling;
@@ -97,6 +115,7 @@ module _ (b : Build) (state : State) (s : System) (l : ℕ) (k : Stands b state 
           other_enabled = λ line n. refl;
           own_words = own_words;
           other_words = λ u h n. k.words u h;
+          clock = k.clock;
           data_stands = k.data_stands;
           apart = λ u h n a c. k.apart l u inside h (λ e. n (sym e)) (was_alive c) a;
           tidy = own_tidy;
@@ -156,28 +175,88 @@ module _ (b : Build) (state : State) (s : System) (l : ℕ) (k : Stands b state 
       subst (λ z. Stands b now z) (sym (not_suspended (task s l).state (record (activated_state s l) { fresh = l ∷ s.fresh }) s n)) (lost n))
       (is_suspended (task s l).state)
 
--- Arrivals at a count that finds MIE 1 are the admits of their tasks.
+-- nothing here speaks of `fresh`
+pub stands_fresh : (b : Build) (state : State) (s : System) (fresh : List ℕ) → Stands b state s → Stands b state (record s { fresh = fresh })
+stands_fresh b state s fresh k =
+    aside b state state s k s.clock fresh
+    (record {
+      machine = record {
+        ram = refl;
+        registers = refl;
+        zero = refl;
+        pending = refl;
+        enabled = refl;
+        levels = refl;
+        controller = refl;
+        open_to_lines = k.fixed.open_to_lines;
+        previous = k.fixed.previous;
+        same_level = k.fixed.same_level;
+        bases = k.fixed.bases;
+      };
+      code = λ i x. refl;
+      running = k.running;
+      pending = λ t h. refl;
+      enabled = refl;
+      words = k.words;
+      data_stands = k.data_stands;
+      counters = k.lines.counters;
+      clock_stands = k.clock;
+    })
+
+-- ---- a counter's line
+
+module _ (b : Build) (state : State) (s : System) (c : ℕ) (k : Stands b state s) (declared : c < length b.config.counters) where
+  abbrev ticking : State
+  ticking = state_arrive (counter_line c ∷ []) state
+
+  abbrev is_due : Counter
+  is_due = record (counter s c) { due = true }
+
+  abbrev with_due : Clock
+  with_due = (made_due c s).clock
+
+  is_there : c < length s.clock.counters
+  is_there = let l = k.clock.counters in omega (arith, l, declared)
+
+  here_set : slice_index ticking.core.pending (counter_line c) ≡ 1
+  here_set = let f = k.fixed.pending in let l = in_range b state s k c declared in get_or-set_same state.core.pending (counter_line c) 1 0 (omega (arith, f, l))
+
+  -- the relation stands with the line pending and the counter due
+  pub arrived_counter : Stands b ticking (made_due c s)
+  arrived_counter =
+      aside b state ticking s k with_due s.fresh
+      (record {
+        machine = arrived_machine b state s k (counter_line c);
+        code = λ i x. refl;
+        running = running_tasks b state ticking s s k.stack refl refl refl refl (λ u h. refl) k.running;
+        pending = λ t h. get_or-set_other state.core.pending (counter_line c) t 1 0 (λ e. no_task b state s k c declared t h (sym e));
+        enabled = refl;
+        words = k.words;
+        data_stands = k.data_stands;
+        counters = by_element (λ d (x : Counter). d < length b.config.counters → CounterLineStands b.config ticking.core d x.due) s.clock.counters c is_due no_counter is_there
+            (λ h. let l = k.lines.counters c h in record { enabled = l.enabled; pending = here_set; level = l.level })
+            (λ d n h. line_stands b.config state.core ticking.core d _ refl
+            (get_or-set_other state.core.pending (counter_line c) (counter_line d) 1 0 (λ e. n (omega (arith, e)))) refl (k.lines.counters d h));
+        clock_stands = record {
+          counters = length-set s.clock.counters c is_due ∙ k.clock.counters;
+          alarms = k.clock.alarms;
+          values = by_element (λ d (x : Counter). d < length b.config.counters → word_at state.core.ram (counter_value d) ≡ x.value) s.clock.counters c is_due no_counter is_there
+              (λ h. k.clock.values c h) (λ d n h. k.clock.values d h);
+          left = k.clock.left;
+          cycles = k.clock.cycles;
+        };
+      })
+
+-- Arrivals at a count that finds MIE 1 are the admits of their tasks, and make their counters due.
 pub stands_arrived : (b : Build) (lines : List ℕ) (state : State) (s : System) → length b.config.tasks ≤ 30 → AreOwned (owners_in b.config) lines
     → Stands b state s → Stands b (state_arrive lines state) (with_admits lines s)
 stands_arrived b [] state s few h k = k
 stands_arrived b (l ∷ lines) state s few h k =
-    let declared = owned_task (owners_in b.config) l (ap length k.lines.no_counters.counters) h.0 in
-    let one : Stands b (state_arrive (l ∷ []) state) (with_arrival l s) =
-    subst (Stands b (state_arrive (l ∷ []) state)) (sym (task_arrival l s (omega (arith, declared, few)))) (arrived_one b state s l k declared (omega (arith, few))) in
-    stands_arrived b lines (state_arrive (l ∷ []) state) (with_arrival l s) few h.1 one
-
--- nothing here speaks of `fresh`
-pub stands_fresh : (b : Build) (state : State) (s : System) (fresh : List ℕ) → Stands b state s → Stands b state (record s { fresh = fresh })
-stands_fresh b state s fresh k =
-    let next : System = record s { fresh = fresh } in
-    record {
-      stack = k.stack;
-      active = record { falling = falling_kept b s next k.stack (λ u h. refl) k.active.falling; all = k.active.all };
-      lines = record { each = k.lines.each; bits = k.lines.bits; levels = k.lines.levels; no_counters = k.lines.no_counters; others = k.lines.others };
-      running = running_tasks b state state s next k.stack refl refl refl refl (λ u h. refl) k.running;
-      words = k.words;
-      data_stands = k.data_stands;
-      apart = k.apart;
-      tidy = record { booted = k.tidy.booted; tasks = k.tidy.tasks; each = k.tidy.each };
-      fixed = k.fixed;
-    }
+    stands_arrived b lines (state_arrive (l ∷ []) state) (with_arrival l s) few h.1
+    (⊎_elim
+    (λ (declared : l < length b.config.tasks).
+    subst (Stands b (state_arrive (l ∷ []) state)) (sym (task_arrival l s (omega (arith, declared, few)))) (arrived_one b state s l k declared (omega (arith, few))))
+    (λ (found : (c : ℕ) × IsCounterLine (owners_in b.config) l c).
+    subst (λ x. Stands b (state_arrive (x ∷ []) state) (with_arrival x s)) (sym found.1.is)
+    (subst (Stands b (state_arrive (counter_line found.0 ∷ []) state)) (sym (counter_arrival found.0 s)) (arrived_counter b state s found.0 k found.1.declared)))
+    (owned_cases (owners_in b.config) l h.0))

@@ -18,6 +18,7 @@ use Rattle.sim_relation.specs.ServiceWords.{ServiceWords, base_priority}
 use Rattle.sim_relation.specs.Stands.{Stands, IsActive, Falling}
 use Rattle.sim_relation.specs.Framing.{Agree, SamePart}
 use Rattle.sim_relation.specs.Changes.{changed_task, changed_to, TaskChange}
+use Rattle.sim_relation.proofs.ClockKept.{clock_kept}
 use Rattle.sim_relation.proofs.Contexts.{context_same, chain_kept, data_kept}
 use Rattle.sim_relation.proofs.Framing.{position_task}
 use Rattle.sim_relation.proofs.Parts.{by_task, each_from, service_kept, held_kept, resumes_kept}
@@ -212,6 +213,7 @@ module _ (b : Build) (old now : State) (s : System) (k : Stands b old s) (fits :
         other_enabled = change.other_enabled;
         own_words = own_words;
         other_words = other_words;
+        clock = clock_kept b old.core.ram now.core.ram s.clock fits (λ p from to a. let g = few in change.named p (omega arith) a (λ c. omega arith)) k.clock;
         data_stands = data_kept b old.core.ram now.core.ram s.symbols (λ i x. change.high i (let w = fits.elsewhere i (inr x) in omega arith)) k.data_stands;
         apart = λ u h n a c. k.apart t u declared h (λ e. n (sym e))
             (⊎_elim (λ (x : own.state ≡ mode.Active). inl (like_active (task s t) own own_like x)) (λ (x : own.frames ≢ []). inr x) c) a;

@@ -1,23 +1,24 @@
 -- The line that is taken is that of the top task.
-use Rattle.std.proofs.Common.{◌≡◌, ℕ, ◌<◌, ◌≤◌, List, [], ◌∷◌, length, refl, sym, ap, subst, arith, ⊎_elim, inl, inr, true, cond, Some, None}
+use Rattle.std.proofs.Common.{◌≡◌, ℕ, ◌<◌, ◌≤◌, List, [], ◌∷◌, length, refl, sym, ap, ◌∙◌, subst, arith, ⊎_elim, inl, inr, true, false, cond, Some, None}
 use Rattle.std.specs.Prelude.{◌⊎◌, slice_index}
-use Rattle.std.proofs.lemmas.Bool.{cases_lt, false≢true}
+use Rattle.std.proofs.lemmas.Bool.{cases_Bool, cases_lt, false≢true}
 use Rattle.sloth_base.specs.Machine.{Core, State}
 use Rattle.sloth_base.specs.Lines.{lines_of}
 use Rattle.sloth_base.specs.Choose.{MayTake, IsChosen, choose_line, choose}
 use Rattle.sloth_base.proofs.Choosing.{choose_line-is}
 use Rattle.osek_scheduler.specs.declared.state.TaskState.{TaskState}
 use Rattle.osek_scheduler.specs.declared.state.TaskState.TheVariants as mode
-use Rattle.osek_scheduler.specs.State.{System, task, declaration}
-use Rattle.osek_scheduler.specs.Priority.{is_in, IsDue, IsTop, NoTicks}
+use Rattle.osek_scheduler.specs.State.{System, task, counter, declaration}
+use Rattle.osek_scheduler.specs.Priority.{is_in, IsDue, IsTop, NoTicks, IsNextTick}
 use Rattle.sim_induction.specs.Mirror.{priority_of}
 use Rattle.sloth_base.specs.PriorityLevels.{level_of}
-use Rattle.sloth_base.specs.Owners.{owners_in, IsOwned}
-use Rattle.sloth_base.proofs.Owners.{owned_task}
+use Rattle.sloth_base.specs.Owners.{counter_line, owners_in, IsOwned}
+use Rattle.sloth_base.proofs.Owners.{IsCounterLine, owned_cases}
 use Rattle.sim_relation.specs.Build.{Build}
 use Rattle.sim_relation.specs.Context.{Running, RunsTask, RunsIdle}
 use Rattle.sim_relation.specs.Stands.{Stands, IsLineOf, Falling, AreActive}
-use Rattle.sim_relation.proofs.Levels.{above_from, at_most_from, level_of-below, level_of-some}
+use Rattle.sim_relation.proofs.ClockKept.{in_range}
+use Rattle.sim_relation.proofs.Levels.{above_from, at_most_from, level_of-below, level_of-some, level_of-few}
 use Rattle.sim_relation.proofs.Tops.{static_le, rank_active, rank_ready, first_most, top_running}
 
 choice_is : (core : Core) → core.controller ≡ true → IsChosen (lines_of core) core.ilevel (choose core)
@@ -32,10 +33,6 @@ chosen_some core line h e = subst (IsChosen (lines_of core) core.ilevel) e (choi
 -- where it chooses none there is none
 pub chosen_none : (core : Core) → core.controller ≡ true → choose core ≡ None → IsChosen (lines_of core) core.ilevel None
 chosen_none core h e = subst (IsChosen (lines_of core) core.ilevel) e (choice_is core h)
-
--- no counter is due, where there is none
-pub quiet : (b : Build) (state : State) (s : System) → Stands b state s → NoTicks b.config s
-quiet b state s k c declared = absurd (let none = ap length k.lines.no_counters.counters in omega (arith, none, declared))
 
 ready_line : (m : TaskState) (pending enabled : ℕ) → m ≡ mode.Ready → IsLineOf m pending enabled → (pending ≡ 1) × (enabled ≡ 1)
 ready_line mode.Ready p e q h = h
@@ -58,6 +55,74 @@ runs_level : (b : Build) (state : State) (s : System) (stack : List ℕ) → Run
 unfolding runs_at
 runs_level b state s [] k = k.level
 runs_level b state s (t ∷ below) k = k.level
+
+-- ---- counters
+
+runs_low : (b : Build) (state : State) (s : System) (stack : List ℕ) → Running b state s stack → state.core.ilevel ≤ length b.config.tasks
+runs_low b state s [] r = let e = r.level in omega (arith, e)
+runs_low b state s (t ∷ below) r = let e = r.level in let l = level_of-few b.config (priority_of b.config s t) in omega (arith, e, l)
+
+module _ (b : Build) (state : State) (s : System) (k : Stands b state s) where
+  -- the line of a due counter may be taken
+  counter_may : (c : ℕ) → c < length b.config.counters → (counter s c).due ≡ true → MayTake (lines_of state.core) state.core.ilevel (counter_line c)
+  counter_may c h due =
+      let own = k.lines.counters c h in
+      let low = runs_low b state s k.stack k.running in
+      let level = own.level in
+      record {
+        in_range = in_range b state s k c h;
+        is_pending = own.pending ∙ ap (λ x. cond x 1 0) due;
+        is_enabled = own.enabled;
+        is_above = omega (arith, level, low);
+      }
+
+  -- where that is refuted, no counter is due
+  not_due : ((c : ℕ) → c < length b.config.counters → MayTake (lines_of state.core) state.core.ilevel (counter_line c) → ⊥) → NoTicks b.config s
+  not_due none c h =
+      ⊎_elim (λ (due : (counter s c).due ≡ true). absurd (none c h (counter_may c h due))) (λ (n : (counter s c).due ≡ false). n) (cases_Bool (counter s c).due)
+
+  -- so it is where no line is taken
+  pub quiet : choose state.core ≡ None → NoTicks b.config s
+  quiet e = not_due (λ c h may. chosen_none state.core k.fixed.controller e (counter_line c) may)
+
+  -- and where the line of a task is taken, which is of a lower level
+  pub quiet_task : (t : ℕ) → t < length b.config.tasks → choose state.core ≡ Some t → NoTicks b.config s
+  quiet_task t is_task e =
+      not_due (λ c h may.
+      let own = (k.lines.counters c h).level in
+      let other = k.lines.levels t is_task in
+      let few = level_of-few b.config (declaration b.config t).priority in
+      ⊎_elim
+      (λ (y : slice_index state.core.levels (counter_line c) < slice_index state.core.levels t). omega (arith, own, other, few, y))
+      (λ (y : (slice_index state.core.levels (counter_line c) ≡ slice_index state.core.levels t) × (t ≤ counter_line c)). let z = y.0 in omega (arith, own, other, few, z))
+      ((chosen_some state.core t k.fixed.controller e).1 (counter_line c) may))
+
+  -- the counter whose line is taken is the due one of least number
+  pub taken_next : (c : ℕ) → c < length b.config.counters → choose state.core ≡ Some (counter_line c) → IsNextTick b.config s c
+  taken_next c h e =
+      let chosen = chosen_some state.core (counter_line c) k.fixed.controller e in
+      let own = k.lines.counters c h in
+      record {
+        declared = h;
+        due = ⊎_elim (λ (y : (counter s c).due ≡ true). y)
+            (λ (n : (counter s c).due ≡ false).
+            let is = chosen.0.is_pending in let p : slice_index state.core.pending (counter_line c) ≡ 0 = own.pending ∙ ap (λ x. cond x 1 0) n in absurd (omega (arith, is, p)))
+            (cases_Bool (counter s c).due);
+        is_first = λ d below.
+            ⊎_elim
+            (λ (due : (counter s d).due ≡ true).
+            let l : d < length b.config.counters = omega (arith, h, below) in
+            let mine = own.level in
+            let other = (k.lines.counters d l).level in
+            absurd (⊎_elim
+            (λ (y : slice_index state.core.levels (counter_line d) < slice_index state.core.levels (counter_line c)). omega (arith, mine, other, y))
+            (λ (y : (slice_index state.core.levels (counter_line d) ≡ slice_index state.core.levels (counter_line c)) × (counter_line c ≤ counter_line d)). let z = y.1 in omega (arith, z, below))
+            (chosen.1 (counter_line d) (counter_may d l due))))
+            (λ (n : (counter s d).due ≡ false). n)
+            (cases_Bool (counter s d).due);
+      }
+
+-- ---- tasks
 
 -- a task of a level above the running one has a priority above the current ones of all Active tasks
 above_all : (b : Build) (s : System) (stack : List ℕ) → Falling b s stack → (t : ℕ) → runs_at b s stack < level_of b.config (declaration b.config t).priority
@@ -97,7 +162,7 @@ module _ (b : Build) (state : State) (s : System) (k : Stands b state s) (few : 
       let a = none_above e u h r in
       let v = run.level in
       at_most_from b.config u (priority_of b.config s t) h (omega arith))
-      (quiet b state s k)
+      (quiet b state s k e)
 
   -- and where no task is Active, none is due
   pub none_due : choose state.core ≡ None → k.stack ≡ [] → (u : ℕ) → u < length b.config.tasks → ¬ (IsDue s u)
@@ -171,7 +236,7 @@ module _ (b : Build) (state : State) (s : System) (k : Stands b state s) (few : 
           omega arith)
           due;
       is_not_left_out = refl;
-      no_ticks = quiet b state s k;
+      no_ticks = quiet_task b state s k t is_task e;
     }
 
 -- a line that is taken is enabled, so it has an owner
@@ -182,6 +247,7 @@ taken_owned b state s k line e unused =
     let o = k.lines.others line unused in
     absurd (omega arith)
 
--- the line of a task, where the relation says what it is for
-pub taken_declared : (b : Build) (state : State) (s : System) → Stands b state s → (line : ℕ) → choose state.core ≡ Some line → line < length b.config.tasks
-taken_declared b state s k line e = owned_task (owners_in b.config) line (ap length k.lines.no_counters.counters) (taken_owned b state s k line e)
+-- it is a task's or a counter's
+pub taken_cases : (b : Build) (state : State) (s : System) → Stands b state s → (line : ℕ) → choose state.core ≡ Some line
+    → (line < length b.config.tasks) ⊎ ((c : ℕ) × IsCounterLine (owners_in b.config) line c)
+taken_cases b state s k line e = owned_cases (owners_in b.config) line (taken_owned b state s k line e)

@@ -5,7 +5,7 @@ use Rattle.std.proofs.lemmas.Bool.{cases_Bool, ne_eqb}
 use Rattle.std.proofs.lemmas.List.{get_or-set_other, length-set, get_or-set_same}
 use Rattle.sloth_base.specs.Machine.{State}
 use Rattle.sloth_base.specs.Choose.{choose}
-use Rattle.sloth_region.specs.Layout.{events, wait, idle_context}
+use Rattle.sloth_region.specs.Layout.{cur, events, wait, idle_context}
 use Rattle.rv32_instr.specs.Ram.{word_at}
 use Rattle.osek_scheduler.specs.declared.state.TaskState.{TaskState}
 use Rattle.osek_scheduler.specs.declared.state.TaskState.TheVariants as mode
@@ -21,6 +21,7 @@ use Rattle.sim_relation.specs.Stands.{Stands, Falling, IsLineOf, IsAlive, TidyTa
 use Rattle.sim_relation.specs.Framing.{Agree, NamedKept, SameThread, SamePart}
 use Rattle.sim_relation.specs.Entry.{TaskEntry}
 use Rattle.sim_relation.specs.Moves.{WholeMachine}
+use Rattle.sim_relation.proofs.ClockKept.{clock_named}
 use Rattle.sim_relation.proofs.Contexts.{context_same, chain_kept, data_kept}
 use Rattle.sim_relation.proofs.Parts.{other_task, this_task, by_task, falling_kept, each_from}
 use Rattle.sim_relation.proofs.Rebuilt.{other_kept, among, rebuilt}
@@ -93,8 +94,8 @@ module _ (b : Build) (old now : State) (s : System) (k : Stands b old s) (fits :
 
   -- ---- the chain behind the task
 
-  same_thread : SameThread (thread_of old) (thread_at new_ram place)
-  same_thread = record { pc = entry.ram.pc_word; x2 = sym entry.x2; x = entry.ram.register_words }
+  same_thread : word_at old_ram cur ≢ 0 → SameThread (thread_of old) (thread_at new_ram place)
+  same_thread some = record { pc = entry.ram.pc_word; x2 = sym entry.x2; x = entry.ram.register_words some }
 
   chain_of : (stack : List ℕ) → Falling b s stack → ((u : ℕ) → is_in u stack ≡ true → task next u ≡ task s u)
       → ((u : ℕ) → u < length b.config.tasks → u ≢ t → IsAlive (task s u) → is_first stack u ≡ false → Agree old_ram new_ram (b.low u) (b.top u))
@@ -120,7 +121,8 @@ module _ (b : Build) (old now : State) (s : System) (k : Stands b old s) (fits :
           level = entry.ram.level_word ∙ run.level ∙ sym (ap (λ x. level_of b.config (current_priority b.config (declaration b.config a) x)) same_a);
           current = entry.ram.current_word ∙ run.current;
           context = subst (λ p. Context b new_ram a (task next a) (thread_at new_ram place) p) frame
-              (context_same b old_ram new_ram a (task s a) (task next a) (thread_of old) (thread_at new_ram place) run.place same_a same_thread
+              (context_same b old_ram new_ram a (task s a) (task next a) (thread_of old) (thread_at new_ram place) run.place same_a
+              (same_thread (λ z. let c = run.current in absurd (omega (arith, z, c))))
               (λ i x y. entry.ram.outside i (omega arith) (inr (omega arith))
               (⊎_elim (λ (h : b.top t ≤ b.low a). inr (omega arith)) (λ (h : b.top a ≤ b.low t). inl (omega arith)) (entry.apart a here.declared n (inl here.active))))
               run.context);
@@ -221,6 +223,8 @@ module _ (b : Build) (old now : State) (s : System) (k : Stands b old s) (fits :
         controller = m.controller;
         open_to_lines = m.open_to_lines;
         previous = m.previous;
+        same_level = m.same_level;
+        bases = m.bases;
       }
 
   -- the states stand
@@ -244,6 +248,7 @@ module _ (b : Build) (old now : State) (s : System) (k : Stands b old s) (fits :
         own_words = own_words;
         other_words = λ u h m. other_kept b old_ram new_ram s t u fits declared h m (k.tidy.each u h) named
             (λ a f. part u h m (inr f) (off_first u (λ x. let y = ap is_active x in cc))) (k.words u h);
+        clock = clock_named b old_ram new_ram s.clock t fits declared named k.clock;
         data_stands = data_kept b old_ram new_ram s.symbols (λ i x. elsewhere_kept i (inr x)) k.data_stands;
         apart = λ u h m a c. entry.apart u h m a;
         tidy = tidy;

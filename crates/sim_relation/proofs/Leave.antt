@@ -40,7 +40,7 @@ leave_runs b old new s next end place (t ∷ below) l idle part k =
       place = place + 128;
       context = subst (λ q. Context b q t (task next t) (thread_of end) (place + 128)) (sym l.ram)
           (context_same b old new t (task s t) (task next t) (thread_at old place) (thread_of end) (place + 128) here.tasks
-          (record { pc = l.pc; x2 = l.x2; x = l.loaded })
+          (record { pc = l.pc; x2 = l.x2; x = l.loaded (λ z. let c = k.0.current in absurd (omega (arith, z, c))) })
           (λ i x y. here.bytes i (omega arith) (omega arith)) k.0.context);
       next = k.1.0;
       link = ap (λ q. word_at q below_word) l.ram ∙ l.link ∙ k.1.1;

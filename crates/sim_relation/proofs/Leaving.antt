@@ -11,6 +11,7 @@ use Rattle.sim_relation.specs.Context.{Chain, Running, RunsTask}
 use Rattle.sim_relation.specs.Stands.{Stands, IsActive, AreActive}
 use Rattle.sim_relation.specs.Framing.{SamePart}
 use Rattle.sim_relation.specs.Moves.{TaskLeave}
+use Rattle.sim_relation.proofs.ClockKept.{clock_named}
 use Rattle.sim_relation.proofs.Contexts.{data_kept}
 use Rattle.sim_relation.proofs.Leave.{leave_runs, stack_tail}
 use Rattle.sim_relation.proofs.Parts.{by_task}
@@ -62,6 +63,7 @@ module _ (b : Build) (old now : State) (s : System) (k : Stands b old s) (fits :
         other_enabled = leave.other_enabled;
         own_words = leave.own_words;
         other_words = λ u h m. other_kept b old.core.ram now.core.ram s t u fits here.declared h m (k.tidy.each u h) leave.named (λ a f. leave.others u h m (inr f)) (k.words u h);
+        clock = clock_named b old.core.ram now.core.ram s.clock t fits here.declared leave.named k.clock;
         data_stands = data_kept b old.core.ram now.core.ram s.symbols (λ i x. leave.elsewhere i (inr x)) k.data_stands;
         apart = λ u h m a c. k.apart t u here.declared h (λ e. m (sym e)) (inl here.active) a;
         tidy = leave.tidy;

@@ -5,7 +5,10 @@ pub mod MirrorOf
 pub mod Framing
 pub mod Contexts
 pub mod Parts
+pub mod ClockKept
 pub mod Rebuilt
+pub mod Aside
+pub mod Beside
 pub mod Room
 pub mod Arrive
 pub mod Leave

@@ -2,16 +2,16 @@
 use Rattle.std.proofs.Common.{◌≡◌, ℕ, List, length, refl, sym, ap, ◌∙◌}
 use Rattle.std.specs.Prelude.{slice_index}
 use Rattle.sloth_base.specs.Machine.{Core, State}
-use Rattle.masked_code.specs.Kernel.{LeftAs}
+use Rattle.masked_code.specs.Kernel.{HoldBases, LeftAs}
 use Rattle.sim_relation.specs.Build.{Build}
 use Rattle.sim_relation.specs.Stands.{Fixed}
 use Rattle.sim_relation.specs.Moves.{SameMachine, WholeMachine}
 
--- registers and RAM have changed alone, and x0 is as it was
+-- registers and RAM have changed alone, and x0, x3 and x4 are as they were
 pub kept_machine : (b : Build) (old : State) → Fixed b old.core → (pc : ℕ) (registers ram : List ℕ) → length registers ≡ length old.core.registers
-    → slice_index registers 0 ≡ slice_index old.core.registers 0 → length ram ≡ length old.core.ram
+    → slice_index registers 0 ≡ slice_index old.core.registers 0 → HoldBases registers → length ram ≡ length old.core.ram
     → SameMachine old (record { pc = pc; core = record old.core { registers = registers; ram = ram } })
-kept_machine b old f pc registers ram long zero long_ram = record {
+kept_machine b old f pc registers ram long zero bases long_ram = record {
   ram = long_ram;
   registers = long;
   zero = zero;
@@ -21,6 +21,8 @@ kept_machine b old f pc registers ram long zero long_ram = record {
   controller = refl;
   open_to_lines = f.open_to_lines;
   previous = f.previous;
+  same_level = f.same_level;
+  bases = bases;
 }
 
 -- a routine leaves the machine as in this core, but for RAM
@@ -38,6 +40,8 @@ module _ (b : Build) (old now : State) (core : Core) (f : Fixed b old.core) (lef
     controller = left.controller ∙ controller;
     open_to_lines = left.opened;
     previous = left.previous;
+    same_level = left.same_level;
+    bases = left.bases;
   }
 
   -- its lines may have changed
@@ -52,4 +56,6 @@ module _ (b : Build) (old now : State) (core : Core) (f : Fixed b old.core) (lef
     controller = left.controller ∙ controller;
     open_to_lines = left.opened;
     previous = left.previous;
+    same_level = left.same_level;
+    bases = left.bases;
   }

@@ -1,5 +1,5 @@
 -- The relation gives the mirror.
-use Rattle.std.proofs.Common.{◌≡◌, ℕ, ◌+◌, ◌<◌, List, [], ◌∷◌, length, ap, subst, arith, ⊎_elim, true, eqb}
+use Rattle.std.proofs.Common.{◌≡◌, ℕ, ◌+◌, ◌<◌, List, [], ◌∷◌, length, subst, arith, ⊎_elim, true, eqb}
 use Rattle.std.specs.Prelude.{slice_index}
 use Rattle.std.proofs.lemmas.Bool.{eqb-true, or_cases, false≢true}
 use Rattle.sloth_base.specs.Machine.{State}
@@ -64,6 +64,6 @@ mirror_of b state s k = record {
   ready = λ t h e. line_ready (task s t).state (slice_index state.core.pending t) (slice_index state.core.enabled t) e (k.lines.each t h);
   waiting = λ t mask h e. line_waiting (task s t).state mask (slice_index state.core.pending t) (slice_index state.core.enabled t) e (k.lines.each t h);
   running = λ t r. runs b state s k.stack k.active k.running t r;
-  counters = λ c declared. absurd (let none = ap length k.lines.no_counters.counters in omega arith);
+  counters = λ c declared. let own = k.lines.counters c declared in (own.enabled, own.pending);
   idle = λ none. idles b state s k.stack k.active k.running none;
 }

@@ -1,5 +1,5 @@
 -- What depends on one task alone.
-use Rattle.std.proofs.Common.{◌≡◌, ℕ, ◌+◌, ◌*◌, ◌%◌, ◌<◌, List, [], ◌∷◌, length, refl, sym, ap, ◌∙◌, subst, arith, ⊎_elim, inl, inr, Bool, true, false, max}
+use Rattle.std.proofs.Common.{◌≡◌, ℕ, ◌+◌, ◌*◌, ◌%◌, ◌<◌, List, [], ◌∷◌, length, get_or, set, refl, sym, ap, ◌∙◌, subst, arith, ⊎_elim, inl, inr, Bool, true, false, max}
 use Rattle.std.specs.Prelude.{◌⊎◌, ◌≢◌, slice_index}
 use Rattle.std.proofs.lemmas.Bool.{cases_eq, cases_order}
 use Rattle.std.proofs.lemmas.List.{get_or-set_same, get_or-set_other}
@@ -33,14 +33,19 @@ other_task s t u new h = get_or-set_other s.tasks t u new sleeping_task h
 pub this_task : (s : System) (t : ℕ) (new : Task) → t < length s.tasks → task (with_task s t new) t ≡ new
 this_task s t new h = get_or-set_same s.tasks t new sleeping_task h
 
+-- a fact on each element of a list, where one is written
+pub by_element : {A : Type 0} (P : ℕ → A → Type 0) (xs : List A) (i : ℕ) (new none : A) → i < length xs → P i new → ((j : ℕ) → j ≢ i → P j (get_or xs j none))
+    → (j : ℕ) → P j (get_or (set xs i new) j none)
+by_element P xs i new none l here other j =
+    ⊎_elim
+    (λ (e : j ≡ i). subst (λ x. P x (get_or (set xs i new) x none)) (sym e) (subst (P i) (sym (get_or-set_same xs i new none l)) here))
+    (λ (n : j ≡ i → ⊥). subst (P j) (sym (get_or-set_other xs i j new none n)) (other j n))
+    (cases_eq j i)
+
 -- a fact on each task, where one task changed
 pub by_task : (P : ℕ → Task → Type 0) (s : System) (t : ℕ) (new : Task) → t < length s.tasks → P t new → ((u : ℕ) → u ≢ t → P u (task s u))
     → (u : ℕ) → P u (task (with_task s t new) u)
-by_task P s t new l here other u =
-    ⊎_elim
-    (λ (e : u ≡ t). subst (λ x. P x (task (with_task s t new) x)) (sym e) (subst (P t) (sym (this_task s t new l)) here))
-    (λ (n : u ≡ t → ⊥). subst (P u) (sym (other_task s t u new n)) (other u n))
-    (cases_eq u t)
+by_task P s t new l here other = by_element P s.tasks t new sleeping_task l here other
 
 -- ---- the line of a task
 

@@ -4,7 +4,7 @@ use Rattle.std.specs.Prelude.{◌≢◌, slice_index}
 use Rattle.std.proofs.lemmas.Bool.{cases_eq}
 use Rattle.std.proofs.lemmas.List.{length-set}
 use Rattle.sloth_base.specs.Machine.{State}
-use Rattle.sloth_base.specs.Owners.{owners_in}
+use Rattle.sloth_base.specs.Owners.{owners_in, counter_line}
 use Rattle.sloth_base.proofs.Owners.{unused_behind}
 use Rattle.sloth_region.specs.Layout.{active, events, wait, resume, saved_level}
 use Rattle.osek_scheduler.specs.State.{Task, System, task}
@@ -12,10 +12,12 @@ use Rattle.osek_scheduler.specs.Priority.{is_in, is_active}
 use Rattle.sim_relation.specs.Build.{Build, Fits}
 use Rattle.sim_relation.specs.Context.{Running}
 use Rattle.sim_relation.specs.ServiceWords.{ServiceWords}
+use Rattle.sim_relation.specs.ClockStands.{ClockStands}
 use Rattle.sim_relation.specs.DataStands.{DataStands}
 use Rattle.sim_relation.specs.Stands.{Stands, Falling, AreActive, IsLineOf, IsAlive, AreApart, TidyTask, Fixed}
 use Rattle.sim_relation.specs.Framing.{Agree, NamedKept, SamePart}
 use Rattle.sim_relation.specs.Moves.{changed_system, moved_to, WholeMachine, OthersKept}
+use Rattle.sim_relation.proofs.ClockKept.{line_stands, no_task}
 use Rattle.sim_relation.proofs.Parts.{other_task, by_task, line_same, service_kept}
 use Rattle.sim_relation.proofs.Tops.{falling_active, below_other, is_in-tail}
 
@@ -67,16 +69,20 @@ pub record Rebuilds (b : Build) (old now : State) (s : System) (t : ℕ) (own : 
   -- RAM
   pub own_words : ServiceWords b now.core.ram t own
   pub other_words : (u : ℕ) → u < length b.config.tasks → u ≢ t → ServiceWords b now.core.ram u (task s u)
+  pub clock : ClockStands b.config now.core.ram s.clock
   pub data_stands : DataStands b now.core.ram symbols
   pub apart : (u : ℕ) → u < length b.config.tasks → u ≢ t → IsAlive (task s u) → IsAlive own → AreApart b t u
   -- the task
   pub tidy : TidyTask own
 
-fixed_kept : (b : Build) (old now : State) → WholeMachine old now → ((i : ℕ) → b.is_code i ≡ true → slice_index now.core.ram i ≡ slice_index old.core.ram i)
+-- sizes, code and what never changes
+pub fixed_kept : (b : Build) (old now : State) → WholeMachine old now → ((i : ℕ) → b.is_code i ≡ true → slice_index now.core.ram i ≡ slice_index old.core.ram i)
     → Fixed b old.core → Fixed b now.core
 fixed_kept b old now m code f = record {
   open_to_lines = m.open_to_lines;
   previous = m.previous;
+  same_level = m.same_level;
+  bases = m.bases;
   controller = m.controller ∙ f.controller;
   registers = m.registers ∙ f.registers;
   zero = m.zero ∙ f.zero;
@@ -122,11 +128,14 @@ module _ (b : Build) (old now : State) (s : System) (k : Stands b old s) (t : �
           ⊎_elim (λ (e : u ≡ t). subst (λ l. slice_index now.core.pending l < 2) (sym e) r.own_bit)
           (λ (n : u ≡ t → ⊥). subst (λ p. p < 2) (sym (r.other_pending u n)) (k.lines.bits u h)) (cases_eq u t);
       levels = λ u h. ap (λ l. slice_index l u) r.machine.levels ∙ k.lines.levels u h;
-      no_counters = k.lines.no_counters;
+      counters = λ c h.
+          let beyond = no_task b old s k c h t r.declared in
+          line_stands b.config old.core now.core c _ (r.other_enabled (counter_line c) beyond) (r.other_pending (counter_line c) beyond) r.machine.levels (k.lines.counters c h);
       others = λ l h. r.other_enabled l (λ e. let c = r.declared in let f = unused_behind (owners_in b.config) l h in omega arith) ∙ k.lines.others l h;
     };
     running = r.running;
     words = by_task (λ u v. u < length b.config.tasks → ServiceWords b now.core.ram u v) s t own here (λ h. r.own_words) (λ u m h. r.other_words u h m);
+    clock = r.clock;
     data_stands = r.data_stands;
     apart = apart;
     tidy = record {

@@ -1,17 +1,16 @@
 -- The relation stands where boot has started the system.
-use Rattle.std.proofs.Common.{◌≡◌, ℕ, zero, suc, ◌+◌, ◌<◌, ◌≤◌, List, [], ◌∷◌, length, get_or, refl, sym, ap, subst, arith, ⊎_elim, Bool, true, false, cond}
+use Rattle.std.proofs.Common.{◌≡◌, ℕ, zero, suc, ◌+◌, ◌<◌, ◌≤◌, List, [], ◌∷◌, length, get_or, refl, sym, ap, subst, arith, ⊎_elim, inl, inr, Bool, true, false, cond}
 use Rattle.std.specs.Prelude.{◌≢◌, map, slice_index}
 use Rattle.sloth_base.specs.Machine.{State}
 use Rattle.sloth_base.specs.declared.config.TaskDecl.{TaskDecl}
-use Rattle.sloth_base.specs.ConfigRange.{HasNoCounters}
-use Rattle.sloth_base.specs.Owners.{owners_in}
-use Rattle.sloth_base.proofs.Owners.{unused_behind}
-use Rattle.sloth_region.specs.Layout.{active, events, resume, idle_context}
+use Rattle.sloth_base.specs.declared.config.CounterDecl.{CounterDecl}
+use Rattle.sloth_region.specs.Layout.{cur, active, events, counter_value, below_word, resume, idle_context}
 use Rattle.rv32_instr.specs.Ram.{word_at}
 use Rattle.osek_scheduler.specs.declared.state.TaskState.TheVariants as mode
-use Rattle.osek_scheduler.specs.State.{Task, System, sleeping_task, task, declaration, undeclared}
+use Rattle.osek_scheduler.specs.State.{Task, System, sleeping_task, no_counter, task, declaration, undeclared}
 use Rattle.osek_scheduler.specs.Steps.{autostarted_tasks}
 use Rattle.sim_relation.specs.Build.{Build, Fits}
+use Rattle.sim_relation.specs.ClockStands.{CounterLineStands}
 use Rattle.sim_relation.specs.ServiceWords.{ServiceWords}
 use Rattle.sim_relation.specs.Stands.{Stands, IsLineOf, IsAlive, TidyTask}
 use Rattle.sim_relation.specs.Start.{Starts, started_system}
@@ -30,14 +29,21 @@ length-autostarted : (ds : List TaskDecl) → length (autostarted_tasks ds (map 
 length-autostarted [] = refl
 length-autostarted (d ∷ ds) = ap suc (length-autostarted ds)
 
-zero_word : (ram : List ℕ) (p : ℕ) → ((i : ℕ) → i < idle_context → slice_index ram i ≡ 0) → p + 4 ≤ idle_context → word_at ram p ≡ 0
+-- a word of zeros is 0
+pub zero_word : (ram : List ℕ) (p : ℕ) → ((i : ℕ) → p ≤ i → i < p + 4 → slice_index ram i ≡ 0) → word_at ram p ≡ 0
 unfolding word_at
-zero_word ram p h l =
-    let a = h p (omega arith) in
-    let c = h (p + 1) (omega arith) in
-    let d = h (p + 2) (omega arith) in
-    let e = h (p + 3) (omega arith) in
+zero_word ram p h =
+    let a = h p (omega arith) (omega arith) in
+    let c = h (p + 1) (omega arith) (omega arith) in
+    let d = h (p + 2) (omega arith) (omega arith) in
+    let e = h (p + 3) (omega arith) (omega arith) in
     omega arith
+
+-- no counter is due at the start
+none_due : (ds : List CounterDecl) (c : ℕ) → get_or (map (λ (_ : CounterDecl). no_counter) ds) c no_counter ≡ no_counter
+none_due [] c = refl
+none_due (d ∷ ds) zero = refl
+none_due (d ∷ ds) (suc c) = none_due ds c
 
 -- what holds of a task that the start leaves
 line_of : (autostart : Bool) (pending enabled : ℕ) → pending ≡ cond autostart 1 0 → enabled ≡ 1 → IsLineOf (awake autostart).state pending enabled
@@ -60,7 +66,7 @@ words_of : (b : Build) (ram : List ℕ) (t : ℕ) (autostart : Bool) → word_at
 words_of b ram t true a e r = record { activity = a; event_mask = e; wait_mask = tt; resumption = r; held = tt }
 words_of b ram t false a e r = record { activity = a; event_mask = e; wait_mask = tt; resumption = r; held = tt }
 
-module _ (b : Build) (state : State) (fits : Fits b) (none : HasNoCounters b.config) (start : Starts b state) where
+module _ (b : Build) (state : State) (fits : Fits b) (start : Starts b state) where
   abbrev s : System
   s = started_system b
 
@@ -78,8 +84,11 @@ module _ (b : Build) (state : State) (fits : Fits b) (none : HasNoCounters b.con
       ⊎_elim (λ (x : (task s t).state ≡ mode.Active). not_active t h x)
       (λ (x : (task s t).frames ≢ []). x (by_awake (λ t v. v.frames ≡ []) (λ t h. (rests (declaration b.config t).autostart).1) t h)) a
 
-  zero_at : (p : ℕ) → p + 4 ≤ idle_context → word_at state.core.ram p ≡ 0
-  zero_at p h = zero_word state.core.ram p start.service_words h
+  low_word : (p : ℕ) → p + 4 ≤ counter_value 0 → word_at state.core.ram p ≡ 0
+  low_word p h = zero_word state.core.ram p (λ i from to. start.service_words i (omega (arith, h, to)) (inl (omega (arith, h, to))))
+
+  high_word : (p : ℕ) → below_word ≤ p → p + 4 ≤ idle_context → word_at state.core.ram p ≡ 0
+  high_word p l h = zero_word state.core.ram p (λ i from to. start.service_words i (omega (arith, h, to)) (inr (omega (arith, l, from))))
 
   small : (x : Bool) (p : ℕ) → p ≡ cond x 1 0 → p < 2
   small true p e = omega arith
@@ -94,13 +103,15 @@ module _ (b : Build) (state : State) (fits : Fits b) (none : HasNoCounters b.con
           (λ t h. line_of (declaration b.config t).autostart (slice_index state.core.pending t) (slice_index state.core.enabled t) (start.pending t h) (start.enabled t h));
       bits = λ t h. small (declaration b.config t).autostart (slice_index state.core.pending t) (start.pending t h);
       levels = start.levels;
-      no_counters = none;
-      others = λ line unused. start.other_enabled line (unused_behind (owners_in b.config) line unused);
+      counters = λ c h. subst (λ x. CounterLineStands b.config state.core c x.due) (sym (none_due b.config.counters c)) (start.counters c h);
+      others = start.other_enabled;
     };
-    running = record { level = start.level; current = zero_at 0 (omega arith); pc = start.pc; x2 = start.x2 };
+    running = record { level = start.level; current = low_word cur (omega arith); pc = start.pc; x2 = start.x2 };
     words = by_awake (λ t v. ServiceWords b state.core.ram t v)
         (λ t h. let n = fits.few_tasks in
-        words_of b state.core.ram t (declaration b.config t).autostart (zero_at (active t) (omega arith)) (zero_at (events t) (omega arith)) (zero_at (resume t) (omega arith)));
+        words_of b state.core.ram t (declaration b.config t).autostart (low_word (active t) (omega (arith, n, h))) (low_word (events t) (omega (arith, n, h)))
+        (high_word (resume t) (omega arith) (omega (arith, n, h))));
+    clock = start.clock;
     data_stands = start.data_stands;
     apart = λ t u h i n x y. absurd (not_alive t h x);
     tidy = record { booted = refl; tasks = length-autostarted b.config.tasks; each = by_awake (λ t v. TidyTask v) (λ t h. tidy_of (declaration b.config t).autostart) };

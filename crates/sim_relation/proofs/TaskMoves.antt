@@ -84,6 +84,8 @@ module _ (b : Build) (old now : State) (s : System) (k : Stands b old s) (t : 鈩
           controller = g.controller;
           open_to_lines = g.open_to_lines;
           previous = g.previous;
+          same_level = g.same_level;
+          bases = g.bases;
         };
         code = step.code;
         active = record {
@@ -98,6 +100,7 @@ module _ (b : Build) (old now : State) (s : System) (k : Stands b old s) (t : 鈩
         other_enabled = 位 l m. ap (位 w. slice_index w l) g.enabled;
         own_words = step.own_words;
         other_words = step.other_words;
+        clock = step.clock;
         data_stands = step.data_stands;
         apart = 位 u h m a c. k.apart t u here.declared h (位 e. m (sym e)) (inl here.active) a;
         tidy = step.tidy;

@@ -14,6 +14,7 @@ use Rattle.sim_relation.specs.Context.{Running, RunsTask, Resumes}
 use Rattle.sim_relation.specs.ServiceWords.{ServiceWords, HeldWords, IsWaitWord, active_word}
 use Rattle.sim_relation.specs.Stands.{Stands, IsActive, AreActive, TidyTask}
 use Rattle.sim_relation.specs.Moves.{moved_to, TaskMove, TaskStep}
+use Rattle.sim_relation.proofs.ClockKept.{clock_low}
 use Rattle.sim_relation.proofs.Framing.{word_kept}
 use Rattle.sim_relation.proofs.Parts.{service_kept, held_kept}
 use Rattle.sim_relation.proofs.TaskMoves.{task_moves}
@@ -101,6 +102,7 @@ module _ (b : Build) (old now : State) (s : System) (k : Stands b old s) (fits :
         tidy = tidy;
         place = step.place;
         context = step.context;
+        clock = clock_low b old.core.ram now.core.ram s.clock fits step.low k.clock;
         data_stands = step.data_stands;
       }
 

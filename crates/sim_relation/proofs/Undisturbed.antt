@@ -32,4 +32,4 @@ module _ (b : Build) (state : State) (s : System) (few : length b.config.tasks â
       absurd (none u f.declared f.active)
 
   pub undisturbed : IsUndisturbed b s
-  undisturbed = record { running = tops k.stack refl; idle = idles k.stack refl; quiet = quiet b state s k }
+  undisturbed = record { running = tops k.stack refl; idle = idles k.stack refl; quiet = quiet b state s k e }

@@ -58,6 +58,8 @@ HasRoom b t = (f : ℕ) (outer : List ℕ) → IsCalledBy b.app t f outer → b.
 -- never alive together may be the same.
 pub record Fits (b : Build) : Type 0 where
   pub few_tasks : length b.config.tasks ≤ 30
+  pub few_counters : length b.config.counters ≤ 2
+  pub few_alarms : length b.config.alarms ≤ 32
   -- code and data are apart, and stand behind the service words and outside each task's part of the stacks
   pub elsewhere : (i : ℕ) → IsElsewhere b i → 1024 ≤ i
   pub outside : (t i : ℕ) → t < length b.config.tasks → IsElsewhere b i → (i < b.low t) ⊎ (b.top t ≤ i)

@@ -9,6 +9,7 @@ use Rattle.osek_scheduler.specs.State.{Task, System, task, declaration}
 use Rattle.sim_relation.specs.Build.{Build, start_level}
 use Rattle.sim_relation.specs.Position.{thread_of}
 use Rattle.sim_relation.specs.Context.{Context}
+use Rattle.masked_code.specs.Kernel.{HoldBases}
 use Rattle.sim_relation.specs.Stands.{IsAlive, AreApart}
 
 -- The RAM: the context of what was preempted, at `place`, the words of the entry, and the task's own stack as it likes; all
@@ -21,7 +22,8 @@ pub record EntryRam (b : Build) (old : State) (new : List ℕ) (t place : ℕ) :
   pub level_word : word_at new (place + 4) ≡ old.core.ilevel
   pub current_word : word_at new (place + 8) ≡ word_at old.core.ram cur
   pub link_word : word_at new (place + 12) ≡ word_at old.core.ram below_word
-  pub register_words : (i : ℕ) → 5 ≤ i → i < 32 → word_at new (place + 4 * i) ≡ slice_index old.core.registers i
+  -- of the idle loop nothing is said of the registers
+  pub register_words : word_at old.core.ram cur ≢ 0 → (i : ℕ) → 5 ≤ i → i < 32 → word_at new (place + 4 * i) ≡ slice_index old.core.registers i
   pub named : (p : ℕ) → p + 4 ≤ idle_context → p % 4 ≡ 0 → p ≢ cur → p ≢ below_word → p ≢ active t → p ≢ resume t → word_at new p ≡ word_at old.core.ram p
   pub current : word_at new cur ≡ t + 1
   pub link : word_at new below_word ≡ memory_base + place
@@ -39,6 +41,8 @@ pub record EntryMachine (b : Build) (old now : State) (t : ℕ) : Type 0 where
   pub controller : now.core.controller ≡ old.core.controller
   pub open_to_lines : now.core.mie ≡ true
   pub previous : now.core.mpie ≡ true
+  pub same_level : now.core.plevel ≡ now.core.ilevel
+  pub bases : HoldBases now.core.registers
 
 -- the task's record is `own` now
 pub record TaskEntry (b : Build) (old now : State) (s : System) (t : ℕ) (own : Task) (place : ℕ) : Type 0 where

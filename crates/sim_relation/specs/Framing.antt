@@ -45,6 +45,7 @@ pub record HasLeftFor (old new : List ℕ) (place : ℕ) (end : State) : Type 0 
   pub current : word_at new cur ≡ word_at old (place + 8)
   pub link : word_at new below_word ≡ word_at old (place + 12)
   pub x2 : slice_index end.core.registers 2 ≡ memory_base + (place + context_bytes)
-  pub loaded : (i : ℕ) → 5 ≤ i → i < 32 → slice_index end.core.registers i ≡ word_at old (place + 4 * i)
+  -- of the idle loop nothing is said of the registers
+  pub loaded : word_at old (place + 8) ≢ 0 → (i : ℕ) → 5 ≤ i → i < 32 → slice_index end.core.registers i ≡ word_at old (place + 4 * i)
   pub pc : end.pc ≡ word_at old place
   pub level : end.core.ilevel ≡ word_at old (place + 4)

@@ -3,6 +3,7 @@ pub mod Position
 pub mod Context
 pub mod ServiceWords
 pub mod DataStands
+pub mod ClockStands
 pub mod Stands
 pub mod Framing
 pub mod Moves

@@ -12,8 +12,10 @@ use Rattle.sim_relation.specs.Build.{Build, IsElsewhere}
 use Rattle.sim_relation.specs.Position.{thread_of}
 use Rattle.sim_relation.specs.Context.{Context}
 use Rattle.sim_relation.specs.ServiceWords.{ServiceWords}
+use Rattle.sim_relation.specs.ClockStands.{ClockStands}
 use Rattle.sim_relation.specs.DataStands.{DataStands}
 use Rattle.sim_relation.specs.Stands.{IsAlive, IsLineOf, TidyTask}
+use Rattle.masked_code.specs.Kernel.{HoldBases}
 use Rattle.sim_relation.specs.Framing.{Agree, IdleKept, NamedKept, HasLeftFor}
 
 -- the abstract state where a task's record, the data and the tasks that arrived since the last event are these now
@@ -24,7 +26,8 @@ changed_system s t own symbols fresh = record (with_task s t own) { symbols = sy
 abbrev pub moved_to : System → ℕ → Task → List (List ℕ) → System
 moved_to s t own symbols = changed_system s t own symbols []
 
--- what each change that keeps the relation leaves of the machine: sizes, x0, the lines' levels and the controller; interrupts are open
+-- what each change that keeps the relation leaves of the machine: sizes, x0, the lines' levels and the controller; interrupts are open,
+-- and plevel is the level that runs
 pub record WholeMachine (old now : State) : Type 0 where
   pub ram : length now.core.ram ≡ length old.core.ram
   pub registers : length now.core.registers ≡ length old.core.registers
@@ -35,6 +38,8 @@ pub record WholeMachine (old now : State) : Type 0 where
   pub controller : now.core.controller ≡ old.core.controller
   pub open_to_lines : now.core.mie ≡ true
   pub previous : now.core.mpie ≡ true
+  pub same_level : now.core.plevel ≡ now.core.ilevel
+  pub bases : HoldBases now.core.registers
 
 -- what a step of the running task, and a service that goes back to it, leaves: the lines stay besides
 pub record SameMachine (old now : State) : Type 0 where
@@ -47,6 +52,8 @@ pub record SameMachine (old now : State) : Type 0 where
   pub controller : now.core.controller ≡ old.core.controller
   pub open_to_lines : now.core.mie ≡ true
   pub previous : now.core.mpie ≡ true
+  pub same_level : now.core.plevel ≡ now.core.ilevel
+  pub bases : HoldBases now.core.registers
 
 -- the bytes of the other tasks that have something on their stacks
 abbrev pub OthersKept : Build → List ℕ → List ℕ → System → ℕ → Type 0
@@ -64,6 +71,7 @@ pub record TaskMove (b : Build) (old now : State) (s : System) (t : ℕ) (own : 
   pub others : OthersKept b old.core.ram now.core.ram s t
   pub own_words : ServiceWords b now.core.ram t own
   pub other_words : (u : ℕ) → u < length b.config.tasks → u ≢ t → ServiceWords b now.core.ram u (task s u)
+  pub clock : ClockStands b.config now.core.ram s.clock
   pub tidy : TidyTask own
   pub place : ℕ
   pub context : Context b now.core.ram t own (thread_of now) place

@@ -3,13 +3,12 @@ use Rattle.std.specs.Prelude.{ℕ, ◌<◌, ◌≤◌, ◌≡◌, List, [], leng
 use Rattle.sloth_base.specs.Machine.{State}
 use Rattle.sloth_base.specs.Arrive.{state_arrive}
 use Rattle.sloth_base.specs.Choose.{choose}
-use Rattle.sloth_base.specs.ConfigRange.{HasNoCounters}
-use Rattle.sloth_base.specs.Owners.{owners_in, IsOwned, AreOwned}
+use Rattle.sloth_base.specs.Owners.{owners_in, counter_line, IsOwned, AreOwned}
 use Rattle.osek_scheduler.specs.declared.state.TaskState.{TaskState}
 use Rattle.osek_scheduler.specs.declared.state.TaskState.TheVariants as mode
 use Rattle.masked_code.specs.Kernel.{IsBelow}
 use Rattle.osek_scheduler.specs.State.{Task, System, task, with_task}
-use Rattle.osek_scheduler.specs.Priority.{IsTop, IsDue, NoTicks}
+use Rattle.osek_scheduler.specs.Priority.{IsTop, IsDue, NoTicks, IsNextTick}
 use Rattle.osek_scheduler.specs.Steps.{settled_state}
 use Rattle.sim_induction.specs.Admits.{with_admits}
 use Rattle.sim_induction.specs.Mirror.{Mirror, Runs}
@@ -24,7 +23,7 @@ use Rattle.sim_relation.specs.Start.{Starts, started_system}
 abbrev pub MirrorOfStands : Type 0
 MirrorOfStands = (b : Build) (state : State) (s : System) → Stands b state s → Mirror b.config state.core s
 
--- lines with owners that arrive where MIE is 1 are the activations of their tasks
+-- lines with owners that arrive where MIE is 1 are the activations of their tasks, and make their counters due
 abbrev pub ArrivalsAreAdmits : Type 0
 ArrivalsAreAdmits = (b : Build) (lines : List ℕ) (state : State) (s : System) → length b.config.tasks ≤ 30
     → AreOwned (owners_in b.config) lines → Stands b state s → Stands b (state_arrive lines state) (with_admits lines s)
@@ -37,6 +36,11 @@ TakenIsOwned = (b : Build) (state : State) (s : System) → Stands b state s →
 abbrev pub TakenIsTop : Type 0
 TakenIsTop = (b : Build) (state : State) (s : System) → length b.config.tasks ≤ 32 → Stands b state s
     → (t : ℕ) → t < length b.config.tasks → choose state.core ≡ Some t → IsTop b.config s [] t × ((task s t).state ≡ mode.Ready)
+
+-- the line of a counter that is taken is that of the due counter of least number
+abbrev pub TakenIsNext : Type 0
+TakenIsNext = (b : Build) (state : State) (s : System) → Stands b state s
+    → (c : ℕ) → c < length b.config.counters → choose state.core ≡ Some (counter_line c) → IsNextTick b.config s c
 
 -- where no line is taken, the running task is the top task, and where none runs none is due; no counter is
 pub record IsUndisturbed (b : Build) (s : System) : Type 0 where
@@ -83,4 +87,4 @@ BelowIsFound = (b : Build) (state : State) (s : System) (t : ℕ) → Fits b →
 
 -- it stands where boot has started the system
 abbrev pub StartsStand : Type 0
-StartsStand = (b : Build) (state : State) → Fits b → HasNoCounters b.config → Starts b state → Stands b state (started_system b)
+StartsStand = (b : Build) (state : State) → Fits b → Starts b state → Stands b state (started_system b)

@@ -6,14 +6,15 @@ use Rattle.osek_scheduler.specs.declared.state.TaskState.TheVariants as mode
 use Rattle.osek_scheduler.specs.State.{Task, System, task, declaration}
 use Rattle.osek_scheduler.specs.Priority.{is_in, is_active}
 use Rattle.sim_induction.specs.Mirror.{priority_of}
-use Rattle.sloth_base.specs.ConfigRange.{HasNoCounters}
 use Rattle.sloth_base.specs.PriorityLevels.{level_of}
 use Rattle.sloth_base.specs.Owners.{line_kind, owners_in}
 use Rattle.sloth_base.specs.declared.lines.LineKind.TheVariants as line_of
 use Rattle.sim_relation.specs.Build.{Build}
 use Rattle.sim_relation.specs.Context.{Running}
 use Rattle.sim_relation.specs.ServiceWords.{ServiceWords}
+use Rattle.masked_code.specs.Kernel.{HoldBases}
 use Rattle.sim_relation.specs.DataStands.{DataStands}
+use Rattle.sim_relation.specs.ClockStands.{CountersStand, ClockStands}
 
 -- ---- the lines
 
@@ -30,8 +31,7 @@ pub record LinesStand (b : Build) (core : Core) (s : System) : Type 0 where
   -- whatever the state, a pending byte is 0 or 1
   pub bits : (t : ℕ) → t < length b.config.tasks → slice_index core.pending t < 2
   pub levels : (t : ℕ) → t < length b.config.tasks → slice_index core.levels t ≡ level_of b.config (declaration b.config t).priority
-  -- no line is a counter's
-  pub no_counters : HasNoCounters b.config
+  pub counters : CountersStand b.config core s.clock
   -- a line that nothing owns is not enabled
   pub others : (line : ℕ) → line_kind (owners_in b.config) line ≡ line_of.Unused → slice_index core.enabled line ≡ 0
 
@@ -89,6 +89,8 @@ pub record Tidy (b : Build) (s : System) : Type 0 where
 pub record Fixed (b : Build) (core : Core) : Type 0 where
   pub open_to_lines : core.mie ≡ true
   pub previous : core.mpie ≡ true
+  pub same_level : core.plevel ≡ core.ilevel
+  pub bases : HoldBases core.registers
   pub controller : core.controller ≡ true
   pub registers : length core.registers ≡ 32
   pub zero : slice_index core.registers 0 ≡ 0
@@ -106,6 +108,7 @@ pub record Stands (b : Build) (state : State) (s : System) : Type 0 where
   pub lines : LinesStand b state.core s
   pub running : Running b state s stack
   pub words : (t : ℕ) → t < length b.config.tasks → ServiceWords b state.core.ram t (task s t)
+  pub clock : ClockStands b.config state.core.ram s.clock
   pub data_stands : DataStands b state.core.ram s.symbols
   pub apart : StacksApart b s
   pub tidy : Tidy b s

@@ -2,14 +2,14 @@
 //! keeps it. It stands on the offsets of `sloth_region` (`specs/Layout`) and on no generator.
 #![tactic(auto)]
 
-ghost use Rattle.sim_relation.specs.RelationKept.{MirrorOfStands, ArrivalsAreAdmits, TakenIsOwned, TakenIsTop, NoneTaken, StepsKeep, MovesKeep, LeavesKeep, ChangesKeep, EntriesKeep, BelowIsFound, StartsStand};
+ghost use Rattle.sim_relation.specs.RelationKept.{MirrorOfStands, ArrivalsAreAdmits, TakenIsOwned, TakenIsTop, TakenIsNext, NoneTaken, StepsKeep, MovesKeep, LeavesKeep, ChangesKeep, EntriesKeep, BelowIsFound, StartsStand};
 
 /// Where the relation stands, the interrupt controller mirrors the abstract scheduler.
 pub fn mirror_of_stands()
     ensures { MirrorOfStands }
 {}
 
-/// Lines that arrive where interrupts are open are the activations of their tasks.
+/// Lines that arrive where interrupts are open are the activations of their tasks, and make their counters due.
 pub fn arrivals_are_admits()
     ensures { ArrivalsAreAdmits }
 {}
@@ -22,6 +22,11 @@ pub fn taken_is_owned()
 /// The line of a task that is taken is that of the top task, which is Ready.
 pub fn taken_is_top()
     ensures { TakenIsTop }
+{}
+
+/// The line of a counter that is taken is that of the due counter of least number.
+pub fn taken_is_next()
+    ensures { TakenIsNext }
 {}
 
 /// Where no line is taken, the running task is the top task, and where none runs none is due.

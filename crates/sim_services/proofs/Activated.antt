@@ -53,6 +53,8 @@ module _ (b : Build) (state : State) (s : System) (t : ℕ) (own : Task) (object
         opened = l.opened;
         previous = l.previous;
         running = l.running;
+        same_level = l.same_level;
+        bases = l.bases;
         pending = refl;
         enabled = l.enabled;
         levels = l.levels;

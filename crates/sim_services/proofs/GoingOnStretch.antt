@@ -100,9 +100,9 @@ module _ (b : Build) (view : View) (arrivals : List Arrival) (count : ℕ) (stat
   tells_stretches o =
       let block = o.opens.block in
       going_on_stretches b view arrivals count state s t service.GetTaskID (λ object. TellsTask) fits setting after_boot stands o block.serves.masks
-      8 (omega arith) (λ place. Told t) (λ place touched from to e. touches_none b touched e.touches)
+      5 (omega arith) (λ place. Told t) (λ place touched from to e. touches_none b touched e.touches)
       (λ place can. block.serves.runs block.offset t start.core
-      (record { goes_back = can.goes_back; level = can.level; runs = can.current; is_task = can.is_task }))
+      (record { goes_back = can.goes_back; runs = can.current; is_task = can.is_task }))
       (λ place lines touched s2 end can may effect.
       tells b (state_arrive lines start) s2 t (task found t) o.opens.opening.block.call.object touched end fits may effect)
 
@@ -114,10 +114,9 @@ module _ (b : Build) (view : View) (arrivals : List Arrival) (count : ℕ) (stat
       let declared = ltb-true object (length b.config.tasks) o.names in
       let there = k b view arrivals count state s t service.GetTaskState TellsState fits setting after_boot stands o.opens block.serves.masks in
       going_on_stretches b view arrivals count state s t service.GetTaskState TellsState fits setting after_boot stands o block.serves.masks
-      15 (omega arith) (λ place. StateTold object t) (λ place. state_touches b object t declared)
+      10 (omega arith) (λ place. StateTold object t) (λ place. state_touches b object t declared)
       (λ place can. block.serves.runs block.offset t start.core (record {
         goes_back = can.goes_back;
-        level = can.level;
         runs = can.current;
         is_own = can.is_task;
         is_task = let f = fits.few_tasks in omega arith;
@@ -135,11 +134,10 @@ module _ (b : Build) (view : View) (arrivals : List Arrival) (count : ℕ) (stat
       let declared = ltb-true object (length b.config.tasks) o.names in
       let there = k b view arrivals count state s t service.ActivateTask Activates fits setting after_boot stands o.opens block.serves.masks in
       going_on_stretches b view arrivals count state s t service.ActivateTask Activates fits setting after_boot stands o block.serves.masks
-      16 (omega arith) (λ place. Activated object) (λ place touched from to e. touches_one b object touched declared e.touches)
+      11 (omega arith) (λ place. Activated object) (λ place touched from to e. touches_one b object touched declared e.touches)
       (λ place can. block.serves.runs block.offset start.core (record {
         goes_back = can.goes_back;
         is_task = let f = fits.few_tasks in omega arith;
-        level = can.level;
         active_bit = active_bit b start found there object declared;
         pending_bit = there.lines.bits object declared;
         enabled_bit = enabled_bit b start found there object declared;
@@ -154,11 +152,10 @@ module _ (b : Build) (view : View) (arrivals : List Arrival) (count : ℕ) (stat
       let declared = ltb-true object (length b.config.tasks) o.goes_on.names in
       let there = k b view arrivals count state s t service.ChainTask Chains fits setting after_boot stands o.goes_on.opens block.serves.masks in
       going_on_stretches b view arrivals count state s t service.ChainTask Chains fits setting after_boot stands o.goes_on block.serves.masks
-      63 (omega arith) (λ place. Chained object t place)
+      59 (omega arith) (λ place. Chained object t place)
       (λ place. chain_touches b object t place declared (active_by_word b start found t there o.goes_on.opens.opening.current).declared)
       (λ place can. block.serves.runs block.offset t place start.core (record {
         goes_back = can.goes_back;
-        level = can.level;
         runs = can.current;
         is_own = can.is_task;
         is_task = let f = fits.few_tasks in omega arith;
@@ -177,7 +174,7 @@ module _ (b : Build) (view : View) (arrivals : List Arrival) (count : ℕ) (stat
       let block = o.goes_on.opens.block in
       let object = o.goes_on.opens.opening.block.call.object in
       going_on_stretches b view arrivals count state s t service.GetResource (λ object. Takes object level) fits setting after_boot stands o.goes_on
-      block.serves.masks 10 (omega arith) (λ place. Taken object level) (λ place touched from to e. touches_none b touched e.touches)
+      block.serves.masks 8 (omega arith) (λ place. Taken object level) (λ place touched from to e. touches_none b touched e.touches)
       (λ place can. block.serves.runs block.offset start.core
       (record { goes_back = can.goes_back; is_resource = let l = o.may.is_resource in omega arith; level = can.level }))
       (λ place lines touched s2 end can may effect. takes b (state_arrive lines start) s2 t (task found t) object level touched end fits may o.may effect)
@@ -191,7 +188,7 @@ module _ (b : Build) (view : View) (arrivals : List Arrival) (count : ℕ) (stat
       let here = active_by_word b start found t there o.opens.opening.current in
       let among = (popped b start found there t here.declared object o.names).among in
       going_on_stretches b view arrivals count state s t service.ReleaseResource Releases fits setting after_boot stands o block.serves.masks
-      6 (omega arith) (λ place. Released object) (λ place touched from to e. touches_none b touched e.touches)
+      5 (omega arith) (λ place. Released object) (λ place touched from to e. touches_none b touched e.touches)
       (λ place can. block.serves.runs block.offset start.core
       (record {
         goes_back = can.goes_back;

@@ -19,6 +19,7 @@ use Rattle.sim_relation.specs.Position.{FramesAt, Position, thread_of}
 use Rattle.sim_relation.specs.ServiceWords.{ServiceWords, HeldWords, IsWaitWord, active_word, base_priority}
 use Rattle.sim_relation.specs.Stands.{Stands, IsActive}
 use Rattle.sim_relation.proofs.AtItem.{position_first}
+use Rattle.sim_relation.proofs.ClockKept.{clock_kept}
 use Rattle.sim_relation.proofs.Contexts.{data_kept}
 use Rattle.sim_relation.proofs.Framing.{frames_kept}
 use Rattle.sim_relation.proofs.Machines.{left_same}
@@ -104,6 +105,7 @@ module _ (b : Build) (state : State) (s : System) (k : Stands b state s) (fits :
       others = λ u l n a i x y. let g = fits.from u l in high i (omega arith);
       own_words = own_words;
       other_words = other_words;
+      clock = clock_kept b old new s.clock fits (λ p from to a. named p a (λ e. omega arith)) k.clock;
       tidy = record {
         registers = h.long;
         at_rest = λ a. let c = ap is_active h.active in cc;

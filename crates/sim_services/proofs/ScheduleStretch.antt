@@ -62,11 +62,12 @@ yields_stretches b view arrivals count state s t fits setting after_boot stands 
     let there = k b view arrivals count state s t service.Schedule (λ object. Yields) fits setting after_boot stands o.goes_on.opens block.serves.masks in
     let here = active_by_word b n s1 t there o.goes_on.opens.opening.current in
     going_on_stretches b view arrivals count state s t service.Schedule (λ object. Yields) fits setting after_boot stands o.goes_on block.serves.masks
-    12 (omega arith) (λ place. Yielded block.offset t) (λ place touched from to e. touches_none b touched e.touches)
+    8 (omega arith) (λ place. Yielded block.offset t) (λ place touched from to e. touches_none b touched e.touches)
     (λ place can. block.serves.runs.lowers block.offset t n.core (record {
       can_run = can.goes_back.can_run;
       previous = can.goes_back.previous;
-      level = can.level;
+      same_level = can.goes_back.same_level;
+      bases = can.goes_back.bases;
       runs = can.current;
       is_task = can.is_task;
       line = let l = there.lines.levels t here.declared in let f = fits.few_tasks in let m = level_of-few b.config (declaration b.config t).priority in omega arith;
@@ -148,6 +149,8 @@ module _ (b : Build) (view : View) (arrivals : List Arrival) (count : ℕ) (stat
               placed = placed;
             };
             previous = f.previous;
+            same_level = f.same_level;
+            bases = f.bases;
             back = ap (λ x. x % 4) owing.returns ∙ a;
           };
           level = omega arith;

@@ -134,6 +134,8 @@ module _ (b : Build) (view : View) (arrivals : List Arrival) (count : ℕ) (stat
                 placed = placed;
               };
               previous = f.previous;
+              same_level = f.same_level;
+              bases = f.bases;
               back = back;
             };
             level = omega arith;

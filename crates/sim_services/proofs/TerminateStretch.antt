@@ -29,10 +29,10 @@ terminate_stretches b view arrivals count state s t fits setting after_boot stan
     let can = found.1 in
     let there = k b view arrivals count state s t service.TerminateTask (λ object. Terminates) fits setting after_boot stands o.opens block.serves.masks in
     service_stretches b view arrivals count state s t service.TerminateTask (λ object. Terminates) fits setting after_boot stands o.opens block.serves.masks
-    49 (omega arith) (Terminated t found.0)
+    48 (omega arith) (Terminated t found.0)
     (λ touched from to e. touches_one b t touched (active_by_word b n (with_admits (lines_at arrivals count) s) t there o.opens.opening.current).declared e.touches)
     (block.serves.runs block.offset t found.0 n.core
-    (record { can_run = can.goes_back.can_run; previous = can.goes_back.previous; runs = can.current; is_task = can.is_task; below = can.below }))
+    (record { can_run = can.goes_back.can_run; previous = can.goes_back.previous; bases = can.goes_back.bases; runs = can.current; is_task = can.is_task; below = can.below }))
     (λ lines touched s2 end is effect.
     terminate_ends b (state_arrive lines n) s2 t own found.0 touched end fits
     (record { is_served = is; holds_nothing = o.holds_nothing; below = can.below.is }) effect)

@@ -1,5 +1,5 @@
 -- The states of tasks where the relation stands.
-use Rattle.std.proofs.Common.{◌≡◌, ℕ, ◌<◌, length, refl, subst, true, false}
+use Rattle.std.proofs.Common.{◌≡◌, ℕ, refl, subst}
 use Rattle.std.specs.Prelude.{◌==◌, slice_index, if◌then◌else◌}
 use Rattle.sloth_base.specs.Machine.{State}
 use Rattle.sloth_region.specs.Layout.{active, wait}

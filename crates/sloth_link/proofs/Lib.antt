@@ -3,6 +3,7 @@ pub mod Stand
 pub mod Marked
 pub mod WrittenMemory
 pub mod Joined
+pub mod AlarmRoom
 pub mod Housed
 pub mod Growing
 pub mod Counting

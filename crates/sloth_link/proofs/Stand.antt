@@ -15,7 +15,8 @@ use Rattle.sloth_link.specs.declared.datum.Datum.{Datum}
 use Rattle.sloth_link.specs.Linked.{code_bytes, block_section, datum_section, sections_of, Holds, BlockStands, AreLinked}
 use Rattle.sloth_link.proofs.Written.{front_of, back_of, each_of}
 
-word_of : (memory : List ℕ) (o n : ℕ) → n < 2 ^ 32 → slice_index memory (o + 0) ≡ n % 256 → slice_index memory (o + 1) ≡ n / 256 % 256
+-- the word that four bytes are
+pub word_of : (memory : List ℕ) (o n : ℕ) → n < 2 ^ 32 → slice_index memory (o + 0) ≡ n % 256 → slice_index memory (o + 1) ≡ n / 256 % 256
     → slice_index memory (o + 2) ≡ n / 65536 % 256 → slice_index memory (o + 3) ≡ n / 16777216 % 256 → word_at memory o ≡ n
 unfolding word_at
 word_of memory o n fits a b c d =

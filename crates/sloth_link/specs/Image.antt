@@ -3,7 +3,7 @@ use Rattle.std.specs.Prelude.{ℕ, ◌+◌, ◌-◌, ◌<◌, ◌≤◌, ◌≡�
 use Rattle.sloth_base.specs.Named.{declaration}
 use Rattle.sloth_base.specs.declared.app.App.{App}
 use Rattle.sloth_base.specs.declared.config.Config.{Config}
-use Rattle.sloth_base.specs.MemoryMap.{memory_base}
+use Rattle.sloth_base.specs.MemoryMap.{memory_base, vectors_base}
 use Rattle.sloth_region.specs.declared.map.Map.{Map}
 use Rattle.code_rules.specs.WellFormed.{WellFormed}
 use Rattle.rv32_instr.specs.declared.block.Block.{Block}
@@ -13,15 +13,19 @@ use Rattle.mem_map.specs.Zones.{data_zone}
 use Rattle.sloth_link.specs.declared.datum.Datum.{Datum}
 use Rattle.sloth_link.specs.Items.{MarksAreOfItems, item_blocks}
 use Rattle.sloth_link.specs.Linked.{HaveOwnAddresses, HaveRoom, marks_of}
-use Rattle.sloth_link.specs.Symbols.{data_of}
+use Rattle.sloth_link.specs.Symbols.{alarm_data, data_of}
 
 -- the blocks of routines, and behind them the items, each as a block of its own at its address in the map
 abbrev pub all_blocks : App → Map → List Block → List Block
 all_blocks app map blocks = blocks ++ item_blocks app map.places (length app.funcs)
 
 -- the bytes of the symbols at their addresses in the map
-abbrev pub all_data : App → Map → List Datum
-all_data app map = data_of map.places.symbols app.symbols
+abbrev pub symbol_data : App → Map → List Datum
+symbol_data app map = data_of map.places.symbols app.symbols
+
+-- the words of the alarms, and behind them the bytes of the symbols
+abbrev pub all_data : Config → App → Map → List Datum
+all_data config app map = alarm_data 0 config.alarms ++ symbol_data app map
 
 -- the bytes of memory up to the end of the zone of data
 abbrev pub memory_size : Map → ℕ
@@ -37,9 +41,12 @@ pub record MayLink (config : Config) (app : App) (map : Map) (blocks : List Bloc
   pub covers : Covers app map.places
   pub symbols : length map.places.symbols ≡ length app.symbols
   pub zones : 2 < length map.extents
-  pub above : memory_base ≤ (data_zone map).base
+  pub above : vectors_base ≤ (data_zone map).base
   pub below : (data_zone map).base + (data_zone map).len < 4294967296
-  pub room : HaveRoom (memory_size map) (all_blocks app map blocks) (all_data app map)
+  pub room : HaveRoom (memory_size map) (all_blocks app map blocks) (symbol_data app map)
+  -- all of them stand behind the service words
+  pub blocks_behind : All (λ b. vectors_base ≤ b.at) (all_blocks app map blocks)
+  pub symbols_behind : All (λ d. vectors_base ≤ d.at) (symbol_data app map)
   -- no mark of a routine is one of an item, and no two marks have one address
   pub routines : All (MarksAreOfItems app map.places) blocks
   pub own_addresses : HaveOwnAddresses (marks_of (all_blocks app map blocks))

@@ -1,6 +1,8 @@
-//! The image of task code: blocks of code, items and symbols at their addresses, zeros elsewhere, and the marks.
+//! The image of task code: blocks of code, items, symbols and the words of alarms at
+//! their addresses, zeros elsewhere, and the marks.
 #![tactic(auto)]
 
+mod alarms;
 pub mod datum;
 pub mod items;
 pub mod laws;

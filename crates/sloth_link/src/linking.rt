@@ -2,7 +2,7 @@
 ghost use Rattle.std.specs.Prelude.{◌≡◌, ◌<◌, ◌≤◌, ◌+◌, ◌++◌, IfOk, All, length, replicate, ℕ, slice_index};
 ghost use Rattle.std.specs.List.Sorted.{IsPermutation, IsStrictlyIncreasing};
 ghost use Rattle.std.specs.Vec.{vec_len};
-ghost use Rattle.sloth_base.specs.MemoryMap.{memory_base};
+ghost use Rattle.sloth_base.specs.MemoryMap.{vectors_base};
 ghost use Rattle.rv32_instr.specs.Range.{InRange};
 ghost use Rattle.rv32_expand.specs.InPlace.{ItemsInPlace};
 ghost use Rattle.mem_map.specs.Zones.{data_zone};
@@ -11,6 +11,7 @@ ghost use Rattle.sloth_link.specs.Linked.{marks_of, HaveOwnAddresses, addresses,
 ghost use Rattle.sloth_link.specs.Names.{task_names, counter_names, function_names};
 ghost use Rattle.sloth_link.specs.Standing.{ItemsStand};
 
+use crate::alarms::alarms;
 use crate::datum::Datum;
 use crate::items::items;
 use crate::marking::marks;
@@ -127,7 +128,7 @@ fn link_all(
 // The bytes of the memory, up to the end of the zone of data.
 fn memory_size(map: &Map) -> usize
     requires zones { 2 < length map.now.extents }
-    requires above { memory_base ≤ (data_zone map.now).base }
+    requires above { vectors_base ≤ (data_zone map.now).base }
     requires below { (data_zone map.now).base + (data_zone map.now).len < 4294967296 }
     ensures { result ≡ memory_size map.now }
 {
@@ -135,8 +136,21 @@ fn memory_size(map: &Map) -> usize
     (data.base - MEMORY_BASE + data.len) as usize
 }
 
+// The words of the alarms, and the bytes of the symbols.
+fn all_data(alloc: Global, config: &Config, app: &App, map: &Map) -> Result<Vec<Datum>, NoMemory>
+    requires few { length config.now.alarms ≤ 32 }
+    requires symbols { length map.now.places.symbols ≡ length app.now.symbols }
+    ensures { IfOk result (λ all. all.items ≡ all_data config.now app.now map.now) }
+{
+    let mut all = alarms(alloc, config)?;
+    let mut declared = symbols(alloc, app, &map.places)?;
+    all.append(&mut declared)?;
+    Ok(all)
+}
+
 /// The image of well-formed task code by its map: the blocks of routines at their addresses, each item at its address with its mark, each
-/// symbol's bytes at its address, and zeros elsewhere; the marks of the blocks and items by rising addresses; and the names.
+/// symbol's bytes at its address, the time and the cycle of each alarm in its words, and zeros elsewhere; the marks of the blocks and items by
+/// rising addresses; and the names.
 pub fn link(
     alloc: Global,
     blocks: &[Block],
@@ -149,9 +163,9 @@ pub fn link(
     ensures stand { IfOk result (λ image. ItemsStand app.now map.now.places image.memory image.marks) }
     ensures range { IfOk result (λ image. All (λ b. All InRange b.code) (all_blocks app.now map.now blocks.now)) }
     ensures code { IfOk result (λ image. All (BlockStands image.memory) (all_blocks app.now map.now blocks.now)) }
-    ensures symbols { IfOk result (λ image. All (λ d. Holds image.memory (datum_section d)) (all_data app.now map.now)) }
+    ensures data_stands { IfOk result (λ image. All (λ d. Holds image.memory (datum_section d)) (all_data config.now app.now map.now)) }
     ensures linked { IfOk result (λ image.
-        AreLinked (memory_size map.now) (sections_of (all_blocks app.now map.now blocks.now) (all_data app.now map.now)) image.memory) }
+        AreLinked (memory_size map.now) (sections_of (all_blocks app.now map.now blocks.now) (all_data config.now app.now map.now)) image.memory) }
     ensures bytes { IfOk result (λ image. (i : ℕ) → slice_index image.memory i < 256) }
     ensures marks { IfOk result (λ image. IsPermutation (marks_of (all_blocks app.now map.now blocks.now)) image.marks) }
     ensures ascending { IfOk result (λ image. IsStrictlyIncreasing (addresses image.marks)) }
@@ -160,8 +174,8 @@ pub fn link(
     ensures counters { IfOk result (λ image. image.counters ≡ counter_names config.now) }
 {
     let items = items(alloc, app, &map.places)?;
-    let symbols = symbols(alloc, app, &map.places)?;
-    let linked = link_all(alloc, blocks, &items, &symbols, memory_size(map))?;
+    let data = all_data(alloc, config, app, map)?;
+    let linked = link_all(alloc, blocks, &items, &data, memory_size(map))?;
     Ok(Image {
         tasks: task_names(alloc, config)?,
         funcs: function_names(alloc, app)?,

@@ -9,8 +9,8 @@ use sloth_base::memory::NoMemory;
 use sloth_base::places::Places;
 use std::alloc::{AllocError, Global};
 
-// One more run of bytes.
-fn push(data: &mut Vec<Datum>, datum: Datum) -> Result<(), NoMemory>
+/// One more run of bytes.
+pub fn push(data: &mut Vec<Datum>, datum: Datum) -> Result<(), NoMemory>
     ensures { OnOk result (data.new.items ≡ data.old.items ++ datum ∷ []) }
 {
     match data.push(datum) {

@@ -18,6 +18,18 @@ events task = 8 + 12 * task
 abbrev pub wait : ℕ → ℕ
 wait task = 12 + 12 * task
 
+-- a counter's value
+abbrev pub counter_value : ℕ → ℕ
+counter_value counter = 364 + 4 * counter
+
+-- the ticks that an alarm has left, 0 where it is not in use
+abbrev pub alarm_left : ℕ → ℕ
+alarm_left alarm = 372 + 8 * alarm
+
+-- an alarm's cycle
+abbrev pub alarm_cycle : ℕ → ℕ
+alarm_cycle alarm = 376 + 8 * alarm
+
 -- where a task runs: the address of the context of the Active task below it, or of that of the idle loop
 abbrev pub below_word : ℕ
 below_word = 628

@@ -1,6 +1,6 @@
 //! The offsets of `specs/Layout.antt` as numbers for instructions: service words, contexts, and the controller's bytes.
 ghost use Rattle.std.specs.Prelude.{◌≡◌, ◌<◌, ◌≤◌, pos};
-ghost use Rattle.sloth_region.specs.Layout.{active, events, wait, resume, saved_level, pending_byte, enabled_byte, level_byte};
+ghost use Rattle.sloth_region.specs.Layout.{active, events, wait, counter_value, alarm_left, alarm_cycle, resume, saved_level, pending_byte, enabled_byte, level_byte};
 
 /// Bits 31 to 12 of the address of the service words.
 pub const WORDS_HIGH: u32 = 0x8_0000;
@@ -56,6 +56,30 @@ pub fn wait(task: u8) -> i32
     ensures { result ≡ pos (wait task) }
 {
     12 + 12 * task as i32
+}
+
+/// A counter's value.
+pub fn counter_value(counter: u8) -> i32
+    requires { counter < 2 }
+    ensures { result ≡ pos (counter_value counter) }
+{
+    364 + 4 * counter as i32
+}
+
+/// The ticks that an alarm has left, 0 where it isn't in use.
+pub fn alarm_left(alarm: u8) -> i32
+    requires { alarm < 32 }
+    ensures { result ≡ pos (alarm_left alarm) }
+{
+    372 + 8 * alarm as i32
+}
+
+/// An alarm's cycle.
+pub fn alarm_cycle(alarm: u8) -> i32
+    requires { alarm < 32 }
+    ensures { result ≡ pos (alarm_cycle alarm) }
+{
+    376 + 8 * alarm as i32
 }
 
 /// Where the address of a task's own context stands.

@@ -8,11 +8,11 @@ use Rattle.oil_lex.specs.Tokens.{TextFault}
 use Rattle.oil_parse.specs.declared.tree.OilTree.{OilTree}
 use Rattle.oil_parse.specs.Text.{HasTree, BreaksGrammar}
 use Rattle.oil_parse.proofs.Judged.{judged}
-use Rattle.oil_model.specs.ModelFaults.{ModelFault}
+use Rattle.oil_alarms.specs.ModelFaults.{ModelFault}
 use Rattle.oil_model.specs.Configs.{config_of}
 use Rattle.code_rules.specs.WellFormed.{CycleFault, RuleFault}
 use Rattle.asm_lines.specs.Faults.{source_lines}
-use Rattle.asm_parse.specs.Apps.{app_of}
+use Rattle.asm_items.specs.Apps.{app_of}
 use Rattle.asm_parse.specs.AppTexts.{SourceTextFault}
 use Rattle.sloth_source.specs.OilText.{OilText, OilRefusal}
 use Rattle.sloth_source.specs.SourceText.{HasApp, SourceText, SourceRefusal}

@@ -13,14 +13,21 @@ use Rattle.oil_parse.specs.declared.tree.OilObject.{OilObject}
 use Rattle.oil_parse.specs.declared.tree.OilAttr.{OilAttr}
 use Rattle.oil_parse.specs.Faults.{GrammarFault}
 use Rattle.oil_parse.specs.Text.{BreaksGrammar}
-use Rattle.oil_model.specs.Cases.{Case}
-use Rattle.oil_model.specs.Objects.{has_scheduler}
-use Rattle.oil_model.specs.Table.{place_of}
-use Rattle.oil_model.specs.Events.{events_of, BitFault}
-use Rattle.oil_model.specs.ObjectFaults.{KnownFault}
-use Rattle.oil_model.specs.AttributeFaults.{AttributeFault}
-use Rattle.oil_model.specs.TaskFaults.{TaskFault}
-use Rattle.oil_model.specs.ModelFaults.{InnerFault, ObjectFault, ModelFault}
+use Rattle.oil_rules.specs.Cases.{Case}
+use Rattle.oil_rules.specs.Objects.{has_scheduler}
+use Rattle.oil_rules.specs.Events.{events_of, BitFault}
+use Rattle.oil_rules.specs.ObjectFaults.{KnownFault}
+use Rattle.oil_rules.specs.AttributeFaults.{AttributeFault}
+use Rattle.oil_rules.specs.TaskFaults.{TaskFault}
+use Rattle.oil_rules.specs.TreeFaults.{InnerFault, ObjectFault, TreeFault}
+use Rattle.oil_rules.specs.declared.table.Place.{Place}
+use Rattle.oil_rules.specs.declared.table.Place.TheVariants.{Alarm}
+use Rattle.oil_rules.specs.Table.{place_of, block_place}
+use Rattle.oil_alarms.specs.declared.limits.Limits.{Limits}
+use Rattle.oil_alarms.specs.Limits.{limits_of}
+use Rattle.oil_alarms.specs.Blocks.{BlockText, blocks_of}
+use Rattle.oil_alarms.specs.AlarmFaults.{InsideFault, BlockFault, PartFault, AlarmFault}
+use Rattle.oil_alarms.specs.ModelFaults.{ModelFault}
 use Rattle.sloth_source.proofs.Least.{of_some}
 
 by_meaning : (m : Meaning) (n : ℕ) (r : Refusal) → FaultBy m n r → r.part ≡ Oil
@@ -76,9 +83,30 @@ of_object : (objects : List OilObject) (scheduler : Bool) (events : List EventDe
 of_object objects scheduler events front object r (inl h) = of_case _ _ _ r h
 of_object objects scheduler events front object r (inr h) = of_inner objects scheduler events front object r h.1
 
-pub of_tree : (tree : OilTree) (r : Refusal) → ModelFault tree r → r.part ≡ Oil
-of_tree tree r (inl h) =
+of_rules : (tree : OilTree) (r : Refusal) → TreeFault tree r → r.part ≡ Oil
+of_rules tree r (inl h) =
     of_some Oil (ObjectFault tree.objects (has_scheduler tree.objects) (events_of tree.objects))
     (of_object tree.objects (has_scheduler tree.objects) (events_of tree.objects)) [] tree.objects r h
-of_tree tree r (inr (inl h)) = of_some Oil (BitFault tree.objects) (λ front object s g. of_case _ _ _ s g) [] tree.objects r h
-of_tree tree r (inr (inr h)) = of_case _ _ _ r h
+of_rules tree r (inr (inl h)) = of_some Oil (BitFault tree.objects) (λ front object s g. of_case _ _ _ s g) [] tree.objects r h
+of_rules tree r (inr (inr h)) = of_case _ _ _ r h
+
+of_inside : (objects : List OilObject) (limits : Limits) (place : Place) (inner before : List OilAttr) (attr : OilAttr) (r : Refusal)
+    → InsideFault objects limits place inner before attr r → r.part ≡ Oil
+of_inside objects limits place inner before attr r (inl h) = of_case _ _ _ r h
+of_inside objects limits place inner before attr r (inr (inl h)) = of_case _ _ _ r h
+of_inside objects limits place inner before attr r (inr (inr h)) = of_case _ _ _ r h
+
+of_block : (objects : List OilObject) (limits : Limits) (front : List BlockText) (block : BlockText) (r : Refusal) → BlockFault objects limits front block r → r.part ≡ Oil
+of_block objects limits front block r h =
+    let place = block_place Alarm block.head in
+    of_some Oil (InsideFault objects limits place block.inner) (of_inside objects limits place block.inner) [] block.inner r h
+
+of_part : (objects : List OilObject) (alarm : OilObject) (r : Refusal) → PartFault objects alarm r → r.part ≡ Oil
+of_part objects alarm r (inl h) = of_case _ _ _ r h
+of_part objects alarm r (inr h) =
+    let limits = limits_of objects alarm.attrs in
+    of_some Oil (BlockFault objects limits) (of_block objects limits) [] (blocks_of alarm.attrs) r h
+
+pub of_tree : (tree : OilTree) (r : Refusal) → ModelFault tree r → r.part ≡ Oil
+of_tree tree r (inl h) = of_rules tree r h
+of_tree tree r (inr h) = of_some Oil (AlarmFault tree.objects) (λ front object s g. of_part tree.objects object s g.1) [] tree.objects r h

@@ -7,9 +7,9 @@ use Rattle.sloth_base.specs.declared.refusal.Part.TheVariants.{Src}
 use Rattle.sloth_base.specs.declared.refusal.Code.{Code}
 use Rattle.asm_lines.specs.declared.source_line.SourceLine.{SourceLine}
 use Rattle.asm_lines.specs.Faults.{Case, LineFault, FaultAt, TextFault, source_lines}
-use Rattle.asm_names.specs.declared.scope.Scope.{Scope}
-use Rattle.asm_names.specs.Bodies.{BodyText, bodies_of}
-use Rattle.asm_names.specs.Scopes.{scope_of}
+use Rattle.asm_scopes.specs.declared.scope.Scope.{Scope}
+use Rattle.asm_scopes.specs.Bodies.{BodyText, bodies_of}
+use Rattle.asm_scopes.specs.Scopes.{scope_of}
 use Rattle.asm_names.specs.NameFaults.{DataFault, LineFault as NamedLineFault, BodyFault, NameFault}
 use Rattle.asm_parse.specs.AppTexts.{SourceTextFault}
 use Rattle.code_rules.specs.WellFormed.{CycleFault, RuleFault, BodyFault as RuleBodyFault}

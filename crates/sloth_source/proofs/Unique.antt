@@ -5,10 +5,10 @@ use Rattle.sloth_base.specs.declared.app.App.{App}
 use Rattle.sloth_base.specs.declared.refusal.Refusal.{Refusal}
 use Rattle.oil_parse.specs.declared.tree.OilTree.{OilTree}
 use Rattle.oil_parse.proofs.Texts.{one_tree, not_both}
-use Rattle.oil_model.specs.ModelFaults.{ModelFault}
+use Rattle.oil_alarms.specs.ModelFaults.{ModelFault}
 use Rattle.code_rules.specs.WellFormed.{CycleFault, RuleFault}
 use Rattle.asm_lines.specs.Faults.{source_lines}
-use Rattle.asm_parse.specs.Apps.{app_of}
+use Rattle.asm_items.specs.Apps.{app_of}
 use Rattle.sloth_source.specs.OilText.{OilText, OilRefusal}
 use Rattle.sloth_source.specs.SourceText.{HasApp, SourceText, SourceRefusal}
 use Rattle.sloth_source.specs.Texts.{Accepted, FirstRefusal}

@@ -1,6 +1,6 @@
 //! The configuration that an OIL text declares.
 ghost use Rattle.std.specs.Prelude.{◌<◌, IfOk, IfErr, length};
-ghost use Rattle.sloth_base.specs.ConfigRange.{InRange, HasNoCounters};
+ghost use Rattle.sloth_base.specs.ConfigRange.{InRange};
 ghost use Rattle.oil_parse.specs.Text.{HasTree};
 ghost use Rattle.sloth_source.specs.OilText.{OilText, OilErrorIs};
 
@@ -28,7 +28,6 @@ pub fn read_config(alloc: Global, text: &[u8]) -> Result<Config, BuildError>
     requires { length text.now < 4294967295 }
     ensures config { IfOk result (OilText text.now) }
     ensures in_range { IfOk result InRange }
-    ensures no_counters { IfOk result HasNoCounters }
     ensures refused { IfErr result (OilErrorIs text.now) }
 {
     let tree = read_tree(alloc, text)?;

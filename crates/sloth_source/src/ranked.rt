@@ -1,6 +1,6 @@
 //! What both texts mean before the rules of task code are judged.
 ghost use Rattle.std.specs.Prelude.{◌<◌, IfOk, IfErr, length};
-ghost use Rattle.sloth_base.specs.ConfigRange.{InRange, HasNoCounters};
+ghost use Rattle.sloth_base.specs.ConfigRange.{InRange};
 ghost use Rattle.least_fault.specs.Order.{NoFault};
 ghost use Rattle.code_rules.specs.AppRange.{AppInRange};
 ghost use Rattle.code_rules.specs.WellFormed.{CycleFault};
@@ -56,7 +56,6 @@ pub fn read_ranked(alloc: Global, oil: &[u8], src: &[u8]) -> Result<Ranked, Buil
     requires src { length src.now < 4294967295 }
     ensures has_ranks { IfOk result (λ ranked. HasRanks oil.now src.now ranked.config ranked.app) }
     ensures in_range { IfOk result (λ ranked. AppInRange ranked.config ranked.app) }
-    ensures no_counters { IfOk result (λ ranked. HasNoCounters ranked.config) }
     ensures named { IfOk result (λ ranked. BodiesAreNamed ranked.config ranked.app) }
     ensures belong { IfOk result (λ ranked. RanksOf ranked.app ranked.ranks) }
     ensures refused { IfErr result (EarlyErrorIs oil.now src.now) }

@@ -1,6 +1,5 @@
 //! What both texts mean.
 ghost use Rattle.std.specs.Prelude.{◌<◌, IfOk, IfErr, length};
-ghost use Rattle.sloth_base.specs.ConfigRange.{HasNoCounters};
 ghost use Rattle.code_rules.specs.WellFormed.{WellFormed};
 ghost use Rattle.stack_bounds.specs.Bounds.{AreBounds};
 ghost use Rattle.sloth_source.specs.SourceText.{BodiesAreNamed};
@@ -31,7 +30,6 @@ pub fn read(alloc: Global, oil: &[u8], src: &[u8]) -> Result<Source, BuildError>
     ensures accepted { IfOk result (λ source. Accepted oil.now src.now source.config source.app) }
     ensures well_formed { IfOk result (λ source. WellFormed source.config source.app) }
     ensures named { IfOk result (λ source. BodiesAreNamed source.config source.app) }
-    ensures no_counters { IfOk result (λ source. HasNoCounters source.config) }
     ensures bounds { IfOk result (λ source. AreBounds source.config source.app source.bounds) }
     ensures refused { IfErr result (ErrorIs oil.now src.now) }
 {

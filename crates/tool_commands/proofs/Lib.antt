@@ -3,7 +3,9 @@ pub mod BoundsAnswers
 pub mod CheckAnswers
 pub mod ElfAnswers
 pub mod InferAnswers
+pub mod MapAnswers
 pub mod OneAnswer
 pub mod PictureAnswers
 pub mod RunAnswers
+pub mod SourceAnswers
 pub mod WaveAnswers

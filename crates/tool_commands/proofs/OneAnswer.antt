@@ -15,12 +15,14 @@ use Rattle.tool_commands.specs.Answers.{IsAnswer, OneAnswer, input, reads_image}
 use Rattle.tool_commands.specs.declared.answer.ToolAnswer.{ToolAnswer}
 use Rattle.tool_commands.specs.declared.answer.ToolAnswer.TheVariants as answer
 use Rattle.tool_commands.proofs.AtAnswers.{at-one, at-image}
-use Rattle.tool_commands.proofs.BoundsAnswers.{one_bounds}
+use Rattle.tool_commands.proofs.BoundsAnswers.{BoundsSays, LatencySays, one_bounds, one_latency}
 use Rattle.tool_commands.proofs.CheckAnswers.{one_check}
 use Rattle.tool_commands.proofs.ElfAnswers.{Wrote, elf-one, elf-view, unelf-one}
 use Rattle.tool_commands.proofs.InferAnswers.{infer-one}
+use Rattle.tool_commands.proofs.MapAnswers.{MapSays, one_map}
 use Rattle.tool_commands.proofs.PictureAnswers.{Pictures, one_pictures}
 use Rattle.tool_commands.proofs.RunAnswers.{run-image, run-one}
+use Rattle.tool_commands.proofs.SourceAnswers.{one_source}
 use Rattle.tool_commands.proofs.WaveAnswers.{Waves, one_waves}
 
 pub one_answer : OneAnswer
@@ -34,7 +36,12 @@ one_answer tool.Picture counts inputs a b p q =
     let w = window_of counts in run-one (Pictures w.from w.to) (input inputs 0) (input inputs 1) w.to (one_pictures w.from w.to) a b p q
 one_answer tool.Check counts inputs a b p q =
     one_check (input inputs 0) (input inputs 1) (input inputs 2) (input inputs 3) (number_of counts) a b p q
-one_answer tool.Bounds counts inputs a b p q = one_bounds (input inputs 0) (input inputs 1) a b p q
+one_answer tool.Bounds counts inputs a b p q =
+    let oil = input inputs 0 in let src = input inputs 1 in one_source oil src (BoundsSays oil src) (one_bounds oil src) a b p q
+one_answer tool.Latency counts inputs a b p q =
+    let oil = input inputs 0 in let src = input inputs 1 in one_source oil src (LatencySays oil src) (one_latency oil src) a b p q
+one_answer tool.Map counts inputs a b p q =
+    let oil = input inputs 0 in let src = input inputs 1 in one_source oil src (MapSays oil src) (one_map oil src) a b p q
 
 -- a tool that reads an image file reads a file
 pub reads-one : (t : Tool) → IsTrue (reads_image t) → 1 ≤ input_count t
@@ -46,6 +53,8 @@ reads-one tool.Wave h = omega arith
 reads-one tool.Picture h = omega arith
 reads-one tool.Check h = omega arith
 reads-one tool.Bounds h = omega arith
+reads-one tool.Latency h = omega arith
+reads-one tool.Map h = omega arith
 
 -- only a tool that reads an image file says that it is none, by its first fault
 pub no-image : (t : Tool) (counts : Option Counts) (inputs : List (List ℕ)) (fault : ImageFault) → IsAnswer t counts inputs (answer.NotAnImage fault)
@@ -58,6 +67,8 @@ no-image tool.Wave counts inputs fault h = (refl, h)
 no-image tool.Picture counts inputs fault h = (refl, h)
 no-image tool.Check counts inputs fault h = absurd h
 no-image tool.Bounds counts inputs fault h = absurd h
+no-image tool.Latency counts inputs fault h = absurd h
+no-image tool.Map counts inputs fault h = absurd h
 
 -- these bytes are an image's
 abbrev pub HasImage : List ℕ → Type 0
@@ -81,3 +92,5 @@ image-or-fault tool.Picture counts inputs a reads h =
     let w = window_of counts in run-image (Pictures w.from w.to) (input inputs 0) (input inputs 1) w.to (one_pictures w.from w.to) a h
 image-or-fault tool.Check counts inputs a reads h = absurd (false≢true reads)
 image-or-fault tool.Bounds counts inputs a reads h = absurd (false≢true reads)
+image-or-fault tool.Latency counts inputs a reads h = absurd (false≢true reads)
+image-or-fault tool.Map counts inputs a reads h = absurd (false≢true reads)

@@ -4,11 +4,12 @@ use Rattle.command_line.specs.Tools.{number_of, window_of}
 use Rattle.command_line.specs.declared.counts.Counts.{Counts}
 use Rattle.command_line.specs.declared.tool.Tool.{Tool}
 use Rattle.command_line.specs.declared.tool.Tool.TheVariants as tool
-use Rattle.tool_commands.specs.BoundsAnswers.{IsBoundsAnswer}
+use Rattle.tool_commands.specs.BoundsAnswers.{IsBoundsAnswer, IsLatencyAnswer}
 use Rattle.tool_commands.specs.CheckAnswers.{IsCheckAnswer}
 use Rattle.tool_commands.specs.ElfAnswers.{IsElfAnswer, IsUnelfAnswer}
 use Rattle.tool_commands.specs.InferAnswers.{IsInferAnswer}
 use Rattle.tool_commands.specs.AtAnswers.{IsAtAnswer}
+use Rattle.tool_commands.specs.MapAnswers.{IsMapAnswer}
 use Rattle.tool_commands.specs.PictureAnswers.{IsPictureAnswer}
 use Rattle.tool_commands.specs.WaveAnswers.{IsWaveAnswer}
 use Rattle.tool_commands.specs.declared.answer.ToolAnswer.{ToolAnswer}
@@ -28,6 +29,8 @@ IsAnswer tool.Picture counts inputs answer = IsPictureAnswer (input inputs 0) (i
 IsAnswer tool.Check counts inputs answer =
     IsCheckAnswer (input inputs 0) (input inputs 1) (input inputs 2) (input inputs 3) (number_of counts) answer
 IsAnswer tool.Bounds counts inputs answer = IsBoundsAnswer (input inputs 0) (input inputs 1) answer
+IsAnswer tool.Latency counts inputs answer = IsLatencyAnswer (input inputs 0) (input inputs 1) answer
+IsAnswer tool.Map counts inputs answer = IsMapAnswer (input inputs 0) (input inputs 1) answer
 
 -- the first file that it reads is to be an image file
 abbrev pub reads_image : Tool → Bool
@@ -39,6 +42,8 @@ reads_image tool.Wave = true
 reads_image tool.Picture = true
 reads_image tool.Check = false
 reads_image tool.Bounds = false
+reads_image tool.Latency = false
+reads_image tool.Map = false
 
 -- files have one answer
 abbrev pub OneAnswer : Type 0

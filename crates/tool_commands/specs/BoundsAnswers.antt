@@ -1,16 +1,14 @@
--- The answers of `bounds`.
-use Rattle.std.specs.Prelude.{ℕ, ◌≡◌, List, []}
-use Rattle.sloth_source.specs.Texts.{FirstRefusal}
+-- The answers of `bounds`, and of `bounds` with `latency`.
+use Rattle.std.specs.Prelude.{ℕ, List}
 use Rattle.bounds_text.specs.BoundsText.{IsBoundsText}
+use Rattle.bounds_text.specs.Latency.{IsLatencyText}
+use Rattle.tool_commands.specs.SourceAnswers.{IsSourceAnswer}
 use Rattle.tool_commands.specs.declared.answer.ToolAnswer.{ToolAnswer}
-use Rattle.tool_commands.specs.declared.answer.ToolAnswer.TheVariants as answer
 
 -- the lines of the bounds of all tasks, or the first refusal
 abbrev pub IsBoundsAnswer : List ℕ → List ℕ → ToolAnswer → Type 0
-IsBoundsAnswer oil src (answer.Done outcome) = IsBoundsText oil src outcome.text × (outcome.file ≡ [])
-IsBoundsAnswer oil src (answer.Refused refusal) = FirstRefusal oil src refusal
-IsBoundsAnswer oil src (answer.Stopped pc stop) = ⊥
-IsBoundsAnswer oil src (answer.NotAnImage fault) = ⊥
-IsBoundsAnswer oil src (answer.NotAnElf fault) = ⊥
-IsBoundsAnswer oil src (answer.BadTrace fault) = ⊥
-IsBoundsAnswer oil src answer.NoHolds = ⊥
+IsBoundsAnswer oil src answer = IsSourceAnswer (λ text. IsBoundsText oil src text) oil src answer
+
+-- the lines of the bounds of all tasks and that of the latency of the task of highest priority, or the first refusal
+abbrev pub IsLatencyAnswer : List ℕ → List ℕ → ToolAnswer → Type 0
+IsLatencyAnswer oil src answer = IsSourceAnswer (λ text. IsLatencyText oil src text) oil src answer

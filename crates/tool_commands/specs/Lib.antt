@@ -5,6 +5,8 @@ pub mod CheckAnswers
 pub mod ElfAnswers
 pub mod InferAnswers
 pub mod Lines
+pub mod MapAnswers
 pub mod PictureAnswers
 pub mod RunAnswers
+pub mod SourceAnswers
 pub mod WaveAnswers

@@ -1,10 +1,11 @@
-//! The command `bounds`.
+//! The command `bounds`, and `bounds` with `latency`.
 ghost use Rattle.std.specs.Prelude.{◌≤◌, IfOk, length};
-ghost use Rattle.tool_commands.specs.BoundsAnswers.{IsBoundsAnswer};
+ghost use Rattle.tool_commands.specs.BoundsAnswers.{IsBoundsAnswer, IsLatencyAnswer};
 
-use crate::answer::{Outcome, ToolAnswer};
+use crate::answer::ToolAnswer;
+use crate::told::told;
 use bounds_text::bounds_text;
-use sloth_base::list::List;
+use bounds_text::latency::latency_lines;
 use sloth_base::memory::NoMemory;
 use sloth_base::refusal::BuildError;
 use std::alloc::Global;
@@ -15,13 +16,22 @@ pub fn bounds(alloc: Global, oil: &[u8], src: &[u8]) -> Result<ToolAnswer, NoMem
     requires src { length src.now ≤ 4194304 }
     ensures { IfOk result (λ answer. IsBoundsAnswer oil.now src.now answer) }
 {
-    let text = match bounds_text(alloc, oil, src) {
-        Ok(text) => text,
-        Err(BuildError::Refused(refusal)) => return Ok(ToolAnswer::Refused(refusal)),
-        Err(BuildError::Memory) => return Err(NoMemory),
-    };
-    Ok(ToolAnswer::Done(Outcome {
-        file: List::from_vec(Vec::new(alloc)),
-        text: List::from_vec(text),
-    }))
+    match bounds_text(alloc, oil, src) {
+        Ok(text) => Ok(told(alloc, text)),
+        Err(BuildError::Refused(refusal)) => Ok(ToolAnswer::Refused(refusal)),
+        Err(BuildError::Memory) => Err(NoMemory),
+    }
+}
+
+/// The same, and how long the task of highest priority may wait for its entry; or the first refusal.
+pub fn latency(alloc: Global, oil: &[u8], src: &[u8]) -> Result<ToolAnswer, NoMemory>
+    requires oil { length oil.now ≤ 4194304 }
+    requires src { length src.now ≤ 4194304 }
+    ensures { IfOk result (λ answer. IsLatencyAnswer oil.now src.now answer) }
+{
+    match latency_lines(alloc, oil, src) {
+        Ok(text) => Ok(told(alloc, text)),
+        Err(BuildError::Refused(refusal)) => Ok(ToolAnswer::Refused(refusal)),
+        Err(BuildError::Memory) => Err(NoMemory),
+    }
 }

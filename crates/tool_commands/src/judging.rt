@@ -5,10 +5,11 @@ ghost use Rattle.tool_commands.specs.Answers.{IsAnswer};
 
 use crate::answer::ToolAnswer;
 use crate::at_command::at;
-use crate::bounds_command::bounds;
+use crate::bounds_command::{bounds, latency};
 use crate::check_command::check;
 use crate::elf_commands::{elf, unelf};
 use crate::infer_command::infer;
+use crate::map_command::map;
 use crate::picture_command::picture;
 use crate::wave_command::wave;
 use command_line::counts::{Counts, number_of, window_of};
@@ -60,5 +61,7 @@ pub fn judge(
             number_of(counts),
         ),
         Tool::Bounds => bounds(alloc, inputs[0].items(), inputs[1].items()),
+        Tool::Latency => latency(alloc, inputs[0].items(), inputs[1].items()),
+        Tool::Map => map(alloc, inputs[0].items(), inputs[1].items()),
     }
 }

@@ -10,7 +10,9 @@ mod infer_command;
 pub mod judging;
 pub mod laws;
 pub mod lines;
+mod map_command;
 mod picture_command;
+mod told;
 mod wave_command;
 
 pub use answer::{Outcome, ToolAnswer, TraceFault};

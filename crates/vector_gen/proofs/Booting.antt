@@ -4,6 +4,7 @@ use Rattle.std.specs.Prelude.{Bool, false, true, set, pos}
 use Rattle.std.proofs.lemmas.Bool.{cases_eq}
 use Rattle.std.proofs.lemmas.List.{length-set, get_or-set_same, get_or-set_other}
 use Rattle.sloth_base.specs.declared.config.TaskDecl.{TaskDecl}
+use Rattle.sloth_base.specs.Owners.{counter_line}
 use Rattle.sloth_base.specs.Machine.{Core, State}
 use Rattle.sloth_region.specs.Layout.{idle_context, context_bytes, controller_base, enabled_byte}
 use Rattle.rv32_instr.specs.declared.InstrKind.{InstrKind}
@@ -18,7 +19,7 @@ use Rattle.masked_code.proofs.Spread.{spread, spread_is, spread_from, others}
 use Rattle.masked_code.proofs.Routines.{handles}
 use Rattle.code_lengths.specs.CodeLengths.{lines_length}
 use Rattle.code_lengths.proofs.Short.{short_lines}
-use Rattle.vector_gen.specs.Boot.{register_code, line_code, starts_one, lines_code, finishing_code, MayBoot, Booted, Boots}
+use Rattle.vector_gen.specs.Boot.{register_code, line_code, starts_one, lines_code, counters_code, finishing_code, IsUnused, MayBoot, Booted, Boots}
 
 -- the lines' bytes after the tasks from this line on
 abbrev levels_with : ℕ → List TaskDecl → List ℕ → List ℕ → List ℕ
@@ -37,40 +38,85 @@ abbrev pending_with : ℕ → List TaskDecl → List ℕ → List ℕ
 pending_with line [] bytes = bytes
 pending_with line (task ∷ tasks) bytes = pending_with (suc line) tasks (raised_if task.autostart line bytes)
 
+-- the bytes that so many lines get
+abbrev filled : (count line v : ℕ) → List ℕ → List ℕ
+filled zero line v bytes = bytes
+filled (suc count) line v bytes = filled count (suc line) v (set bytes line v)
+
 module _ (from to : ℕ) (E : List ℕ → State → State → Type 0) (start : State) (x2 : ℕ) (tail levels : List ℕ) (small : (k : ℕ) → get_or levels k 0 < 256) where
   -- with the registers that boot has
-  abbrev with_x3 : ℕ → Core → Core
-  with_x3 x3 c = record c { registers = 0 ∷ controller_base ∷ x2 ∷ x3 ∷ 1 ∷ tail }
+  abbrev with_x1 : ℕ → Core → Core
+  with_x1 x1 c = record c { registers = 0 ∷ x1 ∷ x2 ∷ controller_base ∷ 1 ∷ tail }
 
   raises_owe : (auto : Bool) (line o : ℕ) (code : List InstrKind) (c : Core) → line < 32
-      → ((o' : ℕ) → Owes from to o' code 0 E start (record c { pending = raised_if auto line c.pending })) → get_or c.registers 1 0 ≡ controller_base
+      → ((o' : ℕ) → Owes from to o' code 0 E start (record c { pending = raised_if auto line c.pending })) → get_or c.registers 3 0 ≡ controller_base
       → get_or c.registers 4 0 ≡ 1 → Owes from to o (line_code line auto ++ code) 0 E start c
-  raises_owe true line o code c h go one four =
+  raises_owe true line o code c h go three four =
       raises line (omega arith, h) (λ e. absurd (omega arith))
       ▸ go (o + 4)
-  raises_owe false line o code c h go one four = go o
+  raises_owe false line o code c h go three four = go o
 
-  starts_owe : (tasks : List TaskDecl) (line o x3 : ℕ) (code : List InstrKind) (c : Core) → line + length tasks ≤ 32
-      → ((o' x3' : ℕ) → Owes from to o' code 0 E start (with_x3 x3' (record c { levels = levels_with line tasks levels c.levels; enabled = enabled_with line tasks c.enabled; pending = pending_with line tasks c.pending })))
-      → Owes from to o (lines_code line tasks levels ++ code) 0 E start (with_x3 x3 c)
-  starts_owe [] line o x3 code c h go = go o x3
-  starts_owe (task ∷ tasks) line o x3 code c h go =
+  starts_owe : (tasks : List TaskDecl) (line o x1 : ℕ) (code : List InstrKind) (c : Core) → line + length tasks ≤ 32
+      → ((o' x1' : ℕ) → Owes from to o' code 0 E start (with_x1 x1' (record c { levels = levels_with line tasks levels c.levels; enabled = enabled_with line tasks c.enabled; pending = pending_with line tasks c.pending })))
+      → Owes from to o (lines_code line tasks levels ++ code) 0 E start (with_x1 x1 c)
+  starts_owe [] line o x1 code c h go = go o x1
+  starts_owe (task ∷ tasks) line o x1 code c h go =
       let v = get_or levels line 0 in
       let below = small line in
       let o2 = o + 4 + 4 in
       let o3 = o2 + 4 in
       let rest = lines_code (suc line) tasks levels ++ code in
-      let d = with_x3 v (record c { levels = set c.levels line v; enabled = set c.enabled line 1 }) in
+      let d = with_x1 v (record c { levels = set c.levels line v; enabled = set c.enabled line 1 }) in
       let e : v % 256 ≡ v = omega arith in
       let raised = raises_owe task.autostart line o3 rest d (omega arith) (λ o'. starts_owe tasks (suc line) o' v code (record c { levels = set c.levels line v; enabled = set c.enabled line 1; pending = raised_if task.autostart line c.pending }) (omega arith) go) refl refl in
       let enabled = subst (λ l. Owes from to o3 l 0 E start d) (sym (append_assoc (line_code line task.autostart) (lines_code (suc line) tasks levels) code)) raised in
-      let levelled : Owes from to o2 (Sb 1 4 (pos (enabled_byte line)) ∷ ((line_code line task.autostart ++ lines_code (suc line) tasks levels) ++ code)) 0 E start (with_x3 v (record c { levels = set c.levels line v })) =
+      let levelled : Owes from to o2 (Sb 3 4 (pos (enabled_byte line)) ∷ ((line_code line task.autostart ++ lines_code (suc line) tasks levels) ++ code)) 0 E start (with_x1 v (record c { levels = set c.levels line v })) =
       sets_enabled line (omega arith, omega arith)
       ▸ enabled
       in
       writes v (omega arith)
       ▸ sets_level line (omega arith, omega arith)
-      ▸ subst (λ b. Owes from to o2 (Sb 1 4 (pos (enabled_byte line)) ∷ ((line_code line task.autostart ++ lines_code (suc line) tasks levels) ++ code)) 0 E start (with_x3 v (record c { levels = set c.levels line b }))) (sym e) levelled
+      ▸ subst (λ b. Owes from to o2 (Sb 3 4 (pos (enabled_byte line)) ∷ ((line_code line task.autostart ++ lines_code (suc line) tasks levels) ++ code)) 0 E start (with_x1 v (record c { levels = set c.levels line b }))) (sym e) levelled
+
+  counters_owe : (count line v o x1 : ℕ) (code : List InstrKind) (c : Core) → line + count ≤ 32 → v < 256
+      → ((o' x1' : ℕ) → Owes from to o' code 0 E start (with_x1 x1' (record c { levels = filled count line v c.levels; enabled = filled count line 1 c.enabled })))
+      → Owes from to o (counters_code count line v ++ code) 0 E start (with_x1 x1 c)
+  counters_owe zero line v o x1 code c h byte go = go o x1
+  counters_owe (suc count) line v o x1 code c h byte go =
+      let e : v % 256 ≡ v = omega arith in
+      let rest = counters_code count (suc line) v ++ code in
+      writes v (omega arith)
+      ▸ sets_level line (omega arith, omega arith)
+      ▸ subst (λ b. Owes from to (o + 4 + 4) (Sb 3 4 (pos (enabled_byte line)) ∷ rest) 0 E start (with_x1 v (record c { levels = set c.levels line b }))) (sym e)
+      (sets_enabled line (omega arith, omega arith)
+      ▸ counters_owe count (suc line) v (o + 4 + 4 + 4) v code (record c { levels = set c.levels line v; enabled = set c.enabled line 1 }) (omega arith) byte go)
+
+length-filled : (count line v : ℕ) (bytes : List ℕ) → length (filled count line v bytes) ≡ length bytes
+length-filled zero line v bytes = refl
+length-filled (suc count) line v bytes = length-filled count (suc line) v (set bytes line v) ∙ length-set bytes line v
+
+filled_other : (count line v : ℕ) (bytes : List ℕ) (k : ℕ) → (k < line) ⊎ (line + count ≤ k) → get_or (filled count line v bytes) k 0 ≡ get_or bytes k 0
+filled_other zero line v bytes k h = refl
+filled_other (suc count) line v bytes k h =
+    filled_other count (suc line) v (set bytes line v) k (grind (arith, h))
+    ∙ get_or-set_other bytes line k v 0 (λ e. ⊎_elim (λ x. absurd (omega arith)) (λ x. absurd (omega arith)) h)
+
+filled_at : (count line v : ℕ) (bytes : List ℕ) (k : ℕ) → line ≤ k → k < line + count → line + count ≤ length bytes → get_or (filled count line v bytes) k 0 ≡ v
+filled_at zero line v bytes k l h long = absurd (omega arith)
+filled_at (suc count) line v bytes k l h long =
+    let longer = length-set bytes line v in
+    ⊎_elim
+    (λ e. filled_other count (suc line) v (set bytes line v) k (inl (omega arith)) ∙ ap (λ j. get_or (set bytes line v) j 0) e ∙ get_or-set_same bytes line v 0 (omega arith))
+    (λ ne. filled_at count (suc line) v (set bytes line v) k (omega arith) (omega arith) (omega arith))
+    (cases_eq k line)
+
+length-counters : (count line v : ℕ) → length (counters_code count line v) ≡ 3 * count
+length-counters zero line v = refl
+length-counters (suc count) line v =
+    let ih = length-counters count (suc line) v in
+    let e = length-append (starts_one line v false) (counters_code count (suc line) v) in
+    let three : length (starts_one line v false) ≡ 3 = refl in
+    omega (arith, ih, e, three)
 
 -- ---- line by line
 
@@ -182,24 +228,27 @@ length-starts (task ∷ tasks) line levels =
     length-one true line = refl
     length-one false line = refl
 
-abbrev pub boot_code : List TaskDecl → List ℕ → ℕ → List InstrKind
-boot_code tasks levels idle = register_code ++ (lines_code 0 tasks levels ++ finishing_code idle)
+abbrev pub boot_code : List TaskDecl → (counters : ℕ) → List ℕ → (top idle : ℕ) → List InstrKind
+boot_code tasks counters levels top idle = register_code ++ (lines_code 0 tasks levels ++ (counters_code counters 30 (top + 1) ++ finishing_code idle))
 
 -- the end of the idle loop's context
 abbrev idle_end : ℕ
 idle_end = memory_base + (idle_context + context_bytes)
 
-module _ (tasks : List TaskDecl) (levels : List ℕ) (idle : ℕ) (few : length tasks ≤ 30) (small : (k : ℕ) → get_or levels k 0 < 256) (fits : idle < 2 ^ 32)
-    (aligned : idle % 4 ≡ 0) (offset : ℕ) (c : Core) (h : MayBoot offset (boot_code tasks levels idle) c) where
-  end_owes : (from to o x2 x3 : ℕ)
-      → Owes from to o (finishing_code idle) 0 (Booted tasks levels idle) (at offset (spread c))
-      (record (spread c) { registers = 0 ∷ controller_base ∷ x2 ∷ x3 ∷ 1 ∷ spread_from 27 5 c.registers; levels = levels_with 0 tasks levels c.levels; enabled = enabled_with 0 tasks c.enabled; pending = pending_with 0 tasks c.pending })
-  end_owes from to o x2 x3 =
+module _ (tasks : List TaskDecl) (counters : ℕ) (levels : List ℕ) (top idle : ℕ) (few : length tasks ≤ 30) (few_counters : counters ≤ 2) (byte : top + 1 < 256) (small : (k : ℕ) → get_or levels k 0 < 256) (fits : idle < 2 ^ 32)
+    (aligned : idle % 4 ≡ 0) (offset : ℕ) (c : Core) (h : MayBoot offset (boot_code tasks counters levels top idle) c) where
+  end_owes : (from to o x2 x1 : ℕ)
+      → Owes from to o (finishing_code idle) 0 (Booted tasks counters levels top idle) (at offset (spread c))
+      (record (spread c) { registers = 0 ∷ x1 ∷ x2 ∷ controller_base ∷ 1 ∷ spread_from 27 5 c.registers; levels = filled counters 30 (top + 1) (levels_with 0 tasks levels c.levels); enabled = filled counters 30 1 (enabled_with 0 tasks c.enabled); pending = pending_with 0 tasks c.pending })
+  end_owes from to o x2 x1 =
       let n = length tasks in
       let long_levels = h.levels in
       let long_enabled = h.enabled in
       let long_pending = h.can_run.lines in
       let at_line : (line : ℕ) → 0 + line ≡ line = λ line. omega arith in
+      let more_levels = length-levels tasks 0 levels c.levels in
+      let more_enabled = length-enabled tasks 0 c.enabled in
+      let past : (line : ℕ) → IsUnused (length tasks) counters line → 0 + length tasks ≤ line = λ line unused. let behind = unused.0 in omega arith in
       writes memory_base refl
       ▸ writes idle_end refl
       ▸ writes 128 refl
@@ -209,41 +258,67 @@ module _ (tasks : List TaskDecl) (levels : List ℕ) (idle : ℕ) (few : length 
       ▸ accesses c.mepc refl refl
       ▸ record {
         touches = refl;
-        level = λ line below. levels_at tasks 0 levels c.levels line (omega arith) (omega arith) (omega arith);
-        other_levels = λ line past. levels_other tasks 0 levels c.levels line (inr (omega arith));
-        enabled = λ line below. enabled_at tasks 0 c.enabled line (omega arith) (omega arith) (omega arith);
-        other_enabled = λ line past. enabled_other tasks 0 c.enabled line (inr (omega arith));
+        level = λ line below.
+            filled_other counters 30 (top + 1) (levels_with 0 tasks levels c.levels) line (inl (omega arith))
+            ∙ levels_at tasks 0 levels c.levels line (omega arith) (omega arith) (omega arith);
+        counter_level = λ counter below.
+            filled_at counters 30 (top + 1) (levels_with 0 tasks levels c.levels) (counter_line counter) (omega arith) (omega arith) (omega arith);
+        other_levels = λ line unused.
+            filled_other counters 30 (top + 1) (levels_with 0 tasks levels c.levels) line unused.1
+            ∙ levels_other tasks 0 levels c.levels line (inr (past line unused));
+        enabled = λ line below.
+            filled_other counters 30 1 (enabled_with 0 tasks c.enabled) line (inl (omega arith))
+            ∙ enabled_at tasks 0 c.enabled line (omega arith) (omega arith) (omega arith);
+        counter_enabled = λ counter below. filled_at counters 30 1 (enabled_with 0 tasks c.enabled) (counter_line counter) (omega arith) (omega arith) (omega arith);
+        other_enabled = λ line unused.
+            filled_other counters 30 1 (enabled_with 0 tasks c.enabled) line unused.1
+            ∙ enabled_other tasks 0 c.enabled line (inr (past line unused));
         raised = λ line d below auto. subst (λ k. get_or (pending_with 0 tasks c.pending) k 0 ≡ 1) (at_line line) (pending_raised tasks 0 c.pending line d below (omega arith) auto);
         unraised = λ line d below auto. subst (λ k. get_or (pending_with 0 tasks c.pending) k 0 ≡ get_or c.pending k 0) (at_line line) (pending_kept tasks 0 c.pending line d below auto);
         other_pending = λ line past. pending_other tasks 0 c.pending line (inr (omega arith));
-        lines = (length-pending tasks 0 c.pending ∙ h.can_run.lines, length-enabled tasks 0 c.enabled ∙ h.enabled, length-levels tasks 0 levels c.levels ∙ h.levels);
+        lines = (
+          length-pending tasks 0 c.pending ∙ h.can_run.lines,
+          length-filled counters 30 1 (enabled_with 0 tasks c.enabled) ∙ more_enabled ∙ h.enabled,
+          length-filled counters 30 (top + 1) (levels_with 0 tasks levels c.levels) ∙ more_levels ∙ h.levels,
+        );
         pc = omega arith;
-        left = record { zero = refl; registers = refl; opened = refl; previous = refl; running = refl; pending = refl; enabled = refl; levels = refl; ram = refl; scratch = refl; controller = refl };
+        left = record { zero = refl; registers = refl; bases = (refl, refl); opened = refl; previous = refl; running = refl; same_level = refl; pending = refl; enabled = refl; levels = refl; ram = refl; scratch = refl; controller = refl };
         x2 = refl;
-        kept = λ i past. others controller_base idle_end idle 1 (get_or c.registers 1 0) (get_or c.registers 2 0) (get_or c.registers 3 0) (get_or c.registers 4 0) (spread_from 27 5 c.registers) i past;
+        kept = λ i past. others idle idle_end controller_base memory_base (get_or c.registers 1 0) (get_or c.registers 2 0) (get_or c.registers 3 0) (get_or c.registers 4 0) (spread_from 27 5 c.registers) i past;
       }
 
-  owes : (from to : ℕ) → Owes from to offset (boot_code tasks levels idle) 0 (Booted tasks levels idle) (at offset (spread c)) (spread c)
+  owes : (from to : ℕ) → Owes from to offset (boot_code tasks counters levels top idle) 0 (Booted tasks counters levels top idle) (at offset (spread c)) (spread c)
   owes from to =
       writes controller_base refl
       ▸ writes 1 refl
-      ▸ starts_owe from to (Booted tasks levels idle) (at offset (spread c)) (get_or c.registers 2 0) (spread_from 27 5 c.registers) levels small tasks 0 (offset + 4 + 4) (get_or c.registers 3 0) (finishing_code idle) (spread c) (omega arith)
-      (λ o x3. end_owes from to o (get_or c.registers 2 0) x3)
+      ▸ starts_owe from to (Booted tasks counters levels top idle) (at offset (spread c)) (get_or c.registers 2 0) (spread_from 27 5 c.registers) levels small tasks 0 (offset + 4 + 4) (get_or c.registers 1 0) (counters_code counters 30 (top + 1) ++ finishing_code idle) (spread c) (omega arith)
+      (λ o x1. counters_owe from to (Booted tasks counters levels top idle) (at offset (spread c)) (get_or c.registers 2 0) (spread_from 27 5 c.registers) levels small counters 30 (top + 1) o x1
+      (finishing_code idle) (record (spread c) { levels = levels_with 0 tasks levels c.levels; enabled = enabled_with 0 tasks c.enabled; pending = pending_with 0 tasks c.pending })
+      (omega arith) byte
+      (λ o2 y1. end_owes from to o2 (get_or c.registers 2 0) y1))
 
-  pub runs_it : Masked 130 (at offset c) (WithArrivals (Booted tasks levels idle) (at offset c))
+  pub runs_it : Masked 136 (at offset c) (WithArrivals (Booted tasks counters levels top idle) (at offset c))
   runs_it =
       let can = h.can_run in
-      let to = offset + 4 * length (boot_code tasks levels idle) in
+      let to = offset + 4 * length (boot_code tasks counters levels top idle) in
       let long = length-starts tasks 0 levels in
       let bound = short_lines tasks in
-      let all = length-append (lines_code 0 tasks levels) (finishing_code idle) in
-      handles offset 130 (boot_code tasks levels idle) c (Booted tasks levels idle) (at offset c)
+      let all = length-append (lines_code 0 tasks levels) (counters_code counters 30 (top + 1) ++ finishing_code idle) in
+      let more = length-append (counters_code counters 30 (top + 1)) (finishing_code idle) in
+      let lasts = length-counters counters 30 (top + 1) in
+      handles offset 136 (boot_code tasks counters levels top idle) c (Booted tasks counters levels top idle) (at offset c)
       (record { masked = h.masked; there = can.controller; lines = can.lines; aligned = can.aligned; fits = can.inside; placed = can.placed })
       (omega arith)
-      (subst (λ x. Owes offset to offset (boot_code tasks levels idle) 0 (Booted tasks levels idle) (at offset x) x) (spread_is c can.registers can.zero) (owes offset to))
+      (subst (λ x. Owes offset to offset (boot_code tasks counters levels top idle) 0 (Booted tasks counters levels top idle) (at offset x) x) (spread_is c can.registers can.zero) (owes offset to))
 
-pub boots : (tasks : List TaskDecl) (levels : List ℕ) (idle : ℕ) → length tasks ≤ 30 → ((k : ℕ) → get_or levels k 0 < 256) → idle < 2 ^ 32 → Boots tasks levels idle (boot_code tasks levels idle)
-boots tasks levels idle few small fits =
+pub boots : (tasks : List TaskDecl) (counters : ℕ) (levels : List ℕ) (top idle : ℕ) → length tasks ≤ 30 → counters ≤ 2 → top + 1 < 256
+    → ((k : ℕ) → get_or levels k 0 < 256) → idle < 2 ^ 32 → Boots tasks counters levels top idle (boot_code tasks counters levels top idle)
+boots tasks counters levels top idle few few_counters byte small fits =
     let long = length-starts tasks 0 levels in
-    let all = length-append (lines_code 0 tasks levels) (finishing_code idle) in
-    record { size = omega arith; runs = λ offset c aligned h. runs_it tasks levels idle few small fits aligned offset c h }
+    let lasts = length-counters counters 30 (top + 1) in
+    let all = length-append (lines_code 0 tasks levels) (counters_code counters 30 (top + 1) ++ finishing_code idle) in
+    let more = length-append (counters_code counters 30 (top + 1)) (finishing_code idle) in
+    record {
+      size = omega arith;
+      runs = λ offset c aligned h. runs_it tasks counters levels top idle few few_counters byte small fits aligned offset c h;
+    }

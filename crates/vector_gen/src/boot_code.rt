@@ -1,16 +1,18 @@
-//! Boot: the levels and enable bytes of the tasks' lines, and the first activations.
+//! Boot: the levels and enable bytes of the lines of tasks and counters, and the first activations.
 ghost use Rattle.std.specs.Prelude.{ℕ, ◌^◌, slice_index, ◌≡◌, ◌++◌, [], ◌<◌, ◌≤◌, IfOk, OnOk, length};
 ghost use Rattle.sloth_base.specs.MemoryMap.{boot_base};
 ghost use Rattle.sloth_base.specs.ConfigRange.{InRange};
 ghost use Rattle.code_lengths.specs.CodeLengths.{boot_length};
-ghost use Rattle.vector_gen.specs.Boot.{register_code, starts_one, lines_code, finishing_code, Boots};
+ghost use Rattle.vector_gen.specs.Boot.{register_code, starts_one, lines_code, counters_code, finishing_code, Boots};
+ghost use Rattle.sloth_base.specs.Owners.{first_counter_line};
 
 use masked_code::emit::emit;
 use rv32_instr::asm::{X1, X2, X3, X4, ZERO, addi, csrrw, lui, mret, sb};
 use rv32_instr::constant::{hi, lo};
 use rv32_instr::csr::{MEPC, MPIE, MSTATUS};
 use rv32_instr::{Block, Instr};
-use sloth_base::config::{Config, TaskDecl};
+use sloth_base::config::{Config, CounterDecl, TaskDecl};
+use sloth_base::lines::COUNTER_LINE;
 use sloth_base::list::List;
 use sloth_base::memory::NoMemory;
 use sloth_base::memory_map::BOOT_BASE;
@@ -24,15 +26,18 @@ use std::alloc::{AllocError, Global};
 
 /// The block of boot. It stores no zero to a pending byte and loads none.
 pub fn boot(alloc: Global, config: &Config, levels: &Levels, map: &Map) -> Result<Block, NoMemory>
-    requires { InRange config.now }
+    requires range { InRange config.now }
+    requires levels { levels.now.top < 32 }
     ensures at { IfOk result (λ block. block.at ≡ boot_base) }
     ensures marks { IfOk result (λ block. block.marks ≡ []) }
-    ensures size { IfOk result (λ block. length block.code ≡ boot_length config.now.tasks) }
-    ensures effect { IfOk result (λ block. Boots config.now.tasks levels.now.task map.now.idle block.code) }
+    ensures size { IfOk result (λ block. length block.code ≡ boot_length config.now.tasks (length config.now.counters)) }
+    ensures effect { IfOk result (λ block. Boots config.now.tasks (length config.now.counters) levels.now.task levels.now.top map.now.idle
+        block.code) }
 {
     let mut code = Vec::new(alloc);
     begin(&mut code)?;
     start_all(&mut code, config.tasks.items(), levels.task)?;
+    start_counters(&mut code, config.counters.items(), levels.top + 1)?;
     finish(&mut code, map.idle)?;
     Ok(Block {
         at: BOOT_BASE,
@@ -41,26 +46,26 @@ pub fn boot(alloc: Global, config: &Config, levels: &Levels, map: &Map) -> Resul
     })
 }
 
-/// x1 := the controller's address, x4 := 1.
+/// x3 := the controller's address, x4 := 1.
 fn begin(code: &mut Vec<Instr>) -> Result<(), AllocError>
     ensures { OnOk result (code.new.items ≡ code.old.items ++ register_code) }
 {
-    emit(code, &[lui(X1, CONTROLLER_HIGH), addi(X4, ZERO, 1)])
+    emit(code, &[lui(X3, CONTROLLER_HIGH), addi(X4, ZERO, 1)])
 }
 
-/// The line of a task gets its level and is enabled, and that of an autostarted task is raised.
+/// A line gets its level and is enabled, and is raised where its task is autostarted.
 fn start(code: &mut Vec<Instr>, line: u8, level: u8, autostart: bool) -> Result<(), AllocError>
     requires { line < 32 }
     ensures { OnOk result (code.new.items ≡ code.old.items ++ starts_one line level autostart) }
 {
     let enabled = [
-        addi(X3, ZERO, level as i32),
-        sb(X3, X1, level_byte(line)),
-        sb(X4, X1, enabled_byte(line)),
+        addi(X1, ZERO, level as i32),
+        sb(X1, X3, level_byte(line)),
+        sb(X4, X3, enabled_byte(line)),
     ];
     emit(code, &enabled)?;
     if autostart {
-        emit(code, &[sb(X4, X1, pending_byte(line))])?;
+        emit(code, &[sb(X4, X3, pending_byte(line))])?;
     }
     Ok(())
 }
@@ -77,19 +82,35 @@ fn start_all(code: &mut Vec<Instr>, tasks: &[TaskDecl], levels: [u8; 30]) -> Res
     Ok(())
 }
 
-/// x2 := the end of the idle loop's context, MPIE := 1, and on to the idle loop.
+/// The lines of all counters, at one level.
+fn start_counters(
+    code: &mut Vec<Instr>,
+    counters: &[CounterDecl],
+    level: u8,
+) -> Result<(), AllocError>
+    requires { length counters.now ≤ 2 }
+    ensures added { OnOk result (code.new.items ≡ code.old.items ++ counters_code (length counters.now) first_counter_line level) }
+    ensures byte { level < 256 }
+{
+    for i in 0..counters.len() {
+        start(code, COUNTER_LINE + i as u8, level, false)?;
+    }
+    Ok(())
+}
+
+/// x4 := the base of memory, x2 := the end of the idle loop's context, MPIE := 1, and on to the idle loop.
 fn finish(code: &mut Vec<Instr>, idle: u32) -> Result<(), AllocError>
     ensures added { OnOk result (code.new.items ≡ code.old.items ++ finishing_code idle) }
     ensures fits { idle < 2 ^ 32 }
 {
     let finished = [
-        lui(X2, WORDS_HIGH),
-        addi(X2, X2, IDLE_CONTEXT + CONTEXT_BYTES),
-        addi(X3, ZERO, MPIE),
-        csrrw(ZERO, MSTATUS, X3),
-        lui(X3, hi(idle)),
-        addi(X3, X3, lo(idle)),
-        csrrw(ZERO, MEPC, X3),
+        lui(X4, WORDS_HIGH),
+        addi(X2, X4, IDLE_CONTEXT + CONTEXT_BYTES),
+        addi(X1, ZERO, MPIE),
+        csrrw(ZERO, MSTATUS, X1),
+        lui(X1, hi(idle)),
+        addi(X1, X1, lo(idle)),
+        csrrw(ZERO, MEPC, X1),
         mret(),
     ];
     emit(code, &finished)

@@ -1,5 +1,5 @@
-use Rattle.std.proofs.Common.{◌≡◌, ◌∙◌, ◌++◌, List, ap, sym}
-use Rattle.bounds_text.specs.BoundsText.{bound_line, bound_lines}
+use Rattle.std.proofs.Common.{◌∙◌, ◌++◌, ap, sym}
+use Rattle.bounds_text.specs.BoundsText.{bound_line}
 use Rattle.bounds_text.proofs.Lines.{no-lines, one-line-more}
 use Rattle.bounds_text.proofs.bound_lines.Goals as goal
 

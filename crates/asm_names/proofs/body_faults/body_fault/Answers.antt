@@ -2,7 +2,7 @@ use Rattle.std.proofs.Common.{◌∙◌, ℕ, List, ap, subst, take}
 use Rattle.asm_lines.specs.declared.source_line.SourceLine.{SourceLine}
 use Rattle.least_fault.specs.Search.{Finds, Somewhere}
 use Rattle.least_fault.proofs.Kept.{both_are}
-use Rattle.asm_names.specs.Said.{label_names}
+use Rattle.asm_scopes.specs.Said.{label_names}
 use Rattle.asm_names.specs.NameFaults.{HeaderFault, LineFault}
 use Rattle.asm_names.proofs.body_faults.body_fault.Goals as goal
 

@@ -4,8 +4,8 @@ use Rattle.std.specs.Prelude.{count_by}
 use Rattle.asm_lines.specs.declared.source_line.SourceLine.{SourceLine}
 use Rattle.least_fault.specs.Search.{Finds, Somewhere}
 use Rattle.least_fault.proofs.Kept.{loop_more, loop_end}
-use Rattle.asm_names.specs.Said.{is_item, label_names}
-use Rattle.asm_names.specs.Bodies.{BodyText, body_name, function_names}
+use Rattle.asm_scopes.specs.Said.{is_item, label_names}
+use Rattle.asm_scopes.specs.Bodies.{BodyText, body_name, function_names}
 use Rattle.asm_names.specs.NameFaults.{items_in, HeaderFault, LineFault, BodyFault}
 use Rattle.asm_names.proofs.Fronts.{sum_more, take_map}
 use Rattle.asm_names.proofs.body_faults.body_faults.Goals as goal

@@ -6,7 +6,7 @@ use Rattle.sloth_base.specs.declared.refusal.Part.TheVariants.{Src}
 use Rattle.least_fault.proofs.Kept.{both_are}
 use Rattle.least_fault.proofs.Cases.{case_found}
 use Rattle.asm_lines.specs.Faults.{Case}
-use Rattle.asm_names.specs.Said.{name_of}
+use Rattle.asm_scopes.specs.Said.{name_of}
 use Rattle.asm_names.specs.NameFaults.{is_too_great, is_strange}
 use Rattle.asm_names.proofs.body_faults.header_fault.Goals as goal
 

@@ -4,7 +4,7 @@ use Rattle.std.proofs.Math.Nat.{add_assoc}
 use Rattle.std.proofs.lemmas.List.{length-take-le}
 use Rattle.least_fault.specs.Search.{Finds}
 use Rattle.least_fault.proofs.Kept.{loop_more}
-use Rattle.asm_names.specs.Said.{is_label, is_item, name_of, label_names}
+use Rattle.asm_scopes.specs.Said.{is_label, is_item, name_of, label_names}
 use Rattle.asm_names.specs.NameFaults.{InnerFault, LineFault}
 use Rattle.asm_names.proofs.Fronts.{count_more, kept_front}
 use Rattle.asm_names.proofs.body_faults.line_faults.Goals as goal

@@ -4,7 +4,7 @@ use Rattle.std.specs.List.{sum_by}
 use Rattle.std.proofs.lemmas.List.{length-take-le}
 use Rattle.least_fault.specs.Search.{Finds}
 use Rattle.least_fault.proofs.Kept.{loop_more}
-use Rattle.asm_names.specs.Said.{is_data, name_of, symbol_names}
+use Rattle.asm_scopes.specs.Said.{is_data, name_of, symbol_names}
 use Rattle.asm_names.specs.NameFaults.{bytes_of, SymbolFault, DataFault}
 use Rattle.asm_names.proofs.Fronts.{sum_more, count_more, kept_front}
 use Rattle.asm_names.proofs.data_faults.data_faults.Goals as goal

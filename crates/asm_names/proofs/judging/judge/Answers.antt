@@ -7,11 +7,11 @@ use Rattle.sloth_base.specs.declared.refusal.Part.TheVariants.{Src}
 use Rattle.least_fault.proofs.Kept.{both_are}
 use Rattle.least_fault.proofs.Cases.{case_found}
 use Rattle.asm_lines.specs.Faults.{Case}
-use Rattle.asm_names.specs.declared.scope.Scope.{Scope}
-use Rattle.asm_names.specs.Bodies.{BodyText, bodies_of}
-use Rattle.asm_names.specs.Scopes.{scope_of}
+use Rattle.asm_scopes.specs.declared.scope.Scope.{Scope}
+use Rattle.asm_scopes.specs.Bodies.{BodyText, bodies_of}
+use Rattle.asm_scopes.specs.Scopes.{scope_of}
 use Rattle.asm_names.specs.NameFaults.{lacks_body, DataFault, BodyFault}
-use Rattle.asm_names.proofs.Short.{few_bodies, short_bodies, EndsBefore}
+use Rattle.asm_scopes.proofs.Short.{few_bodies, short_bodies, EndsBefore}
 use Rattle.asm_names.proofs.judging.judge.Goals as goal
 
 pub body_faults-requires-clause-few : goal.body_faults-requires-clause-few

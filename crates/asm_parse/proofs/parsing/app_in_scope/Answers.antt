@@ -1,7 +1,7 @@
 use Rattle.std.proofs.Common.{◌∙◌, ap, sym, subst}
-use Rattle.asm_names.specs.Scopes.{scope_of}
-use Rattle.asm_parse.specs.Numbered.{IsNumbered}
-use Rattle.asm_parse.proofs.Numbering.{numbered}
+use Rattle.asm_scopes.specs.Scopes.{scope_of}
+use Rattle.asm_items.specs.Numbered.{IsNumbered}
+use Rattle.asm_items.proofs.Numbering.{numbered}
 use Rattle.asm_parse.proofs.parsing.app_in_scope.Goals as goal
 
 pub app_of-requires-clause-numbered : goal.app_of-requires-clause-numbered

@@ -1,9 +1,9 @@
 use Rattle.block_bounds.specs.declared.bound.Bound.{Bound}
 use Rattle.block_bounds.specs.declared.bound.Bound.TheVariants as bound
 use Rattle.block_bounds.specs.Bounds.{IsTold}
-use Rattle.block_bounds.proofs.Bodily.{facts_of}
-use Rattle.block_bounds.proofs.Reaching.{called_known}
-use Rattle.block_bounds.proofs.Growing.{held_more}
+use Rattle.section_sizes.proofs.Bodily.{facts_of}
+use Rattle.section_sizes.proofs.Reaching.{called_known}
+use Rattle.section_sizes.proofs.Growing.{held_more}
 use Rattle.block_bounds.proofs.bound.bounds_of.Goals as goal
 
 pub callees_first-requires-clause-known : goal.callees_first-requires-clause-known

@@ -11,15 +11,20 @@ use Rattle.image_gen.proofs.gathering.gather.Goals as goal
 pub prologues-requires : goal.prologues-requires
 prologues-requires c = record { may_start = may_start c.args.config.now c.args.app.now c.args.levels.now c.args.map.now c.requires }
 
-pub services-requires : goal.services-requires
-services-requires c = subst AreServed (sym c.wanted_blocks-wanted.ensures) (served c.args.config.now c.args.app.now c.requires.well_formed c.requires.no_counters)
+pub boot-requires-clause-levels : goal.boot-requires-clause-levels
+boot-requires-clause-levels c = c.requires.small.0
+
+pub services-requires-clause-served : goal.services-requires-clause-served
+services-requires-clause-served c =
+    subst (AreServed c.args.config.now) (sym c.wanted_blocks-wanted.ensures) (served c.args.config.now c.args.app.now c.requires.well_formed)
 
 pub returns-clause-gathered : goal.returns-clause-gathered
 returns-clause-gathered c =
     let first : c.append.new.self.items ≡ c.in_ok-vectors.field-0 ∷ c.in_ok-boot.field-0 ∷ c.in_ok-idle.field-0 ∷ c.in_ok-starts.starts.items = search rules in
-    let second = c.in_ok-append-2.ensures.items ∙ ap (λ (bs : List Block). bs ++ c.in_ok-served.served.items) first in
+    let second = c.in_ok-append-2.ensures.items ∙ ap (λ (bs : List Block). bs ++ c.in_ok-counted.counted.items) first in
+    let third = c.in_ok-append-3.ensures.items ∙ ap (λ (bs : List Block). bs ++ c.in_ok-served.served.items) second in
     gathered c.args.config.now c.args.app.now c.args.levels.now c.args.map.now c.requires
-    c.in_ok-vectors.field-0 c.in_ok-boot.field-0 c.in_ok-idle.field-0 c.in_ok-starts.starts.items c.in_ok-served.served.items
+    c.in_ok-vectors.field-0 c.in_ok-boot.field-0 c.in_ok-idle.field-0 c.in_ok-starts.starts.items c.in_ok-counted.counted.items c.in_ok-served.served.items
     (item_blocks c.args.app.now c.args.map.now.places (length c.args.app.now.funcs))
     (record {
       vectors_made = record { at = c.in_ok-vectors.ensures.at; marks_are = c.in_ok-vectors.ensures.marks; effect = c.in_ok-vectors.ensures.effect };
@@ -27,11 +32,13 @@ returns-clause-gathered c =
       idle_made = record { at = c.in_ok-idle.ensures.at; marks_are = c.in_ok-idle.ensures.marks; effect = c.in_ok-idle.ensures.effect };
       count = c.in_ok-starts.ensures.count;
       each = c.in_ok-starts.ensures.each;
-      serve = subst (λ (w : List Bool). AreServices c.args.levels.now c.args.map.now w c.in_ok-served.served.items) c.wanted_blocks-wanted.ensures c.in_ok-served.ensures;
+      counted_long = c.in_ok-counted.ensures.count;
+      each_tick = c.in_ok-counted.ensures.each;
+      serve = subst (λ (w : List Bool). AreServices c.args.config.now c.args.levels.now c.args.map.now w c.in_ok-served.served.items) c.wanted_blocks-wanted.ensures c.in_ok-served.ensures;
       items = refl;
     })
-    c.append-2.new.self.items second
+    c.append-3.new.self.items third
 
 pub returns-clause-linkable : goal.returns-clause-linkable
 returns-clause-linkable c =
-    may_link c.args.config.now c.args.app.now c.args.levels.now c.args.map.now c.requires c.append-2.new.self.items (returns-clause-gathered c)
+    may_link c.args.config.now c.args.app.now c.args.levels.now c.args.map.now c.requires c.append-3.new.self.items (returns-clause-gathered c)

@@ -8,10 +8,10 @@ pub loop-number-preserved : goal.loop-number-preserved
 loop-number-preserved c =
     elim c.if-wanted-number.branch [
       | then-wanted-number+in_ok-one+in_ok-push w ↦
-          served (IsService c.args.levels.now c.args.map.now) c.args.wanted.now c.loop-number.number c.loop-number.blocks.items c.if-wanted-number.blocks.items w.in_ok-one.field-0
+          served (IsService c.args.config.now c.args.levels.now c.args.map.now) c.args.wanted.now c.loop-number.number c.loop-number.blocks.items c.if-wanted-number.blocks.items w.in_ok-one.field-0
           (search rules) (search rules) (search rules) w.in_ok-one.ensures c.loop-number.invariant
       | else-wanted-number w ↦
-          let h = skipped (IsService c.args.levels.now c.args.map.now) c.args.wanted.now c.loop-number.number c.loop-number.blocks.items
+          let h = skipped (IsService c.args.config.now c.args.levels.now c.args.map.now) c.args.wanted.now c.loop-number.number c.loop-number.blocks.items
           (search rules) (search rules) c.loop-number.invariant in
           search rules
     ]

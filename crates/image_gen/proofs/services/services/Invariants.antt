@@ -4,4 +4,4 @@ use Rattle.image_gen.specs.Services.{IsService, wanted_from}
 use Rattle.image_gen.proofs.services.services.Given as goal
 
 abbrev pub invariant-loop-number : goal.invariant-loop-number
-invariant-loop-number l = AllZip (IsService l.levels l.map) (wanted_from 0 (take l.number l.wanted)) l.blocks.items
+invariant-loop-number l = AllZip (IsService l.config l.levels l.map) (wanted_from 0 (take l.number l.wanted)) l.blocks.items

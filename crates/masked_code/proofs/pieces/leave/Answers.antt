@@ -1,14 +1,17 @@
 use Rattle.std.proofs.Common.{◌≡◌, List, [], ◌∷◌, ◌++◌, ap, ◌∙◌, append_assoc}
 use Rattle.rv32_instr.specs.declared.InstrKind.{InstrKind}
 use Rattle.rv32_instr.specs.declared.InstrKind.TheVariants.{Mret}
+use Rattle.masked_code.specs.Kernel.{asks_idle, takes_up}
 use Rattle.masked_code.specs.Pieces.{restoring_code}
 use Rattle.masked_code.proofs.pieces.leave.Goals as goal
 
-three : (all old first second third : List InstrKind) → all ≡ ((old ++ first) ++ second) ++ third → all ≡ old ++ (first ++ (second ++ third))
-three all old first second third e = e ∙ append_assoc (old ++ first) second third ∙ append_assoc old first (second ++ third)
+four : (all old first second third last : List InstrKind) → all ≡ (((old ++ first) ++ second) ++ third) ++ last → all ≡ old ++ (first ++ (second ++ (third ++ last)))
+four all old first second third last e =
+    e ∙ append_assoc ((old ++ first) ++ second) third last ∙ append_assoc (old ++ first) second (third ++ last) ∙ append_assoc old first (second ++ (third ++ last))
 
 pub returns : goal.returns
 returns c =
-    three c.emit.new.code.items c.args.code.now.items _ (restoring_code 27 5 1) (Mret ∷ [])
+    four c.emit.new.code.items c.args.code.now.items takes_up asks_idle (restoring_code 27 5 1) (Mret ∷ [])
     (c.in_ok-emit.ensures ∙ ap (λ kind. c.restore.new.code.items ++ kind ∷ []) c.mret.ensures
-    ∙ ap (λ (x : List InstrKind). x ++ Mret ∷ []) (c.in_ok-restore.ensures ∙ ap (λ (x : List InstrKind). x ++ restoring_code 27 5 1) c.in_ok-take_up.ensures))
+    ∙ ap (λ (x : List InstrKind). x ++ Mret ∷ []) (c.in_ok-restore.ensures
+    ∙ ap (λ (x : List InstrKind). x ++ restoring_code 27 5 1) (c.in_ok-ask_idle.ensures ∙ ap (λ (x : List InstrKind). x ++ asks_idle) c.in_ok-take_up.ensures)))

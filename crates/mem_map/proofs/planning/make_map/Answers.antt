@@ -1,12 +1,13 @@
-use Rattle.std.proofs.Common.{◌≤◌, ◌<◌, ◌∙◌, ℕ, List, length, sym, ap, subst, drop, arith}
-use Rattle.std.specs.Prelude.{All, map}
+use Rattle.std.proofs.Common.{◌≤◌, ◌<◌, ◌+◌, ◌∙◌, ℕ, List, length, sym, ap, subst, drop, arith}
+use Rattle.std.specs.Prelude.{All, map, slice_index_or}
 use Rattle.sloth_base.specs.declared.config.TaskDecl.{TaskDecl}
 use Rattle.sloth_region.specs.declared.extent.Extent.{Extent}
 use Rattle.mem_map.specs.Run.{end_of}
 use Rattle.mem_map.specs.Plan.{symbol_bytes}
-use Rattle.mem_map.proofs.Planned.{AreEnds, few_starts, starts_small, sizes_small, code_short, services_above, items_above, counts_few, symbols_few, symbols_short, ends_are}
+use Rattle.mem_map.proofs.Planned.{AreEnds, few_starts, few_ticks, starts_small, ticks_small, sizes_small, code_short, ticks_above, services_above, items_above, counts_few, symbols_few, symbols_short, ends_are}
 use Rattle.mem_map.proofs.Mapped.{addressed, zoned}
-use Rattle.mem_map.specs.Run.{room_for}
+use Rattle.mem_map.specs.Run.{room_for, run}
+use Rattle.mem_map.specs.Zones.{nowhere}
 use Rattle.mem_map.specs.Stacks.{first_own}
 use Rattle.mem_map.proofs.StackNumbers.{few_stacks}
 use Rattle.mem_map.proofs.StackParts.{ArePlaced, part, shared_some, fit, placed}
@@ -19,20 +20,24 @@ pub plan_code-requires-clause-boot : goal.plan_code-requires-clause-boot
 plan_code-requires-clause-boot c = c.requires.code.boot.1
 
 pub plan_code-requires-clause-few : goal.plan_code-requires-clause-few
-plan_code-requires-clause-few c = few_starts _ _ _ _ _ c.requires
+plan_code-requires-clause-few c = (few_starts _ _ _ _ _ c.requires, few_ticks _ _ _ _ _ c.requires)
 
 pub plan_code-requires-clause-prologues : goal.plan_code-requires-clause-prologues
 plan_code-requires-clause-prologues c = starts_small _ _ _ _ _ c.requires
+
+pub plan_code-requires-clause-ticks : goal.plan_code-requires-clause-ticks
+plan_code-requires-clause-ticks c = ticks_small _ _ _ _ _ c.requires
 
 pub plan_code-requires-clause-items : goal.plan_code-requires-clause-items
 plan_code-requires-clause-items c = sizes_small _ _ _ _ _ c.requires
 
 pub plan_code-requires-clause-fits : goal.plan_code-requires-clause-fits
 plan_code-requires-clause-fits c =
+    let t = ticks_above _ _ _ _ _ c.requires in
     let a = services_above _ _ _ _ _ c.requires in
     let b = items_above _ _ _ _ _ c.requires in
     let h = code_short _ _ _ _ _ c.requires in
-    (omega (arith, a, b, h), omega (arith, b, h), omega (arith, h))
+    (omega (arith, t, a, b, h), omega (arith, a, b, h), omega (arith, b, h), omega (arith, h))
 
 pub plan_first-requires-clause-few : goal.plan_first-requires-clause-few
 plan_first-requires-clause-few c = counts_few _ _ _ _ _ c.requires
@@ -94,7 +99,7 @@ plan_zones-requires-clause-few c =
     let same = ap (λ (l : List ℕ). length l) c.deref.ensures.value in
     omega (arith, few, tasks, count, least, same)
 
-are_placed : (c : In_ok-zones)
+abbrev are_placed : (c : In_ok-zones)
     → ArePlaced c.args.config.now c.args.bounds.now c.items-declared.result.now c.in_ok-stack_lens.stack_lens.items c.in_ok-zones.zones.extents
     c.in_ok-zones.zones.stacks
 are_placed c =
@@ -107,6 +112,7 @@ are_placed c =
       extents_are = c.in_ok-zones.ensures.extents;
       apart = c.in_ok-zones.ensures.apart;
       lens = c.in_ok-zones.ensures.stacks ∙ c.deref.ensures.value;
+      run_is = c.in_ok-zones.ensures.stacks_are ∙ ap (run 16 (c.in_ok-zones.zones.data.base + c.in_ok-zones.zones.data.len)) c.deref.ensures.value;
       aligned = c.in_ok-zones.ensures.stacks_aligned;
     }
 
@@ -143,7 +149,7 @@ returns-clause-addresses c =
     addressed _ _ _ _ _ c.requires _
     c.in_ok-zones.zones.code c.in_ok-zones.zones.data c.in_ok-code.code.end c.in_ok-symbols.symbols.end
     (record { all = c.in_ok-zones.zones.stacks; extents = c.in_ok-zones.ensures.extents; code_is = c.in_ok-zones.ensures.code; data_is = c.in_ok-zones.ensures.data_zone; code_end_is = e; data_end_is = c.in_ok-symbols.ensures.end })
-    c.in_ok-code.ensures.idle c.in_ok-code.ensures.lines c.in_ok-code.ensures.prologues c.in_ok-code.ensures.unused
+    c.in_ok-code.ensures.idle c.in_ok-code.ensures.lines c.in_ok-code.ensures.prologues c.in_ok-code.ensures.ticks c.in_ok-code.ensures.unused
     c.in_ok-code.ensures.services c.in_ok-code.ensures.items c.in_ok-first.ensures c.in_ok-symbols.ensures.starts
 
 pub returns-clause-zones : goal.returns-clause-zones
@@ -160,3 +166,4 @@ returns-clause-stacks c =
     placed _ _ _ _ c.requires.needs _ c.in_ok-stack_lens.stack_lens.items c.in_ok-zones.zones.extents c.in_ok-zones.zones.stacks
     (are_placed (goal.at.returns-clause-stacks c).In_ok-zones)
     _ c.items.ensures _ c.in_ok-parts.ensures (ap (λ (l : List Extent). drop 3 l) c.in_ok-zones.ensures.extents)
+    (ap (λ (l : List Extent). slice_index_or l 2 nowhere) c.in_ok-zones.ensures.extents)

@@ -1,35 +1,60 @@
-use Rattle.std.proofs.Common.{◌≡◌, ◌∙◌, ℕ, List, length, take, sym, ap, arith}
+use Rattle.std.proofs.Common.{◌≡◌, ◌∙◌, ⊎_elim, inl, inr, ℕ, ◌<◌, ◌≤◌, List, length, get_or, take, sym, ap, arith}
 use Rattle.std.specs.Prelude.{map}
 use Rattle.std.proofs.lemmas.List.{length-map}
-use Rattle.mem_map.specs.declared.all_lengths.CodeLengths.{CodeLengths}
-use Rattle.mem_map.specs.Run.{starts}
-use Rattle.mem_map.specs.Plan.{code_bytes, prologues_at}
+use Rattle.sloth_base.specs.Owners.{counter_line}
+use Rattle.mem_map.specs.Run.{starts, end_of}
+use Rattle.mem_map.specs.Plan.{code_bytes, prologues_at, ticks_at}
 use Rattle.mem_map.proofs.Starts.{length_starts}
 use Rattle.mem_map.proofs.planning.plan_code.Goals as goal
 
--- the prologues, as the calls told of them
-placed : (lengths : CodeLengths) (found made sizes : List ℕ) → found ≡ made → made ≡ starts (prologues_at lengths) (map code_bytes sizes) → sizes ≡ lengths.prologues
-    → found ≡ starts (prologues_at lengths) (map code_bytes lengths.prologues)
-placed lengths found made sizes e f g = e ∙ f ∙ ap (λ (l : List ℕ). starts (prologues_at lengths) (map code_bytes l)) g
+-- pieces, as the calls told of them
+placed : (from : ℕ) (found made sizes wanted : List ℕ) → found ≡ made → made ≡ starts from (map code_bytes sizes) → sizes ≡ wanted
+    → found ≡ starts from (map code_bytes wanted)
+placed from found made sizes wanted e f g = e ∙ f ∙ ap (λ (l : List ℕ). starts from (map code_bytes l)) g
 
-long : (lengths : CodeLengths) (found : List ℕ) → found ≡ starts (prologues_at lengths) (map code_bytes lengths.prologues) → length found ≡ length lengths.prologues
-long lengths found e = ap length e ∙ length_starts (prologues_at lengths) (map code_bytes lengths.prologues) ∙ length-map lengths.prologues code_bytes
+-- the same behind other pieces
+behind : (from start : ℕ) (found made sizes wanted before told : List ℕ) → from ≡ end_of start (map code_bytes before) → before ≡ told → found ≡ made
+    → made ≡ starts from (map code_bytes sizes) → sizes ≡ wanted → found ≡ starts (end_of start (map code_bytes told)) (map code_bytes wanted)
+behind from start found made sizes wanted before told at same e f g =
+    placed from found made sizes wanted e f g
+    ∙ ap (λ (k : ℕ). starts k (map code_bytes wanted)) (at ∙ ap (λ (l : List ℕ). end_of start (map code_bytes l)) same)
+
+long : (from : ℕ) (found wanted : List ℕ) → found ≡ starts from (map code_bytes wanted) → length found ≡ length wanted
+long from found wanted e = ap length e ∙ length_starts from (map code_bytes wanted) ∙ length-map wanted code_bytes
 
 pub handlers-requires : goal.handlers-requires
 handlers-requires c =
-    let e = placed c.args.lengths.now _ _ _ c.items-3.ensures c.in_ok-prologues.ensures.starts c.items.ensures in
-    let n = long c.args.lengths.now _ e in
+    let lengths = c.args.lengths.now in
+    let e = placed (prologues_at lengths) _ _ _ lengths.prologues c.items-4.ensures c.in_ok-prologues.ensures.starts c.items.ensures in
+    let f = behind _ (prologues_at lengths) _ _ _ lengths.ticks _ lengths.prologues c.in_ok-prologues.ensures.end c.items.ensures c.items-5.ensures
+    c.in_ok-ticks.ensures.starts c.items-2.ensures in
+    let n = long (prologues_at lengths) _ lengths.prologues e in
+    let m = long (ticks_at lengths) _ lengths.ticks f in
     let few = c.requires.few in
-    omega (arith, n, few)
+    (omega (arith, n, few.0), omega (arith, m, few.1))
 
 pub returns-clause-prologues : goal.returns-clause-prologues
 returns-clause-prologues c =
-    let e = placed c.args.lengths.now _ _ _ c.items-3.ensures c.in_ok-prologues.ensures.starts c.items.ensures in
-    let n = long c.args.lengths.now _ e in
+    let lengths = c.args.lengths.now in
+    let e = placed (prologues_at lengths) _ _ _ lengths.prologues c.items-4.ensures c.in_ok-prologues.ensures.starts c.items.ensures in
+    let n = long (prologues_at lengths) _ lengths.prologues e in
     ap (λ (k : ℕ). take k c.handlers.result) (sym n) ∙ c.handlers.ensures.prologues ∙ e
 
+pub returns-clause-ticks : goal.returns-clause-ticks
+returns-clause-ticks c = λ counter l.
+    let lengths = c.args.lengths.now in
+    let f = behind _ (prologues_at lengths) _ _ _ lengths.ticks _ lengths.prologues c.in_ok-prologues.ensures.end c.items.ensures c.items-5.ensures
+    c.in_ok-ticks.ensures.starts c.items-2.ensures in
+    let m = long (ticks_at lengths) _ lengths.ticks f in
+    c.handlers.ensures.ticks counter (omega (arith, m, l)) ∙ ap (λ starts. get_or starts counter 0) f
+
 pub returns-clause-unused : goal.returns-clause-unused
-returns-clause-unused c = λ line l m.
-    let e = placed c.args.lengths.now _ _ _ c.items-3.ensures c.in_ok-prologues.ensures.starts c.items.ensures in
-    let n = long c.args.lengths.now _ e in
+returns-clause-unused c = λ line l m other.
+    let lengths = c.args.lengths.now in
+    let e = placed (prologues_at lengths) _ _ _ lengths.prologues c.items-4.ensures c.in_ok-prologues.ensures.starts c.items.ensures in
+    let n = long (prologues_at lengths) _ lengths.prologues e in
+    let f = behind _ (prologues_at lengths) _ _ _ lengths.ticks _ lengths.prologues c.in_ok-prologues.ensures.end c.items.ensures c.items-5.ensures
+    c.in_ok-ticks.ensures.starts c.items-2.ensures in
+    let k = long (ticks_at lengths) _ lengths.ticks f in
     c.handlers.ensures.unused line (omega (arith, n, l)) m
+    (⊎_elim (λ (b : line < 30). inl b) (λ (b : counter_line (length lengths.ticks) ≤ line). inr (omega (arith, b, k))) other)

@@ -1,18 +1,19 @@
-use Rattle.std.proofs.Common.{◌≡◌, ◌≤◌, ◌<◌, List, Option, length, refl, sym, subst}
+use Rattle.std.proofs.Common.{◌≡◌, ◌≤◌, ◌<◌, List, Option, length, sym, subst, arith}
 use Rattle.std.proofs.lemmas.List.Elements.{All-weaker}
-use Rattle.std.specs.Prelude.{All}
+use Rattle.std.specs.Prelude.{codes, All}
 use Rattle.sloth_base.specs.declared.config.EventDecl.{EventDecl}
 use Rattle.sloth_base.specs.declared.refusal.Refusal.{Refusal}
-use Rattle.sloth_base.specs.ConfigRange.{InRange, HasNoCounters}
+use Rattle.sloth_base.specs.ConfigRange.{InRange}
 use Rattle.sloth_base.specs.ImageRange.{IsWord}
 use Rattle.least_fault.specs.Search.{Finds}
 use Rattle.oil_parse.specs.declared.tree.OilObject.{OilObject}
 use Rattle.oil_parse.specs.Words.{IsObjectOfWords}
 use Rattle.oil_parse.proofs.Words.{tree_words}
-use Rattle.oil_model.specs.Events.{events_of}
+use Rattle.oil_rules.specs.Objects.{names_of}
+use Rattle.oil_rules.specs.Events.{events_of}
 use Rattle.oil_model.specs.Configs.{resource_names, config_of}
-use Rattle.oil_model.specs.ModelFaults.{ModelFault}
-use Rattle.oil_model.proofs.NoFaults.{few_names}
+use Rattle.oil_alarms.specs.ModelFaults.{ModelFault}
+use Rattle.oil_model.proofs.NoFaults.{few_tasks, few_counters, few_names, number_of_names}
 use Rattle.oil_model.proofs.Range.{in_range}
 use Rattle.oil_model.proofs.resolving.config_or_refusal.Goals as goal
 
@@ -22,8 +23,21 @@ config_of-requires-clause-few c =
     subst (λ (x : List OilObject). length (resource_names x) ≤ 32) (sym c.items.ensures)
     (few_names tree (subst (λ (o : Option Refusal). Finds (ModelFault tree) o) c.in_default.is c.in_ok-refusal.ensures))
 
-pub returns-clause-no_counters : goal.returns-clause-no_counters
-returns-clause-no_counters c = subst HasNoCounters (sym c.in_ok-config.ensures) (record { counters = refl; alarms = refl })
+pub config_of-requires-clause-few_tasks : goal.config_of-requires-clause-few_tasks
+config_of-requires-clause-few_tasks c =
+    let tree = c.args.tree.now in
+    let none = subst (λ (o : Option Refusal). Finds (ModelFault tree) o) c.in_default.is c.in_ok-refusal.ensures in
+    let n = number_of_names tree none (codes "TASK") in
+    let few = few_tasks tree none in
+    subst (λ (x : List OilObject). length (names_of (codes "TASK") x) ≤ 32) (sym c.items.ensures) (omega (arith, n, few))
+
+pub config_of-requires-clause-few_counters : goal.config_of-requires-clause-few_counters
+config_of-requires-clause-few_counters c =
+    let tree = c.args.tree.now in
+    let none = subst (λ (o : Option Refusal). Finds (ModelFault tree) o) c.in_default.is c.in_ok-refusal.ensures in
+    let n = number_of_names tree none (codes "COUNTER") in
+    let few = few_counters tree none in
+    subst (λ (x : List OilObject). length (names_of (codes "COUNTER") x) ≤ 32) (sym c.items.ensures) (omega (arith, n, few))
 
 pub returns-clause-in_range : goal.returns-clause-in_range
 returns-clause-in_range c =

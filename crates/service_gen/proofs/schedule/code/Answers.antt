@@ -6,7 +6,7 @@ use Rattle.service_gen.proofs.schedule.code.Goals as goal
 
 pub returns : goal.returns
 returns c =
-    let e : c.come_back.new.code.items ≡ masking ∷ body =
-    rw (c.in_ok-come_back.ensures, c.in_ok-stop_at_back.ensures, c.in_ok-lower.ensures, c.in_ok-open.ensures, c.new-code.ensures.items)
+    let e : c.stop_at_back.new.code.items ≡ masking ∷ body =
+    rw (c.in_ok-stop_at_back.ensures, c.in_ok-come_back.ensures, c.in_ok-pass_back.ensures, c.in_ok-lower.ensures, c.in_ok-open.ensures, c.new-code.ensures.items)
     in
     subst Yields (sym e) yields

@@ -1,7 +1,7 @@
-use Rattle.std.proofs.Common.{◌≡◌, ◌∙◌, ℕ, List, length, ap, sym, subst}
+use Rattle.std.proofs.Common.{◌∙◌, ℕ, List, length, sym, subst}
 use Rattle.sloth_base.specs.Arrivals.{AreArrivals}
 use Rattle.sloth_source.specs.OilText.{OilText}
-use Rattle.sample_tasks.proofs.Declared.{thirty-tasks}
+use Rattle.sample_tasks.proofs.Declared.{thirty-tasks, no-counters}
 use Rattle.checked_runs.proofs.Printed.{runs_are_checked}
 use Rattle.sloth_cli.proofs.Ceilings.{runs-keep, runs-keep_bounds}
 use Rattle.sloth_cli.proofs.OnlyRuns.{runs-only}
@@ -30,6 +30,7 @@ returns-clause-in_range c =
     let configuration = c.in_ok-config.ensures.accepted.configuration in
     let P : List ℕ → Type 0 = λ text. OilText text config in
     let Q : ℕ → ℕ → Type 0 = λ tasks counters. AreArrivals (record { tasks = tasks; counters = counters }) c.in_ok-oil.field-0.arrivals in
-    let declared = thirty-tasks config (subst P (c.items.ensures ∙ c.in_ok-oil.ensures.oil) configuration) in
-    let none : length config.counters ≡ 0 = ap (λ x. length x) c.in_ok-config.ensures.no_counters.counters in
+    let text = subst P (c.items.ensures ∙ c.in_ok-oil.ensures.oil) configuration in
+    let declared = thirty-tasks config text in
+    let none = no-counters config text in
     subst (Q (length config.tasks)) (sym none) (subst (λ (n : ℕ). Q n 0) (sym declared) c.in_ok-oil.ensures.in_range)

@@ -1,4 +1,4 @@
-use Rattle.std.proofs.Common.{◌≡◌, ◌≤◌, ◌++◌, ap, length, ◌∙◌}
+use Rattle.std.proofs.Common.{◌≤◌, ◌++◌, ap, length, ◌∙◌}
 use Rattle.std.specs.Prelude.{map}
 use Rattle.rv32_instr.specs.declared.block.Block.{Block}
 use Rattle.sloth_link.specs.Linked.{block_section, datum_section, linked}

@@ -1,0 +1,107 @@
+-- Pieces of the code of a tick. x4 holds the base of memory but where it says otherwise, and bit T of x3 says whether task T is not Suspended.
+use Rattle.std.specs.Prelude.{ℕ, ◌+◌, ◌*◌, ℤ, pos, negsuc, cond, List, [], ◌∷◌, ◌++◌}
+use Rattle.sloth_base.specs.declared.config.Action.{Action}
+use Rattle.sloth_base.specs.declared.config.Action.TheVariants.{Activate, Set}
+use Rattle.sloth_region.specs.Layout.{active, events, wait, counter_value, alarm_left, alarm_cycle, words_high, controller_high, pending_byte, enabled_byte}
+use Rattle.rv32_instr.specs.declared.InstrKind.{InstrKind}
+use Rattle.rv32_instr.specs.declared.InstrKind.TheVariants.{Beq, Bne, Lui, Lw, Lbu, Sw, Sb, Addi, Andi, Xori, Or, And, Slli, Srli, Mret}
+use Rattle.sloth_base.specs.Arithmetic.{hi, lo}
+use Rattle.alarm_gen.specs.declared.alarms.NumberedAlarm.{NumberedAlarm}
+use Rattle.alarm_gen.specs.Alarms.{is_target}
+
+-- how far a branch goes that passes so many instructions
+abbrev pub over : ℕ → ℤ
+over passed = pos (4 + 4 * passed)
+
+-- the counter's value grows by one, or goes from the greatest to 0
+abbrev pub counting_code : (counter max : ℕ) → List InstrKind
+counting_code counter max =
+    Lw 1 4 (pos (counter_value counter)) ∷ Lui 3 (hi max) ∷ Addi 3 3 (lo max) ∷ Bne 1 3 (over 1) ∷ Addi 1 0 (negsuc 0)
+    ∷ Addi 1 1 (pos 1) ∷ Sw 4 1 (pos (counter_value counter)) ∷ []
+
+-- no task has been looked at: x3 := 0
+abbrev pub clearing_code : List InstrKind
+clearing_code = Addi 3 0 (pos 0) ∷ []
+
+-- ---- the looks at tasks
+
+-- The task's bit becomes 1 where the task is not Suspended. The load of its pending byte is the fourth; x4 may hold anything before, and
+-- what it holds behind is not said.
+abbrev pub look_code : ℕ → List InstrKind
+look_code task =
+    Lui 4 controller_high ∷ Lbu 1 4 (pos (enabled_byte task)) ∷ Xori 1 1 (pos 1) ∷ Lbu 4 4 (pos (pending_byte task)) ∷ Or 1 1 4
+    ∷ Lui 4 words_high ∷ Lw 4 4 (pos (active task)) ∷ Or 1 1 4 ∷ Slli 1 1 task ∷ Or 3 3 1 ∷ []
+
+-- the look at the task whose events an action sets, unless a later alarm looks at it
+abbrev pub look_of : Action → (later : List NumberedAlarm) → List InstrKind
+look_of (Activate task) later = []
+look_of (Set task mask) later = cond (is_target task later) [] (look_code task)
+
+-- the looks of several alarms
+abbrev pub looks_code : List NumberedAlarm → List InstrKind
+looks_code [] = []
+looks_code (alarm ∷ later) = look_of alarm.action later ++ looks_code later
+
+-- x4 := the base of memory
+abbrev pub basing_code : List InstrKind
+basing_code = Lui 4 words_high ∷ []
+
+-- ---- one alarm
+
+-- the task's line is raised, and its bit becomes 1
+abbrev pub activating_code : ℕ → List InstrKind
+activating_code task =
+    Lui 4 controller_high ∷ Addi 1 0 (pos 1) ∷ Sb 4 1 (pos (pending_byte task)) ∷ Lui 4 words_high ∷ Slli 1 1 task ∷ Or 3 3 1 ∷ []
+
+-- on behind the alarm where the task is Suspended
+abbrev pub asks_busy : ℕ → List InstrKind
+asks_busy task = Srli 1 3 task ∷ Andi 1 1 (pos 1) ∷ Beq 1 0 (over 14) ∷ []
+
+-- the task's events, with those of the mask, stay in x1
+abbrev pub adds_events : (task mask : ℕ) → List InstrKind
+adds_events task mask =
+    Lw 1 4 (pos (events task)) ∷ Lui 4 (hi mask) ∷ Addi 4 4 (lo mask) ∷ Or 1 1 4 ∷ Lui 4 words_high ∷ Sw 4 1 (pos (events task)) ∷ []
+
+-- on behind what wakes the task where it waits for none of the events in x1; x4 is changed
+abbrev pub asks_awaited : ℕ → List InstrKind
+asks_awaited task = Lw 4 4 (pos (wait task)) ∷ And 1 1 4 ∷ Beq 1 0 (over 4) ∷ []
+
+-- the task's line is raised and enabled; x4 is changed
+abbrev pub waking_code : ℕ → List InstrKind
+waking_code task = Lui 4 controller_high ∷ Addi 1 0 (pos 1) ∷ Sb 4 1 (pos (pending_byte task)) ∷ Sb 4 1 (pos (enabled_byte task)) ∷ []
+
+-- what an action does
+abbrev pub action_code : Action → List InstrKind
+action_code (Activate task) = activating_code task
+action_code (Set task mask) = asks_busy task ++ (adds_events task mask ++ (asks_awaited task ++ (waking_code task ++ basing_code)))
+
+-- how many instructions that are
+abbrev pub action_size : Action → ℕ
+action_size (Activate task) = 6
+action_size (Set task mask) = 17
+
+-- An alarm in use loses a tick, and where it expires it starts again with its cycle; else it goes on behind the alarm, whose action has so
+-- many instructions.
+abbrev pub losing_code : (alarm size : ℕ) → List InstrKind
+losing_code alarm size =
+    Lw 1 4 (pos (alarm_left alarm)) ∷ Beq 1 0 (over (5 + size)) ∷ Addi 1 1 (negsuc 0) ∷ Sw 4 1 (pos (alarm_left alarm))
+    ∷ Bne 1 0 (over (2 + size)) ∷ Lw 1 4 (pos (alarm_cycle alarm)) ∷ Sw 4 1 (pos (alarm_left alarm)) ∷ []
+
+-- one alarm, and several in order
+abbrev pub alarm_code : NumberedAlarm → List InstrKind
+alarm_code alarm = losing_code alarm.number (action_size alarm.action) ++ action_code alarm.action
+
+abbrev pub alarms_code : List NumberedAlarm → List InstrKind
+alarms_code [] = []
+alarms_code (alarm ∷ later) = alarm_code alarm ++ alarms_code later
+
+-- ---- the whole
+
+-- x3 := the address of the controller, and back to what was interrupted
+abbrev pub returning_code : List InstrKind
+returning_code = Lui 3 controller_high ∷ Mret ∷ []
+
+-- the tick of a counter with its greatest value and its alarms
+abbrev pub tick_code : (counter max : ℕ) → List NumberedAlarm → List InstrKind
+tick_code counter max alarms =
+    counting_code counter max ++ (clearing_code ++ (looks_code alarms ++ (basing_code ++ (alarms_code alarms ++ returning_code))))

@@ -1,0 +1,15 @@
+//! The names of task source: what its lines and bodies declare, and what a name may stand for where it is used.
+#![tactic(auto)]
+
+mod body;
+mod said;
+mod scope;
+mod tables;
+
+pub use body::{Body, bodies_of};
+pub use said::{
+    closes_body, first_name, is_data, is_item, is_label, is_task, label_names, name_of, number_of,
+    opens_body, symbol_names, written,
+};
+pub use scope::{Kind, Scope, kind_of};
+pub use tables::{scope_of, task_body_names};

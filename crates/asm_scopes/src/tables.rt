@@ -1,0 +1,163 @@
+//! The names of a configuration and of bodies.
+ghost use Rattle.std.specs.Prelude.{◌≡◌, IfOk};
+ghost use Rattle.asm_scopes.specs.Said.{symbol_names};
+ghost use Rattle.asm_scopes.specs.Scopes.{task_names, event_names, alarm_names, scope_of};
+ghost use Rattle.asm_scopes.specs.Bodies.{function_names, called_names, task_body_names};
+
+use crate::body::Body;
+use crate::said::symbol_names;
+use crate::scope::Scope;
+use asm_lines::SourceLine;
+use sloth_base::config::Config;
+use sloth_base::memory::NoMemory;
+use std::alloc::Global;
+use text_pieces::names::Names;
+
+fn task_names<'t>(alloc: Global, config: &'t Config) -> Result<Names<'t>, NoMemory>
+    ensures { IfOk result (λ names. names ≡ task_names config.now) }
+{
+    let mut names = Names::new(alloc);
+    for task in config.tasks.items() {
+        names = names.with(task.name.bytes())?;
+    }
+    Ok(names)
+}
+
+fn resource_names<'t>(alloc: Global, config: &'t Config) -> Result<Names<'t>, NoMemory>
+    ensures { IfOk result (λ names. names ≡ config.now.resources) }
+{
+    let mut names = Names::new(alloc);
+    for resource in config.resources.items() {
+        names = names.with(resource.bytes())?;
+    }
+    Ok(names)
+}
+
+fn event_names<'t>(alloc: Global, config: &'t Config) -> Result<Names<'t>, NoMemory>
+    ensures { IfOk result (λ names. names ≡ event_names config.now) }
+{
+    let mut names = Names::new(alloc);
+    for event in config.events.items() {
+        names = names.with(event.name.bytes())?;
+    }
+    Ok(names)
+}
+
+fn alarm_names<'t>(alloc: Global, config: &'t Config) -> Result<Names<'t>, NoMemory>
+    ensures { IfOk result (λ names. names ≡ alarm_names config.now) }
+{
+    let mut names = Names::new(alloc);
+    for alarm in config.alarms.items() {
+        names = names.with(alarm.name.bytes())?;
+    }
+    Ok(names)
+}
+
+fn function_names<'t>(alloc: Global, bodies: &[Body<'t>]) -> Result<Names<'t>, NoMemory>
+    ensures { IfOk result (λ names. names ≡ function_names bodies.now) }
+{
+    let mut names = Names::new(alloc);
+    for body in bodies {
+        names = names.with(body.name())?;
+    }
+    Ok(names)
+}
+
+fn called_names<'t>(alloc: Global, bodies: &[Body<'t>]) -> Result<Names<'t>, NoMemory>
+    ensures { IfOk result (λ names. names ≡ called_names bodies.now) }
+{
+    let mut names = Names::new(alloc);
+    for body in bodies {
+        if !body.is_task() {
+            names = names.with(body.name())?;
+        }
+    }
+    Ok(names)
+}
+
+/// The names of the tasks that have a body.
+pub fn task_body_names<'t>(alloc: Global, bodies: &[Body<'t>]) -> Result<Names<'t>, NoMemory>
+    ensures { IfOk result (λ names. names ≡ task_body_names bodies.now) }
+{
+    let mut names = Names::new(alloc);
+    for body in bodies {
+        if body.is_task() {
+            names = names.with(body.name())?;
+        }
+    }
+    Ok(names)
+}
+
+/// The names of a configuration.
+#[derive(Drop)]
+struct ConfigNames<'t> {
+    tasks: Names<'t>,
+    resources: Names<'t>,
+    events: Names<'t>,
+}
+
+fn names_of_config<'t>(alloc: Global, config: &'t Config) -> Result<ConfigNames<'t>, NoMemory>
+    ensures tasks { IfOk result (λ names. names.tasks ≡ task_names config.now) }
+    ensures resources { IfOk result (λ names. names.resources ≡ config.now.resources) }
+    ensures events { IfOk result (λ names. names.events ≡ event_names config.now) }
+{
+    let tasks = task_names(alloc, config)?;
+    let resources = resource_names(alloc, config)?;
+    let events = event_names(alloc, config)?;
+    Ok(ConfigNames {
+        tasks,
+        resources,
+        events,
+    })
+}
+
+/// The names that lines and bodies give.
+#[derive(Drop)]
+struct SourceNames<'t> {
+    symbols: Names<'t>,
+    functions: Names<'t>,
+    called: Names<'t>,
+}
+
+fn names_of_source<'t>(
+    alloc: Global,
+    lines: &'t [SourceLine],
+    bodies: &[Body<'t>],
+) -> Result<SourceNames<'t>, NoMemory>
+    ensures symbols { IfOk result (λ names. names.symbols ≡ symbol_names lines.now) }
+    ensures functions { IfOk result (λ names. names.functions ≡ function_names bodies.now) }
+    ensures called { IfOk result (λ names. names.called ≡ called_names bodies.now) }
+{
+    let symbols = symbol_names(alloc, lines)?;
+    let functions = function_names(alloc, bodies)?;
+    let called = called_names(alloc, bodies)?;
+    Ok(SourceNames {
+        symbols,
+        functions,
+        called,
+    })
+}
+
+/// The names that a source with these lines and bodies may use.
+pub fn scope_of<'t>(
+    alloc: Global,
+    config: &'t Config,
+    lines: &'t [SourceLine],
+    bodies: &[Body<'t>],
+) -> Result<Scope<'t>, NoMemory>
+    ensures { IfOk result (λ scope. scope ≡ scope_of config.now lines.now bodies.now) }
+{
+    let alarms = alarm_names(alloc, config)?;
+    let declared = names_of_config(alloc, config)?;
+    let given = names_of_source(alloc, lines, bodies)?;
+    Ok(Scope {
+        tasks: declared.tasks,
+        resources: declared.resources,
+        events: declared.events,
+        alarms,
+        has_scheduler: config.res_scheduler,
+        symbols: given.symbols,
+        functions: given.functions,
+        called: given.called,
+    })
+}

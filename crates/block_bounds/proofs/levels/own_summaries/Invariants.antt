@@ -1,6 +1,0 @@
-use Rattle.std.proofs.Common.{take, Some}
-use Rattle.block_bounds.specs.Known.{AreSummariesOf}
-use Rattle.block_bounds.proofs.levels.own_summaries.Given as goal
-
-abbrev pub invariant-loop-number : goal.invariant-loop-number
-invariant-loop-number l = AreSummariesOf l.config l.app (Some l.priority) (take l.number-index l.order) l.own.items

@@ -1,6 +1,0 @@
-use Rattle.std.proofs.Common.{take, None}
-use Rattle.block_bounds.specs.Known.{AreSummariesOf}
-use Rattle.block_bounds.proofs.levels.whole_summaries.Given as goal
-
-abbrev pub invariant-loop-number : goal.invariant-loop-number
-invariant-loop-number l = AreSummariesOf l.config l.app None (take l.number-index l.order) l.whole.items

@@ -1,7 +1,0 @@
-use Rattle.std.proofs.Common.{◌≡◌}
-use Rattle.stack_bounds.specs.Tables.{max_below}
-use Rattle.block_bounds.specs.Computed.{known, out_at}
-use Rattle.block_bounds.proofs.summary.out_of.Given as goal
-
-abbrev pub invariant-loop-number : goal.invariant-loop-number
-invariant-loop-number l = l.out ≡ max_below l.number (out_at (known l.func l.body l.level l.whole l.own) l.back)

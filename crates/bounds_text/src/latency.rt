@@ -1,0 +1,135 @@
+//! The lines of the command `bounds OIL SRC latency`.
+ghost use Rattle.std.specs.Prelude.{◌≡◌, ◌<◌, length, IfOk, IfErr, IfSome, IfNone};
+ghost use Rattle.sloth_base.specs.ConfigRange.{InRange};
+ghost use Rattle.call_graph.specs.Ranks.{RanksOf};
+ghost use Rattle.sloth_source.specs.Texts.{ErrorIs};
+ghost use Rattle.bounds_text.specs.BoundsText.{IsTellable, AreTellable};
+ghost use Rattle.bounds_text.specs.Latency.{IsHighestAmong, IsHighestTask, HasLatency, IsLatencyText, latency_text, latency_line, last_line};
+
+use crate::{ITEM_COUNTS, bound_lines, read_checked};
+use block_bounds::bound::{Bound, bounds};
+use call_graph::ranking::Ranks;
+use itoa::Buffer;
+use sloth_base::config::{Config, TaskDecl};
+use sloth_base::memory::NoMemory;
+use sloth_base::refusal::BuildError;
+use std::alloc::Global;
+use task_verify::verified::Verified;
+use trace_time::stretches::longest_stretch;
+
+/// The most counts of an item that show no event.
+const UNSEEN_COUNTS: u64 = 40;
+
+// A task of highest priority, if there is a task.
+fn highest_among(tasks: &[TaskDecl]) -> Option<usize>
+    ensures some { IfSome result (IsHighestAmong tasks.now) }
+    ensures none { IfNone result (length tasks.now ≡ 0) }
+{
+    if tasks.is_empty() {
+        return None;
+    }
+    let mut highest = 0;
+    for task in 0..tasks.len() {
+        if tasks[highest].priority < tasks[task].priority {
+            highest = task;
+        }
+    }
+    Some(highest)
+}
+
+// The task of highest priority, if there is a task.
+fn highest_task(config: &Config) -> Option<usize>
+    requires { InRange config.now }
+    ensures { IsHighestTask config.now result }
+{
+    highest_among(config.tasks.items())
+}
+
+// The latency with this bound, for an arrival behind boot, ticks left out.
+#[tactic(auto, using(crate::proofs::Keeping::few_alarms))]
+fn latency_text(alloc: Global, config: &Config, bound: Bound) -> Result<Vec<u8>, NoMemory>
+    requires in_range { InRange config.now }
+    requires tellable { IsTellable bound }
+    ensures { IfOk result (λ text. text.items ≡ latency_text config.now bound) }
+{
+    match bound {
+        Bound::Items(items) => {
+            let mut buffer = Buffer::new();
+            let longest = u64::from(longest_stretch(config));
+            let of_items = u64::from(ITEM_COUNTS) * u64::from(items);
+            let counts = longest + of_items + (UNSEEN_COUNTS + longest);
+            let mut text = Vec::from_slice(alloc, b" ")?;
+            text.extend_from_slice(buffer.format(counts).as_bytes())?;
+            Ok(text)
+        }
+        Bound::Huge => Ok(Vec::from_slice(alloc, b" huge")?),
+        Bound::Endless => Ok(Vec::from_slice(alloc, b" endless")?),
+    }
+}
+
+// The line of the latency of a task.
+#[tactic(auto, unfolding(crate::specs::Latency::latency_line))]
+fn latency_line(
+    alloc: Global,
+    config: &Config,
+    bounds: &[Bound],
+    task: usize,
+) -> Result<Vec<u8>, NoMemory>
+    requires there { task < length config.now.tasks }
+    requires same { length bounds.now ≡ length config.now.tasks }
+    requires in_range { InRange config.now }
+    requires tellable { AreTellable bounds.now }
+    ensures { IfOk result (λ line. line.items ≡ latency_line config.now bounds.now task) }
+{
+    let mut line = Vec::from_slice(alloc, config.tasks.items()[task].name.bytes())?;
+    line.extend_from_slice(b" latency")?;
+    line.extend_from_slice(latency_text(alloc, config, bounds[task])?.as_slice())?;
+    line.extend_from_slice(b"\n")?;
+    Ok(line)
+}
+
+// That of the task of highest priority, if there is a task.
+fn last_line(
+    alloc: Global,
+    config: &Config,
+    bounds: &[Bound],
+    highest: Option<usize>,
+) -> Result<Vec<u8>, NoMemory>
+    requires highest { IsHighestTask config.now highest }
+    requires same { length bounds.now ≡ length config.now.tasks }
+    requires in_range { InRange config.now }
+    requires tellable { AreTellable bounds.now }
+    ensures { IfOk result (λ line. line.items ≡ last_line config.now bounds.now highest) }
+{
+    match highest {
+        None => Ok(Vec::new(alloc)),
+        Some(task) => latency_line(alloc, config, bounds, task),
+    }
+}
+
+// The lines of task code.
+#[tactic(auto, using(crate::proofs::Keeping::has_latency))]
+fn checked_latency(alloc: Global, verified: &Verified, ranks: &Ranks) -> Result<Vec<u8>, NoMemory>
+    requires { RanksOf verified.now.app ranks.now }
+    ensures { IfOk result (λ text. HasLatency verified.now.config verified.now.app text.items) }
+{
+    let config = verified.config();
+    let bounds = bounds(alloc, verified, ranks)?;
+    let highest = highest_task(config);
+    let mut text = bound_lines(alloc, config.tasks.items(), bounds.items())?;
+    text.extend_from_slice(last_line(alloc, config, bounds.items(), highest)?.as_slice())?;
+    Ok(text)
+}
+
+/// The lines of the bounds of all tasks, and that of the latency of the task of highest priority, of texts of at most 4,294,967,294 bytes;
+/// or the first refusal (O1 to O15, A1 to A7, V1 to V12).
+pub fn latency_lines(alloc: Global, oil: &[u8], src: &[u8]) -> Result<Vec<u8>, BuildError>
+    requires oil { length oil.now < 4294967295 }
+    requires src { length src.now < 4294967295 }
+    ensures text { IfOk result (λ text. IsLatencyText oil.now src.now text.items) }
+    ensures refused { IfErr result (ErrorIs oil.now src.now) }
+{
+    let checked = read_checked(alloc, oil, src)?;
+    let text = checked_latency(alloc, &checked.verified, &checked.ranks)?;
+    Ok(text)
+}

@@ -1,0 +1,5 @@
+pub mod Listing
+pub mod OneNeed
+pub mod OneRow
+pub mod OneText
+pub mod Services

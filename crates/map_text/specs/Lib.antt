@@ -1,0 +1,3 @@
+pub mod Listable
+pub mod MapText
+pub mod Rows

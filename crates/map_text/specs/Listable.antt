@@ -1,0 +1,12 @@
+-- A map whose rows can be told.
+use Rattle.std.specs.Prelude.{◌<◌, ◌≤◌, length}
+use Rattle.sloth_base.specs.declared.config.Config.{Config}
+use Rattle.sloth_region.specs.declared.map.Map.{Map}
+use Rattle.mem_map.specs.Stacks.{behind_data}
+use Rattle.map_text.specs.Rows.{behind_code}
+
+-- its zones end at addresses of 32 bits, and there are at most 30 tasks
+pub record IsListable (config : Config) (map : Map) : Type 0 where
+  pub code : behind_code map < 4294967296
+  pub data_zone : behind_data map < 4294967296
+  pub few_tasks : length config.tasks ≤ 30

@@ -1,0 +1,85 @@
+-- What an image takes of memory: a row for each extent.
+use Rattle.std.specs.Prelude.{ℕ, zero, suc, ◌+◌, ◌-◌, ltb, Bool, not, cond, List, [], ◌∷◌, ◌++◌, length, get_or, take}
+use Rattle.std.specs.Prelude as prelude
+use Rattle.std.specs.List.{list_any}
+use Rattle.sloth_base.specs.declared.config.Config.{Config}
+use Rattle.sloth_base.specs.declared.config.TaskDecl.{TaskDecl}
+use Rattle.sloth_base.specs.MemoryMap.{memory_base, vectors_base, boot_base}
+use Rattle.sloth_region.specs.declared.extent.Extent.{Extent}
+use Rattle.sloth_region.specs.declared.map.Map.{Map}
+use Rattle.mem_map.specs.Stacks.{behind_data, is_extended}
+use Rattle.mem_map.specs.Zones.{code_zone, stack_of, nowhere}
+use Rattle.map_text.specs.declared.rows.Kind.{Kind}
+use Rattle.map_text.specs.declared.rows.Kind.TheVariants as kind
+use Rattle.map_text.specs.declared.rows.Row.{Row}
+use Rattle.map_text.specs.declared.rows.Start.{Start}
+
+-- ---- code and data: each piece goes to where the next one begins
+
+-- where the pieces of a kind begin that have these addresses, numbered from this number on
+abbrev pub numbered : Kind → ℕ → List ℕ → List Start
+numbered k number [] = []
+numbered k number (at ∷ rest) = record { kind = k; number = number; at = at } ∷ numbered k (number + 1) rest
+
+-- where a piece begins of which there is one
+abbrev pub single : Kind → ℕ → Start
+single k at = record { kind = k; number = 0; at = at }
+
+-- the address behind the zone of code
+abbrev pub behind_code : Map → ℕ
+behind_code m = (code_zone m).base + (code_zone m).len
+
+-- where the code of each function begins: at its first item
+abbrev pub code_places : Map → List ℕ
+code_places m = prelude.map (λ first. get_or m.places.items first (behind_code m)) m.places.first
+
+-- where each piece begins, in the order of the addresses
+unfoldable pub starts_of : Config → Map → List Start
+starts_of config m =
+    single kind.Words memory_base ∷ single kind.Vectors vectors_base ∷ single kind.Boot boot_base ∷ single kind.Idle m.idle
+    ∷ (numbered kind.Prologue 0 (take (length config.tasks) m.handlers) ++ numbered kind.Service 0 m.places.blocks
+    ++ numbered kind.Code 0 (code_places m) ++ numbered kind.Data 0 m.places.symbols ++ single kind.End (behind_data m - 4) ∷ [])
+
+-- the row of a piece that goes to an address, if it has any bytes
+abbrev pub row_to : Start → ℕ → List Row
+row_to s to = cond (ltb s.at to) (record { kind = s.kind; number = s.number; base = s.at; len = to - s.at } ∷ []) []
+
+-- where the first of these pieces begins, or an address where there is none
+abbrev pub first_at : List Start → ℕ → ℕ
+first_at [] end = end
+first_at (s ∷ rest) end = s.at
+
+-- the rows of pieces, each of which goes to the next, and the last one to an address
+abbrev pub rows_between : List Start → ℕ → List Row
+rows_between [] end = []
+rows_between (s ∷ rest) end = row_to s (first_at rest end) ++ rows_between rest end
+
+-- ---- stacks
+
+-- the row of an extent
+abbrev pub row_of : Kind → ℕ → Extent → Row
+row_of k number e = record { kind = k; number = number; base = e.base; len = e.len }
+
+-- some task has no events
+abbrev pub has_basic : List TaskDecl → Bool
+has_basic tasks = list_any (λ (t : TaskDecl). not t.extended) tasks
+
+-- the row of the stack that all basic tasks share, if there are any: the first extent behind the zone of data
+abbrev pub shared_rows : Config → Map → List Row
+shared_rows config m = cond (has_basic config.tasks) (row_of kind.Shared 0 (get_or m.extents 3 nowhere) ∷ []) []
+
+-- the rows of the stacks of the first tasks, so many of them, that have one of their own
+unfoldable pub own_rows : Config → Map → ℕ → List Row
+own_rows config m zero = []
+own_rows config m (suc t) = own_rows config m t ++ cond (is_extended config.tasks t) (row_of kind.Stack t (stack_of m t) ∷ []) []
+
+-- ---- all of it
+
+-- the rows of an image
+abbrev pub map_rows : Config → Map → List Row
+map_rows config m = rows_between (starts_of config m) (behind_data m) ++ shared_rows config m ++ own_rows config m (length config.tasks)
+
+-- the bytes of rows together
+abbrev pub sum_of : List Row → ℕ
+sum_of [] = 0
+sum_of (row ∷ rows) = row.len + sum_of rows

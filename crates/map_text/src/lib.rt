@@ -1,0 +1,11 @@
+//! The lines of the command `map`: what an image takes of memory, and what its tasks need of the stacks.
+#![tactic(auto)]
+
+pub mod laws;
+mod lines;
+mod rows;
+mod starts;
+mod text;
+
+pub use rows::{Kind, Row};
+pub use text::map_text;

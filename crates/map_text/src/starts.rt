@@ -1,0 +1,127 @@
+//! Where each piece of code and data begins.
+ghost use Rattle.std.specs.Prelude.{◌≡◌, ◌<◌, ◌≤◌, ◌+◌, ◌++◌, ◌∷◌, [], IfOk, OnOk, get_or, take};
+ghost use Rattle.mem_map.specs.Zones.{nowhere};
+ghost use Rattle.map_text.specs.Listable.{IsListable};
+ghost use Rattle.map_text.specs.Rows.{behind_code, code_places, numbered, single, starts_of};
+
+use crate::rows::{Kind, Start};
+use sloth_base::config::Config;
+use sloth_base::memory::NoMemory;
+use sloth_base::memory_map::{BOOT_BASE, MEMORY_BASE, VECTORS_BASE};
+use sloth_region::extent::Extent;
+use sloth_region::map::Map;
+use std::alloc::Global;
+
+/// The bytes behind the last symbol.
+const WORD: u32 = 4;
+
+/// The place of the zone of code among the extents of a map.
+const CODE: usize = 1;
+
+/// That of the zone of data.
+pub const DATA: usize = 2;
+
+/// That of the first stack.
+pub const STACKS: usize = 3;
+
+/// An extent of a list, or none.
+pub fn extent_at(extents: &[Extent], place: usize) -> Extent
+    ensures { result ≡ get_or extents.now place nowhere }
+{
+    match extents.get(place) {
+        Some(extent) => *extent,
+        None => Extent { base: 0, len: 0 },
+    }
+}
+
+/// The address behind an extent.
+pub fn behind(extent: Extent) -> u32
+    requires { extent.base + extent.len < 4294967296 }
+    ensures { result ≡ extent.base + extent.len }
+{
+    extent.base + extent.len
+}
+
+// A number of a list, or another behind its end.
+fn number_or(numbers: &[u32], place: usize, other: u32) -> u32
+    ensures { result ≡ get_or numbers.now place other }
+{
+    match numbers.get(place) {
+        Some(number) => *number,
+        None => other,
+    }
+}
+
+// Where the code of each function begins.
+fn code_places(alloc: Global, map: &Map) -> Result<Vec<u32>, NoMemory>
+    requires { behind_code map.now < 4294967296 }
+    ensures { IfOk result (λ places. places.items ≡ code_places map.now) }
+{
+    let end = behind(extent_at(map.extents.items(), CODE));
+    let items = map.places.items.items();
+    let mut places = Vec::new(alloc);
+    for first in map.places.first.items() {
+        let place = number_or(items, *first as usize, end);
+        places.push(place).map_err(|_| NoMemory)?;
+    }
+    Ok(places)
+}
+
+// Appends where a piece begins of which there is one.
+fn push_single(starts: &mut Vec<Start>, kind: Kind, at: u32) -> Result<(), NoMemory>
+    ensures { OnOk result (starts.new.items ≡ starts.old.items ++ single kind at ∷ []) }
+{
+    starts
+        .push(Start {
+            kind,
+            number: 0,
+            at,
+        })
+        .map_err(|_| NoMemory)
+}
+
+// Appends where the pieces of a kind begin that have these addresses.
+#[tactic(auto, using(crate::proofs::OneRow::numbered_more))]
+fn push_numbered(starts: &mut Vec<Start>, kind: Kind, addresses: &[u32]) -> Result<(), NoMemory>
+    ensures { OnOk result (starts.new.items ≡ starts.old.items ++ numbered kind 0 addresses.now) }
+{
+    for number in 0..addresses.len() {
+        let start = Start {
+            kind,
+            number,
+            at: addresses[number],
+        };
+        starts.push(start).map_err(|_| NoMemory)?;
+    }
+    Ok(())
+}
+
+// The addresses of the prologues of so many tasks.
+fn prologues(map: &Map, tasks: usize) -> &[u32]
+    requires { tasks ≤ 32 }
+    ensures { result.now ≡ take tasks map.now.handlers }
+{
+    &map.handlers[..tasks]
+}
+
+/// Where each piece begins, in the order of the addresses.
+#[tactic(auto, unfolding(crate::specs::Rows::starts_of))]
+pub fn starts(alloc: Global, config: &Config, map: &Map) -> Result<Vec<Start>, NoMemory>
+    requires { IsListable config.now map.now }
+    ensures { IfOk result (λ starts. starts.items ≡ starts_of config.now map.now) }
+{
+    let code = code_places(alloc, map)?;
+    let tasks = config.tasks.items().len();
+    let end = behind(extent_at(map.extents.items(), DATA)).saturating_sub(WORD);
+    let mut starts = Vec::new(alloc);
+    push_single(&mut starts, Kind::Words, MEMORY_BASE)?;
+    push_single(&mut starts, Kind::Vectors, VECTORS_BASE)?;
+    push_single(&mut starts, Kind::Boot, BOOT_BASE)?;
+    push_single(&mut starts, Kind::Idle, map.idle)?;
+    push_numbered(&mut starts, Kind::Prologue, prologues(map, tasks))?;
+    push_numbered(&mut starts, Kind::Service, &map.places.blocks)?;
+    push_numbered(&mut starts, Kind::Code, code.as_slice())?;
+    push_numbered(&mut starts, Kind::Data, map.places.symbols.items())?;
+    push_single(&mut starts, Kind::End, end)?;
+    Ok(starts)
+}

@@ -1,0 +1,10 @@
+use Rattle.std.proofs.Common.{◌≡◌, take}
+use Rattle.least_fault.proofs.Kept.{Loop}
+use Rattle.oil_alarms.specs.AlarmFaults.{InsideFault}
+use Rattle.oil_alarms.proofs.block_faults.inner_faults.Given as goal
+
+abbrev pub invariant-loop-number : goal.invariant-loop-number
+invariant-loop-number l = record {
+  finds : Loop (InsideFault l.objects l.limits l.place l.inner) l.inner l.number l.least;
+  behind : l.before ≡ take l.number l.inner;
+}

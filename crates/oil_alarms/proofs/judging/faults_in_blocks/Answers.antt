@@ -1,0 +1,16 @@
+use Rattle.std.proofs.Common.{◌∙◌, List, ap, subst}
+use Rattle.least_fault.specs.Search.{Finds, Somewhere}
+use Rattle.oil_alarms.specs.declared.limits.Limits.{Limits}
+use Rattle.oil_alarms.specs.Blocks.{BlockText, blocks_of}
+use Rattle.oil_alarms.specs.Limits.{limits_of}
+use Rattle.oil_alarms.specs.AlarmFaults.{BlockFault}
+use Rattle.oil_alarms.proofs.judging.faults_in_blocks.Goals as goal
+
+pub returns : goal.returns
+returns c =
+    let objects = c.args.objects.now in
+    let found = c.in_ok-found.found in
+    let attrs = c.items-attrs.ensures in
+    let blocks = c.as_slice.ensures.value ∙ c.in_ok-blocks.ensures ∙ ap blocks_of attrs in
+    subst (λ (l : Limits). Finds (Somewhere (BlockFault objects l) (blocks_of c.args.alarm.now.attrs)) found) (c.limits_of-limits.ensures ∙ ap (limits_of objects) attrs)
+    (subst (λ (bs : List BlockText). Finds (Somewhere (BlockFault objects c.limits_of-limits.result) bs) found) blocks c.in_ok-found.ensures)

@@ -1,0 +1,4 @@
+pub mod Blocks
+pub mod Limits
+pub mod AlarmFaults
+pub mod ModelFaults

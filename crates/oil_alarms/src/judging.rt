@@ -1,0 +1,70 @@
+//! The least fault in the blocks of alarms.
+ghost use Rattle.std.specs.Prelude.{◌≡◌, [], IfOk};
+ghost use Rattle.least_fault.specs.Search.{Finds, Somewhere};
+ghost use Rattle.oil_alarms.specs.Blocks.{blocks_of};
+ghost use Rattle.oil_alarms.specs.Limits.{limits_of};
+ghost use Rattle.oil_alarms.specs.AlarmFaults.{BlockFault, PartFault, AlarmFault};
+
+use crate::alarm_faults::lacks_part;
+use crate::block_faults::block_faults;
+use crate::blocks::blocks_of;
+use crate::limits::limits_of;
+use least_fault::{merge, when};
+use oil_parse::tree::OilObject;
+use oil_rules::is_of_kind;
+use sloth_base::memory::NoMemory;
+use sloth_base::refusal::{Code, Part, Refusal};
+use std::alloc::Global;
+
+fn faults_in_blocks(
+    alloc: Global,
+    objects: &[OilObject],
+    alarm: &OilObject,
+) -> Result<Option<Refusal>, NoMemory>
+    ensures { IfOk result (Finds (Somewhere (BlockFault objects.now (limits_of objects.now alarm.now.attrs)) (blocks_of alarm.now.attrs))) }
+{
+    let attrs = alarm.attrs.items();
+    let limits = limits_of(objects, attrs);
+    let blocks = blocks_of(alloc, attrs)?;
+    let found = block_faults(alloc, objects, limits, blocks.as_slice())?;
+    Ok(found)
+}
+
+fn part_faults(
+    alloc: Global,
+    objects: &[OilObject],
+    alarm: &OilObject,
+) -> Result<Option<Refusal>, NoMemory>
+    ensures { IfOk result (Finds (PartFault objects.now alarm.now)) }
+{
+    let lacking = lacks_part(alarm.attrs.items());
+    let lacking = when(lacking, Part::Oil, alarm.line, Code::O11);
+    let found = faults_in_blocks(alloc, objects, alarm)?;
+    Ok(merge(lacking, found))
+}
+
+fn alarm_faults(
+    alloc: Global,
+    objects: &[OilObject],
+    object: &OilObject,
+) -> Result<Option<Refusal>, NoMemory>
+    ensures { IfOk result (Finds (AlarmFault objects.now [] object.now)) }
+{
+    if !is_of_kind(object, b"ALARM") {
+        return Ok(None);
+    }
+    let found = part_faults(alloc, objects, object)?;
+    Ok(found)
+}
+
+/// The least fault in the blocks of the alarms among these objects.
+pub fn judge(alloc: Global, objects: &[OilObject]) -> Result<Option<Refusal>, NoMemory>
+    ensures { IfOk result (Finds (Somewhere (AlarmFault objects.now) objects.now)) }
+{
+    let mut least = None;
+    for object in objects {
+        let found = alarm_faults(alloc, objects, object)?;
+        least = merge(least, found);
+    }
+    Ok(least)
+}

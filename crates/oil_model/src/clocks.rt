@@ -1,0 +1,201 @@
+//! The counters and alarms of a tree that has no fault.
+ghost use Rattle.std.specs.Prelude.{◌≡◌, ◌≤◌, IfOk, codes, length, option_copied};
+ghost use Rattle.oil_rules.specs.Objects.{names_of};
+ghost use Rattle.oil_model.specs.Clocks.{declared_counter, counters_of, number_of_value, number_named, mask_named_by, action_of, started, declared_alarm, alarms_of};
+
+use crate::config::mask_of_value;
+use oil_alarms::{first_block, first_in, number_in};
+use oil_parse::tree::{OilAttr, OilObject, OilValue};
+use oil_rules::{
+    EventTable, GREATEST_VALUE, first_is, first_number, first_use, is_of_kind, names_of,
+};
+use sloth_base::config::{Action, AlarmDecl, CounterDecl};
+use sloth_base::memory::NoMemory;
+use sloth_base::name::Name;
+use sloth_base::numbers::TaskId;
+use std::alloc::Global;
+use text_pieces::growth::push;
+use text_pieces::names::Names;
+
+/// The counters and alarms of a configuration.
+#[derive(Drop)]
+pub struct Clocks {
+    pub counters: Vec<CounterDecl>,
+    pub alarms: Vec<AlarmDecl>,
+}
+
+fn declared_counter(alloc: Global, object: &OilObject) -> Result<CounterDecl, NoMemory>
+    ensures { IfOk result (λ counter. counter ≡ declared_counter object.now) }
+{
+    let attrs = object.attrs.items();
+    Ok(CounterDecl {
+        name: Name::new(alloc, object.name.bytes())?,
+        max: first_number(attrs, b"MAXALLOWEDVALUE").unwrap_or(GREATEST_VALUE),
+        min_cycle: first_number(attrs, b"MINCYCLE").unwrap_or(1),
+    })
+}
+
+fn counters_of(alloc: Global, objects: &[OilObject]) -> Result<Vec<CounterDecl>, NoMemory>
+    ensures { IfOk result (λ counters. counters.items ≡ counters_of objects.now) }
+{
+    let mut counters = Vec::new(alloc);
+    for object in objects {
+        if !is_of_kind(object, b"COUNTER") {
+            continue;
+        }
+        push(&mut counters, declared_counter(alloc, object)?)?;
+    }
+    Ok(counters)
+}
+
+/// The number of the object that a value names, or 0.
+fn number_of_value(names: &Names, value: &OilValue) -> u32
+    requires { length names.now ≤ 32 }
+    ensures { result ≡ number_of_value names.now value.now }
+{
+    match value {
+        OilValue::Word(word) => match names.number(word.bytes()) {
+            Some(number) => number as u32,
+            None => 0,
+        },
+        _ => 0,
+    }
+}
+
+fn number_named(names: &Names, attr: Option<&OilAttr>) -> u32
+    requires { length names.now ≤ 32 }
+    ensures { result ≡ number_named names.now (option_copied attr.entry) }
+{
+    match attr {
+        Some(attr) => number_of_value(names, &attr.value),
+        None => 0,
+    }
+}
+
+/// The mask of the event that an attribute names, or 0.
+fn mask_named_by(events: &EventTable, attr: Option<&OilAttr>) -> u32
+    ensures { result ≡ mask_named_by events.now (option_copied attr.entry) }
+{
+    match attr {
+        Some(attr) => mask_of_value(events, &attr.value),
+        None => 0,
+    }
+}
+
+fn action_of(tasks: &Names, events: &EventTable, attrs: &[OilAttr]) -> Action
+    requires { length tasks.now ≤ 32 }
+    ensures { result ≡ action_of tasks.now events.now attrs.now }
+{
+    let inner = first_block(attrs, b"ACTION");
+    let task = TaskId(number_named(tasks, first_in(inner, b"TASK")));
+    if first_is(attrs, b"ACTION", b"SETEVENT") {
+        Action::Set(task, mask_named_by(events, first_in(inner, b"EVENT")))
+    } else {
+        Action::Activate(task)
+    }
+}
+
+/// What an attribute of the block of AUTOSTART = TRUE says; 0 where the alarm does not start by itself.
+fn started(attrs: &[OilAttr], name: &[u8]) -> u32
+    ensures { result ≡ started attrs.now name.now }
+{
+    if first_is(attrs, b"AUTOSTART", b"TRUE") {
+        number_in(first_block(attrs, b"AUTOSTART"), name).unwrap_or(0)
+    } else {
+        0
+    }
+}
+
+fn declared_alarm(
+    alloc: Global,
+    tasks: &Names,
+    counters: &Names,
+    events: &EventTable,
+    object: &OilObject,
+) -> Result<AlarmDecl, NoMemory>
+    requires few_tasks { length tasks.now ≤ 32 }
+    requires few_counters { length counters.now ≤ 32 }
+    ensures { IfOk result (λ alarm. alarm ≡ declared_alarm tasks.now counters.now events.now object.now) }
+{
+    let attrs = object.attrs.items();
+    Ok(AlarmDecl {
+        name: Name::new(alloc, object.name.bytes())?,
+        counter: number_named(counters, first_use(attrs, b"COUNTER")),
+        action: action_of(tasks, events, attrs),
+        time: started(attrs, b"ALARMTIME"),
+        cycle: started(attrs, b"CYCLETIME"),
+    })
+}
+
+fn alarms_of(
+    alloc: Global,
+    tasks: &Names,
+    counters: &Names,
+    events: &EventTable,
+    objects: &[OilObject],
+) -> Result<Vec<AlarmDecl>, NoMemory>
+    requires few_tasks { length tasks.now ≤ 32 }
+    requires few_counters { length counters.now ≤ 32 }
+    ensures { IfOk result (λ alarms. alarms.items ≡ alarms_of tasks.now counters.now events.now objects.now) }
+{
+    let mut alarms = Vec::new(alloc);
+    for object in objects {
+        if !is_of_kind(object, b"ALARM") {
+            continue;
+        }
+        push(
+            &mut alarms,
+            declared_alarm(alloc, tasks, counters, events, object)?,
+        )?;
+    }
+    Ok(alarms)
+}
+
+fn clocks_by(
+    alloc: Global,
+    tasks: &Names,
+    counters: &Names,
+    events: &EventTable,
+    objects: &[OilObject],
+) -> Result<Clocks, NoMemory>
+    requires few_tasks { length tasks.now ≤ 32 }
+    requires few_counters { length counters.now ≤ 32 }
+    ensures counters { IfOk result (λ clocks. clocks.counters.items ≡ counters_of objects.now) }
+    ensures alarms { IfOk result (λ clocks. clocks.alarms.items ≡ alarms_of tasks.now counters.now events.now objects.now) }
+{
+    let alarms = alarms_of(alloc, tasks, counters, events, objects)?;
+    let counters = counters_of(alloc, objects)?;
+    Ok(Clocks { counters, alarms })
+}
+
+fn clocks_with(
+    alloc: Global,
+    tasks: &Names,
+    events: &EventTable,
+    objects: &[OilObject],
+) -> Result<Clocks, NoMemory>
+    requires few_tasks { length tasks.now ≤ 32 }
+    requires few_counters { length (names_of (codes "COUNTER") objects.now) ≤ 32 }
+    ensures counters { IfOk result (λ clocks. clocks.counters.items ≡ counters_of objects.now) }
+    ensures alarms { IfOk result (λ clocks. clocks.alarms.items
+        ≡ alarms_of tasks.now (names_of (codes "COUNTER") objects.now) events.now objects.now) }
+{
+    let counters = names_of(alloc, objects, b"COUNTER")?;
+    clocks_by(alloc, tasks, &counters, events, objects)
+}
+
+/// The counters and alarms of these objects, in the order of their numbers.
+pub fn clocks_of(
+    alloc: Global,
+    events: &EventTable,
+    objects: &[OilObject],
+) -> Result<Clocks, NoMemory>
+    requires few_tasks { length (names_of (codes "TASK") objects.now) ≤ 32 }
+    requires few_counters { length (names_of (codes "COUNTER") objects.now) ≤ 32 }
+    ensures counters { IfOk result (λ clocks. clocks.counters.items ≡ counters_of objects.now) }
+    ensures alarms { IfOk result (λ clocks. clocks.alarms.items
+        ≡ alarms_of (names_of (codes "TASK") objects.now) (names_of (codes "COUNTER") objects.now) events.now objects.now) }
+{
+    let tasks = names_of(alloc, objects, b"TASK")?;
+    clocks_with(alloc, &tasks, events, objects)
+}

@@ -1,0 +1,4 @@
+pub mod Names
+mod Doubles
+mod Fronts
+mod KeptReferences

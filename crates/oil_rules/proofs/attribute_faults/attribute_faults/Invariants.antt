@@ -1,0 +1,11 @@
+use Rattle.std.proofs.Common.{◌≡◌, take}
+use Rattle.least_fault.proofs.Kept.{Loop}
+use Rattle.oil_rules.specs.AttributeFaults.{AttributeFault, inner_place}
+use Rattle.oil_rules.proofs.attribute_faults.attribute_faults.Given as goal
+
+abbrev pub invariant-loop-number : goal.invariant-loop-number
+invariant-loop-number l = record {
+  finds : Loop (AttributeFault l.objects l.scheduler l.place) l.attrs l.number l.least;
+  opens : l.inner ≡ inner_place l.place (take l.number l.attrs);
+  behind : l.before ≡ take l.number l.attrs;
+}

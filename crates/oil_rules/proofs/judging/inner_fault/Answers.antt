@@ -1,0 +1,27 @@
+use Rattle.std.proofs.Common.{◌∙◌, ◌⊎◌, ap, subst, List}
+use Rattle.least_fault.specs.Search.{Finds, Somewhere}
+use Rattle.least_fault.proofs.Kept.{both_are}
+use Rattle.oil_parse.specs.declared.tree.OilAttr.{OilAttr}
+use Rattle.oil_rules.specs.declared.table.Place.{Place}
+use Rattle.oil_rules.specs.Table.{place_of}
+use Rattle.oil_rules.specs.ObjectFaults.{KnownFault}
+use Rattle.oil_rules.specs.AttributeFaults.{AttributeFault}
+use Rattle.oil_rules.specs.TreeFaults.{TaskFaults}
+use Rattle.oil_rules.proofs.judging.inner_fault.Goals as goal
+
+pub returns : goal.returns
+returns c =
+    let o = c.args.object.now in
+    let objects = c.args.table.now in
+    let scheduler = c.args.scheduler in
+    let front = c.args.front.now in
+    let events = c.args.events.now in
+    let found = c.in_ok-attributes.attributes in
+    let place = c.place_of-place.ensures ∙ ap place_of c.bytes.ensures in
+    let attributes = subst (λ (x : List OilAttr). Finds (Somewhere (AttributeFault objects scheduler (place_of o.kind)) x) found) c.items.ensures
+    (subst (λ (p : Place). Finds (Somewhere (AttributeFault objects scheduler p) c.items.result.now) found) place c.in_ok-attributes.ensures) in
+    both_are (KnownFault scheduler front o) (λ r. Somewhere (AttributeFault objects scheduler (place_of o.kind)) o.attrs r ⊎ TaskFaults events front o r)
+    c.known_fault-known.result c.merge.result c.merge-2.result c.known_fault-known.ensures
+    (both_are (Somewhere (AttributeFault objects scheduler (place_of o.kind)) o.attrs) (TaskFaults events front o) found c.in_ok-of_task.of_task c.merge.result attributes c.in_ok-of_task.ensures
+    c.merge.ensures)
+    c.merge-2.ensures

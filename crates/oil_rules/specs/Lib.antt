@@ -1,0 +1,11 @@
+pub mod Cases
+pub mod Table
+pub mod Objects
+pub mod Events
+pub mod ObjectFaults
+pub mod AttributeFaults
+pub mod TaskFaults
+pub mod Fronts
+pub mod References
+pub mod KeptReferences
+pub mod TreeFaults

@@ -1,0 +1,26 @@
+-- The events that a task refers to.
+use Rattle.std.specs.Prelude.{ℕ, Bool, if◌then◌else◌, ◌&&◌, List, codes, Option, Some, None}
+use Rattle.sloth_base.specs.declared.config.EventDecl.{EventDecl}
+use Rattle.oil_parse.specs.declared.tree.OilValue.{OilValue}
+use Rattle.oil_parse.specs.declared.tree.OilValue.TheVariants.{Word}
+use Rattle.oil_parse.specs.declared.tree.OilAttr.{OilAttr}
+use Rattle.oil_rules.specs.Objects.{is_use}
+use Rattle.oil_rules.specs.TaskFaults.{is_event_clash}
+
+-- the attributes of a task before one, and the events of the tree
+pub record Referring : Type 0 where
+  pub events : List EventDecl
+  pub attrs : List OilAttr
+
+-- the word that a value is
+abbrev pub referred_word : OilValue → Option (List ℕ)
+referred_word (Word word) = Some word
+referred_word _ = None
+
+-- the event that an attribute refers to
+abbrev pub event_word : OilAttr → Option (List ℕ)
+event_word attr = if is_use (codes "EVENT") attr then referred_word attr.value else None
+
+-- an attribute refers to another event that shares a bit with this one
+abbrev pub refers_to_clash : List EventDecl → List ℕ → OilAttr → Bool
+refers_to_clash events word attr = is_use (codes "EVENT") attr && is_event_clash events attr.value (Word word)

@@ -1,0 +1,149 @@
+//! The faults of an attribute by the attribute table.
+ghost use Rattle.std.specs.Prelude.{◌≡◌, ◌&&◌, IfOk, bytes_eq, codes, is_none};
+ghost use Rattle.oil_rules.specs.declared.table.Attribute.TheVariants.{Resource};
+ghost use Rattle.least_fault.specs.Search.{Finds, Somewhere};
+ghost use Rattle.oil_rules.specs.AttributeFaults.{opened_place, place_by, is_second_use, is_missing, misses_value, refers_to_none, is_refused, RowFault, AttributeFault};
+
+use crate::before::Before;
+use crate::front::Front;
+use crate::table::{Attribute, Place, allows, attribute_of, block_place, is_single};
+use least_fault::{merge, when};
+use oil_parse::tree::{OilAttr, OilValue};
+use sloth_base::memory::NoMemory;
+use sloth_base::refusal::{Code, Part, Refusal};
+use std::alloc::Global;
+use text_pieces::bytes::same;
+
+fn opened(place: Place, inner: Place, attr: &OilAttr) -> Place
+    ensures { result ≡ opened_place place inner attr.now }
+{
+    if attr.depth == 0 {
+        block_place(place, attr)
+    } else {
+        inner
+    }
+}
+
+fn place_by(place: Place, inner: Place, attr: &OilAttr) -> Place
+    ensures { result ≡ place_by place inner attr.now }
+{
+    match attr.depth {
+        0 => place,
+        1 => inner,
+        _ => Place::Nowhere,
+    }
+}
+
+fn is_unlisted(row: Option<Attribute>) -> bool
+    ensures { result ≡ is_none row }
+{
+    row.is_none()
+}
+
+fn is_second_use(row: Option<Attribute>, before: &Before, attr: &OilAttr) -> bool
+    ensures { result ≡ is_second_use row before.now attr.now }
+{
+    match row {
+        Some(attribute) => is_single(attribute)
+            && attr.depth == 0
+            && before.is_used(attr.name.bytes()),
+        None => false,
+    }
+}
+
+fn misses(objects: &Front, scheduler: bool, attribute: Attribute, word: &[u8]) -> bool
+    ensures { result ≡ is_missing objects.now scheduler attribute word.now }
+{
+    match attribute {
+        Attribute::Mode => !same(word, b"OSDEFAULTAPPMODE"),
+        Attribute::Resource => misses_resource(objects, scheduler, word),
+        Attribute::Event | Attribute::ActionEvent => !objects.has(b"EVENT", word),
+        Attribute::ActionTask => !objects.has(b"TASK", word),
+        Attribute::Counter => !objects.has(b"COUNTER", word),
+        _ => false,
+    }
+}
+
+fn is_scheduler(scheduler: bool, word: &[u8]) -> bool
+    ensures { result ≡ (scheduler && bytes_eq word.now (codes "RES_SCHEDULER")) }
+{
+    scheduler && same(word, b"RES_SCHEDULER")
+}
+
+fn misses_resource(objects: &Front, scheduler: bool, word: &[u8]) -> bool
+    ensures { result ≡ is_missing objects.now scheduler Resource word.now }
+{
+    !is_scheduler(scheduler, word) && !objects.has(b"RESOURCE", word)
+}
+
+fn misses_value(objects: &Front, scheduler: bool, attribute: Attribute, value: &OilValue) -> bool
+    ensures { result ≡ misses_value objects.now scheduler attribute value.now }
+{
+    match value {
+        OilValue::Word(word) => misses(objects, scheduler, attribute, word.bytes()),
+        _ => false,
+    }
+}
+
+fn refers_to_none(
+    objects: &Front,
+    scheduler: bool,
+    row: Option<Attribute>,
+    value: &OilValue,
+) -> bool
+    ensures { result ≡ refers_to_none objects.now scheduler row value.now }
+{
+    match row {
+        Some(attribute) => misses_value(objects, scheduler, attribute, value),
+        None => false,
+    }
+}
+
+fn is_refused(row: Option<Attribute>, value: &OilValue) -> bool
+    ensures { result ≡ is_refused row value.now }
+{
+    match row {
+        Some(attribute) => !allows(attribute, value),
+        None => false,
+    }
+}
+
+fn row_fault(
+    objects: &Front,
+    scheduler: bool,
+    row: Option<Attribute>,
+    before: &Before,
+    attr: &OilAttr,
+) -> Option<Refusal>
+    ensures { Finds (RowFault objects.now scheduler row before.now attr.now) result }
+{
+    let line = attr.line;
+    let unknown = when(is_unlisted(row), Part::Oil, line, Code::O8);
+    let second = when(is_second_use(row, before, attr), Part::Oil, line, Code::O9);
+    let missing = refers_to_none(objects, scheduler, row, &attr.value);
+    let missing = when(missing, Part::Oil, line, Code::O10);
+    let refused = when(is_refused(row, &attr.value), Part::Oil, line, Code::O12);
+    merge(unknown, merge(second, merge(missing, refused)))
+}
+
+/// O8, O9, O10 and O12 of the attributes of an object.
+pub fn attribute_faults(
+    alloc: Global,
+    objects: &Front,
+    scheduler: bool,
+    place: Place,
+    attrs: &[OilAttr],
+) -> Result<Option<Refusal>, NoMemory>
+    ensures { IfOk result (Finds (Somewhere (AttributeFault objects.now scheduler place) attrs.now)) }
+{
+    let mut before = Before::new(alloc);
+    let mut inner = Place::Nowhere;
+    let mut least = None;
+    for (number, attr) in attrs.iter().enumerate() {
+        let row = attribute_of(place_by(place, inner, attr), attr.name.bytes());
+        least = merge(least, row_fault(objects, scheduler, row, &before, attr));
+        inner = opened(place, inner, attr);
+        before = before.with(&attrs[..=number], attr)?;
+    }
+    Ok(least)
+}

@@ -1,0 +1,115 @@
+//! The least fault of a tree.
+ghost use Rattle.std.specs.Prelude.{◌≡◌, IfOk, codes, true};
+ghost use Rattle.std.specs.List.{list_any};
+ghost use Rattle.least_fault.specs.Search.{Finds, Somewhere};
+ghost use Rattle.oil_rules.specs.Objects.{has_scheduler, is_of_kind};
+ghost use Rattle.oil_rules.specs.Events.{events_of};
+ghost use Rattle.oil_rules.specs.ObjectFaults.{is_known};
+ghost use Rattle.oil_rules.specs.TreeFaults.{TaskFaults, InnerFault, ObjectFault, TreeFault};
+
+use crate::attribute_faults::attribute_faults;
+use crate::event_table::EventTable;
+use crate::events::events_without_bit;
+use crate::front::Front;
+use crate::object_faults::{kind_fault, known_fault};
+use crate::objects::is_of_kind;
+use crate::table::{is_nowhere, place_of};
+use crate::task_faults::task_faults;
+use least_fault::{merge, when};
+use oil_parse::tree::{OilObject, OilTree};
+use sloth_base::memory::NoMemory;
+use sloth_base::refusal::{Code, Part, Refusal};
+use std::alloc::Global;
+
+fn faults_of_task<'t>(
+    alloc: Global,
+    events: &'t EventTable<'t>,
+    front: &Front,
+    object: &'t OilObject,
+) -> Result<Option<Refusal>, NoMemory>
+    ensures { IfOk result (Finds (TaskFaults events.now front.now object.now)) }
+{
+    if !is_of_kind(object, b"TASK") {
+        return Ok(None);
+    }
+    let found = task_faults(alloc, events, front, object.attrs.items())?;
+    Ok(found)
+}
+
+fn inner_fault(
+    alloc: Global,
+    table: &Front,
+    scheduler: bool,
+    events: &EventTable,
+    front: &Front,
+    object: &OilObject,
+) -> Result<Option<Refusal>, NoMemory>
+    ensures { IfOk result (Finds (InnerFault table.now scheduler events.now front.now object.now)) }
+{
+    let known = known_fault(scheduler, front, object);
+    let place = place_of(object.kind.bytes());
+    let attributes = attribute_faults(alloc, table, scheduler, place, object.attrs.items())?;
+    let of_task = faults_of_task(alloc, events, front, object)?;
+    Ok(merge(known, merge(attributes, of_task)))
+}
+
+fn fault_of_known(
+    alloc: Global,
+    table: &Front,
+    scheduler: bool,
+    events: &EventTable,
+    front: &Front,
+    object: &OilObject,
+) -> Result<Option<Refusal>, NoMemory>
+    ensures { IfOk result (Finds (λ r. (is_known object.now ≡ true) × InnerFault table.now scheduler events.now front.now object.now r)) }
+{
+    if is_nowhere(place_of(object.kind.bytes())) {
+        return Ok(None);
+    }
+    let found = inner_fault(alloc, table, scheduler, events, front, object)?;
+    Ok(found)
+}
+
+fn object_faults(
+    alloc: Global,
+    objects: &[OilObject],
+    table: &Front,
+    scheduler: bool,
+    events: &EventTable,
+) -> Result<Option<Refusal>, NoMemory>
+    ensures { IfOk result (Finds (Somewhere (ObjectFault table.now scheduler events.now) objects.now)) }
+{
+    let mut front = Front::new(alloc);
+    let mut least = None;
+    for (number, object) in objects.iter().enumerate() {
+        let known = fault_of_known(alloc, table, scheduler, events, &front, object)?;
+        least = merge(least, merge(kind_fault(object), known));
+        front = front.with(&objects[..=number], object)?;
+    }
+    Ok(least)
+}
+
+fn has_os(objects: &[OilObject]) -> bool
+    ensures { result ≡ list_any (is_of_kind (codes "OS")) objects.now }
+{
+    objects.iter().any(|object| is_of_kind(object, b"OS"))
+}
+
+/// The least fault of a tree with these objects and events.
+pub fn judge(
+    alloc: Global,
+    tree: &OilTree,
+    table: &Front,
+    scheduler: bool,
+    events: &EventTable,
+) -> Result<Option<Refusal>, NoMemory>
+    requires objects { table.now ≡ tree.now.objects }
+    requires scheduler { scheduler ≡ has_scheduler tree.now.objects }
+    requires events { events.now ≡ events_of tree.now.objects }
+    ensures { IfOk result (Finds (TreeFault tree.now)) }
+{
+    let objects = tree.objects.items();
+    let of_objects = object_faults(alloc, objects, table, scheduler, events)?;
+    let without_os = when(!has_os(objects), Part::Oil, tree.cpu_line, Code::O11);
+    Ok(merge(of_objects, merge(events_without_bit(objects), without_os)))
+}

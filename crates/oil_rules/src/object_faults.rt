@@ -1,0 +1,141 @@
+//! The faults of an object as a whole.
+ghost use Rattle.std.specs.Prelude.{◌≡◌, ◌&&◌, ◌==◌, codes};
+ghost use Rattle.least_fault.specs.Search.{Finds};
+ghost use Rattle.std.specs.List.{list_any};
+ghost use Rattle.oil_rules.specs.Objects.{is_of_kind, is_declaration, is_declared};
+ghost use Rattle.oil_rules.specs.ObjectFaults.{is_double_of, shares_name, is_doubled, is_endless, is_idle, lacks_task_attribute, lacks_attribute, is_strange_mode, is_clock_above, is_above, KindFault, KnownFault};
+
+use crate::front::Front;
+use crate::objects::{declares, is_of_kind, is_used};
+use crate::table::{is_nowhere, place_of};
+use least_fault::{merge, when};
+use oil_parse::tree::OilObject;
+use sloth_base::refusal::{Code, Part, Refusal};
+use text_pieces::bytes::same;
+
+fn is_second_of_its_name(front: &Front, object: &OilObject) -> bool
+    ensures { result ≡ is_declared front.now object.now.kind object.now.name }
+{
+    front.has(object.kind.bytes(), object.name.bytes())
+}
+
+fn is_second_os(front: &Front, object: &OilObject) -> bool
+    ensures { result ≡ (is_of_kind (codes "OS") object.now && list_any (is_of_kind (codes "OS")) front.now) }
+{
+    is_of_kind(object, b"OS") && front.has_os()
+}
+
+fn is_second(front: &Front, object: &OilObject) -> bool
+    ensures { result ≡ list_any (is_double_of object.now) front.now }
+{
+    is_second_of_its_name(front, object) || is_second_os(front, object)
+}
+
+fn shares_name(front: &Front, object: &OilObject) -> bool
+    ensures { result ≡ shares_name front.now object.now }
+{
+    let name = object.name.bytes();
+    (is_of_kind(object, b"TASK") && front.has(b"COUNTER", name))
+        || (is_of_kind(object, b"COUNTER") && front.has(b"TASK", name))
+}
+
+fn takes_scheduler(scheduler: bool, object: &OilObject) -> bool
+    ensures { result ≡ (scheduler && is_declaration (codes "RESOURCE") (codes "RES_SCHEDULER") object.now) }
+{
+    scheduler && declares(object, b"RESOURCE", b"RES_SCHEDULER")
+}
+
+fn is_doubled(scheduler: bool, front: &Front, object: &OilObject) -> bool
+    ensures { result ≡ is_doubled scheduler front.now object.now }
+{
+    is_second(front, object) || shares_name(front, object) || takes_scheduler(scheduler, object)
+}
+
+fn is_endless(object: &OilObject) -> bool
+    ensures { result ≡ is_endless object.now }
+{
+    is_of_kind(object, b"COUNTER") && !is_used(object.attrs.items(), b"MAXALLOWEDVALUE")
+}
+
+fn is_idle(object: &OilObject) -> bool
+    ensures { result ≡ is_idle object.now }
+{
+    let attrs = object.attrs.items();
+    is_of_kind(object, b"ALARM") && !(is_used(attrs, b"COUNTER") && is_used(attrs, b"ACTION"))
+}
+
+fn lacks_attribute(object: &OilObject) -> bool
+    ensures { result ≡ lacks_attribute object.now }
+{
+    lacks_task_attribute(object) || is_endless(object) || is_idle(object)
+}
+
+fn lacks_task_attribute(object: &OilObject) -> bool
+    ensures { result ≡ lacks_task_attribute object.now }
+{
+    let attrs = object.attrs.items();
+    is_of_kind(object, b"TASK")
+        && !(is_used(attrs, b"PRIORITY")
+            && is_used(attrs, b"SCHEDULE")
+            && is_used(attrs, b"ACTIVATION")
+            && is_used(attrs, b"AUTOSTART"))
+}
+
+fn is_strange_mode(object: &OilObject) -> bool
+    ensures { result ≡ is_strange_mode object.now }
+{
+    is_of_kind(object, b"APPMODE") && !same(object.name.bytes(), b"OSDEFAULTAPPMODE")
+}
+
+/// Whether the object is of this kind, and comes behind so many.
+fn comes_behind(kind: &[u8], limit: usize, count: usize, object: &OilObject) -> bool
+    ensures { result ≡ (is_of_kind kind.now object.now && (count == limit)) }
+{
+    is_of_kind(object, kind) && count == limit
+}
+
+fn is_clock_above(front: &Front, object: &OilObject) -> bool
+    ensures { result ≡ is_clock_above front.now object.now }
+{
+    comes_behind(b"COUNTER", 2, front.counters(), object)
+        || comes_behind(b"ALARM", 32, front.alarms(), object)
+}
+
+fn is_above(front: &Front, object: &OilObject) -> bool
+    ensures { result ≡ is_above front.now object.now }
+{
+    comes_behind(b"TASK", 30, front.tasks(), object)
+        || comes_behind(b"RESOURCE", 32, front.resources(), object)
+        || comes_behind(b"EVENT", 32, front.events(), object)
+        || is_clock_above(front, object)
+        || 64 < object.name.bytes().len()
+}
+
+/// O7: an object of no kind.
+pub fn kind_fault(object: &OilObject) -> Option<Refusal>
+    ensures { Finds (KindFault object.now) result }
+{
+    when(
+        is_nowhere(place_of(object.kind.bytes())),
+        Part::Oil,
+        object.line,
+        Code::O7,
+    )
+}
+
+/// O9, O11, O12 and O14 of an object of a kind.
+pub fn known_fault(scheduler: bool, front: &Front, object: &OilObject) -> Option<Refusal>
+    ensures { Finds (KnownFault scheduler front.now object.now) result }
+{
+    let line = object.line;
+    let doubled = when(
+        is_doubled(scheduler, front, object),
+        Part::Oil,
+        line,
+        Code::O9,
+    );
+    let lacking = when(lacks_attribute(object), Part::Oil, line, Code::O11);
+    let strange = when(is_strange_mode(object), Part::Oil, line, Code::O12);
+    let above = when(is_above(front, object), Part::Oil, line, Code::O14);
+    merge(doubled, merge(lacking, merge(strange, above)))
+}

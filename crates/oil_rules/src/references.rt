@@ -1,0 +1,164 @@
+//! The events that a task refers to.
+ghost use Rattle.std.specs.Prelude.{◌≡◌, ◌||◌, ◌==◌, bit_and, [], ◌∷◌, ◌++◌, IfOk, option_copied};
+ghost use Rattle.std.specs.List.{list_any};
+ghost use Rattle.oil_rules.specs.TaskFaults.{shares_bit};
+ghost use Rattle.oil_rules.specs.References.{Referring, event_word, refers_to_clash};
+ghost use Rattle.oil_rules.specs.KeptReferences.{is_to, is_clash};
+
+use crate::event_table::EventTable;
+use crate::objects::is_use;
+use oil_parse::tree::{OilAttr, OilValue};
+use sloth_base::memory::NoMemory;
+use std::alloc::Global;
+use std::marker::Model;
+use text_pieces::bytes::same;
+use text_pieces::growth::push;
+
+/// An event that a task refers to.
+#[derive(Drop)]
+struct Reference<'t> {
+    word: &'t [u8],
+    mask: u32,
+}
+
+/// The attributes of a task before one, with some of the events that they refer to: of those that have a bit, no more than two are
+/// kept for it. An event shares a bit with another one of them exactly if it does with one that is kept.
+#[derive(Drop)]
+pub struct References<'t> {
+    events: &'t EventTable<'t>,
+    attrs: &'t [OilAttr],
+    kept: Vec<Reference<'t>>,
+    /// Bits of an event that is kept.
+    once: u32,
+    /// Bits of two events that are kept.
+    twice: u32,
+}
+
+impl<'t> Model for References<'t> {
+    ghost use Rattle.oil_rules.specs.References.{Referring};
+
+    ghost Value = { Referring };
+
+    ghost use Rattle.oil_rules.specs.KeptReferences.{AreKept};
+
+    ghost view = { λ references. record { events = references.events.now; attrs = references.attrs.now } };
+
+    ghost invariant = { λ references. AreKept references.events.now references.attrs.now references.kept.items references.once references.twice };
+}
+
+/// The event that an attribute refers to.
+fn event_word<'t>(attr: &'t OilAttr) -> Option<&'t [u8]>
+    ensures { option_copied result ≡ event_word attr.now }
+{
+    match &attr.value {
+        OilValue::Word(word) if is_use(attr, b"EVENT") => Some(word.bytes()),
+        _ => None,
+    }
+}
+
+fn is_to(reference: &Reference, word: &[u8]) -> bool
+    ensures { result ≡ is_to word.now reference.now }
+{
+    same(reference.word, word)
+}
+
+/// Whether the event is among those that are kept.
+fn is_kept(kept: &Vec<Reference>, word: &[u8]) -> bool
+    ensures { result ≡ list_any (is_to word.now) kept.now.items }
+{
+    kept.iter().any(|reference| is_to(reference, word))
+}
+
+/// Whether those that are kept tell all that this event does.
+fn is_told(kept: &Vec<Reference>, twice: u32, word: &[u8], mask: u32) -> bool
+    ensures { result ≡ ((bit_and mask twice == mask) || list_any (is_to word.now) kept.now.items) }
+{
+    mask & twice == mask || is_kept(kept, word)
+}
+
+/// Whether it is another event with a bit of the mask.
+fn is_clash(reference: &Reference, word: &[u8], mask: u32) -> bool
+    ensures { result ≡ is_clash word.now mask reference.now }
+{
+    reference.mask & mask != 0 && !is_to(reference, word)
+}
+
+/// Whether one of them is another event with a bit of the mask.
+fn has_clash_among(kept: &Vec<Reference>, word: &[u8], mask: u32) -> bool
+    ensures { result ≡ list_any (is_clash word.now mask) kept.now.items }
+{
+    kept.iter().any(|reference| is_clash(reference, word, mask))
+}
+
+impl<'t> References<'t> {
+    /// No attributes.
+    pub fn new(alloc: Global, events: &'t EventTable<'t>) -> References<'t>
+        ensures { result ≡ record { events = events.now; attrs = [] } }
+    {
+        References {
+            events,
+            attrs: &[],
+            kept: Vec::new(alloc),
+            once: 0,
+            twice: 0,
+        }
+    }
+
+    /// Whether the attribute refers to an event that shares a bit with an earlier one.
+    pub fn shares_bit(&self, attr: &OilAttr) -> bool
+        ensures { result ≡ shares_bit self.now.events self.now.attrs attr.now }
+    {
+        match event_word(attr) {
+            Some(word) => self.has_clash(word),
+            None => false,
+        }
+    }
+
+    /// Whether an attribute refers to another event that shares a bit with this one.
+    fn has_clash(&self, word: &[u8]) -> bool
+        ensures { result ≡ list_any (refers_to_clash self.now.events word.now) self.now.attrs }
+    {
+        has_clash_among(&self.kept, word, self.events.mask_named(word))
+    }
+
+    /// One attribute more.
+    pub fn with(self, attrs: &'t [OilAttr], attr: &'t OilAttr) -> Result<References<'t>, NoMemory>
+        requires { attrs.now ≡ self.attrs ++ attr.now ∷ [] }
+        ensures { IfOk result (λ references. references ≡ record { events = self.entry.events; attrs = attrs.now }) }
+    {
+        let References {
+            events,
+            mut kept,
+            once,
+            twice,
+            ..
+        } = self;
+        let Some(word) = event_word(attr) else {
+            return Ok(References {
+                events,
+                attrs,
+                kept,
+                once,
+                twice,
+            });
+        };
+        let mask = events.mask_named(word);
+        if is_told(&kept, twice, word, mask) {
+            return Ok(References {
+                events,
+                attrs,
+                kept,
+                once,
+                twice,
+            });
+        }
+        push(&mut kept, Reference { word, mask })?;
+        Ok(References {
+            events,
+            attrs,
+            kept,
+            once: once | mask,
+            twice: twice | (once & mask),
+        })
+    }
+}

@@ -1,0 +1,68 @@
+//! The faults of an attribute of a task that rest on other tasks and on events.
+ghost use Rattle.std.specs.Prelude.{◌≡◌, ◌&&◌, ◌||◌, not, IfOk, codes};
+ghost use Rattle.least_fault.specs.Search.{Finds, Somewhere};
+ghost use Rattle.oil_rules.specs.Objects.{is_use, is_used, number_of};
+ghost use Rattle.oil_rules.specs.TaskFaults.{is_taken, TaskFault};
+
+use crate::event_table::EventTable;
+use crate::front::Front;
+use crate::objects::{is_use, number_of};
+use crate::references::References;
+use least_fault::{merge, when};
+use oil_parse::tree::OilAttr;
+use sloth_base::memory::NoMemory;
+use sloth_base::refusal::{Code, Part, Refusal};
+use std::alloc::Global;
+
+fn is_taken(front: &Front, priority: Option<u32>) -> bool
+    ensures { result ≡ is_taken front.now priority }
+{
+    match priority {
+        Some(priority) => front.has_priority(priority),
+        None => false,
+    }
+}
+
+/// Whether the attribute is the priority of the task, and an earlier task has it.
+fn repeats_priority(front: &Front, given: bool, attr: &OilAttr) -> bool
+    ensures { result ≡ ((is_use (codes "PRIORITY") attr.now && not given) && is_taken front.now (number_of attr.now.value)) }
+{
+    is_use(attr, b"PRIORITY") && !given && is_taken(front, number_of(&attr.value))
+}
+
+/// Whether a priority was given, or this attribute gives one.
+fn is_given_with(given: bool, attr: &OilAttr) -> bool
+    ensures { result ≡ (given || is_use (codes "PRIORITY") attr.now) }
+{
+    given || is_use(attr, b"PRIORITY")
+}
+
+fn task_fault(front: &Front, given: bool, before: &References, attr: &OilAttr) -> Option<Refusal>
+    requires { given ≡ is_used before.now.attrs (codes "PRIORITY") }
+    ensures { Finds (TaskFault before.now.events front.now before.now.attrs attr.now) result }
+{
+    let repeated = repeats_priority(front, given, attr);
+    let repeated = when(repeated, Part::Oil, attr.line, Code::O13);
+    let shared = when(before.shares_bit(attr), Part::Oil, attr.line, Code::O15);
+    merge(repeated, shared)
+}
+
+/// O13 and O15 of the attributes of a task.
+pub fn task_faults<'t>(
+    alloc: Global,
+    events: &'t EventTable<'t>,
+    front: &Front,
+    attrs: &'t [OilAttr],
+) -> Result<Option<Refusal>, NoMemory>
+    ensures { IfOk result (Finds (Somewhere (TaskFault events.now front.now) attrs.now)) }
+{
+    let mut before = References::new(alloc, events);
+    let mut given = false;
+    let mut least = None;
+    for (number, attr) in attrs.iter().enumerate() {
+        least = merge(least, task_fault(front, given, &before, attr));
+        given = is_given_with(given, attr);
+        before = before.with(&attrs[..=number], attr)?;
+    }
+    Ok(least)
+}

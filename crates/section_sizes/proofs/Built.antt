@@ -1,0 +1,251 @@
+-- Each part that is built item by item is a section of a walk.
+use Rattle.std.proofs.Common.{◌≡◌, ℕ, ◌+◌, ◌≤◌, true, false, cond, List, [], ◌∷◌, Option, None, refl, ap, ◌∙◌, subst, arith}
+use Rattle.std.specs.List.{AllByRecursion}
+use Rattle.std.proofs.lemmas.Bool.{leb-true}
+use Rattle.sloth_base.specs.declared.config.Config.{Config}
+use Rattle.sloth_base.specs.declared.app.App.{App}
+use Rattle.sloth_base.specs.declared.app.Op.{Op}
+use Rattle.sloth_base.specs.declared.app.Op.TheVariants as op
+use Rattle.sloth_base.specs.Named.{function, operation, body_of}
+use Rattle.code_rules.specs.Code.{IsItem}
+use Rattle.osek_valid.specs.Apart.{static_priority}
+use Rattle.raised_sections.specs.Walks.{Position, place, GoesOnInside, LeadsTo, WalksOn, AreConsecutive, chains_itself}
+use Rattle.raised_sections.specs.Sections.{priority_at, operation_at, is_schedule, is_counted, OnlyLastSchedules, IsSection, size_of_section}
+use Rattle.section_sizes.specs.Parts.{is_raised, called_level, is_plain, count_of, StepsInside, ReachesItem, reaches_first, reaches_inside, reaches_behind, Passes, Enters, Back, On, back_returns, back_inside, back_passes, on_ends, on_inside, on_enters, on_passes, ReachesCall, level_behind, Out, Within, out_here, out_behind, within_here, within_called, within_behind}
+use Rattle.raised_sections.proofs.Reached.{IsReached, walk_on, reached_next, reached_first}
+use Rattle.section_sizes.proofs.Decomposed.{L, level_raised, level_called}
+
+-- a plain operation leads to where a path of its function goes on
+plain_leads : (app : App) (o : Op) (f i : ℕ) (outer next : Position) → is_plain o ≡ true → GoesOnInside app f i outer next → LeadsTo app o f i outer next
+plain_leads app (op.Invoke g) f i outer next p l = absurd cc
+plain_leads app op.Return f i outer next p l = absurd cc
+plain_leads app (op.Alu kind rd a b) f i outer next p l = l
+plain_leads app (op.AluImm kind rd a n) f i outer next p l = l
+plain_leads app (op.Lui rd n) f i outer next p l = l
+plain_leads app (op.Li rd v) f i outer next p l = l
+plain_leads app (op.FrameLoad rd word) f i outer next p l = l
+plain_leads app (op.FrameStore rs word) f i outer next p l = l
+plain_leads app (op.Load w rd y offset) f i outer next p l = l
+plain_leads app (op.Store w rs y offset) f i outer next p l = l
+plain_leads app (op.LoadAt w rd y index mask) f i outer next p l = l
+plain_leads app (op.StoreAt w rs y index mask) f i outer next p l = l
+plain_leads app (op.Branch kind a b k) f i outer next p l = l
+plain_leads app (op.Jump k) f i outer next p l = l
+plain_leads app (op.Serve call) f i outer next p l = l
+
+-- one step inside a function
+step_inside : (app : App) (f i j : ℕ) (outer : Position) → StepsInside app f i j → WalksOn app (place f i ∷ outer) (place f j ∷ outer)
+step_inside app f i j outer s =
+    (s.operation, s.item, plain_leads app s.operation f i outer (place f j ∷ outer) s.plain (j, s.goes_on, ap (chains_itself (function app f)) s.item.is ∙ s.stays, refl))
+
+module _ (config : Config) (app : App) (h t : ℕ) where
+  abbrev IsRaisedAt : Position → Type 0
+  IsRaisedAt at = static_priority config h ≤ priority_at config app t at
+
+  abbrev counts : Position → ℕ
+  counts at = cond (is_counted (operation_at app at)) 1 0
+
+  abbrev Level : Position → Option ℕ
+  Level outer = L config app h t outer
+
+  -- raised positions from one to another, both among them, each leading to the next, none but the last a Schedule
+  data Part : Position → ℕ → Position → Type 0 where
+    ends : (at : Position) → IsRaisedAt at → Part at (counts at) at
+    goes : (at next to : Position) (n : ℕ) → IsRaisedAt at → is_schedule (operation_at app at) ≡ false → WalksOn app at next
+        → Part next n to → Part at (counts at + n) to
+
+  joined : (at mid next to : Position) (n k : ℕ) → is_schedule (operation_at app mid) ≡ false → WalksOn app mid next → Part at n mid → Part next k to
+      → Part at (n + k) to
+  joined at mid next to n k calm step (ends a raised) q = goes a next to k raised calm step q
+  joined at mid next to n k calm step (goes a then m size raised free first p) q =
+      subst (λ v. Part a v to) (omega arith) (goes a then to (size + k) raised free first (joined then m next to size k calm step p q))
+
+  -- a section from a part
+  record Listed (at : Position) (n : ℕ) : Type 0 where
+    further : List Position
+    consecutive : AreConsecutive app (at ∷ further)
+    raised : AllByRecursion IsRaisedAt (at ∷ further)
+    unbroken : OnlyLastSchedules app (at ∷ further)
+    size : size_of_section app (at ∷ further) ≡ n
+
+  listed : (at to : Position) (n : ℕ) → Part at n to → Listed at n
+  listed at to n (ends a raised) = record {
+    further = [];
+    consecutive = (tt, tt);
+    raised = (raised, tt);
+    unbroken = (λ none. absurd (none refl), tt);
+    size = omega arith;
+  }
+  listed at to n (goes a next last size raised free step p) =
+      let l = listed next last size p in
+      record {
+        further = next ∷ l.further;
+        consecutive = (step, l.consecutive);
+        raised = (raised, l.raised);
+        unbroken = (λ _. free, l.unbroken);
+        size = ap (λ v. counts a + v) l.size;
+      }
+
+  section_of : (at to : Position) (n : ℕ) → IsReached app t at → Part at n to
+      → (positions : List Position) × IsSection config app h t positions × (size_of_section app positions ≡ n)
+  section_of at to n r p =
+      let l = listed at to n p in
+      (at ∷ l.further, record { before = r.before; of_walk = walk_on app t r.before l.further at r.walk l.consecutive; raised = l.raised; unbroken = l.unbroken }, l.size)
+
+  -- ---- walks inside an activation
+
+  walk_inside : (f i : ℕ) (outer : Position) → ReachesItem app f i → IsReached app t (place f 0 ∷ outer) → IsReached app t (place f i ∷ outer)
+  walk_inside f i outer (reaches_first g) r = r
+  walk_inside f i outer (reaches_inside g k j before s) r =
+      reached_next app t (place g k ∷ outer) (place g j ∷ outer) (walk_inside g k outer before r) (step_inside app g k j outer s)
+  walk_inside f i outer (reaches_behind a k g q before call inner ret) r =
+      let at = walk_inside a k outer before r in
+      let entered = reached_next app t (place a k ∷ outer) (place g 0 ∷ place a k ∷ outer) at (op.Invoke g, call, refl) in
+      reached_next app t (place g q ∷ place a k ∷ outer) (place a (k + 1) ∷ outer) (walk_inside g q (place a k ∷ outer) inner entered) (op.Return, ret, refl)
+
+  -- ---- parts
+
+  up_raised : (l : Option ℕ) (f i : ℕ) (outer : Position) → Level outer ≡ l → is_raised config app l f i ≡ true → IsRaisedAt (place f i ∷ outer)
+  up_raised l f i outer is u = leb-true _ _ (level_raised config app h t f i outer ∙ ap (λ b. is_raised config app b f i) is ∙ u)
+
+  within_call : (l : Option ℕ) (f i : ℕ) (outer : Position) → Level outer ≡ l → is_raised config app l f i ≡ true → Level (place f i ∷ outer) ≡ None
+  within_call l f i outer is u =
+      level_called config app h t f i outer ∙ ap (λ b. called_level b (Level outer)) (ap (λ b. is_raised config app b f i) is ∙ u)
+
+  not_schedule : (f i : ℕ) (o : Op) → IsItem app f i o → is_schedule o ≡ false → is_schedule (operation app f i) ≡ false
+  not_schedule f i o item calm = ap is_schedule item.is ∙ calm
+
+  one : (f i : ℕ) (o : Op) → IsItem app f i o → is_counted o ≡ true → count_of app f i ≡ 1
+  one f i o item is = ap (λ p. cond (is_counted p) 1 0) item.is ∙ ap (λ b. cond b 1 0) is
+
+  -- a plain item in front of a part
+  inside_front : (l : Option ℕ) (f i j n : ℕ) (outer to : Position) → Level outer ≡ l → Passes config app l f i j → Part (place f j ∷ outer) n to
+      → Part (place f i ∷ outer) (count_of app f i + n) to
+  inside_front l f i j n outer to is p part =
+      goes (place f i ∷ outer) (place f j ∷ outer) to n (up_raised l f i outer is p.raised) (not_schedule f i p.step.operation p.step.item p.no_schedule)
+      (step_inside app f i j outer p.step) part
+
+  -- a call in front of one
+  call_front : (l : Option ℕ) (f i g n : ℕ) (outer to : Position) → Level outer ≡ l → Enters config app l f i g → Part (place g 0 ∷ place f i ∷ outer) n to
+      → Part (place f i ∷ outer) (1 + n) to
+  call_front l f i g n outer to is e part =
+      subst (λ v. Part (place f i ∷ outer) (v + n) to) (one f i (op.Invoke g) e.item refl)
+      (goes (place f i ∷ outer) (place g 0 ∷ place f i ∷ outer) to n (up_raised l f i outer is e.raised)
+      (not_schedule f i (op.Invoke g) e.item refl) (op.Invoke g, e.item, refl) part)
+
+  -- a part up to a `ret`
+  record Returned (f i n : ℕ) (outer : Position) : Type 0 where
+    item : ℕ
+    is : IsItem app f item op.Return
+    part : Part (place f i ∷ outer) n (place f item ∷ outer)
+
+  -- what follows the `ret` of a function that was called
+  after_ret : (f i g q n k : ℕ) (outer from to : Position) → IsItem app g q op.Return → Part from n (place g q ∷ place f i ∷ outer) → Part (place f (i + 1) ∷ outer) k to
+      → Part from (n + k) to
+  after_ret f i g q n k outer from to ret part next =
+      joined from (place g q ∷ place f i ∷ outer) (place f (i + 1) ∷ outer) to n k (not_schedule g q op.Return ret refl) (op.Return, ret, refl) part next
+
+  back_part : (l : Option ℕ) (f i n : ℕ) (outer : Position) → Level outer ≡ l → Back config app l f i n → Returned f i n outer
+  back_part l f i n outer is (back_returns d g k ret u) =
+      record {
+        item = k;
+        is = ret;
+        part = subst (λ v. Part (place g k ∷ outer) v (place g k ∷ outer)) (one g k op.Return ret refl) (ends (place g k ∷ outer) (up_raised d g k outer is u));
+      }
+  back_part l f i n outer is (back_inside d g k j size p further) =
+      let r = back_part d g j size outer is further in
+      record { item = r.item; is = r.is; part = inside_front d g k j size outer (place g r.item ∷ outer) is p r.part }
+  back_part l f i n outer is (back_passes d a k g size more e inner further) =
+      let p = back_part None g 0 size (place a k ∷ outer) (within_call d a k outer is e.raised) inner in
+      let q = back_part d a (k + 1) more outer is further in
+      record {
+        item = q.item;
+        is = q.is;
+        part = call_front d a k g (size + more) outer (place a q.item ∷ outer) is e
+            (after_ret a k g p.item size more outer (place g 0 ∷ place a k ∷ outer) (place a q.item ∷ outer) p.is p.part q.part);
+      }
+
+  -- a part to some position
+  record Ended (at : Position) (n : ℕ) : Type 0 where
+    to : Position
+    part : Part at n to
+
+  on_part : (l : Option ℕ) (f i n : ℕ) (outer : Position) → Level outer ≡ l → On config app l f i n → Ended (place f i ∷ outer) n
+  on_part l f i n outer is (on_ends d g k item u) = record { to = place g k ∷ outer; part = ends (place g k ∷ outer) (up_raised d g k outer is u) }
+  on_part l f i n outer is (on_inside d g k j size p further) =
+      let r = on_part d g j size outer is further in
+      record { to = r.to; part = inside_front d g k j size outer r.to is p r.part }
+  on_part l f i n outer is (on_enters d a k g size e inner) =
+      let p = on_part None g 0 size (place a k ∷ outer) (within_call d a k outer is e.raised) inner in
+      record { to = p.to; part = call_front d a k g size outer p.to is e p.part }
+  on_part l f i n outer is (on_passes d a k g size more e inner further) =
+      let p = back_part None g 0 size (place a k ∷ outer) (within_call d a k outer is e.raised) inner in
+      let q = on_part d a (k + 1) more outer is further in
+      record {
+        to = q.to;
+        part = call_front d a k g (size + more) outer q.to is e
+            (after_ret a k g p.item size more outer (place g 0 ∷ place a k ∷ outer) q.to p.is p.part q.part);
+      }
+
+  -- ---- parts from where a walk leads
+
+  -- in an activation that a walk enters, from some position up to a `ret`
+  record Left (f n : ℕ) (outer : Position) : Type 0 where
+    at : Position
+    reached : IsReached app t at
+    item : ℕ
+    is : IsItem app f item op.Return
+    part : Part at n (place f item ∷ outer)
+
+  enter : (f i g : ℕ) (outer : Position) → ReachesCall app f i g → IsReached app t (place f 0 ∷ outer) → IsReached app t (place g 0 ∷ place f i ∷ outer)
+  enter f i g outer c from =
+      reached_next app t (place f i ∷ outer) (place g 0 ∷ place f i ∷ outer) (walk_inside f i outer c.reached from) (op.Invoke g, c.item, refl)
+
+  called_is : (l : Option ℕ) (f i : ℕ) (outer : Position) → Level outer ≡ l → Level (place f i ∷ outer) ≡ level_behind config app l f i
+  called_is l f i outer is = level_called config app h t f i outer ∙ ap (λ b. level_behind config app b f i) is
+
+  out_part : (l : Option ℕ) (f n : ℕ) (outer : Position) → Level outer ≡ l → IsReached app t (place f 0 ∷ outer)
+      → Out config app l f n → Left f n outer
+  out_part l f n outer is from (out_here d g k size r b) =
+      let p = back_part d g k size outer is b in
+      record { at = place g k ∷ outer; reached = walk_inside g k outer r from; item = p.item; is = p.is; part = p.part }
+  out_part l f n outer is from (out_behind d a k g size more c inner b) =
+      let p = out_part (level_behind config app d a k) g size (place a k ∷ outer) (called_is d a k outer is) (enter a k g outer c from) inner in
+      let q = back_part d a (k + 1) more outer is b in
+      record {
+        at = p.at;
+        reached = p.reached;
+        item = q.item;
+        is = q.is;
+        part = after_ret a k g p.item size more outer p.at (place a q.item ∷ outer) p.is p.part q.part;
+      }
+
+  record Found (n : ℕ) : Type 0 where
+    at : Position
+    to : Position
+    reached : IsReached app t at
+    part : Part at n to
+
+  within_part : (l : Option ℕ) (f n : ℕ) (outer : Position) → Level outer ≡ l → IsReached app t (place f 0 ∷ outer)
+      → Within config app l f n → Found n
+  within_part l f n outer is from (within_here d g k size r b) =
+      let p = on_part d g k size outer is b in
+      record { at = place g k ∷ outer; to = p.to; reached = walk_inside g k outer r from; part = p.part }
+  within_part l f n outer is from (within_called d a k g size c inner) =
+      within_part (level_behind config app d a k) g size (place a k ∷ outer) (called_is d a k outer is) (enter a k g outer c from) inner
+  within_part l f n outer is from (within_behind d a k g size more c inner b) =
+      let p = out_part (level_behind config app d a k) g size (place a k ∷ outer) (called_is d a k outer is) (enter a k g outer c from) inner in
+      let q = on_part d a (k + 1) more outer is b in
+      record {
+        at = p.at;
+        to = q.to;
+        reached = p.reached;
+        part = after_ret a k g p.item size more outer p.at q.to p.is p.part q.part;
+      }
+
+  -- what is within the task's body is a section of it
+  pub section_within : (n : ℕ) → Within config app (Level []) (body_of app.funcs t) n
+      → (positions : List Position) × IsSection config app h t positions × (size_of_section app positions ≡ n)
+  section_within n w =
+      let f = within_part (Level []) (body_of app.funcs t) n [] refl (reached_first app t) w in
+      section_of f.at f.to n f.reached f.part

@@ -1,0 +1,143 @@
+-- The summary of a body, from the lists that are made of it.
+use Rattle.std.proofs.Common.{◌≡◌, ℕ, ◌<◌, Bool, true, false, cond, List, length, get_or, Option, ap, sym, ◌∙◌, subst}
+use Rattle.sloth_base.specs.declared.config.Config.{Config}
+use Rattle.sloth_base.specs.declared.app.App.{App}
+use Rattle.sloth_base.specs.declared.app.Func.{Func}
+use Rattle.sloth_base.specs.Named.{function, item_of}
+use Rattle.code_rules.specs.WellFormed.{WellFormed}
+use Rattle.section_sizes.specs.declared.graph.Ways.{Ways}
+use Rattle.section_sizes.specs.declared.bodies.Body.{Body}
+use Rattle.section_sizes.specs.declared.sizes.Summary.{Summary}
+use Rattle.section_sizes.specs.Graph.{ways_of, AreInside, IsLoop, IsOrder}
+use Rattle.section_sizes.specs.Trails.{IsLongest}
+use Rattle.section_sizes.specs.Computed.{summary_of, is_passed, item_ways, going_size, ending_size, leaving_size, is_alive, is_going, known, calls_endless, most_of, out_of}
+use Rattle.section_sizes.specs.Known.{IsKnownBody, IsExact, IsEndless, IsCountedUp}
+use Rattle.section_sizes.proofs.Bodily.{facts_of}
+use Rattle.section_sizes.proofs.Leading.{inside}
+use Rattle.section_sizes.proofs.Measured.{Measures, Sizes, endless_loop}
+use Rattle.section_sizes.proofs.Small.{greatest_small}
+use Rattle.section_sizes.proofs.Summed.{Called, called_on, called_back, endless_callee, summed}
+
+-- the lists of a body's ways
+pub record Wayed (func : Func) (body : Body) (level : Option ℕ) (whole : List Summary) (alive going passed : List Bool) (ways : List Ways) : Type 0 where
+  pub alive_count : length alive ≡ length func.items
+  pub alive_is : (i : ℕ) → i < length func.items → get_or alive i false ≡ is_alive body level i
+  pub going_is : (i : ℕ) → i < length func.items → get_or going i false ≡ is_going func alive i
+  pub passed_is : (g : ℕ) → get_or passed g false ≡ is_passed (summary_of whole g)
+  pub ways_count : length ways ≡ length func.items
+  pub ways_are : (i : ℕ) → i < length func.items → ways_of ways i ≡ item_ways func passed going alive i
+
+-- the lists of its sizes
+pub record Sized (func : Func) (whole : List Summary) (alive : List Bool) (ways : List Ways) (order steps ends leaves on back : List ℕ) : Type 0 where
+  pub is_order : IsOrder ways order
+  pub steps_are : (i : ℕ) → i < length func.items → get_or steps i 0 ≡ going_size whole (item_of func i).op
+  pub ends_count : length ends ≡ length func.items
+  pub ends_are : (i : ℕ) → i < length func.items → get_or ends i 0 ≡ cond (get_or alive i false) (ending_size whole (item_of func i).op) 0
+  pub leaves_count : length leaves ≡ length func.items
+  pub leaves_are : (i : ℕ) → i < length func.items → get_or leaves i 0 ≡ cond (get_or alive i false) (leaving_size (item_of func i).op) 0
+  pub on_count : length on ≡ length ways
+  pub on_is : (i : ℕ) → i < length ways → IsLongest ways steps ends i (get_or on i 0)
+  pub back_count : length back ≡ length ways
+  pub back_is : (i : ℕ) → i < length ways → IsLongest ways steps leaves i (get_or back i 0)
+
+-- the ways lead to items that are there
+pub to_items : (func : Func) (body : Body) (level : Option ℕ) (whole : List Summary) (alive going passed : List Bool) (ways : List Ways)
+    → Wayed func body level whole alive going passed ways → AreInside ways
+to_items func body level whole alive going passed ways w = inside func passed going alive ways w.ways_count w.ways_are w.alive_count
+
+module _ (config : Config) (app : App) (well : WellFormed config app) (f : ℕ) (there : f < length app.funcs) (body : Body) (is_body : IsKnownBody config app f body)
+    (level : Option ℕ) (whole own : List Summary) (calls : Called config app level f whole own) (func : Func) (is_func : func ≡ function app f) where
+  -- a reached call of a function in which parts have no limit
+  pub endless_by_call : calls_endless (known func body level whole own) ≡ true → IsEndless config app level f
+  endless_by_call e =
+      endless_callee config app level f there body is_body whole own calls (sym (ap (λ g. calls_endless (known g body level whole own)) is_func) ∙ e)
+
+  module _ (bounded : calls_endless (known func body level whole own) ≡ false) (alive going passed : List Bool) (ways : List Ways)
+      (wayed : Wayed func body level whole alive going passed ways) where
+    bounded_here : calls_endless (known (function app f) body level whole own) ≡ false
+    bounded_here = sym (ap (λ g. calls_endless (known g body level whole own)) is_func) ∙ bounded
+
+    measures : Wayed (function app f) body level whole alive going passed ways → Measures config app level f
+    measures w = record {
+      facts = facts_of config app well;
+      known = there;
+      body = body;
+      is_body = is_body;
+      whole = whole;
+      alive = alive;
+      alive_count = w.alive_count;
+      alive_is = w.alive_is;
+      going = going;
+      going_is = w.going_is;
+      passed = passed;
+      passed_is = w.passed_is;
+      ways = ways;
+      ways_count = w.ways_count;
+      ways_are = w.ways_are;
+      called_on = called_on config app level f there body is_body whole own calls bounded_here;
+      called_back = called_back config app level f there body is_body whole own calls bounded_here;
+    }
+
+    wayed_here : Wayed (function app f) body level whole alive going passed ways
+    wayed_here = subst (λ g. Wayed g body level whole alive going passed ways) is_func wayed
+
+    -- a loop
+    pub endless_by_loop : (nodes : List ℕ) → IsLoop ways nodes → IsEndless config app level f
+    unfolding measures
+    endless_by_loop nodes loop n = endless_loop config app level f (measures wayed_here) nodes loop n
+
+    module _ (order steps ends leaves on back : List ℕ) (sized : Sized func whole alive ways order steps ends leaves on back) where
+      sized_here : Sized (function app f) whole alive ways order steps ends leaves on back
+      sized_here = subst (λ g. Sized g whole alive ways order steps ends leaves on back) is_func sized
+
+      sizes : Sizes config app level f (measures wayed_here)
+      unfolding measures
+      sizes =
+          let s = sized_here in
+          record {
+            order = order;
+            is_order = s.is_order;
+            steps = steps;
+            steps_are = s.steps_are;
+            ends = ends;
+            ends_count = s.ends_count;
+            ends_are = s.ends_are;
+            leaves = leaves;
+            leaves_count = s.leaves_count;
+            leaves_are = s.leaves_are;
+            on = on;
+            on_count = s.on_count;
+            on_is = s.on_is;
+            back = back;
+            back_count = s.back_count;
+            back_is = s.back_is;
+          }
+
+      -- the greatest sizes
+      pub summary_exact : (s : Summary) → s ≡ record {
+        is_endless = false;
+        on = get_or on 0 0;
+        back = get_or back 0 0;
+        most = most_of (known func body level whole own) on;
+        out = out_of (known func body level whole own) back;
+      } → IsExact config app level f s
+      unfolding measures sizes
+      summary_exact s e =
+          let P : Func → Type 0 = λ g. IsExact config app level f (record {
+            is_endless = false;
+            on = get_or on 0 0;
+            back = get_or back 0 0;
+            most = most_of (known g body level whole own) on;
+            out = out_of (known g body level whole own) back;
+          }) in
+          subst (IsExact config app level f) (sym e)
+          (subst P (sym is_func) (summed config app level f there body is_body whole own calls bounded_here (measures wayed_here) sizes))
+
+-- an exact summary is counted up
+pub exact_small : (config : Config) (app : App) (level : Option ℕ) (f : ℕ) (s : Summary) → IsExact config app level f s → IsCountedUp s
+exact_small config app level f s x = record {
+  on = greatest_small _ s.on x.on;
+  back = greatest_small _ s.back x.back;
+  most = greatest_small _ s.most x.most;
+  out = greatest_small _ s.out x.out;
+}

@@ -1,0 +1,100 @@
+-- The longest trails, from those of the nodes that a node leads to.
+use Rattle.std.proofs.Common.{◌≡◌, ℕ, ◌+◌, ◌<◌, ◌≤◌, ◌⊎◌, inl, inr, List, [], ◌∷◌, get_or, cond, min, max, Option, Some, None, refl, ap, sym, subst, arith}
+use Rattle.std.specs.Prelude.{◌==◌}
+use Rattle.std.proofs.lemmas.Bool.{cases_eq, cases_lt, ne_eqb}
+use Rattle.section_sizes.specs.declared.graph.Ways.{Ways}
+use Rattle.section_sizes.specs.Graph.{ways_of, Goes}
+use Rattle.section_sizes.specs.Trails.{MOST, last_of, size_of_trail, IsEnded, AreSizes, IsLongest, along, longest_from}
+
+module _ (ways : List Ways) (steps ends : List ℕ) (sizes : AreSizes ways steps ends) where
+  -- a trail that ended adds something
+  positive : (i : ℕ) (further : List ℕ) → 0 < get_or ends (last_of i further) 0 → 0 < size_of_trail steps ends i further
+  positive i [] lt = lt
+  positive i (j ∷ further) lt = let p = positive j further lt in omega (arith, p)
+
+  module _ (table : List ℕ) where
+    along_some : (step j : ℕ) → 0 < get_or table j 0 → along table step (Some j) ≡ min MOST (step + get_or table j 0)
+    along_some step j lt =
+        ap (λ b. cond b 0 (min MOST (step + get_or table j 0))) (ne_eqb (get_or table j 0) 0 (λ e. absurd (omega (arith, e, lt))))
+
+    -- where it is not 0 the way leads on
+    along_is : (step : ℕ) (way : Option ℕ) → 0 < along table step way
+        → (j : ℕ) × (way ≡ Some j) × (0 < get_or table j 0) × (along table step way ≡ min MOST (step + get_or table j 0))
+    along_is step None lt = absurd (omega (arith, lt))
+    along_is step (Some j) lt = by (cases_eq (get_or table j 0) 0)
+      where
+        by : (get_or table j 0 ≡ 0) ⊎ (get_or table j 0 ≡ 0 → ⊥)
+            → (k : ℕ) × (Some j ≡ Some k) × (0 < get_or table k 0) × (along table step (Some j) ≡ min MOST (step + get_or table k 0))
+        by (inl e) = absurd (nothing (get_or table j 0) e lt)
+          where
+            nothing : (v : ℕ) → v ≡ 0 → 0 < cond (v == 0) 0 (min MOST (step + v)) → ⊥
+            nothing v e lt = let P : ℕ → Type 0 = λ x. 0 < cond (x == 0) 0 (min MOST (step + x)) in let z = subst P e lt in absurd (omega (arith, z))
+        by (inr n) = let p : 0 < get_or table j 0 = omega (arith, n) in (j, refl, p, along_some step j p)
+
+    module _ (i : ℕ) (known : (j : ℕ) → Goes ways i j → IsLongest ways steps ends j (get_or table j 0)) where
+      abbrev step : ℕ
+      step = get_or steps i 0
+
+      abbrev end : ℕ
+      end = get_or ends i 0
+
+      abbrev by_next : ℕ
+      by_next = along table step (ways_of ways i).next
+
+      abbrev by_jump : ℕ
+      by_jump = along table step (ways_of ways i).jump
+
+      abbrev value : ℕ
+      value = max end (max by_next by_jump)
+
+      -- a trail along a way is no longer than what is computed of it
+      along_covers : (way : Option ℕ) (j : ℕ) (further : List ℕ) → way ≡ Some j → Goes ways i j → IsEnded ways ends j further
+          → min MOST (step + size_of_trail steps ends j further) ≤ along table step way
+      along_covers way j further is goes e =
+          let le = (known j goes).none_longer further e in
+          let pos = positive j further e.adds in
+          let some : 0 < get_or table j 0 = omega (arith, le, pos) in
+          subst (λ o. min MOST (step + size_of_trail steps ends j further) ≤ along table step o) (sym is)
+          (subst (λ v. min MOST (step + size_of_trail steps ends j further) ≤ v) (sym (along_some step j some)) (omega (arith, le)))
+
+      covers : (further : List ℕ) → IsEnded ways ends i further → min MOST (size_of_trail steps ends i further) ≤ value
+      covers [] e = omega arith
+      covers (j ∷ further) e = by e.trail.0
+        where
+          rest : IsEnded ways ends j further
+          rest = record { trail = e.trail.1; adds = e.adds }
+
+          by : Goes ways i j → min MOST (step + size_of_trail steps ends j further) ≤ value
+          by (inl is) = let le = along_covers (ways_of ways i).next j further is (inl is) rest in omega (arith, le)
+          by (inr is) = let le = along_covers (ways_of ways i).jump j further is (inr is) rest in omega (arith, le)
+
+      -- and some trail is as long
+      abbrev Attains : ℕ → Type 0
+      Attains size = (further : List ℕ) × IsEnded ways ends i further × (min MOST (size_of_trail steps ends i further) ≡ size)
+
+      along_attains : (way : Option ℕ) → ((j : ℕ) → way ≡ Some j → Goes ways i j) → 0 < along table step way → Attains (along table step way)
+      along_attains way goes lt =
+          let f = along_is step way lt in
+          let g = goes f.0 f.1 in
+          let t = (known f.0 g).attained f.2 in
+          let e = t.2 in
+          let is = f.3 in
+          (f.0 ∷ t.0, record { trail = (g, t.1.trail); adds = t.1.adds }, omega (arith, e, is))
+
+      end_attains : 0 < end → Attains end
+      end_attains lt = let le = sizes.ends_small i in ([], record { trail = tt; adds = lt }, omega (arith, le))
+
+      attains : 0 < value → Attains value
+      attains lt = by (cases_lt end (max by_next by_jump)) (cases_lt by_next by_jump)
+        where
+          by : (end < max by_next by_jump) ⊎ (max by_next by_jump ≤ end) → (by_next < by_jump) ⊎ (by_jump ≤ by_next) → Attains value
+          by (inr le) other = let e : end ≡ value = omega (arith, le) in subst Attains e (end_attains (omega (arith, lt, le)))
+          by (inl more) (inl j) =
+              let e : by_jump ≡ value = omega (arith, more, j) in
+              subst Attains e (along_attains (ways_of ways i).jump (λ k is. inr is) (omega (arith, more, j)))
+          by (inl more) (inr j) =
+              let e : by_next ≡ value = omega (arith, more, j) in
+              subst Attains e (along_attains (ways_of ways i).next (λ k is. inl is) (omega (arith, more, j)))
+
+      pub is_longest : IsLongest ways steps ends i (longest_from ways table steps ends i)
+      is_longest = record { none_longer = covers; attained = attains }

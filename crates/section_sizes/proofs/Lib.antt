@@ -1,0 +1,19 @@
+mod Diving
+mod Lengths
+mod Ordering
+mod Spreading
+mod Ranking
+mod Leading
+pub mod Reaching
+mod Measured
+mod Summed
+mod Summaries
+pub mod Decomposed
+pub mod Built
+mod Unlimited
+mod Limited
+pub mod Bodily
+pub mod Counting
+mod Small
+pub mod Growing
+mod Filling

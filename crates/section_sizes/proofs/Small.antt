@@ -1,0 +1,79 @@
+-- No size is above the greatest that is counted.
+use Rattle.std.proofs.Common.{◌≡◌, ℕ, ◌<◌, ◌≤◌, ◌⊎◌, inl, inr, Bool, true, false, List, length, get_or, cond, sym, ◌∙◌, arith, ⊎_elim}
+use Rattle.std.proofs.lemmas.Bool.{cases_eq, cases_lt}
+use Rattle.std.proofs.lemmas.List.{get_or_past}
+use Rattle.sloth_base.specs.declared.app.Func.{Func}
+use Rattle.sloth_base.specs.declared.app.Op.{Op}
+use Rattle.sloth_base.specs.declared.app.Op.TheVariants as op
+use Rattle.sloth_base.specs.Named.{item_of}
+use Rattle.raised_sections.specs.Sections.{is_counted}
+use Rattle.section_sizes.specs.declared.graph.Ways.{Ways}
+use Rattle.section_sizes.specs.declared.sizes.Summary.{Summary}
+use Rattle.section_sizes.specs.Trails.{AreSizes, IsSmall, IsLongest}
+use Rattle.section_sizes.specs.Computed.{count, going_size, ending_size, leaving_size, is_return}
+use Rattle.section_sizes.specs.Known.{IsGreatestPart}
+
+one_small : (b : Bool) → cond b 1 0 ≤ 1000001
+one_small true = omega arith
+one_small false = omega arith
+
+going_small : (whole : List Summary) (o : Op) → going_size whole o ≤ 1000001
+going_small whole (op.Invoke g) = omega arith
+going_small whole (op.Serve call) = one_small (is_counted (op.Serve call))
+going_small whole _ = omega arith
+
+ending_small : (whole : List Summary) (o : Op) → ending_size whole o ≤ 1000001
+ending_small whole (op.Invoke g) = omega arith
+ending_small whole (op.Serve call) = one_small (is_counted (op.Serve call))
+ending_small whole _ = omega arith
+
+if_small : (b : Bool) (n : ℕ) → n ≤ 1000001 → cond b n 0 ≤ 1000001
+if_small true n le = le
+if_small false n le = omega arith
+
+-- a table with small entries
+table_small : (table : List ℕ) (n : ℕ) (size : ℕ → ℕ) → length table ≡ n → ((i : ℕ) → i < n → get_or table i 0 ≡ size i) → ((i : ℕ) → size i ≤ 1000001) → IsSmall table
+table_small table n size count are small i = ⊎_elim
+    (λ lt. let e = are i lt in let le = small i in omega (arith, e, le))
+    (λ le. let e = get_or_past table i 0 (omega (arith, le, count)) in omega (arith, e))
+    (cases_lt i n)
+
+module _ (f : Func) (ways : List Ways) (ways_count : length ways ≡ length f.items) (whole : List Summary) (alive : List Bool) (steps : List ℕ)
+    (steps_count : length steps ≡ length f.items) (steps_are : (i : ℕ) → i < length f.items → get_or steps i 0 ≡ going_size whole (item_of f i).op) where
+  pub ending_sizes : (ends : List ℕ) → length ends ≡ length f.items
+      → ((i : ℕ) → i < length f.items → get_or ends i 0 ≡ cond (get_or alive i false) (ending_size whole (item_of f i).op) 0) → AreSizes ways steps ends
+  ending_sizes ends count are = record {
+    steps_count = steps_count ∙ sym ways_count;
+    ends_count = count ∙ sym ways_count;
+    steps_small = table_small steps (length f.items) (λ i. going_size whole (item_of f i).op) steps_count steps_are (λ i. going_small whole (item_of f i).op);
+    ends_small = table_small ends (length f.items) (λ i. cond (get_or alive i false) (ending_size whole (item_of f i).op) 0) count are
+        (λ i. if_small (get_or alive i false) (ending_size whole (item_of f i).op) (ending_small whole (item_of f i).op));
+  }
+
+  pub leaving_sizes : (leaves : List ℕ) → length leaves ≡ length f.items
+      → ((i : ℕ) → i < length f.items → get_or leaves i 0 ≡ cond (get_or alive i false) (leaving_size (item_of f i).op) 0) → AreSizes ways steps leaves
+  leaving_sizes leaves count are = record {
+    steps_count = steps_count ∙ sym ways_count;
+    ends_count = count ∙ sym ways_count;
+    steps_small = table_small steps (length f.items) (λ i. going_size whole (item_of f i).op) steps_count steps_are (λ i. going_small whole (item_of f i).op);
+    ends_small = table_small leaves (length f.items) (λ i. cond (get_or alive i false) (leaving_size (item_of f i).op) 0) count are
+        (λ i. if_small (get_or alive i false) (leaving_size (item_of f i).op) (one_small (is_return (item_of f i).op)));
+  }
+
+-- the longest trails
+pub longest_small : (ways : List Ways) (steps ends table : List ℕ) → length table ≡ length ways
+    → ((i : ℕ) → i < length ways → IsLongest ways steps ends i (get_or table i 0)) → IsSmall table
+longest_small ways steps ends table count is i = by (cases_eq (get_or table i 0) 0) (cases_lt i (length ways))
+  where
+    by : (get_or table i 0 ≡ 0) ⊎ (get_or table i 0 ≡ 0 → ⊥) → (i < length ways) ⊎ (length ways ≤ i) → get_or table i 0 ≤ 1000001
+    by (inl e) at = omega (arith, e)
+    by (inr n) (inl lt) = let t = (is i lt).attained (omega (arith, n)) in let e = t.2 in omega (arith, e)
+    by (inr n) (inr le) = let e = get_or_past table i 0 (omega (arith, le, count)) in omega (arith, e)
+
+-- a greatest size
+pub greatest_small : (Kind : ℕ → Type 0) (size : ℕ) → IsGreatestPart Kind size → size ≤ 1000001
+greatest_small Kind size g = by (cases_eq size 0)
+  where
+    by : (size ≡ 0) ⊎ (size ≡ 0 → ⊥) → size ≤ 1000001
+    by (inl e) = omega (arith, e)
+    by (inr n) = let a = g.attained (omega (arith, n)) in let e = a.2 in omega (arith, e)

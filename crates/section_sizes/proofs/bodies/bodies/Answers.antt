@@ -1,0 +1,11 @@
+use Rattle.section_sizes.specs.declared.bodies.Body.{Body}
+use Rattle.section_sizes.specs.Known.{IsKnownBody, no_body}
+use Rattle.section_sizes.proofs.Growing.{held_more}
+use Rattle.section_sizes.proofs.bodies.bodies.Goals as goal
+
+pub loop-number-preserved : goal.loop-number-preserved
+loop-number-preserved c =
+    let g =
+    held_more Body (IsKnownBody c.args.config.now c.args.app.now) c.loop-number.bodies.items c.push.new.list.items c.in_ok-body.body no_body c.loop-number.number
+    c.loop-number.invariant.count c.loop-number.invariant.each c.in_ok-push.ensures c.in_ok-body.ensures in
+    record { count = g.count; each = g.each }

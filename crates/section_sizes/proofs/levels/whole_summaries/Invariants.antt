@@ -1,0 +1,6 @@
+use Rattle.std.proofs.Common.{take, None}
+use Rattle.section_sizes.specs.Known.{AreSummariesOf}
+use Rattle.section_sizes.proofs.levels.whole_summaries.Given as goal
+
+abbrev pub invariant-loop-number : goal.invariant-loop-number
+invariant-loop-number l = AreSummariesOf l.config l.app None (take l.number-index l.order) l.whole.items

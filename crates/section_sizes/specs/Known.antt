@@ -1,0 +1,87 @@
+-- What is known of bodies, and when the summary of a function is right.
+use Rattle.std.specs.Prelude.{ℕ, ◌<◌, ◌≤◌, ◌≡◌, ◌↔◌, min, MatchBool, Decides, Bool, true, false, List, [], length, get_or, Option}
+use Rattle.sloth_base.specs.declared.config.Config.{Config}
+use Rattle.sloth_base.specs.declared.app.App.{App}
+use Rattle.sloth_base.specs.Named.{function}
+use Rattle.code_rules.specs.Code.{Calls, is_in}
+use Rattle.section_sizes.specs.declared.bodies.Body.{Body}
+use Rattle.section_sizes.specs.declared.sizes.Summary.{Summary}
+use Rattle.section_sizes.specs.Graph.{Has}
+use Rattle.section_sizes.specs.Trails.{MOST}
+use Rattle.section_sizes.specs.Parts.{ceiling_before, ReachesItem, Returns, Back, On, Out, Within}
+use Rattle.section_sizes.specs.Computed.{summary_of}
+
+-- ---- bodies
+
+-- the items of function f that walks reach, and the ceilings before all of them
+pub record IsKnownBody (config : Config) (app : App) (f : ℕ) (body : Body) : Type 0 where
+  pub reached_count : length body.reached ≡ length (function app f).items
+  pub reached : (i : ℕ) → Has body.reached i ↔ ReachesItem app f i
+  pub ceilings_count : length body.ceilings ≡ length (function app f).items
+  pub ceilings : (i : ℕ) → i < length (function app f).items → get_or body.ceilings i 0 ≡ ceiling_before config app f i
+
+-- a body of which nothing is known
+abbrev pub no_body : Body
+no_body = record { reached = []; ceilings = [] }
+
+-- what is known of each function
+pub record AreKnownBodies (config : Config) (app : App) (bodies : List Body) : Type 0 where
+  pub count : length bodies ≡ length app.funcs
+  pub each : (f : ℕ) → f < length app.funcs → IsKnownBody config app f (get_or bodies f no_body)
+
+-- of each function that function f calls it is marked whether it may return
+abbrev pub KnowsReturns : App → ℕ → List Bool → Type 0
+KnowsReturns app f returns = (g : ℕ) → Calls app f g → Decides (get_or returns g false) (Returns app g)
+
+-- ---- summaries
+
+-- the greatest size of parts of a kind, counted up to the greatest that is counted; 0 where there is none
+pub record IsGreatestPart (Kind : ℕ → Type 0) (size : ℕ) : Type 0 where
+  pub none_larger : (n : ℕ) → Kind n → min MOST n ≤ size
+  pub attained : 0 < size → (n : ℕ) × Kind n × (min MOST n ≡ size)
+
+-- no part of function f is larger than this, however it is counted
+pub record HasLimit (config : Config) (app : App) (level : Option ℕ) (f : ℕ) : Type 0 where
+  pub limit : ℕ
+  pub on : (n : ℕ) → On config app level f 0 n → n ≤ limit
+  pub back : (n : ℕ) → Back config app level f 0 n → n ≤ limit
+  pub most : (n : ℕ) → Within config app level f n → n ≤ limit
+  pub out : (n : ℕ) → Out config app level f n → n ≤ limit
+
+-- the greatest sizes of the parts of function f, which have a limit
+pub record IsExact (config : Config) (app : App) (level : Option ℕ) (f : ℕ) (s : Summary) : Type 0 where
+  pub on : IsGreatestPart (On config app level f 0) s.on
+  pub back : IsGreatestPart (Back config app level f 0) s.back
+  pub most : IsGreatestPart (Within config app level f) s.most
+  pub out : IsGreatestPart (Out config app level f) s.out
+  pub limited : HasLimit config app level f
+
+-- parts of function f have no limit
+abbrev pub IsEndless : Config → App → (level : Option ℕ) → (f : ℕ) → Type 0
+IsEndless config app level f = (n : ℕ) → (k : ℕ) × Within config app level f k × (n ≤ k)
+
+-- the summary of function f at a level
+abbrev pub IsSummary : Config → App → (level : Option ℕ) → (f : ℕ) → Summary → Type 0
+IsSummary config app level f s = MatchBool s.is_endless (IsEndless config app level f) (IsExact config app level f s)
+
+-- no size is above the greatest that is counted
+pub record IsCountedUp (s : Summary) : Type 0 where
+  pub on : s.on ≤ 1000001
+  pub back : s.back ≤ 1000001
+  pub most : s.most ≤ 1000001
+  pub out : s.out ≤ 1000001
+
+abbrev pub AreCountedUp : List Summary → Type 0
+AreCountedUp table = (g : ℕ) → IsCountedUp (summary_of table g)
+
+-- the summaries of all functions at a level
+pub record AreSummaries (config : Config) (app : App) (level : Option ℕ) (table : List Summary) : Type 0 where
+  pub count : length table ≡ length app.funcs
+  pub small : AreCountedUp table
+  pub each : (f : ℕ) → f < length app.funcs → IsSummary config app level f (summary_of table f)
+
+-- the summaries of those functions that are among these
+pub record AreSummariesOf (config : Config) (app : App) (level : Option ℕ) (funcs : List ℕ) (table : List Summary) : Type 0 where
+  pub count : length table ≡ length app.funcs
+  pub small : AreCountedUp table
+  pub each : (f : ℕ) → is_in f funcs ≡ true → IsSummary config app level f (summary_of table f)

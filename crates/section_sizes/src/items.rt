@@ -1,0 +1,253 @@
+//! What the items of one body add to parts of sections.
+ghost use Rattle.std.specs.Prelude.{◌≡◌, ◌≤◌, ◌<◌, ◌&&◌, ℕ, not, cond, false, length, get_or, IfOk};
+ghost use Rattle.sloth_base.specs.Named.{item_of};
+ghost use Rattle.sloth_base.specs.Options.{is_number};
+ghost use Rattle.raised_sections.specs.Walks.{chains_itself};
+ghost use Rattle.raised_sections.specs.Sections.{is_schedule, is_counted};
+ghost use Rattle.section_sizes.specs.Parts.{reaches_level};
+ghost use Rattle.section_sizes.specs.Computed.{is_alive, is_going, summary_of, is_passed, joined, count, going_size, ending_size, is_return, leaving_size};
+ghost use Rattle.section_sizes.specs.Known.{AreCountedUp};
+
+use crate::bodies::Body;
+use crate::marks::{is_marked, number_at};
+use crate::sizes::{Summary, UNKNOWN};
+use sloth_base::app::{Call, Func, Op};
+use sloth_base::memory::NoMemory;
+use sloth_base::numbers::FuncId;
+use sloth_base::service::Service;
+use std::alloc::Global;
+use text_pieces::growth::push;
+
+/// Sizes are counted up to this one.
+const MOST: u32 = 1_000_001;
+
+/// Whether what is held reaches a level.
+pub fn reaches_level(level: Option<u32>, ceiling: u32) -> bool
+    ensures { result ≡ reaches_level level ceiling }
+{
+    match level {
+        Some(priority) => priority <= ceiling,
+        None => true,
+    }
+}
+
+fn is_alive(body: &Body, level: Option<u32>, number: usize) -> bool
+    ensures { result ≡ is_alive body.now level number }
+{
+    is_marked(body.reached.items(), number)
+        && reaches_level(level, number_at(body.ceilings.items(), number))
+}
+
+/// The items that walks reach and before which the task is raised.
+pub fn alive_items(
+    alloc: Global,
+    func: &Func,
+    body: &Body,
+    level: Option<u32>,
+) -> Result<Vec<bool>, NoMemory>
+    ensures count { IfOk result (λ alive. length alive.items ≡ length func.now.items) }
+    ensures exact { IfOk result (λ alive. (i : ℕ) → i < length func.now.items → get_or alive.items i false ≡ is_alive body.now level i) }
+{
+    let mut alive = Vec::new(alloc);
+    for number in 0..func.items.items().len() {
+        match alive.push(is_alive(body, level, number)) {
+            Ok(()) => {}
+            Err(_) => return Err(NoMemory),
+        }
+    }
+    Ok(alive)
+}
+
+fn is_schedule(op: Op) -> bool
+    ensures { result ≡ is_schedule op }
+{
+    match op {
+        Op::Serve(call) => call.service.code() == Service::Schedule.code(),
+        _ => false,
+    }
+}
+
+fn is_of_task(func: &Func, task: u32) -> bool
+    ensures { result ≡ is_number task func.now.task }
+{
+    match func.task {
+        Some(owner) => owner.0 == task,
+        None => false,
+    }
+}
+
+/// Whether the operation is a ChainTask of the task whose body the function is.
+pub fn chains_itself(func: &Func, op: Op) -> bool
+    ensures { result ≡ chains_itself func.now op }
+{
+    match op {
+        Op::Serve(call) => {
+            call.service.code() == Service::ChainTask.code() && is_of_task(func, call.object)
+        }
+        _ => false,
+    }
+}
+
+/// Whether parts go on behind the item.
+fn is_going(func: &Func, alive: &[bool], number: usize) -> bool
+    requires { number < length func.now.items }
+    ensures { result ≡ is_going func.now alive.now number }
+{
+    let items = func.items.items();
+    is_marked(alive, number)
+        && (!is_schedule(items[number].op) && !chains_itself(func, items[number].op))
+}
+
+/// Those of them from which parts go on.
+pub fn going_items(alloc: Global, func: &Func, alive: &[bool]) -> Result<Vec<bool>, NoMemory>
+    ensures count { IfOk result (λ going. length going.items ≡ length func.now.items) }
+    ensures exact { IfOk result (λ going. (i : ℕ) → i < length func.now.items → get_or going.items i false ≡ is_going func.now alive.now i) }
+{
+    let mut going = Vec::new(alloc);
+    for number in 0..func.items.items().len() {
+        push(&mut going, is_going(func, alive, number))?;
+    }
+    Ok(going)
+}
+
+/// The summary of a function.
+pub fn summary_of(table: &[Summary], func: FuncId) -> Summary
+    ensures { result ≡ summary_of table.now func }
+{
+    match table.get(func.0 as usize) {
+        Some(summary) => *summary,
+        None => UNKNOWN,
+    }
+}
+
+/// The functions through which a part may go.
+pub fn passed_functions(alloc: Global, whole: &[Summary]) -> Result<Vec<bool>, NoMemory>
+    ensures { IfOk result (λ passed. (g : ℕ) → get_or passed.items g false ≡ is_passed (summary_of whole.now g)) }
+{
+    let mut passed = Vec::new(alloc);
+    for summary in whole {
+        match passed.push(0 < summary.back) {
+            Ok(()) => {}
+            Err(_) => return Err(NoMemory),
+        }
+    }
+    Ok(passed)
+}
+
+/// The sum, or the greatest size that is counted.
+pub fn joined(one: u32, other: u32) -> u32
+    requires one_small { one ≤ 1000001 }
+    requires other_small { other ≤ 1000001 }
+    ensures { result ≡ joined one other }
+{
+    let sum = one + other;
+    if sum < MOST { sum } else { MOST }
+}
+
+fn is_terminate(call: Call) -> bool
+    ensures { result ≡ not (is_counted (Op.Serve call)) }
+{
+    matches!(call.service, Service::TerminateTask)
+}
+
+fn count(op: Op) -> u32
+    ensures { result ≡ count op }
+{
+    match op {
+        Op::Serve(call) if is_terminate(call) => 0,
+        _ => 1,
+    }
+}
+
+fn going_size(whole: &[Summary], op: Op) -> u32
+    requires { AreCountedUp whole.now }
+    ensures { result ≡ going_size whole.now op }
+{
+    match op {
+        Op::Invoke { func } => joined(1, summary_of(whole, func).back),
+        _ => count(op),
+    }
+}
+
+fn ending_size(whole: &[Summary], op: Op) -> u32
+    requires { AreCountedUp whole.now }
+    ensures { result ≡ ending_size whole.now op }
+{
+    match op {
+        Op::Invoke { func } => joined(1, summary_of(whole, func).on),
+        _ => count(op),
+    }
+}
+
+fn leaving_size(op: Op) -> u32
+    ensures { result ≡ leaving_size op }
+{
+    match op {
+        Op::Return => 1,
+        _ => 0,
+    }
+}
+
+/// The size, where the item is alive.
+fn if_alive(alive: bool, size: u32) -> u32
+    ensures { result ≡ cond alive size 0 }
+{
+    if alive { size } else { 0 }
+}
+
+/// What each item adds to a part that goes on behind it.
+pub fn going_sizes(alloc: Global, func: &Func, whole: &[Summary]) -> Result<Vec<u32>, NoMemory>
+    requires { AreCountedUp whole.now }
+    ensures count { IfOk result (λ sizes. length sizes.items ≡ length func.now.items) }
+    ensures exact { IfOk result (λ sizes. (i : ℕ) → i < length func.now.items
+        → get_or sizes.items i 0 ≡ going_size whole.now (item_of func.now i).op) }
+{
+    let mut sizes = Vec::new(alloc);
+    for number in 0..func.items.items().len() {
+        match sizes.push(going_size(whole, func.items.items()[number].op)) {
+            Ok(()) => {}
+            Err(_) => return Err(NoMemory),
+        }
+    }
+    Ok(sizes)
+}
+
+/// What each item adds to a part that ends with it, or in a function that it calls.
+pub fn ending_sizes(
+    alloc: Global,
+    func: &Func,
+    alive: &[bool],
+    whole: &[Summary],
+) -> Result<Vec<u32>, NoMemory>
+    requires { AreCountedUp whole.now }
+    ensures count { IfOk result (λ sizes. length sizes.items ≡ length func.now.items) }
+    ensures exact { IfOk result (λ sizes. (i : ℕ) → i < length func.now.items
+        → get_or sizes.items i 0 ≡ cond (get_or alive.now i false) (ending_size whole.now (item_of func.now i).op) 0) }
+{
+    let mut sizes = Vec::new(alloc);
+    for number in 0..func.items.items().len() {
+        let size = ending_size(whole, func.items.items()[number].op);
+        match sizes.push(if_alive(is_marked(alive, number), size)) {
+            Ok(()) => {}
+            Err(_) => return Err(NoMemory),
+        }
+    }
+    Ok(sizes)
+}
+
+/// What each item adds to a part that leaves the function with it.
+pub fn leaving_sizes(alloc: Global, func: &Func, alive: &[bool]) -> Result<Vec<u32>, NoMemory>
+    ensures count { IfOk result (λ sizes. length sizes.items ≡ length func.now.items) }
+    ensures exact { IfOk result (λ sizes. (i : ℕ) → i < length func.now.items
+        → get_or sizes.items i 0 ≡ cond (get_or alive.now i false) (leaving_size (item_of func.now i).op) 0) }
+{
+    let mut sizes = Vec::new(alloc);
+    for number in 0..func.items.items().len() {
+        let size = leaving_size(func.items.items()[number].op);
+        match sizes.push(if_alive(is_marked(alive, number), size)) {
+            Ok(()) => {}
+            Err(_) => return Err(NoMemory),
+        }
+    }
+    Ok(sizes)
+}

@@ -1,0 +1,102 @@
+//! The summaries of all functions at a level.
+ghost use Rattle.std.specs.Prelude.{◌≡◌, ℕ, ◌<◌, None, Some, length, get_or, IfOk};
+ghost use Rattle.code_rules.specs.Code.{Calls};
+ghost use Rattle.code_rules.specs.WellFormed.{WellFormed};
+ghost use Rattle.section_sizes.specs.CallOrder.{IsCallOrder};
+ghost use Rattle.section_sizes.specs.Computed.{summary_of, unknown};
+ghost use Rattle.section_sizes.specs.Known.{no_body, AreKnownBodies, AreCountedUp, AreSummaries};
+
+use crate::bodies::{Body, function_at};
+use crate::sizes::{Summary, UNKNOWN};
+use crate::summary::summary;
+use sloth_base::app::App;
+use sloth_base::config::Config;
+use sloth_base::memory::NoMemory;
+use std::alloc::Global;
+
+fn unknown(alloc: Global, count: usize) -> Result<Vec<Summary>, NoMemory>
+    ensures count { IfOk result (λ table. length table.items ≡ count) }
+    ensures none { IfOk result (λ table. (g : ℕ) → summary_of table.items g ≡ unknown) }
+{
+    let mut table = Vec::new(alloc);
+    for _number in 0..count {
+        match table.push(UNKNOWN) {
+            Ok(()) => {}
+            Err(_) => return Err(NoMemory),
+        }
+    }
+    Ok(table)
+}
+
+/// What is known of a body.
+fn body_at(bodies: &[Body], number: usize) -> &Body
+    requires { number < length bodies.now }
+    ensures { result.now ≡ get_or bodies.now number no_body }
+{
+    &bodies[number]
+}
+
+/// The summaries of all functions where their callers have raised the task.
+pub fn whole_summaries(
+    alloc: Global,
+    config: &Config,
+    app: &App,
+    bodies: &[Body],
+    order: &[usize],
+) -> Result<Vec<Summary>, NoMemory>
+    requires well_formed { WellFormed config.now app.now }
+    requires bodies { AreKnownBodies config.now app.now bodies.now }
+    requires order { IsCallOrder app.now order.now }
+    ensures { IfOk result (λ whole. AreSummaries config.now app.now None whole.items) }
+{
+    let mut whole = unknown(alloc, app.funcs.items().len())?;
+    for number in order {
+        let summary = summary(
+            alloc,
+            config,
+            app,
+            *number,
+            function_at(app, *number),
+            body_at(bodies, *number),
+            None,
+            &whole,
+            &whole,
+        )?;
+        whole[*number] = summary;
+    }
+    Ok(whole)
+}
+
+/// The summaries of all functions where they raise the task to a priority by what they hold themselves.
+pub fn own_summaries(
+    alloc: Global,
+    config: &Config,
+    app: &App,
+    bodies: &[Body],
+    order: &[usize],
+    priority: u32,
+    whole: &[Summary],
+) -> Result<Vec<Summary>, NoMemory>
+    requires well_formed { WellFormed config.now app.now }
+    requires bodies { AreKnownBodies config.now app.now bodies.now }
+    requires order { IsCallOrder app.now order.now }
+    requires whole { AreSummaries config.now app.now None whole.now }
+    ensures { IfOk result (λ own. AreSummaries config.now app.now (Some priority) own.items) }
+{
+    let mut own = unknown(alloc, app.funcs.items().len())?;
+    for number in order {
+        let summary = summary(
+            alloc,
+            config,
+            app,
+            *number,
+            function_at(app, *number),
+            body_at(bodies, *number),
+            Some(priority),
+            whole,
+            &own,
+        )?;
+        own[*number] = summary;
+    }
+    Ok(own)
+}

@@ -1,0 +1,58 @@
+//! What a search from the first node reaches.
+ghost use Rattle.std.specs.Prelude.{◌≡◌, ℕ, ◌+◌, ◌*◌, ◌<◌, ◌↔◌, [], false, get_or, length, IfOk, OnOk};
+ghost use Rattle.section_sizes.specs.Graph.{AreInside, Has, unseen};
+ghost use Rattle.section_sizes.specs.Search.{IsReachable, Spreading};
+
+use crate::graph::{Ways, keep, no_marks, push, unseen_of};
+use sloth_base::memory::NoMemory;
+use std::alloc::Global;
+
+/// Goes on from the nodes of the stack until all that they lead to are marked.
+fn spread(ways: &[Ways], marks: &mut [bool], stack: &mut Vec<usize>) -> Result<(), NoMemory>
+    requires inside { AreInside ways.now }
+    requires spreading { Spreading ways.now marks.old stack.old.items }
+    ensures { OnOk result ((i : ℕ) → Has marks.new i ↔ IsReachable ways.now i) }
+{
+    loop {
+        match stack.pop() {
+            None => return Ok(()),
+            Some(from) => match unseen_of(ways, marks, from) {
+                Some(node) => {
+                    push(stack, from)?;
+                    keep(marks, stack, node)?;
+                }
+                None => {}
+            },
+        }
+    }
+}
+
+/// Marks the nodes that the first one reaches, and no others.
+fn spread_from_first(
+    ways: &[Ways],
+    marks: &mut [bool],
+    stack: &mut Vec<usize>,
+) -> Result<(), NoMemory>
+    requires inside { AreInside ways.now }
+    requires some { 0 < length ways.now }
+    requires count { length marks.old ≡ length ways.now }
+    requires clear { (i : ℕ) → i < length ways.now → get_or marks.old i false ≡ false }
+    requires none { stack.old.items ≡ [] }
+    ensures { OnOk result ((i : ℕ) → Has marks.new i ↔ IsReachable ways.now i) }
+{
+    keep(marks, stack, 0)?;
+    spread(ways, marks, stack)
+}
+
+/// The nodes that the first one reaches.
+pub fn reachable(alloc: Global, ways: &[Ways]) -> Result<Vec<bool>, NoMemory>
+    requires some { 0 < length ways.now }
+    requires inside { AreInside ways.now }
+    ensures count { IfOk result (λ marks. length marks.items ≡ length ways.now) }
+    ensures exact { IfOk result (λ marks. (i : ℕ) → Has marks.items i ↔ IsReachable ways.now i) }
+{
+    let mut marks = no_marks(alloc, ways.len())?;
+    let mut stack = Vec::new(alloc);
+    spread_from_first(ways, &mut marks, &mut stack)?;
+    Ok(marks)
+}

@@ -1,0 +1,252 @@
+//! The summary of one function, from those of the functions that it calls.
+ghost use Rattle.std.specs.Prelude.{◌≡◌, ◌≤◌, ◌<◌, ℕ, max, length, get_or, IfOk};
+ghost use Rattle.sloth_base.specs.Named.{item_of, function};
+ghost use Rattle.code_rules.specs.WellFormed.{WellFormed};
+ghost use Rattle.code_rules.specs.Code.{Calls};
+ghost use Rattle.section_sizes.specs.Trails.{IsSmall};
+ghost use Rattle.section_sizes.specs.Computed.{known, summary_of, callee_of, endless_call, calls_endless, called_most, most_at, most_of, joined_both, called_out, out_at, out_of};
+ghost use Rattle.section_sizes.specs.Known.{IsKnownBody, IsSummary, IsCountedUp, AreCountedUp};
+
+use crate::bodies::Body;
+use crate::graph::{Found, finish_order};
+use crate::items::{
+    alive_items, ending_sizes, going_items, going_sizes, joined, leaving_sizes, passed_functions,
+    reaches_level, summary_of,
+};
+use crate::links::body_ways;
+use crate::longest::longest;
+use crate::marks::{is_marked, number_at};
+use crate::sizes::{ENDLESS, Summary};
+use sloth_base::app::{App, Func, Op};
+use sloth_base::config::Config;
+use sloth_base::memory::NoMemory;
+use sloth_base::numbers::FuncId;
+use std::alloc::Global;
+
+/// The summary of the function that item `number` calls.
+fn callee(
+    body: &Body,
+    level: Option<u32>,
+    whole: &[Summary],
+    own: &[Summary],
+    number: usize,
+    func: FuncId,
+) -> Summary
+    requires whole_small { AreCountedUp whole.now }
+    requires own_small { AreCountedUp own.now }
+    ensures is { result ≡ callee_of body.now level whole.now own.now number func }
+    ensures small { IsCountedUp result }
+{
+    if reaches_level(level, number_at(body.ceilings.items(), number)) {
+        summary_of(whole, func)
+    } else {
+        summary_of(own, func)
+    }
+}
+
+/// Whether the item is a call, which walks reach, of a function in which parts have no limit.
+fn endless_call(
+    func: &Func,
+    body: &Body,
+    level: Option<u32>,
+    whole: &[Summary],
+    own: &[Summary],
+    number: usize,
+) -> bool
+    requires inside { number < length func.now.items }
+    requires whole_small { AreCountedUp whole.now }
+    requires own_small { AreCountedUp own.now }
+    ensures { result ≡ endless_call (known func.now body.now level whole.now own.now) number (item_of func.now number).op }
+{
+    match func.items.items()[number].op {
+        Op::Invoke { func: called } => {
+            is_marked(body.reached.items(), number)
+                && callee(body, level, whole, own, number, called).is_endless
+        }
+        _ => false,
+    }
+}
+
+/// Whether some item is.
+fn calls_endless(
+    func: &Func,
+    body: &Body,
+    level: Option<u32>,
+    whole: &[Summary],
+    own: &[Summary],
+) -> bool
+    requires whole_small { AreCountedUp whole.now }
+    requires own_small { AreCountedUp own.now }
+    ensures { result ≡ calls_endless (known func.now body.now level whole.now own.now) }
+{
+    let mut endless = false;
+    for number in 0..func.items.items().len() {
+        endless = endless || endless_call(func, body, level, whole, own, number);
+    }
+    endless
+}
+
+/// The greatest size of a part that begins in what the item calls.
+fn called_most(
+    func: &Func,
+    body: &Body,
+    level: Option<u32>,
+    whole: &[Summary],
+    own: &[Summary],
+    on: &[u32],
+    number: usize,
+) -> u32
+    requires inside { number < length func.now.items }
+    requires whole_small { AreCountedUp whole.now }
+    requires own_small { AreCountedUp own.now }
+    requires on_small { IsSmall on.now }
+    ensures { result ≡ called_most (known func.now body.now level whole.now own.now) on.now number (item_of func.now number).op }
+{
+    match func.items.items()[number].op {
+        Op::Invoke { func: called } => {
+            if is_marked(body.reached.items(), number) {
+                let callee = callee(body, level, whole, own, number, called);
+                callee
+                    .most
+                    .max(joined(callee.out, number_at(on, number + 1)))
+            } else {
+                0
+            }
+        }
+        _ => 0,
+    }
+}
+
+/// The greatest size of a part that begins in the body or in what it calls.
+fn most_of(
+    func: &Func,
+    body: &Body,
+    level: Option<u32>,
+    whole: &[Summary],
+    own: &[Summary],
+    on: &[u32],
+) -> u32
+    requires whole_small { AreCountedUp whole.now }
+    requires own_small { AreCountedUp own.now }
+    requires on_small { IsSmall on.now }
+    ensures { result ≡ most_of (known func.now body.now level whole.now own.now) on.now }
+{
+    let mut most = 0;
+    for number in 0..func.items.items().len() {
+        let called = called_most(func, body, level, whole, own, on, number);
+        most = number_at(on, number).max(called).max(most);
+    }
+    most
+}
+
+/// One part behind another, where there are both.
+fn joined_both(one: u32, other: u32) -> u32
+    requires one_small { one ≤ 1000001 }
+    requires other_small { other ≤ 1000001 }
+    ensures { result ≡ joined_both one other }
+{
+    if 0 < one && 0 < other {
+        joined(one, other)
+    } else {
+        0
+    }
+}
+
+/// The greatest size of a part that begins in what the item calls and ends with the body's `ret`.
+fn called_out(
+    func: &Func,
+    body: &Body,
+    level: Option<u32>,
+    whole: &[Summary],
+    own: &[Summary],
+    back: &[u32],
+    number: usize,
+) -> u32
+    requires inside { number < length func.now.items }
+    requires whole_small { AreCountedUp whole.now }
+    requires own_small { AreCountedUp own.now }
+    requires back_small { IsSmall back.now }
+    ensures { result ≡ called_out (known func.now body.now level whole.now own.now) back.now number (item_of func.now number).op }
+{
+    match func.items.items()[number].op {
+        Op::Invoke { func: called } => {
+            if is_marked(body.reached.items(), number) {
+                let callee = callee(body, level, whole, own, number, called);
+                joined_both(callee.out, number_at(back, number + 1))
+            } else {
+                0
+            }
+        }
+        _ => 0,
+    }
+}
+
+/// The greatest size of a part that begins in the body or in what it calls and ends with the body's `ret`.
+fn out_of(
+    func: &Func,
+    body: &Body,
+    level: Option<u32>,
+    whole: &[Summary],
+    own: &[Summary],
+    back: &[u32],
+) -> u32
+    requires whole_small { AreCountedUp whole.now }
+    requires own_small { AreCountedUp own.now }
+    requires back_small { IsSmall back.now }
+    ensures { result ≡ out_of (known func.now body.now level whole.now own.now) back.now }
+{
+    let mut out = 0;
+    for number in 0..func.items.items().len() {
+        let called = called_out(func, body, level, whole, own, back, number);
+        out = number_at(back, number).max(called).max(out);
+    }
+    out
+}
+
+/// The summary of function `number`, from those of the functions that it calls: where the task is raised as they are called, and where not.
+pub fn summary(
+    alloc: Global,
+    config: &Config,
+    app: &App,
+    number: usize,
+    func: &Func,
+    body: &Body,
+    level: Option<u32>,
+    whole: &[Summary],
+    own: &[Summary],
+) -> Result<Summary, NoMemory>
+    requires well_formed { WellFormed config.now app.now }
+    requires known { number < length app.now.funcs }
+    requires func { func.now ≡ function app.now number }
+    requires body { IsKnownBody config.now app.now number body.now }
+    requires whole { (g : ℕ) → Calls app.now number g → IsSummary config.now app.now None g (summary_of whole.now g) }
+    requires own { (g : ℕ) → Calls app.now number g → IsSummary config.now app.now level g (summary_of own.now g) }
+    requires whole_small { AreCountedUp whole.now }
+    requires own_small { AreCountedUp own.now }
+    ensures is { IfOk result (λ summary. IsSummary config.now app.now level number summary) }
+    ensures small { IfOk result IsCountedUp }
+{
+    if calls_endless(func, body, level, whole, own) {
+        return Ok(ENDLESS);
+    }
+    let alive = alive_items(alloc, func, body, level)?;
+    let going = going_items(alloc, func, &alive)?;
+    let passed = passed_functions(alloc, whole)?;
+    let ways = body_ways(alloc, func, &passed, &going, &alive)?;
+    let order = match finish_order(alloc, &ways)? {
+        Found::Loop => return Ok(ENDLESS),
+        Found::Order(order) => order,
+    };
+    let steps = going_sizes(alloc, func, whole)?;
+    let ends = ending_sizes(alloc, func, &alive, whole)?;
+    let leaves = leaving_sizes(alloc, func, &alive)?;
+    let on = longest(alloc, &ways, order.items(), &steps, &ends)?;
+    let back = longest(alloc, &ways, order.items(), &steps, &leaves)?;
+    Ok(Summary {
+        is_endless: false,
+        on: number_at(&on, 0),
+        back: number_at(&back, 0),
+        most: most_of(func, body, level, whole, own, &on),
+        out: out_of(func, body, level, whole, own, &back),
+    })
+}

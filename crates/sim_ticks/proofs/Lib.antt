@@ -1,0 +1,9 @@
+pub mod Clocks
+pub mod Acting
+pub mod Alarms
+pub mod Ticked
+pub mod Targets
+pub mod TickRoute
+pub mod AlarmKept
+pub mod AlarmServing
+pub mod AlarmStretches

@@ -1,0 +1,23 @@
+//! The command `map`.
+ghost use Rattle.std.specs.Prelude.{◌≤◌, IfOk, length};
+ghost use Rattle.tool_commands.specs.MapAnswers.{IsMapAnswer};
+
+use crate::answer::ToolAnswer;
+use crate::told::told;
+use map_text::map_text;
+use sloth_base::memory::NoMemory;
+use sloth_base::refusal::BuildError;
+use std::alloc::Global;
+
+/// What the image of these texts takes of memory, and what its tasks need of the stacks; or the first refusal.
+pub fn map(alloc: Global, oil: &[u8], src: &[u8]) -> Result<ToolAnswer, NoMemory>
+    requires oil { length oil.now ≤ 4194304 }
+    requires src { length src.now ≤ 4194304 }
+    ensures { IfOk result (λ answer. IsMapAnswer oil.now src.now answer) }
+{
+    match map_text(alloc, oil, src) {
+        Ok(text) => Ok(told(alloc, text)),
+        Err(BuildError::Refused(refusal)) => Ok(ToolAnswer::Refused(refusal)),
+        Err(BuildError::Memory) => Err(NoMemory),
+    }
+}
